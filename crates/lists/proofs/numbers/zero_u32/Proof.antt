@@ -1,0 +1,46 @@
+-- `lists::numbers::zero_u32` meets its contract, by the law of `proofs/Fill.antt` at 0. Assumes nothing.
+use mathlib.Core.Path.{_≡_, refl, _∙_}
+use Prim.Native.Nat.{_-_, _≤_, zero-le}
+use native.Mathlib.Omega.{arith}
+use lib.ListN.{length, length-set}
+use borrow.Author.Needs.{needs}
+use Rattle.lists.proofs.Fill.{filled, fill-turn, fill-end}
+use Rattle.lists.proofs.numbers.zero_u32.Statement.{statement}
+use Rattle.lists.proofs.numbers.zero_u32.Tie as tie
+
+abbrev Inv-loop : tie.InvT-loop
+Inv-loop s₀ i₀ i-end s i = (i ≤ length s₀) × (length s ≡ length s₀) × (s ≡ filled 0 i s₀)
+
+abbrev μ-loop : tie.MeasureT-loop
+μ-loop s₀ i₀ i-end s i = length s₀ - i
+
+loop-holds : tie.Need-loop-holds Inv-loop μ-loop
+loop-holds c = (zero-le, refl, refl)
+
+mul-s : tie.Need-mul-s Inv-loop μ-loop
+mul-s c = search needs
+
+slice-write-s : tie.Need-slice-write-s Inv-loop μ-loop
+slice-write-s c = omega arith
+
+add-i : tie.Need-add-i Inv-loop μ-loop
+add-i c = omega arith
+
+loop-less : tie.Need-loop-less Inv-loop μ-loop
+loop-less c = omega arith
+
+loop-again : tie.Need-loop-again Inv-loop μ-loop
+loop-again c =
+    let l = c .before .loop in
+    (omega arith, simp length-set (l .inv .1), fill-turn 0 (l .i) (c .before .before .args .s .now) (l .s) (c .loop-test .taken) (l .inv .2))
+
+same-length : tie.Need-same-length Inv-loop μ-loop
+same-length c = c .before .loop .inv .1
+
+returns : tie.Need-returns Inv-loop μ-loop
+returns c =
+    let l = c .before .loop in
+    fill-end 0 (l .i) (c .before .before .args .s .now) (l .s) (l .inv .0) (c .loop-test .left) (l .inv .2)
+
+pub zero-u32-spec : {M : Type 1} → statement M
+zero-u32-spec = tie.close (tie.spec Inv-loop μ-loop loop-holds mul-s slice-write-s add-i loop-less loop-again same-length returns)

@@ -1,0 +1,4 @@
+pub mod Search
+pub mod Gather
+pub mod Sort
+pub mod Regions
