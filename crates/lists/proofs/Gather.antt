@@ -1,15 +1,15 @@
 -- The laws of lists put together, of what passes, and of adjacent equals dropped. Assumes nothing.
 use mathlib.Core.Logic.{_⊎_, inl, inr}
 use mathlib.Core.Path.{_≡_, refl, sym, ap, ap₂, _∙_}
-use mathlib.Core.Bool.{Bool, true, false, cond, true≢false}
+use mathlib.Core.Bool.{Bool, true, false, _&&_, cond, true≢false}
 use mathlib.Core.List.{List, [], _∷_, _++_, append-nil, append-assoc, List·Memᴰ, List·Memᴰ·head, List·Memᴰ·tail, List·Memᴰ·not-nil, List·Memᴰ·cases-cons, List·Memᴰ·append-cases, Memᴰ·append-left, Memᴰ·append-right}
 use Prim.Native.Nat.{ℕ, zero, suc, _+_, _-_, _≤_, _<_}
-use native.Mathlib.Nat.{not-suc-le-zero, add-zero}
+use native.Mathlib.Nat.{not-suc-le-zero}
 use native.Mathlib.Numerals.{add-one}
 use native.Mathlib.Omega.{arith}
 use native.Mathlib.Decide.{decLe, decLt}
 use lib.ListN.{length, getD, length-append, List·getD-append}
-use lib.Seq.{getD-append-add, getD-at}
+use lib.Seq.{getD-at}
 use Rattle.lists.specs.Search.{bit, many}
 use Rattle.lists.specs.Gather.{gathered, each, all, passing, tally, slimAfter, slim, joined, places}
 use Rattle.lists.proofs.Search.{bit-le, many-more, many-bound}
@@ -67,6 +67,20 @@ module _ {A : Type 0} where
       go : (t : Bool) → (all p xs ≡ true → all p (xs ++ ys) ≡ all p ys) → elim t [ true ↦ all p xs | false ↦ false ] ≡ true → elim t [ true ↦ all p (xs ++ ys) | false ↦ false ] ≡ all p ys
       go true ih e = ih e
       go false ih e = absurd (true≢false (sym e))
+
+  -- one element more
+  pub all-snoc : (p : A → Bool) (xs : List A) (x : A) → all p (xs ++ x ∷ []) ≡ all p xs && p x
+  unfolding all
+  all-snoc p [] x = go (p x)
+    where
+      go : (t : Bool) → elim t [ true ↦ true | false ↦ false ] ≡ t
+      go true = refl
+      go false = refl
+  all-snoc p (y ∷ ys) x = go (p y) (all-snoc p ys x)
+    where
+      go : (t : Bool) → all p (ys ++ x ∷ []) ≡ all p ys && p x → elim t [ true ↦ all p (ys ++ x ∷ []) | false ↦ false ] ≡ elim t [ true ↦ all p ys | false ↦ false ] && p x
+      go true ih = ih
+      go false ih = refl
 
   pub all-at : (p : A → Bool) (xs : List A) (i : ℕ) (d : A) → all p xs ≡ true → i < length xs → p (getD xs i d) ≡ true
   unfolding all
@@ -275,6 +289,18 @@ module _ {A : Type 0} where
       go true q ih (inr k) = List·Memᴰ·tail (ih k)
       go false q ih (inl same) = absurd (true≢false (sym e ∙ ap p same ∙ q))
       go false q ih (inr k) = ih k
+
+  -- what stands at a place is one of the elements, and each element stands at some place
+  pub in-list : (l : List A) (k : ℕ) → k < length l → (d : A) → List·Memᴰ (getD l k d) l
+  in-list [] k h d = absurd (not-suc-le-zero h)
+  in-list (x ∷ xs) zero h d = List·Memᴰ·head refl
+  in-list (x ∷ xs) (suc k) h d = List·Memᴰ·tail (in-list xs k (omega (arith, h)) d)
+
+  -- within a list the default doesn't matter
+  pub getD-any : (l : List A) (i : ℕ) (a b : A) → i < length l → getD l i a ≡ getD l i b
+  getD-any [] i a b h = absurd (not-suc-le-zero h)
+  getD-any (x ∷ xs) zero a b h = refl
+  getD-any (x ∷ xs) (suc i) a b h = getD-any xs i a b (omega (arith, h))
 
   pub mem-at : (l : List A) (x : A) → List·Memᴰ x l → (k : ℕ) × (k < length l) × ((d : A) → getD l k d ≡ x)
   mem-at [] x h = absurd (List·Memᴰ·not-nil h)

@@ -1,18 +1,18 @@
 -- A list with an element put in, at any element type: the turns of a loop that moves the elements from k on up, from behind. Assumes nothing.
 use mathlib.Core.Path.{_≡_, refl, sym, ap, ap₂, _∙_}
-use mathlib.Core.Bool.{Bool, true, false, _&&_, cond}
+use mathlib.Core.Bool.{true, false, _&&_}
 use mathlib.Core.List.{List, [], _∷_, _++_, append-assoc}
 use Prim.Native.Nat.{ℕ, zero, suc, _+_, _-_, _≤_, _<_}
 use native.Mathlib.Numerals.{add-one}
-use native.Mathlib.Decide.{decLt, ℕ-discrete}
+use native.Mathlib.Decide.{decLe, decLt}
 use native.Mathlib.Omega.{arith}
 use lib.Dec.{leb, ltb}
 use lib.ListN.{length, getD, set, take, drop, length-append, length-drop, List·getD-append}
-use lib.Seq.{slice, slice-empty, slice-cons, split-at, set-at, getD-at, getD-append-add, getD-drop, length-slice, take-suc, getD-take, length-take-le, take-take}
+use lib.Seq.{slice, slice-empty, slice-cons, split-at, set-at, take-suc, getD-take, length-take-le, take-take}
 use borrow.Author.Tests.{le-leb, lt-leb, lt-ltb, le-ltb}
 use Rattle.lists.specs.Sort.{moved}
 use Rattle.lists.specs.Regions.{front, putIn, insertAt}
-use Rattle.lists.proofs.Regions.{take-front-of}
+use Rattle.lists.proofs.Regions.{take-front-of, length-front, front-in}
 
 module _ {A : Type 0} where
   pub moved-below : (f : ℕ → A) (s : A) (k i : ℕ) → i < k → moved f s k i ≡ f i
@@ -32,6 +32,15 @@ module _ {A : Type 0} where
   moved-above f s zero i h = refl
   moved-above f s (suc k) zero h = absurd (omega arith)
   moved-above f s (suc k) (suc i) h = moved-above (λ j. f (suc j)) s k i (omega arith)
+
+  -- only the elements below n count, where k and i are no larger
+  pub moved-ext : (f g : ℕ → A) (s : A) (k i n : ℕ) → k ≤ n → i ≤ n → ((j : ℕ) → j < n → f j ≡ g j) → moved f s k i ≡ moved g s k i
+  unfolding moved
+  moved-ext f g s zero zero n h l same = refl
+  moved-ext f g s zero (suc i) n h l same = same i (omega (arith, l))
+  moved-ext f g s (suc k) zero n h l same = same zero (omega (arith, h))
+  moved-ext f g s (suc k) (suc i) n h l same =
+      moved-ext (λ j. f (suc j)) (λ j. g (suc j)) s k i (n - 1) (omega (arith, h)) (omega (arith, l)) (λ j b. same (suc j) (omega (arith, b)))
 
   pub length-putIn : (k : ℕ) (x : A) (xs : List A) → k ≤ length xs → length (putIn k x xs) ≡ length xs + 1
   unfolding putIn
@@ -71,6 +80,23 @@ module _ {A : Type 0} where
     take-insertAt h l =
         let tk : length (take n w) ≡ n = length-take-le n w (omega arith) in
         ap (take (n + 1)) (insertAt-fits h l) ∙ take-front-of w (putIn k x (take n w)) (n + 1) (omega (arith, length-putIn k x (take n w) (omega arith)))
+
+    pub length-insertAt : length (insertAt w n k x) ≡ length w
+    length-insertAt = go (decLe k n) (decLt n (length w))
+      where
+        go : Dec (k ≤ n) → Dec (n < length w) → length (insertAt w n k x) ≡ length w
+        go (no h) l = ap length (insertAt-beyond (omega (arith, h)))
+        go (yes h) (no l) = ap length (insertAt-full h (omega (arith, l)))
+        go (yes h) (yes l) =
+            let tk : length (take n w) ≡ n = length-take-le n w (omega (arith, l)) in
+            ap length (insertAt-fits h l) ∙ length-front w (putIn k x (take n w)) (omega (arith, length-putIn k x (take n w) (omega (arith, h, tk)), l))
+
+    pub getD-insertAt : k ≤ n → n < length w → (i : ℕ) (d : A) → i ≤ n → getD (insertAt w n k x) i d ≡ moved (λ j. getD w j d) x k i
+    getD-insertAt h l i d b =
+        let tk : length (take n w) ≡ n = length-take-le n w (omega arith) in
+        let len : length (putIn k x (take n w)) ≡ n + 1 = omega (arith, length-putIn k x (take n w) (omega arith)) in
+        ap (λ (v : List A). getD v i d) (insertAt-fits h l) ∙ front-in w (putIn k x (take n w)) i d (omega arith) ∙ getD-putIn k x (take n w) i d (omega arith)
+        ∙ moved-ext (λ j. getD (take n w) j d) (λ j. getD w j d) x k i n h b (λ j m. getD-take n w j d m)
 
   -- ---- the turns
 

@@ -1,14 +1,14 @@
 -- The laws of `run`, `front` and `put`: what a loop that fills a region of a list asks for. Assumes nothing.
 use mathlib.Core.Path.{_≡_, refl, sym, ap, ap₂, _∙_}
-use mathlib.Core.Bool.{true, false, cond}
+use mathlib.Core.Bool.{true, false}
 use mathlib.Core.List.{List, [], _∷_, _++_, append-nil, append-assoc}
-use Prim.Native.Nat.{ℕ, zero, suc, _+_, _-_, _≤_, _<_}
-use native.Mathlib.Nat.{le-refl, le-of-eq, le-of-lt, le-trans, le-antisymm, add-sub-of-le, le-add-right, add-zero, zero-add, suc-add}
+use Prim.Native.Nat.{ℕ, suc, _+_, _-_, _≤_, _<_}
+use native.Mathlib.Nat.{le-of-eq, le-of-lt, le-trans, add-sub-of-le, zero-add, suc-add}
 use native.Mathlib.Numerals.{add-one}
 use native.Mathlib.Decide.{decLe}
 use native.Mathlib.Omega.{arith}
 use lib.Dec.{leb}
-use lib.ListN.{length, getD, set, take, drop, length-append, length-take, length-drop, length-set, take-append-drop, drop-of-length-le, List·getD-append}
+use lib.ListN.{length, getD, set, take, drop, length-append, length-drop, take-append-drop, drop-of-length-le, List·getD-append}
 use lib.Seq.{length-take-le, take-append-seam, drop-append-add, drop-drop, drop-cons, set-at, append-snoc, getD-take, getD-drop, getD-append-add, take-all, take-at, drop-at, take-take, take-add, take-append-le, drop-append-le, take-suc}
 use borrow.Author.Tests.{le-leb, lt-leb}
 use Rattle.lists.specs.Regions.{run, front, put, copied}
@@ -193,6 +193,11 @@ module _ {A : Type 0} where
   pub front-put : (w xs : List A) → put w 0 xs ≡ front w xs
   unfolding put
   front-put w xs = refl
+
+  -- a part of n elements from b on, lent and come back as ys
+  pub part-back : (w ys : List A) (b n : ℕ) → length ys ≡ n → take b w ++ (ys ++ drop n (drop b w)) ≡ put w b ys
+  unfolding put front
+  part-back w ys b n l = ap (λ (k : ℕ). take b w ++ (ys ++ drop k (drop b w))) (sym l)
 
   -- ---- a part of w from b on, lent and come back: w is w₀ with xs from b on, the part comes back with a front that is no shorter
 

@@ -1,9 +1,9 @@
 -- The laws of the stable order. Assumes nothing.
 use mathlib.Core.Path.{_≡_, refl, sym, ap, ap₂, _∙_}
-use mathlib.Core.Bool.{Bool, true, false, true≢false}
+use mathlib.Core.Bool.{Bool, true, false}
 use mathlib.Core.List.{List, [], _∷_, _++_, append-nil}
 use Prim.Native.Nat.{ℕ, zero, suc, _+_, _≤_, _<_}
-use native.Mathlib.Nat.{le-refl, le-of-eq}
+use native.Mathlib.Nat.{le-of-eq}
 use native.Mathlib.Numerals.{add-one}
 use native.Mathlib.Omega.{arith}
 use lib.ListN.{length, getD, take, drop, drop-of-length-le}
@@ -87,6 +87,9 @@ module _ {A : Type 0} (before : A → A → Bool) where
   pub sortOnto-snoc : (done xs : List A) (x : A) → sortOnto before done (xs ++ x ∷ []) ≡ insert before x (sortOnto before done xs)
   unfolding sortOnto
   sortOnto-snoc done xs x = sortOnto-append done xs (x ∷ [])
+
+  pub sorted-snoc : (xs : List A) (x : A) → sorted before (xs ++ x ∷ []) ≡ insert before x (sorted before xs)
+  sorted-snoc xs x = sortOnto-snoc [] xs x
 
   pub length-sortOnto : (done xs : List A) → length (sortOnto before done xs) ≡ length done + length xs
   unfolding sortOnto

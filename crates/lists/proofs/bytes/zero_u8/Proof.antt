@@ -1,9 +1,8 @@
 -- `lists::bytes::zero_u8` meets its contract, by the law of `proofs/Fill.antt` at 0. Assumes nothing.
-use mathlib.Core.Path.{_≡_, refl, _∙_}
+use mathlib.Core.Path.{_≡_, refl}
 use Prim.Native.Nat.{_-_, _≤_, zero-le}
 use native.Mathlib.Omega.{arith}
 use lib.ListN.{length, length-set}
-use borrow.Author.Needs.{needs}
 use Rattle.lists.proofs.Fill.{filled, fill-turn, fill-end}
 use Rattle.lists.proofs.bytes.zero_u8.Statement.{statement}
 use Rattle.lists.proofs.bytes.zero_u8.Tie as tie

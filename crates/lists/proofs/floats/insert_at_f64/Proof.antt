@@ -1,8 +1,8 @@
 -- `lists::floats::insert_at_f64` meets its contract. The invariant: the list is the one lent with its place n given up and some entry in place i. Assumes nothing.
-use mathlib.Core.Path.{_≡_, refl, sym, ap, _∙_}
-use Prim.Native.Nat.{ℕ, _+_, _-_, _≤_, _<_}
+use mathlib.Core.Path.{_≡_, refl}
+use Prim.Native.Nat.{_-_, _≤_}
 use native.Mathlib.Omega.{arith}
-use lib.ListN.{length, getD, length-set}
+use lib.ListN.{length, length-set}
 use lib.Ieee.{Float, nan}
 use Rattle.lists.proofs.Insert.{shifted, beyond-refused, full-refused, shift-start, shift-turn, shift-end}
 use borrow.Author.Needs.{needs}

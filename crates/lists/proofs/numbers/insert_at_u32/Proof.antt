@@ -1,8 +1,8 @@
 -- `lists::numbers::insert_at_u32` meets its contract. The invariant: the list is the one lent with its place n given up and some entry in place i. Assumes nothing.
-use mathlib.Core.Path.{_≡_, refl, sym, ap, _∙_}
-use Prim.Native.Nat.{ℕ, _+_, _-_, _≤_, _<_}
+use mathlib.Core.Path.{_≡_, refl}
+use Prim.Native.Nat.{ℕ, _-_, _≤_}
 use native.Mathlib.Omega.{arith}
-use lib.ListN.{length, getD, length-set}
+use lib.ListN.{length, length-set}
 use Rattle.lists.proofs.Insert.{shifted, beyond-refused, full-refused, shift-start, shift-turn, shift-end}
 use borrow.Author.Needs.{needs}
 use Rattle.lists.proofs.numbers.insert_at_u32.Statement.{statement}

@@ -1,5 +1,5 @@
 -- `lists::numbers::zero_u32` meets its contract, by the law of `proofs/Fill.antt` at 0. Assumes nothing.
-use mathlib.Core.Path.{_≡_, refl, _∙_}
+use mathlib.Core.Path.{_≡_, refl}
 use Prim.Native.Nat.{_-_, _≤_, zero-le}
 use native.Mathlib.Omega.{arith}
 use lib.ListN.{length, length-set}

@@ -1,0 +1,3 @@
+pub mod Mesh
+pub mod Refused
+pub mod Passed
