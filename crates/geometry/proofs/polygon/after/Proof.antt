@@ -1,0 +1,26 @@
+-- `geometry::polygon::after` meets its contract: each answer is what the tests that led there pick.
+-- Assumes nothing.
+use Rattle.geometry.proofs.Corners.{after-over}
+use borrow.Author.Needs.{needs}
+use borrow.Author.Tests.{le-ltb, lt-ltb}
+use Rattle.geometry.specs.Corners.{after}
+use Rattle.geometry.proofs.polygon.after.Statement.{statement}
+use Rattle.geometry.proofs.polygon.after.Tie as tie
+
+returns : tie.Need-returns
+unfolding after
+returns c =
+    let at-if1 = c .before in
+    simp (lt-ltb _ _ (c .if2 .taken), lt-ltb _ _ (at-if1 .if1 .taken))
+
+returns-2 : tie.Need-returns-2
+unfolding after
+returns-2 c =
+    let at-if1 = c .before in
+    simp (le-ltb _ _ (c .if2 .left), lt-ltb _ _ (at-if1 .if1 .taken))
+
+returns-3 : tie.Need-returns-3
+returns-3 c = after-over _ _ (c .if1 .left)
+
+pub after-spec : {M : Type 1} → statement M
+after-spec = tie.close (tie.spec (λ c. search needs) returns returns-2 returns-3)

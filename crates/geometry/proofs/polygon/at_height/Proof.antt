@@ -1,0 +1,17 @@
+-- `geometry::polygon::at_height` meets its contract: each answer is what the tests that led there pick.
+-- Assumes nothing.
+use borrow.Author.Needs.{needs}
+use Rattle.geometry.proofs.polygon.at_height.Statement.{statement}
+use Rattle.geometry.proofs.polygon.at_height.Tie as tie
+
+returns : tie.Need-returns
+returns c =
+    simp (c .enum-told .given .1)
+
+returns-2 : tie.Need-returns-2
+returns-2 c =
+    let at-h = c .before .before .before in
+    simp (c .point-on .ensures, ← c .before .lowest-two .ensures, at-h .h .given .1)
+
+pub at-height-spec : {M : Type 1} → statement M
+at-height-spec = tie.close (tie.spec (λ c. search needs) (λ c. search needs) returns (λ c κs. search needs) (λ c κs. search needs) returns-2)

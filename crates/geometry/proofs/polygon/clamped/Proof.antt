@@ -1,0 +1,25 @@
+-- `geometry::polygon::clamped` meets its contract: each answer is what the tests that led there pick.
+-- Assumes nothing.
+use Rattle.geometry.specs.Inside.{clamped}
+use Rattle.geometry.proofs.polygon.clamped.Statement.{statement}
+use Rattle.geometry.proofs.polygon.clamped.Tie as tie
+
+returns : tie.Need-returns
+unfolding clamped
+returns c =
+    simp (c .if1 .taken)
+
+returns-2 : tie.Need-returns-2
+unfolding clamped
+returns-2 c =
+    let at-if1 = c .before in
+    simp (c .if2 .taken, at-if1 .if1 .left)
+
+returns-3 : tie.Need-returns-3
+unfolding clamped
+returns-3 c =
+    let at-if1 = c .before in
+    simp (c .if2 .left, at-if1 .if1 .left)
+
+pub clamped-spec : {M : Type 1} → statement M
+clamped-spec = tie.close (tie.spec returns returns-2 returns-3)

@@ -1,0 +1,17 @@
+-- `geometry::polygon::into_ccw2` meets its contract: each answer is what the tests that led there pick.
+-- Assumes nothing.
+use mathlib.Core.Bool.{Bool}
+use Rattle.geometry.proofs.Steps.{both}
+use borrow.Author.Needs.{needs}
+use Rattle.geometry.specs.Corners.{oriented, turned, intoCcw2}
+use Rattle.geometry.proofs.polygon.into_ccw2.Statement.{statement}
+use Rattle.geometry.proofs.polygon.into_ccw2.Tie as tie
+
+returns : tie.Need-returns
+unfolding turned intoCcw2
+returns c =
+    let a = c .before .before .before .args in
+    both (λ (b : Bool). oriented b (a .corners .now)) (simp (c .signed-area2 .ensures))
+
+pub into-ccw2-spec : {M : Type 1} → statement M
+into-ccw2-spec = tie.close (tie.spec (λ c κs. search needs) returns)

@@ -1,0 +1,18 @@
+-- `geometry::polygon::widest` meets its contract: each answer is what the tests that led there pick.
+-- Assumes nothing.
+use Rattle.geometry.proofs.Ascent.{climbs-in}
+use borrow.Author.Needs.{needs}
+use Rattle.geometry.specs.Interior.{widestIn}
+use Rattle.geometry.proofs.polygon.widest.Statement.{statement}
+use Rattle.geometry.proofs.polygon.widest.Tie as tie
+
+returns : tie.Need-returns
+returns c = climbs-in _ _ (c .climbs .result) _ (c .before .before .all-numbers .ensures) (c .before .if1 .taken) (c .climbs .ensures)
+
+returns-2 : tie.Need-returns-2
+unfolding widestIn
+returns-2 c =
+    simp (c .if1 .left, ← c .before .all-numbers .ensures)
+
+pub widest-spec : {M : Type 1} → statement M
+widest-spec = tie.close (tie.spec (λ c κs. search needs) (λ c κs. search needs) returns returns-2)

@@ -1,0 +1,14 @@
+-- `geometry::segment::along` meets its contract: each answer is what the tests that led there pick.
+-- Assumes nothing.
+use mathlib.Core.Path.{refl}
+use Rattle.geometry.specs.Plane.{along}
+use Rattle.geometry.proofs.segment.along.Statement.{statement}
+use Rattle.geometry.proofs.segment.along.Tie as tie
+
+returns : tie.Need-returns
+unfolding along
+returns c =
+    refl
+
+pub along-spec : {M : Type 1} → statement M
+along-spec = tie.close (tie.spec returns)

@@ -1,0 +1,18 @@
+-- `geometry::segment::larger` meets its contract: each answer is what the tests that led there pick.
+-- Assumes nothing.
+use Rattle.geometry.specs.Plane.{larger}
+use Rattle.geometry.proofs.segment.larger.Statement.{statement}
+use Rattle.geometry.proofs.segment.larger.Tie as tie
+
+returns : tie.Need-returns
+unfolding larger
+returns c =
+    simp (c .if1 .taken)
+
+returns-2 : tie.Need-returns-2
+unfolding larger
+returns-2 c =
+    simp (c .if1 .left)
+
+pub larger-spec : {M : Type 1} → statement M
+larger-spec = tie.close (tie.spec returns returns-2)

@@ -1,0 +1,14 @@
+-- `geometry::segment::tolerance` meets its contract: each answer is what the tests that led there pick.
+-- Assumes nothing.
+use borrow.Author.Needs.{needs}
+use Rattle.geometry.specs.Plane.{tolerance}
+use Rattle.geometry.proofs.segment.tolerance.Statement.{statement}
+use Rattle.geometry.proofs.segment.tolerance.Tie as tie
+
+returns : tie.Need-returns
+unfolding tolerance
+returns c =
+    simp (c .scale .ensures)
+
+pub tolerance-spec : {M : Type 1} → statement M
+tolerance-spec = tie.close (tie.spec (λ c κs. search needs) returns)
