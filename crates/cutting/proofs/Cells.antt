@@ -1,0 +1,142 @@
+-- The theorem's proof at a cell's own table. Assumes nothing.
+use mathlib.Core.Path.{_≡_, refl, sym, ap, ap₂, _∙_}
+use mathlib.Core.Logic.{_⊎_, inl, inr}
+use mathlib.Core.Bool.{Bool, true, false, cond, not, _&&_, _||_}
+use mathlib.Core.List.{List, [], _∷_, append-nil}
+use Prim.Native.Nat.{ℕ, _+_, _≤_, _<_}
+use native.Mathlib.Omega.{arith}
+use lib.ListN.{length}
+use lib.Ieee.{Float}
+use lib.IntN.{ℤ, negℤ, _+ℤ_, _-ℤ_, _*ℤ_, *ℤ-comm, negℤ-+ℤ, negℤ-negℤ, +ℤ-comm}
+use borrow.Author.Tests.{ltb-false, lt-ltb, le-ltb}
+use Rattle.exact.specs.Exact.{coord}
+use Rattle.geometry.specs.Plane.{pointAt}
+use Rattle.lists.specs.Gather.{all, tally}
+use Rattle.lists.proofs.Gather.{tally-append}
+use Rattle.cutting.specs.Edges.{Edge, ring, rings, times}
+use Rattle.cutting.specs.Cell.{Laid, inner, edgeSlots, table, cellTable, copiedTable, names, doubled}
+use Rattle.cutting.specs.Walk.{Next, more, closed, stuck, broken, walk}
+use Rattle.cutting.specs.Outcome.{Outcome, refusal, pieces, ofWalk, walked, closesUp, afterWalk, tooMany, cutOutcome}
+use Rattle.cutting.specs.Areas.{term, doubledArea, doubledAreas, Closes, ClosesUp}
+use Rattle.cutting.proofs.EdgeLaws.{hit-self}
+use Rattle.cutting.proofs.Tables.{names-edges, single, even, closes}
+use Rattle.cutting.proofs.Sums.{sum, sum-append, sum-even}
+use Rattle.cutting.proofs.CellLaws.{sorted-table}
+use Rattle.cutting.proofs.Ends.{Ended, ends}
+
+-- ---- areas
+
+module _ (coords : List Float) where
+  -- turned round, a term changes its sign
+  term-odd : (a b : ℕ) → term coords a b ≡ negℤ (term coords b a)
+  term-odd a b = back (coord (pointAt coords a .x)) (coord (pointAt coords a .y)) (coord (pointAt coords b .x)) (coord (pointAt coords b .y))
+    where
+      back : (x y x′ y′ : ℤ) → x *ℤ y′ -ℤ y *ℤ x′ ≡ negℤ (x′ *ℤ y -ℤ y′ *ℤ x)
+      back x y x′ y′ = ap₂ (λ (u v : ℤ). u +ℤ negℤ v) (*ℤ-comm x y′) (*ℤ-comm y x′) ∙ +ℤ-comm (y′ *ℤ x) (negℤ (x′ *ℤ y)) ∙ ap (λ (u : ℤ). negℤ (x′ *ℤ y) +ℤ u) (sym (negℤ-negℤ (y′ *ℤ x))) ∙ sym (negℤ-+ℤ (x′ *ℤ y) (negℤ (y′ *ℤ x)))
+
+  area-sum : (es : List Edge) → doubledArea coords es ≡ sum (term coords) es
+  unfolding doubledArea sum
+  area-sum [] = refl
+  area-sum (e ∷ es) = ap (λ (z : ℤ). term coords (e .0) (e .1) +ℤ z) (area-sum es)
+
+  areas-sum : (ps : List (List ℕ)) → doubledAreas coords ps ≡ sum (term coords) (rings ps)
+  unfolding doubledAreas rings sum
+  areas-sum [] = refl
+  areas-sum (p ∷ ps) = ap₂ (λ (y z : ℤ). y +ℤ z) (area-sum (ring p)) (areas-sum ps) ∙ sym (sum-append (term coords) (ring p) (rings ps))
+
+  areas : (outline : List Edge) (ps : List (List ℕ)) → ((a b : ℕ) → times a b (rings ps) + times b a outline ≡ times b a (rings ps) + times a b outline) → doubledAreas coords ps ≡ doubledArea coords outline
+  areas outline ps h = areas-sum ps ∙ sum-even (term coords) term-odd (rings ps) outline h ∙ sym (area-sum outline)
+
+-- ---- the after-walk test
+
+-- a test that each edge of a list passes
+all-edges : (p : Edge → Bool) (es : List Edge) → ((e : Edge) → 0 < times (e .0) (e .1) es → p e ≡ true) → all p es ≡ true
+unfolding all times
+all-edges p [] h = refl
+all-edges p (e ∷ es) h = rw (h e (omega (arith, hit-self (e .0) (e .1))), all) (all-edges p es (λ f k. h f (omega (arith, k))))
+
+module _ (outline : List Edge) (ps : List (List ℕ)) (close : (a b : ℕ) → Closes outline ps a b) where
+  outer : (e : Edge) → 0 < times (e .0) (e .1) outline → walked (e .0) (e .1) (rings ps) && not (walked (e .1) (e .0) (rings ps)) ≡ true
+  outer e h =
+      let c = close (e .0) (e .1) .outer h in
+      ap₂ (λ (x y : Bool). x && not y) (lt-ltb 0 (times (e .0) (e .1) (rings ps)) (omega (arith, c .0))) (le-ltb 0 (times (e .1) (e .0) (rings ps)) (omega (arith, c .1)))
+
+  other : (e : Edge) → 0 < times (e .0) (e .1) (rings ps) → walked (e .0) (e .1) outline || walked (e .1) (e .0) outline || walked (e .1) (e .0) (rings ps) ≡ true
+  other e h = go (walked (e .0) (e .1) outline) (walked (e .1) (e .0) outline) refl refl
+    where
+      go : (x y : Bool) → walked (e .0) (e .1) outline ≡ x → walked (e .1) (e .0) outline ≡ y → x || y || walked (e .1) (e .0) (rings ps) ≡ true
+      go true y p q = refl
+      go false true p q = refl
+      go false false p q =
+          let none = ltb-false 0 (times (e .0) (e .1) outline) p in
+          let none′ = ltb-false 0 (times (e .1) (e .0) outline) q in
+          let c = close (e .0) (e .1) .other (omega (arith, none)) (omega (arith, none′)) in
+          lt-ltb 0 (times (e .1) (e .0) (rings ps)) (omega (arith, c .0, h))
+
+  closes-test : closesUp outline (rings ps) ≡ true
+  unfolding closesUp
+  closes-test = ap₂ (λ (x y : Bool). x && y) (all-edges _ outline outer) (all-edges _ (rings ps) other)
+
+-- ---- a cell that is cut
+
+module _ (coords : List Float) (outline : List Edge) (near : List Laid) where
+  pub walk-ends : ((ps : List (List ℕ)) × (walk outline (cellTable coords outline near) ≡ closed ps)) ⊎ (walk outline (cellTable coords outline near) ≡ stuck)
+  walk-ends = pick (walk outline (cellTable coords outline near)) refl (ends outline (inner outline near) (cellTable coords outline near) (sorted-table coords outline near))
+    where
+      pick : (r : Next) → walk outline (cellTable coords outline near) ≡ r → Ended r → ((ps : List (List ℕ)) × (walk outline (cellTable coords outline near) ≡ closed ps)) ⊎ (walk outline (cellTable coords outline near) ≡ stuck)
+      pick (more s) e h = absurd h
+      pick (closed ps) e h = inl (ps, e)
+      pick stuck e h = inr e
+      pick broken e h = absurd h
+
+  module _ (clean : doubled (cellTable coords outline near) ≡ false) (ps : List (List ℕ)) where
+    pub closes-up : walk outline (cellTable coords outline near) ≡ closed ps → ClosesUp coords outline ps
+    closes-up e = record {
+      edges = closes outline (inner outline near) (cellTable coords outline near) (sorted-table coords outline near) clean ps e;
+      areas = areas coords outline ps (λ a b. even outline (inner outline near) (cellTable coords outline near) (sorted-table coords outline near) clean ps e a b .1);
+    }
+
+    pub test-passes : walk outline (cellTable coords outline near) ≡ closed ps → closesUp outline (rings ps) ≡ true
+    test-passes e = closes-test outline ps (closes-up e .edges)
+
+  -- the outcome without the test is the same
+  pub without-test : cutOutcome outline (cellTable coords outline near) ≡ cond (tooMany (length (cellTable coords outline near))) (refusal 10) (ofWalk (walk outline (cellTable coords outline near)))
+  unfolding cutOutcome
+  without-test = ap (λ (x : Outcome). cond (tooMany (length (cellTable coords outline near))) (refusal 10) x) (go (walk outline (cellTable coords outline near)) refl)
+    where
+      done : (ps : List (List ℕ)) → walk outline (cellTable coords outline near) ≡ closed ps → (b : Bool) → doubled (cellTable coords outline near) ≡ b → cond (b || closesUp outline (rings ps)) (pieces ps) (refusal 11) ≡ pieces ps
+      done ps e true f = refl
+      done ps e false f = ap (λ (x : Bool). cond x (pieces ps) (refusal 11)) (test-passes f ps e)
+
+      go : (x : Next) → walk outline (cellTable coords outline near) ≡ x → afterWalk outline (doubled (cellTable coords outline near)) (ofWalk x) ≡ ofWalk x
+      go (closed ps) e = done ps e (doubled (cellTable coords outline near)) refl
+      go stuck e = refl
+      go broken e = refl
+      go (more s) e = refl
+
+  pub accepted-closes-up : doubled (cellTable coords outline near) ≡ false → (ps : List (List ℕ)) → cutOutcome outline (cellTable coords outline near) ≡ pieces ps → ClosesUp coords outline ps
+  accepted-closes-up clean ps e = closes-up clean ps (of-walk (walk outline (cellTable coords outline near)) (made (tooMany (length (cellTable coords outline near))) (sym without-test ∙ e)))
+    where
+      made : (b : Bool) → cond b (refusal 10) (ofWalk (walk outline (cellTable coords outline near))) ≡ pieces ps → ofWalk (walk outline (cellTable coords outline near)) ≡ pieces ps
+      made true q = let z : _≡_ {A = ℕ} 0 1 = cc in absurd (omega arith)
+      made false q = q
+
+      of-walk : (x : Next) → ofWalk x ≡ pieces ps → x ≡ closed ps
+      of-walk (closed qs) q = cc
+      of-walk stuck q = let z : _≡_ {A = ℕ} 0 1 = cc in absurd (omega arith)
+      of-walk broken q = let z : _≡_ {A = ℕ} 0 1 = cc in absurd (omega arith)
+      of-walk (more s) q = let z : _≡_ {A = ℕ} 0 1 = cc in absurd (omega arith)
+
+-- ---- a cell that is copied
+
+pub copy-closes-up : (coords : List Float) (cell : List ℕ) → doubled (copiedTable cell) ≡ false → ClosesUp coords (ring cell) (cell ∷ [])
+unfolding copiedTable rings table edgeSlots tally
+copy-closes-up coords cell clean = record { edges = edges; areas = areas coords (ring cell) (cell ∷ []) (λ a b. omega (arith, ap (times a b) same, ap (times b a) same)) }
+  where
+    same : rings (cell ∷ []) ≡ ring cell
+    same = append-nil (ring cell)
+
+    edges : (a b : ℕ) → Closes (ring cell) (cell ∷ []) a b
+    edges a b =
+        let most : times a b (ring cell) + times b a (ring cell) ≤ 1 = omega (arith, single (table (ring cell) []) clean a b, tally-append (names a b) (edgeSlots 1 (ring cell)) [], names-edges 1 a b (ring cell)) in
+        record { outer = λ h. omega (arith, ap (times a b) same, ap (times b a) same); other = λ h h′. omega (arith, ap (times a b) same, ap (times b a) same) }

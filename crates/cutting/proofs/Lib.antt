@@ -1,0 +1,21 @@
+-- Laws on plain values. The theorem is in Closing.
+pub mod Adds
+pub mod CellLaws
+pub mod Cells
+pub mod Closing
+pub mod Doubles
+pub mod EdgeLaws
+pub mod Ends
+pub mod Grow
+pub mod Heaps
+pub mod Kept
+pub mod Orders
+pub mod Rounds
+pub mod Slots
+pub mod Steps
+pub mod Sums
+pub mod Tables
+pub mod Turns
+pub mod Tabled
+pub mod Joins
+mod Samples

@@ -1,0 +1,75 @@
+-- K1's cell, K10's cell and a doubled cell, by computation. Assumes nothing.
+use mathlib.Core.Path.{_≡_, refl}
+use mathlib.Core.Bool.{Bool, true, false}
+use mathlib.Core.List.{List, [], _∷_}
+use Prim.Native.Nat.{ℕ}
+use lib.Ieee.{Float, binary64, ofBits, sub}
+use Rattle.lists.specs.Search.{seek, first}
+use Rattle.lists.specs.Gather.{all, passing, joined, tally}
+use Rattle.lists.specs.Sort.{insert, sortOnto}
+use Rattle.exact.specs.Angle.{angles}
+use Rattle.exact.specs.Exact.{coord, mag, sign, ordered}
+use Rattle.geometry.specs.Plane.{between, pointAt}
+use Rattle.cutting.specs.Edges.{Edge, hops, ring, rings, times}
+use Rattle.cutting.specs.Cell.{Laid, dartsAlong, ownDarts, outlineDarts, isNew, fresh, nearDarts, inner, edgeSlots, table, stands, cellTable, doubled}
+use Rattle.cutting.specs.Walk.{slot, after, onward, arrive, cross, popped, taken, rest, go, step, run, starts, walkFrom, walk}
+use Rattle.cutting.specs.Outcome.{Outcome, refusal, pieces, closesUp, tooMany, cutOutcome}
+
+abbrev laid : ℕ → ℕ → List ℕ → Laid
+laid a b nodes = record { edge = (a, b); nodes = nodes }
+
+abbrev f0 : Float
+f0 = ofBits binary64 0
+
+abbrev f1 : Float
+f1 = ofBits binary64 0x3ff0_0000_0000_0000
+
+abbrev f2 : Float
+f2 = ofBits binary64 0x4000_0000_0000_0000
+
+abbrev f3 : Float
+f3 = ofBits binary64 0x4008_0000_0000_0000
+
+-- -1
+abbrev m1 : Float
+m1 = ofBits binary64 0xbff0_0000_0000_0000
+
+-- the square 0 1 2 3, then K1's square 4 5 6 7 and the points 8 and 9
+abbrev k1 : List Float
+k1 = f0 ∷ f0 ∷ f2 ∷ f0 ∷ f2 ∷ f2 ∷ f0 ∷ f2 ∷ f1 ∷ m1 ∷ f3 ∷ m1 ∷ f3 ∷ f3 ∷ f1 ∷ f3 ∷ f1 ∷ f0 ∷ f1 ∷ f2 ∷ []
+
+-- the same square with K10's line 4 5 and the point 6
+abbrev k10 : List Float
+k10 = f0 ∷ f0 ∷ f2 ∷ f0 ∷ f2 ∷ f2 ∷ f0 ∷ f2 ∷ f1 ∷ m1 ∷ f1 ∷ f1 ∷ f1 ∷ f0 ∷ []
+
+abbrev whole : List Laid
+whole = laid 0 1 [] ∷ laid 1 2 [] ∷ laid 2 3 [] ∷ laid 3 0 [] ∷ []
+
+-- what a cell comes to, and whether it is doubled
+unfoldable cut : List Float → List Laid → List Laid → Outcome × Bool
+unfolding outlineDarts ownDarts dartsAlong joined hops isNew fresh passing first seek nearDarts inner edgeSlots table stands cellTable insert sortOnto angles coord mag sign ordered between pointAt sub ofBits tally doubled slot after onward arrive cross popped taken rest go step run starts walkFrom walk all times ring rings closesUp cutOutcome
+cut coords own near =
+    let outline = outlineDarts own in
+    let t = cellTable coords outline near in
+    (cutOutcome outline t, doubled t)
+
+samples :
+    cut k1 (laid 0 1 (0 ∷ 8 ∷ 1 ∷ []) ∷ laid 1 2 [] ∷ laid 2 3 (2 ∷ 9 ∷ 3 ∷ []) ∷ laid 3 0 [] ∷ []) (laid 7 4 (4 ∷ 8 ∷ 9 ∷ 7 ∷ []) ∷ [])
+    ∷ cut k10 (laid 0 1 (0 ∷ 6 ∷ 1 ∷ []) ∷ laid 1 2 [] ∷ laid 2 3 [] ∷ laid 3 0 [] ∷ []) (laid 4 5 (4 ∷ 6 ∷ 5 ∷ []) ∷ [])
+    ∷ cut k1 whole (laid 0 1 [] ∷ [])
+    ∷ []
+    ≡ (pieces ((3 ∷ 0 ∷ 8 ∷ 9 ∷ []) ∷ (9 ∷ 8 ∷ 1 ∷ 2 ∷ []) ∷ []), false)
+    ∷ (refusal 11, false)
+    ∷ (pieces ((3 ∷ 0 ∷ 1 ∷ 0 ∷ 1 ∷ 2 ∷ []) ∷ []), true)
+    ∷ []
+unfolding cut
+samples = refl
+
+-- an own edge in the direction opposite to its sorted nodes, and a candidate that the outline has already
+turned : _≡_ {A = List Edge × List Edge} (outlineDarts (laid 1 0 (0 ∷ 8 ∷ 1 ∷ []) ∷ []), inner ((8, 0) ∷ (1, 8) ∷ []) (laid 0 1 (0 ∷ 8 ∷ 1 ∷ []) ∷ laid 4 8 [] ∷ [])) ((8, 0) ∷ (1, 8) ∷ [], (4, 8) ∷ [])
+unfolding outlineDarts ownDarts dartsAlong joined hops isNew fresh passing first seek nearDarts inner
+turned = refl
+
+-- 1,024 slots pass, 1,026 don't
+limit : _≡_ {A = Bool × Bool} (tooMany 1024, tooMany 1026) (false, true)
+limit = refl

@@ -1,0 +1,82 @@
+-- A cell's table, outline and pieces in lent lists. Assumes nothing.
+use mathlib.Core.Path.{_≡_}
+use mathlib.Core.List.{List, [], _∷_}
+use Prim.Native.Nat.{ℕ, zero, suc, _+_, _*_, _≤_, _<_}
+use lib.ListN.{length, getD, drop}
+use lib.Ieee.{Float}
+use Rattle.lists.specs.Gather.{each, joined}
+use Rattle.lists.specs.Sort.{sortOnto}
+use Rattle.lists.specs.Regions.{front, put, zeros}
+use Rattle.cutting.specs.Edges.{Edge}
+use Rattle.cutting.specs.Cell.{Slot, edgeSlots, standsBefore}
+use Rattle.cutting.specs.declared.cut.Walked.{Walked}
+use Rattle.cutting.specs.declared.cut.Walked.the-variants.{Closed, Refused}
+use Rattle.cutting.specs.Outcome.{Outcome, refusal, pieces, flat, stops}
+
+abbrev pub slotAt : List ℕ → List ℕ → List ℕ → ℕ → Slot
+slotAt src dst marks i = record { src = getD src i 0; dst = getD dst i 0; mark = getD marks i 0 }
+
+-- the first n slots of a table in three lists
+unfoldable pub slotsOf : List ℕ → List ℕ → List ℕ → ℕ → List Slot
+slotsOf src dst marks n = each n (slotAt src dst marks)
+
+-- edges as a flat list of nodes, and read from one
+unfoldable pub ends : List Edge → List ℕ
+ends es = joined (λ e. e .0 ∷ e .1 ∷ []) es
+
+unfoldable pub pairs : List ℕ → List Edge
+pairs [] = []
+pairs (a ∷ []) = []
+pairs (a ∷ b ∷ xs) = (a, b) ∷ pairs xs
+
+-- the first k entries of a list, the last of them first
+unfoldable pub stacked : List ℕ → ℕ → List ℕ
+stacked xs zero = []
+stacked xs (suc k) = getD xs k 0 ∷ stacked xs k
+
+-- Three lists come to hold the r slots of t in front, and what stands behind them stays.
+pub record Inserted (t : List Slot) (r : ℕ) (src dst marks src′ dst′ marks′ : List ℕ) : Type 0 where
+  pub holds : slotsOf src′ dst′ marks′ r ≡ t
+  pub behind-src : drop r src′ ≡ drop r src
+  pub behind-dst : drop r dst′ ≡ drop r dst
+  pub behind-marks : drop r marks′ ≡ drop r marks
+
+-- A table of n slots takes those of the edges, the second of each with the mark `back`: r slots in all. Where these are over 1,024 nothing changes.
+pub record Added (coords : List Float) (back : ℕ) (es : List Edge) (n r : ℕ) (src dst marks src′ dst′ marks′ : List ℕ) : Type 0 where
+  pub count : r ≡ n + 2 * length es
+  pub grows : r ≤ 1024 → Inserted (sortOnto (standsBefore coords) (slotsOf src dst marks n) (edgeSlots back es)) r src dst marks src′ dst′ marks′
+  pub full : 1024 < r → (src′ ≡ src) × (dst′ ≡ dst) × (marks′ ≡ marks)
+
+-- An outline's list with n entries takes those of the darts, up to r; nothing changes where r is over 1,024.
+pub record Outlined (darts : List Edge) (n r : ℕ) (outline outline′ : List ℕ) : Type 0 where
+  pub grows : r ≤ 1024 → outline′ ≡ put outline n (ends darts)
+  pub full : 1024 < r → outline′ ≡ outline
+
+-- an answer by document 01's numbers: how many pieces and corners, or the refusal
+abbrev pub answer : Outcome → Walked
+answer (pieces ps) = Closed (length ps) (length (flat ps))
+answer (refusal k) = Refused k
+
+-- what the lists of corners and of ends come to: the pieces at their front, or zeros on a refusal
+unfoldable pub cornersIn : Outcome → List ℕ → List ℕ
+cornersIn (pieces ps) nodes = front nodes (flat ps)
+cornersIn (refusal k) nodes = zeros (length nodes)
+
+unfoldable pub endsIn : Outcome → List ℕ → List ℕ
+endsIn (pieces ps) stops₀ = front stops₀ (stops 0 ps)
+endsIn (refusal k) stops₀ = zeros (length stops₀)
+
+-- ---- what only inner functions' contracts cite
+
+pub record Room (n top : ℕ) (src dst marks heap nodes stops : List ℕ) : Type 0 where
+  pub small : n ≤ 1024
+  pub srcs : n ≤ length src
+  pub dsts : n ≤ length dst
+  pub marked : n ≤ length marks
+  pub heaps : n + top ≤ length heap
+  pub corners : n ≤ length nodes
+  pub stopped : n ≤ length stops
+
+abbrev pub Written : Outcome → List ℕ → List ℕ → List ℕ → List ℕ → Type 0
+Written (pieces ps) nodes₀ stops₀ nodes stops′ = (nodes ≡ front nodes₀ (flat ps)) × (stops′ ≡ front stops₀ (stops 0 ps))
+Written (refusal k) nodes₀ stops₀ nodes stops′ = Unit {0}

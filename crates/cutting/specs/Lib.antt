@@ -1,0 +1,6 @@
+pub mod Edges
+pub mod Cell
+pub mod Walk
+pub mod Outcome
+pub mod Areas
+pub mod Lent

@@ -1,0 +1,2 @@
+pub mod Booked
+pub mod Steps

@@ -1,0 +1,254 @@
+// Where edges of the two meshes meet (document 01, module 7, `compute_intersections`). Points go to the coordinates, meetings to a region of the
+// working list.
+ghost use mathlib.Core.Path.{_≡_};
+ghost use mathlib.Core.List.{[], _∷_};
+ghost use Prim.Native.Nat.{ℕ, _+_, _*_, _-_, _/_, _≤_, _<_};
+ghost use lib.ListN.{length, take};
+ghost use Rattle.lists.specs.Gather.{joined};
+ghost use Rattle.lists.specs.Regions.{put};
+ghost use Rattle.geometry.specs.Meet.{meeting};
+ghost use Rattle.rules.specs.Meetings.{nodeOf, segmentOf, addedBy};
+ghost use Rattle.rules.specs.Refusals.{ofMeeting, firstRefusal};
+ghost use Rattle.meetings.specs.Booked.{edgesIn, booked, meetingsAt};
+ghost use Rattle.meetings.specs.Steps.{edgeIn, metOf, metWith, Ready, Answered};
+use geometry::polygon::point_at;
+use geometry::segment::Meeting;
+use geometry::segment::PointId;
+use geometry::segment::Segment;
+use spatial_index::edge_bounds;
+use spatial_index::in_bounds;
+
+// The refusal or 0, how many meetings there are, and the number of the next new point.
+pub struct Found {
+    pub code: u32,
+    pub met: usize,
+    pub next: usize,
+}
+
+fn node_of(p: PointId, a: u32, b: u32, c: u32, d: u32) -> u32
+    ensures { λ r. ⌜ r ≡ nodeOf (a, b) (c, d) p ⌝ }
+{
+    match p {
+        PointId::P1 => a,
+        PointId::P2 => b,
+        PointId::P3 => c,
+        PointId::P4 => d,
+    }
+}
+
+// How the edge a, b meets the edge c, d.
+fn edges_meet(coords: &[f64], a: u32, b: u32, c: u32, d: u32) -> Meeting
+    ensures { λ r. ⌜ r ≡ meeting (segmentOf (now (coords .entry)) (a, b)) (segmentOf (now (coords .entry)) (c, d)) ⌝ }
+{
+    let s = Segment {
+        a: point_at(coords, a),
+        b: point_at(coords, b),
+    };
+    let o = Segment {
+        a: point_at(coords, c),
+        b: point_at(coords, d),
+    };
+    s.intersect(o)
+}
+
+// Writes a meeting: its two edges, the count of its nodes, and these.
+fn book(w: &mut [u32], at: usize, i: usize, j: usize, count: u32, u: u32, v: u32)
+    requires { ⌜ (at + 5 ≤ length (now w)) × (i < 65536) × (j < 65536) ⌝ }
+    ensures { λ _. ⌜ now (w .exit) ≡ put (now (w .entry)) at (i ∷ j ∷ count ∷ u ∷ v ∷ []) ⌝ }
+{
+    w[at] = i as u32;
+    w[at + 1] = j as u32;
+    w[at + 2] = count;
+    w[at + 3] = u;
+    w[at + 4] = v;
+}
+
+// The refusal of one more meeting where there are `met`, or 0. Its point needs the first `end` places of `len`: it is looked at after M.
+fn refusal(m: usize, met: usize, len: usize, end: usize) -> u32
+    ensures { λ r. ⌜ (m ≤ met → r ≡ 8) × (met < m → len < end → r ≡ 12) × (met < m → end ≤ len → r ≡ 0) ⌝ }
+{
+    if m <= met {
+        return 8;
+    }
+    if len < end {
+        return 12;
+    }
+    0
+}
+
+// A meeting at one or two nodes that there are already.
+fn add_known(
+    w: &mut [u32],
+    base: usize,
+    m: usize,
+    met: usize,
+    next: usize,
+    i: usize,
+    j: usize,
+    count: u32,
+    u: u32,
+    v: u32,
+) -> Found
+    requires { ⌜ (base + 5 * m ≤ length (now w)) × (met ≤ m) × (i < 65536) × (j < 65536) ⌝ }
+    ensures { λ r. ⌜ (m ≤ met → r .code ≡ 8)
+        × (met < m → (r .code ≡ 0) × (r .met ≡ met + 1) × (r .next ≡ next) × (now (w .exit) ≡ put (now (w .entry)) (base + 5 * met) (i ∷ j ∷ count ∷ u ∷ v ∷ []))) ⌝ }
+{
+    let code = refusal(m, met, 0, 0);
+    if code != 0 {
+        return Found { code, met, next };
+    }
+    book(w, base + 5 * met, i, j, count, u, v);
+    Found {
+        code: 0,
+        met: met + 1,
+        next,
+    }
+}
+
+// A meeting at a new point, which is refused before the point is placed.
+fn add_new(
+    oc: &mut [f64],
+    w: &mut [u32],
+    base: usize,
+    m: usize,
+    met: usize,
+    next: usize,
+    i: usize,
+    j: usize,
+    x: f64,
+    y: f64,
+) -> Found
+    requires { ⌜ (base + 5 * m ≤ length (now w)) × (met ≤ m) × (i < 65536) × (j < 65536) × (next < 131072) ⌝ }
+    ensures { λ r. ⌜ (m ≤ met → r .code ≡ 8) × (met < m → length (now (oc .entry)) < 2 * next + 2 → r .code ≡ 12)
+        × (met < m → 2 * next + 2 ≤ length (now (oc .entry)) → (r .code ≡ 0) × (r .met ≡ met + 1) × (r .next ≡ next + 1)
+        × (now (oc .exit) ≡ put (now (oc .entry)) (2 * next) (x ∷ y ∷ [])) × (now (w .exit) ≡ put (now (w .entry)) (base + 5 * met) (i ∷ j ∷ 1 ∷ next ∷ 0 ∷ []))) ⌝ }
+{
+    let k = 2 * next;
+    let code = refusal(m, met, oc.len(), k + 2);
+    if code != 0 {
+        return Found { code, met, next };
+    }
+    oc[k] = x;
+    oc[k + 1] = y;
+    book(w, base + 5 * met, i, j, 1, next as u32, 0);
+    Found {
+        code: 0,
+        met: met + 1,
+        next: next + 1,
+    }
+}
+
+// Adds the meeting of the subject's edge i with the cutter's edge j, if they meet.
+fn add_intersection(
+    oc: &mut [f64],
+    w: &mut [u32],
+    placed: usize,
+    se: usize,
+    ce: usize,
+    base: usize,
+    m: usize,
+    i: usize,
+    j: usize,
+    met: usize,
+    next: usize,
+) -> Found
+    requires { ⌜ (Ready (now oc) (now w) placed base m met next) × (se + 2 * i + 2 ≤ base) × (ce + 2 * j + 2 ≤ base) × (i < 65536) × (j < 65536) ⌝ }
+    ensures { λ r. ⌜ Answered m base (now (oc .entry)) (now (w .entry)) met next
+        (metOf (take placed (now (oc .entry))) i j next (edgeIn (now (w .entry)) se i) (edgeIn (now (w .entry)) ce j))
+        (now (oc .exit)) (now (w .exit)) r ⌝ }
+{
+    let a = w[se + 2 * i];
+    let b = w[se + 2 * i + 1];
+    let c = w[ce + 2 * j];
+    let d = w[ce + 2 * j + 1];
+    let r = edges_meet(&oc[..placed], a, b, c, d);
+    match r {
+        Meeting::Apart => {
+            return Found { code: 0, met, next };
+        }
+        Meeting::Existing(p) => {
+            let u = node_of(p, a, b, c, d);
+            return add_known(w, base, m, met, next, i, j, 1, u, 0);
+        }
+        Meeting::New(x, y) => {
+            return add_new(oc, w, base, m, met, next, i, j, x, y);
+        }
+        Meeting::Overlap(p, q) => {
+            let u = node_of(p, a, b, c, d);
+            let v = node_of(q, a, b, c, d);
+            return add_known(w, base, m, met, next, i, j, 2, u, v);
+        }
+    }
+}
+
+// Adds those of the subject's edge i with its candidates among the cutter's edges.
+fn of_edge(
+    oc: &mut [f64],
+    w: &mut [u32],
+    placed: usize,
+    se: usize,
+    ce: usize,
+    cn: usize,
+    base: usize,
+    m: usize,
+    i: usize,
+    met: usize,
+    next: usize,
+) -> Found
+    requires { ⌜ (Ready (now oc) (now w) placed base m met next) × (se + 2 * i + 2 ≤ base) × (ce + 2 * cn ≤ base) × (i < 65536) × (cn ≤ 65536) ⌝ }
+    ensures { λ r. ⌜ Answered m base (now (oc .entry)) (now (w .entry)) met next
+        (metWith (take placed (now (oc .entry))) i (edgeIn (now (w .entry)) se i) (edgesIn (now (w .entry)) ce cn) next)
+        (now (oc .exit)) (now (w .exit)) r ⌝ }
+{
+    let a = w[se + 2 * i];
+    let b = w[se + 2 * i + 1];
+    let bounds = edge_bounds(&oc[..placed], a, b);
+    let mut g = Found { code: 0, met, next };
+    let mut j = in_bounds(&oc[..placed], &w[ce..ce + 2 * cn], bounds, 0);
+    while j < cn {
+        g = add_intersection(oc, w, placed, se, ce, base, m, i, j, g.met, g.next);
+        if g.code != 0 {
+            return g;
+        }
+        j = in_bounds(&oc[..placed], &w[ce..ce + 2 * cn], bounds, j + 1);
+    }
+    g
+}
+
+// The meetings by subject edge, then candidate in rising index; new points are numbered as found. The first `placed` numbers of oc are the coordinates
+// of both meshes. The sn edges of the subject stand at se, the cn edges of the cutter at ce; the meetings go to base, five numbers each.
+pub fn compute_intersections(
+    oc: &mut [f64],
+    w: &mut [u32],
+    placed: usize,
+    se: usize,
+    sn: usize,
+    ce: usize,
+    cn: usize,
+    base: usize,
+    m: usize,
+) -> Found
+    requires { ⌜ (placed ≤ length (now oc)) × (2 * (placed / 2) ≡ placed) × (placed ≤ 65536) × (se + 2 * sn ≤ base) × (sn ≤ 65536) × (ce + 2 * cn ≤ base) × (cn ≤ 65536)
+        × (base + 5 * m ≤ length (now w)) × (m ≤ 65536) ⌝ }
+    ensures { λ r. ⌜ ((q n : ℕ) → r .code ≡ firstRefusal m (length (now (oc .entry)) / 2 - placed / 2) q n
+        (joined ofMeeting (meetingsAt (now (oc .entry)) (now (w .entry)) placed se sn ce cn)))
+        × (r .code ≡ 0 → (r .met ≡ length (meetingsAt (now (oc .entry)) (now (w .entry)) placed se sn ce cn))
+        × (r .next ≡ (placed + length (addedBy (meetingsAt (now (oc .entry)) (now (w .entry)) placed se sn ce cn))) / 2)
+        × (now (oc .exit) ≡ put (now (oc .entry)) placed (addedBy (meetingsAt (now (oc .entry)) (now (w .entry)) placed se sn ce cn)))
+        × (now (w .exit) ≡ put (now (w .entry)) base (booked (meetingsAt (now (oc .entry)) (now (w .entry)) placed se sn ce cn)))) ⌝ }
+{
+    let mut f = Found {
+        code: 0,
+        met: 0,
+        next: placed / 2,
+    };
+    let mut i: usize = 0;
+    while i < sn {
+        f = of_edge(oc, w, placed, se, ce, cn, base, m, i, f.met, f.next);
+        if f.code != 0 {
+            return f;
+        }
+        i += 1;
+    }
+    f
+}

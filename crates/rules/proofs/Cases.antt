@@ -1,0 +1,227 @@
+-- The cases K1 to K10 of document 01, the limits named behind them, and what it is tempting to get wrong, as one table and one theorem. Assumes nothing.
+use mathlib.Core.Bool.{Bool, true, false}
+use mathlib.Core.List.{List, [], _∷_, _++_, map}
+use Prim.Native.Nat.{ℕ, _+_, _*_}
+use lib.Dec.{T, eqb}
+use lib.ListN.{replicate}
+use lib.Ieee.{binary64, ofBits}
+use Rattle.lists.specs.Gather.{each, joined}
+use Rattle.lists.specs.Sort.{sorted}
+use Rattle.geometry.specs.Meet.{meeting}
+use Rattle.geometry.specs.Interior.{strictInteriorPoint}
+use Rattle.geometry.specs.Code.{code, innerCode}
+use Rattle.cutting.specs.Edges.{Edge}
+use Rattle.cutting.specs.Cell.{Laid, Slot, standsBefore, cellTable}
+use Rattle.cutting.specs.Outcome.{Outcome, refusal, pieces, cutOutcome, flat, stops}
+use Rattle.entry.specs.Mesh.{Mesh}
+use Rattle.entry.specs.Refused.{meshOf}
+use Rattle.rules.specs.Snap.{weld}
+use Rattle.rules.specs.SpatialIndex.{edgeBox, candidates}
+use Rattle.rules.specs.Nodes.{alongEdge}
+use Rattle.rules.specs.Overlay.{Lists, Result, result}
+use Rattle.rules.proofs.Tables.{Case, case, lent, onLists, floats, both, same, right}
+use Rattle.geometry.specs.declared.segment.Point.{Point}
+use Rattle.geometry.specs.declared.segment.Segment.{Segment}
+
+-- ---- what is asked, and last the answer
+
+data Row : Type 0 where
+  overlay : Case → Row  -- an overlay, lists and all
+  meeting-of : Segment → Segment → List ℕ → Row  -- two segments: the number and values of their meeting
+  order-of : List ℕ → List ℕ → List ℕ → Row  -- coordinates, and slots at node 0 by their neighbours: the neighbours in order
+  inner-of : List ℕ → List ℕ → List ℕ → Row  -- coordinates and a polygon: the number and values of its inner point
+  pieces-of : List ℕ → List Edge → List ℕ → List ℕ → Row  -- coordinates and outline darts: the pieces' corners and their ends
+  slots : ℕ → List ℕ → Row  -- so many slots in a table: the refusal
+  corners : ℕ → ℕ → Row  -- a mesh of one PGON of so many corners: what it is refused for
+  nodes-along : List ℕ → Edge → List ℕ → List ℕ → Row  -- coordinates, a key, the nodes collected: the sorted nodes
+  weld-of : Mesh → Mesh → List ℕ → Row  -- two meshes: the numbers of the cutter's nodes
+  near-box : List ℕ → Edge → Edge → List ℕ → Row  -- coordinates, an edge, another: it as a candidate
+
+-- ---- numbers, meshes and lists of the rows
+
+-- coordinates by their bits: 0, 1, 2, 3, 4, -1, 1/2, 1/4
+abbrev o : ℕ
+o = 0
+
+abbrev i : ℕ
+i = 0x3ff0_0000_0000_0000
+
+abbrev ii : ℕ
+ii = 0x4000_0000_0000_0000
+
+abbrev iii : ℕ
+iii = 0x4008_0000_0000_0000
+
+abbrev iv : ℕ
+iv = 0x4010_0000_0000_0000
+
+abbrev -i : ℕ
+-i = 0xbff0_0000_0000_0000
+
+abbrev half : ℕ
+half = 0x3fe0_0000_0000_0000
+
+abbrev quarter : ℕ
+quarter = 0x3fd0_0000_0000_0000
+
+abbrev point : ℕ → ℕ → Point
+point x y = record { x = ofBits binary64 x; y = ofBits binary64 y }
+
+abbrev seg : ℕ → ℕ → ℕ → ℕ → Segment
+seg ax ay bx by = record { a = point ax ay; b = point bx by }
+
+-- K1's subject and cutter, and K10's line
+abbrev square : Mesh
+square = lent (o ∷ o ∷ ii ∷ o ∷ ii ∷ ii ∷ o ∷ ii ∷ []) (0 ∷ 1 ∷ 2 ∷ 3 ∷ []) (4 ∷ []) (8 ∷ []) (7 ∷ [])
+
+abbrev strip : Mesh
+strip = lent (i ∷ -i ∷ iii ∷ -i ∷ iii ∷ iii ∷ i ∷ iii ∷ []) (0 ∷ 1 ∷ 2 ∷ 3 ∷ []) (4 ∷ []) (11 ∷ []) (0 ∷ [])
+
+abbrev line : Mesh
+line = lent (i ∷ -i ∷ i ∷ i ∷ []) (0 ∷ 1 ∷ []) (2 ∷ []) (1 ∷ []) (0 ∷ [])
+
+-- two squares side by side, and a line like K10's into the second; a triangle away from the square; a line through the square, twice
+abbrev squares : Mesh
+squares = lent (o ∷ o ∷ ii ∷ o ∷ iv ∷ o ∷ iv ∷ ii ∷ ii ∷ ii ∷ o ∷ ii ∷ []) (0 ∷ 1 ∷ 4 ∷ 5 ∷ 1 ∷ 2 ∷ 3 ∷ 4 ∷ []) (4 ∷ 8 ∷ []) (8 ∷ 8 ∷ []) (7 ∷ 9 ∷ [])
+
+abbrev line-on : Mesh
+line-on = lent (iii ∷ -i ∷ iii ∷ i ∷ []) (0 ∷ 1 ∷ []) (2 ∷ []) (1 ∷ []) (0 ∷ [])
+
+abbrev away : Mesh
+away = lent (iii ∷ iii ∷ iv ∷ iii ∷ iv ∷ iv ∷ []) (0 ∷ 1 ∷ 2 ∷ []) (3 ∷ []) (5 ∷ []) (3 ∷ [])
+
+abbrev twice : Mesh
+twice = lent (i ∷ -i ∷ i ∷ iii ∷ []) (0 ∷ 1 ∷ 0 ∷ 1 ∷ []) (2 ∷ 4 ∷ []) (1 ∷ 1 ∷ []) (0 ∷ 0 ∷ [])
+
+-- nodes at 1e-12 and 5e-13 from the square's first
+abbrev nearby : Mesh
+nearby = lent (0x3d71_9799_812d_ea11 ∷ o ∷ 0x3d61_9799_812d_ea11 ∷ o ∷ i ∷ i ∷ []) (0 ∷ 1 ∷ 2 ∷ []) (3 ∷ []) (5 ∷ []) (0 ∷ [])
+
+-- a triangle behind the one away from it; and lines: 42 along its first edge, each of which brings six entries under that edge's key, and k across it,
+-- each of which brings one
+abbrev triangles : Mesh
+triangles = lent (iii ∷ iii ∷ iv ∷ iii ∷ iv ∷ iv ∷ o ∷ o ∷ ii ∷ o ∷ o ∷ ii ∷ []) (0 ∷ 1 ∷ 2 ∷ 3 ∷ 4 ∷ 5 ∷ []) (3 ∷ 6 ∷ []) (5 ∷ 5 ∷ []) (1 ∷ 2 ∷ [])
+
+abbrev lines : ℕ → Mesh
+lines k =
+    let n = 42 + k in
+    lent (o ∷ o ∷ ii ∷ o ∷ i ∷ -i ∷ i ∷ quarter ∷ []) (joined {A = ℕ} (λ j. 0 ∷ 1 ∷ []) (replicate 42 0) ++ joined {A = ℕ} (λ j. 2 ∷ 3 ∷ []) (replicate k 0)) (each n (λ j. 2 * j + 2)) (replicate n 1) (replicate n 0)
+
+-- lists with 5 in each place and 2.0 for each coordinate; and all zero
+abbrev fives : ℕ → ℕ → ℕ → ℕ → ℕ → ℕ → Lists
+fives c n e k f w = onLists (replicate c ii) (replicate n 5) (replicate e 5) (replicate k 5) (replicate f 5) (replicate w 5)
+
+abbrev noughts : ℕ → ℕ → ℕ → ℕ → ℕ → ℕ → Lists
+noughts c n e k f w = onLists (replicate c 0) (replicate n 0) (replicate e 0) (replicate k 0) (replicate f 0) (replicate w 0)
+
+abbrev refused : ℕ → Lists → Result
+refused r l = result r 0 0 0 l
+
+-- the coordinates of K1's answer
+abbrev cut-coords : List ℕ
+cut-coords = o ∷ o ∷ ii ∷ o ∷ ii ∷ ii ∷ o ∷ ii ∷ i ∷ -i ∷ iii ∷ -i ∷ iii ∷ iii ∷ i ∷ iii ∷ i ∷ o ∷ i ∷ ii ∷ []
+
+rows : List Row
+rows =
+    -- K1, with one place more in each list than its answer takes
+    overlay (case 0 9 square strip (fives 21 9 3 3 3 500) (result 0 2 2 0 (onLists (cut-coords ++ ii ∷ []) (3 ∷ 0 ∷ 8 ∷ 9 ∷ 9 ∷ 8 ∷ 1 ∷ 2 ∷ 5 ∷ []) (4 ∷ 8 ∷ 5 ∷ []) (11 ∷ 11 ∷ 5 ∷ []) (7 ∷ 7 ∷ 5 ∷ []) (replicate 500 0))))
+    -- K2 to K7
+    ∷ meeting-of (seg o o ii o) (seg i iii i -i) (2 ∷ i ∷ o ∷ [])
+    ∷ meeting-of (seg o o ii o) (seg i o iii o) (3 ∷ 3 ∷ 2 ∷ [])
+    ∷ meeting-of (seg o o i o) (seg i o ii o) (0 ∷ [])
+    ∷ meeting-of (seg i o ii o) (seg o o i o) (3 ∷ 1 ∷ 4 ∷ [])
+    ∷ meeting-of (seg i i i i) (seg ii o ii o) (0 ∷ [])
+    ∷ meeting-of (seg o o ii o) (seg i o i ii) (1 ∷ 3 ∷ [])
+    -- K8, and the same directions put in the other way round
+    ∷ order-of (o ∷ o ∷ -i ∷ o ∷ o ∷ i ∷ i ∷ o ∷ o ∷ -i ∷ []) (1 ∷ 2 ∷ 3 ∷ 4 ∷ []) (1 ∷ 2 ∷ 3 ∷ 4 ∷ [])
+    ∷ order-of (o ∷ o ∷ -i ∷ o ∷ o ∷ i ∷ i ∷ o ∷ o ∷ -i ∷ []) (4 ∷ 3 ∷ 2 ∷ 1 ∷ []) (1 ∷ 2 ∷ 3 ∷ 4 ∷ [])
+    -- K9
+    ∷ inner-of (o ∷ ii ∷ o ∷ o ∷ i ∷ o ∷ i ∷ ii ∷ []) (0 ∷ 1 ∷ 2 ∷ 3 ∷ []) (1 ∷ half ∷ i ∷ [])
+    -- K10
+    ∷ overlay (case 5 9 square line (fives 21 9 3 3 3 500) (refused 11 (noughts 21 9 3 3 3 500)))
+    -- 256 nodes on an edge pass, so that the next thing is that the first triangle has no place; 257 give 9
+    ∷ overlay (case 5 130 triangles (lines 4) (fives 28 0 0 0 0 3872) (refused 12 (noughts 28 0 0 0 0 3872)))
+    ∷ overlay (case 5 131 triangles (lines 5) (fives 30 0 0 0 0 3920) (refused 9 (noughts 30 0 0 0 0 3920)))
+    -- 1,024 slots pass, 1,026 give 10
+    ∷ slots 1024 []
+    ∷ slots 1026 (10 ∷ [])
+    -- a PGON of 256 passes, one of 257 gives 4
+    ∷ corners 256 0
+    ∷ corners 257 4
+    -- tempting: a piece closes when its first node returns, not its first dart
+    ∷ pieces-of (o ∷ o ∷ i ∷ -i ∷ i ∷ i ∷ -i ∷ i ∷ -i ∷ -i ∷ []) ((1, 2) ∷ (2, 0) ∷ (0, 3) ∷ (3, 4) ∷ (4, 0) ∷ (0, 1) ∷ []) (0 ∷ 1 ∷ 2 ∷ 4 ∷ 0 ∷ 3 ∷ []) (3 ∷ 6 ∷ [])
+    -- the key's second node isn't sorted with the others
+    ∷ nodes-along (o ∷ o ∷ i ∷ o ∷ ii ∷ o ∷ []) (0, 1) (2 ∷ []) (0 ∷ 2 ∷ 1 ∷ [])
+    -- a node at the weld distance itself isn't near
+    ∷ weld-of square nearby (4 ∷ 0 ∷ 6 ∷ [])
+    -- boxes that only touch meet
+    ∷ near-box (o ∷ o ∷ i ∷ i ∷ i ∷ i ∷ ii ∷ ii ∷ []) (0, 1) (2, 3) (0 ∷ [])
+    -- K1 with room for it and no more; with one number, one node entry, or one place for a piece less; with a working list too short
+    ∷ overlay (case 0 2 square strip (fives 20 8 2 2 2 352) (result 0 2 2 0 (onLists cut-coords (3 ∷ 0 ∷ 8 ∷ 9 ∷ 9 ∷ 8 ∷ 1 ∷ 2 ∷ []) (4 ∷ 8 ∷ []) (11 ∷ 11 ∷ []) (7 ∷ 7 ∷ []) (replicate 352 0))))
+    ∷ overlay (case 0 2 square strip (fives 19 8 2 2 2 352) (refused 12 (noughts 19 8 2 2 2 352)))
+    ∷ overlay (case 0 2 square strip (fives 20 7 2 2 2 352) (refused 12 (noughts 20 7 2 2 2 352)))
+    ∷ overlay (case 0 2 square strip (fives 20 8 1 2 2 352) (refused 12 (noughts 20 8 1 2 2 352)))
+    ∷ overlay (case 0 2 square strip (fives 20 8 2 2 2 351) (refused 7 (fives 20 8 2 2 2 351)))
+    -- the order of refusals: a meeting beyond M comes before its point that has no place; a piece of the first cell before what the second cell's walk
+    -- comes to, and that before a place for another piece
+    ∷ overlay (case 0 1 square strip (fives 18 0 0 0 0 352) (refused 8 (noughts 18 0 0 0 0 352)))
+    ∷ overlay (case 5 9 squares line-on (fives 21 4 0 0 0 500) (refused 12 (noughts 21 4 0 0 0 500)))
+    ∷ overlay (case 5 9 squares line-on (fives 21 4 1 1 1 500) (refused 11 (noughts 21 4 1 1 1 500)))
+    -- K1's meshes under Union, Intersection, Difference and SymmetricDifference
+    ∷ overlay (case 1 9 square strip (fives 20 16 3 3 3 500) (result 0 3 2 0 (onLists cut-coords (3 ∷ 0 ∷ 8 ∷ 9 ∷ 9 ∷ 8 ∷ 1 ∷ 2 ∷ 7 ∷ 9 ∷ 2 ∷ 1 ∷ 8 ∷ 4 ∷ 5 ∷ 6 ∷ []) (4 ∷ 8 ∷ 16 ∷ []) (11 ∷ 11 ∷ 11 ∷ []) (7 ∷ 7 ∷ 0 ∷ []) (replicate 500 0))))
+    ∷ overlay (case 2 9 square strip (fives 20 4 1 1 1 500) (result 0 1 2 0 (onLists cut-coords (9 ∷ 8 ∷ 1 ∷ 2 ∷ []) (4 ∷ []) (11 ∷ []) (7 ∷ []) (replicate 500 0))))
+    ∷ overlay (case 3 9 square strip (fives 20 4 1 1 1 500) (result 0 1 2 0 (onLists cut-coords (3 ∷ 0 ∷ 8 ∷ 9 ∷ []) (4 ∷ []) (11 ∷ []) (7 ∷ []) (replicate 500 0))))
+    ∷ overlay (case 4 9 square strip (fives 20 12 2 2 2 500) (result 0 2 2 0 (onLists cut-coords (3 ∷ 0 ∷ 8 ∷ 9 ∷ 7 ∷ 9 ∷ 2 ∷ 1 ∷ 8 ∷ 4 ∷ 5 ∷ 6 ∷ []) (4 ∷ 12 ∷ []) (11 ∷ 11 ∷ []) (7 ∷ 0 ∷ []) (replicate 500 0))))
+    -- two cells, both cut; a cell copied; lines aren't made unique, so the cell is doubled
+    ∷ overlay (case 0 9 squares strip (fives 28 16 4 4 4 572) (result 0 4 4 0 (onLists
+    (o ∷ o ∷ ii ∷ o ∷ iv ∷ o ∷ iv ∷ ii ∷ ii ∷ ii ∷ o ∷ ii ∷ i ∷ -i ∷ iii ∷ -i ∷ iii ∷ iii ∷ i ∷ iii ∷ i ∷ o ∷ i ∷ ii ∷ iii ∷ o ∷ iii ∷ ii ∷ [])
+    (5 ∷ 0 ∷ 10 ∷ 11 ∷ 11 ∷ 10 ∷ 1 ∷ 4 ∷ 4 ∷ 1 ∷ 12 ∷ 13 ∷ 13 ∷ 12 ∷ 2 ∷ 3 ∷ []) (4 ∷ 8 ∷ 12 ∷ 16 ∷ []) (11 ∷ 11 ∷ 11 ∷ 11 ∷ []) (7 ∷ 7 ∷ 9 ∷ 9 ∷ []) (replicate 572 0))))
+    ∷ overlay (case 1 9 square away (fives 14 7 2 2 2 500) (result 0 2 0 0 (onLists (o ∷ o ∷ ii ∷ o ∷ ii ∷ ii ∷ o ∷ ii ∷ iii ∷ iii ∷ iv ∷ iii ∷ iv ∷ iv ∷ []) (0 ∷ 1 ∷ 2 ∷ 3 ∷ 4 ∷ 5 ∷ 6 ∷ []) (4 ∷ 7 ∷ []) (8 ∷ 5 ∷ []) (7 ∷ 3 ∷ []) (replicate 500 0))))
+    ∷ overlay (case 5 9 square twice (fives 20 8 1 1 1 500) (result 0 1 4 1 (onLists (o ∷ o ∷ ii ∷ o ∷ ii ∷ ii ∷ o ∷ ii ∷ i ∷ -i ∷ i ∷ iii ∷ i ∷ o ∷ i ∷ o ∷ i ∷ ii ∷ i ∷ ii ∷ []) (3 ∷ 0 ∷ 6 ∷ 7 ∷ 1 ∷ 2 ∷ 8 ∷ 9 ∷ []) (8 ∷ []) (11 ∷ []) (7 ∷ []) (replicate 500 0))))
+    ∷ []
+
+-- ---- the test
+
+-- a table of so many slots, and nothing to walk
+abbrev filled : ℕ → List Slot
+filled n = replicate n (record { src = 0; dst = 0; mark = 1 })
+
+abbrev slot-to : ℕ → Slot
+slot-to n = record { src = 0; dst = n; mark = 0 }
+
+-- nodes 0 to n - 1, all of them at (0, 0)
+abbrev pgon : ℕ → Mesh
+pgon n = lent (replicate (2 * n) 0) (each n (λ j. j)) (n ∷ []) (11 ∷ []) (0 ∷ [])
+
+abbrev refusalOf : Outcome → List ℕ
+refusalOf (refusal r) = r ∷ []
+refusalOf (pieces ps) = []
+
+abbrev cutInto : Outcome → List ℕ → List ℕ → Bool
+cutInto (refusal r) ns es = false
+cutInto (pieces ps) ns es = both (same (flat ps) ns) (same (stops 0 ps) es)
+
+abbrev no-edges : List Laid
+no-edges = []
+
+holds : Row → Bool
+unfolding right code innerCode
+holds (overlay c) = right (c ∷ [])
+holds (meeting-of s t m) = same (code (meeting s t)) m
+holds (order-of coords ns order) = same (map (λ s. s .dst) (sorted (standsBefore (floats coords)) (map slot-to ns))) order
+holds (inner-of coords ps p) = same (innerCode (strictInteriorPoint (floats coords) ps)) p
+holds (pieces-of coords es ns ends) = cutInto (cutOutcome es (cellTable (floats coords) es no-edges)) ns ends
+holds (slots n r) = same (refusalOf (cutOutcome [] (filled n))) r
+holds (corners n r) = eqb (meshOf false (pgon n)) r
+holds (nodes-along coords k ns ms) = same (alongEdge (floats coords) k ns) ms
+holds (weld-of s c ns) = same (weld s c) ns
+holds (near-box coords e f js) = same (candidates (floats coords) (f ∷ []) (edgeBox (floats coords) e)) js
+
+all-hold : List Row → Bool
+unfolding both holds
+all-hold [] = true
+all-hold (r ∷ rs) = both (holds r) (all-hold rs)
+
+cases : T (all-hold rows)
+unfolding rows all-hold
+cases = tt

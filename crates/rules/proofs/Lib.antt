@@ -1,0 +1,13 @@
+pub mod ForLists
+pub mod Endings
+pub mod Accepts
+pub mod Course
+pub mod Turns
+pub mod Parts
+pub mod Once
+pub mod Lengths
+pub mod ReadBack
+pub mod Closing
+pub mod Demand3
+pub mod Tables
+pub mod Cases

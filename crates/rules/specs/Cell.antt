@@ -1,0 +1,68 @@
+-- Document 01, modules 6 and 7 (cut.rs, `cut_with_intersections`): what each cell is cut by, and what it comes to. A cell's darts, its table, its walk
+-- and refusals 10 and 11 are the cutting layer's. Assumes nothing.
+use mathlib.Core.List.{List, [], _∷_, map}
+use Prim.Native.Nat.{ℕ}
+use lib.ListN.{getD}
+use Rattle.cutting.specs.Edges.{Edge, edgeAt, ring}
+use Rattle.cutting.specs.Cell.{Laid, outlineDarts, Slot, cellTable, copiedTable}
+use Rattle.cutting.specs.Outcome.{Outcome, cutOutcome, copiedOutcome}
+use Rattle.rules.specs.Mesh.{Side, other}
+use Rattle.rules.specs.SpatialIndex.{boxOf, candidates}
+use Rattle.rules.specs.Meetings.{Scene, netOf}
+use Rattle.rules.specs.Nodes.{sortedNodes}
+
+-- an edge with its sorted nodes
+abbrev pub laid : Scene → Edge → Laid
+laid sc e = record { edge = e; nodes = sortedNodes sc e }
+
+-- "Outline darts are those that `build_cell_dart_map` takes from the cell's own edges along their sorted nodes, in the direction it gives them"
+unfoldable pub dartsOf : Scene → List ℕ → List Edge
+dartsOf sc cell = outlineDarts (map (laid sc) (ring cell))
+
+-- those of the edges es at the places js, with their sorted nodes
+abbrev pub nearEdges : Scene → List Edge → List ℕ → List Laid
+nearEdges sc es js = map (λ j. laid sc (edgeAt es j)) js
+
+-- ---- a cell near which the other mesh has no edge is copied, any other is cut
+
+-- "The outline as cut is the list of outline darts, or the cell's own edges where it is copied"
+abbrev pub outlineBy : Scene → List ℕ → List ℕ → List Edge
+outlineBy sc cell [] = ring cell
+outlineBy sc cell (j ∷ js) = dartsOf sc cell
+
+-- "A copied cell's table is that of its own edges"
+abbrev pub tableBy : Scene → List Edge → List ℕ → List ℕ → List Slot
+tableBy sc es cell [] = copiedTable cell
+tableBy sc es cell (j ∷ js) = cellTable (sc .coords) (dartsOf sc cell) (nearEdges sc es (j ∷ js))
+
+-- "A cell's pieces before any are dropped are all that its walk closes, in that order, or the cell itself where it is copied"; or 10 or 11
+abbrev pub outcomeBy : List Edge → List Slot → List ℕ → List ℕ → Outcome
+outcomeBy outline t cell [] = copiedOutcome cell
+outcomeBy outline t cell (j ∷ js) = cutOutcome outline t
+
+-- a copied cell keeps its kind, and what is cut out of a cell is a PGON
+abbrev pub kindBy : ℕ → List ℕ → ℕ
+kindBy kind [] = kind
+kindBy kind (j ∷ js) = 11
+
+-- ---- cell i of mesh w
+
+module _ (sc : Scene) (w : Side) (i : ℕ) where
+  abbrev pub cellOf : List ℕ
+  cellOf = getD (netOf sc w .cells) i []
+
+  -- the other mesh's edges whose box meets that of the cell's corners
+  unfoldable pub nearOf : List ℕ
+  nearOf = candidates (sc .coords) (netOf sc (other w) .edges) (boxOf (sc .coords) cellOf)
+
+  unfoldable pub outlineOf : List Edge
+  outlineOf = outlineBy sc cellOf nearOf
+
+  unfoldable pub tableOf : List Slot
+  tableOf = tableBy sc (netOf sc (other w) .edges) cellOf nearOf
+
+  unfoldable pub outcomeOf : Outcome
+  outcomeOf = outcomeBy outlineOf tableOf cellOf nearOf
+
+  unfoldable pub kindOf : ℕ
+  kindOf = kindBy (getD (netOf sc w .kinds) i 0) nearOf

@@ -1,0 +1,12 @@
+pub mod Mesh
+pub mod Snap
+pub mod Neighbours
+pub mod SpatialIndex
+pub mod Meetings
+pub mod Nodes
+pub mod Cell
+pub mod Inside
+pub mod Operations
+pub mod Refusals
+pub mod Overlay
+pub mod Demand3

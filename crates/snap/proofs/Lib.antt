@@ -1,0 +1,7 @@
+pub mod ForLists
+pub mod Marks
+pub mod Orders
+pub mod Near
+pub mod Numbers
+pub mod Whole
+pub mod Welds

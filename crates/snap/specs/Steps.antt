@@ -1,0 +1,55 @@
+-- What the inner functions of module 4 come to, each over the lists lent to it. Assumes nothing.
+use mathlib.Core.Bool.{Bool, cond, not}
+use mathlib.Core.List.{List}
+use Prim.Native.Nat.{ℕ, _+_, _/_, _<_}
+use lib.Dec.{eqb}
+use lib.ListN.{length, getD, take}
+use lib.Ieee.{Float, lt}
+use Rattle.lists.specs.Search.{bit}
+use Rattle.lists.specs.Gather.{each, places}
+use Rattle.lists.specs.Sort.{insert, sorted}
+use Rattle.lists.specs.Regions.{front}
+use Rattle.geometry.specs.Plane.{pointAt}
+use Rattle.rules.specs.Snap.{named, precedes, orShifted, closestWithin}
+use Rattle.snap.specs.declared.Nearest.{Nearest}
+
+-- each node number is below n
+abbrev pub Below : ℕ → List ℕ → Type 0
+Below n nodes = (k : ℕ) → k < length nodes → getD nodes k 0 < n
+
+-- a mark for each of n nodes: 1 where some element names it
+unfoldable pub used : List ℕ → ℕ → List ℕ
+used nodes n = each n (λ i. bit (named nodes i))
+
+abbrev pub marked : List ℕ → ℕ → Bool
+marked marks i = not (eqb (getD marks i 0) 0)
+
+-- ---- `sorted_indices_for`
+
+-- node i stands before node j
+abbrev pub before : List Float → ℕ → ℕ → Bool
+before coords i j = precedes (pointAt coords i) (pointAt coords j)
+
+-- the marked nodes in order
+unfoldable pub inOrder : List Float → List ℕ → List ℕ
+inOrder coords marks = sorted (before coords) (places (marked marks) (length marks))
+
+-- the first k entries of s are nodes in order: with node i, where s has a mark for it; and how many they are then
+unfoldable pub withNode : List Float → List ℕ → ℕ → ℕ → List ℕ
+withNode coords s k i = cond (marked s i) (front s (insert (before coords) i (take k s))) s
+
+unfoldable pub counted : List ℕ → ℕ → ℕ → ℕ
+counted s k i = k + bit (marked s i)
+
+-- ---- `closest_within`
+
+unfoldable pub closer : Float → ℕ → Nearest → Nearest
+closer d v best = cond (lt d (best .dist2)) (record { dist2 = d; node = v }) best
+
+-- ---- `duplicates_from`
+
+-- the number of the cutter's node j, by its mark and the used subject nodes in order
+unfoldable pub numberBy : List Float → List ℕ → List Float → ℕ → ℕ → ℕ
+numberBy sc order cc mark j =
+    let shifted = j + length sc / 2 in
+    cond (eqb mark 0) shifted (orShifted shifted (closestWithin sc order (pointAt cc j)))

@@ -1,0 +1,50 @@
+-- The turns of the loops of `bounds2` and `in_bounds`. Assumes nothing.
+use mathlib.Core.Path.{_≡_, sym, ap, ap₂, _∙_}
+use mathlib.Core.Bool.{Bool, true, false}
+use mathlib.Core.List.{List}
+use Prim.Native.Nat.{ℕ, _+_, _*_, _/_, _≤_, _<_}
+use native.Mathlib.Nat.{le-antisymm}
+use native.Mathlib.Numerals.{add-one}
+use native.Mathlib.Omega.{arith}
+use lib.ListN.{length, getD}
+use lib.Ieee.{Float}
+use Rattle.lists.specs.Search.{first}
+use Rattle.lists.proofs.Search.{first-on, first-here, first-end}
+use Rattle.geometry.specs.Plane.{pointAt}
+use Rattle.geometry.specs.declared.segment.Point.{Point}
+use Rattle.cutting.specs.Edges.{Edge}
+use Rattle.cutting.specs.Lent.{pairs}
+use Rattle.rules.specs.declared.Bounds.{Bounds}
+use Rattle.rules.specs.SpatialIndex.{stretched, boxTo, boxOf, edgeBox, boxesMeet}
+use Rattle.spatial_index.proofs.Candidates.{meets, length-pairs, pairs-at}
+
+module _ (coords : List Float) (ns : List ℕ) where
+  pub box-turn : (b c : Bounds) (p : Point) (i : ℕ) → b ≡ boxTo i coords ns → p ≡ pointAt coords (getD ns i 0) → c ≡ stretched b p → c ≡ boxTo (i + 1) coords ns
+  unfolding boxTo
+  box-turn b c p i bi pi ci = ci ∙ ap₂ stretched bi pi ∙ rw add-one
+
+  pub box-end : (b : Bounds) (i : ℕ) → b ≡ boxTo i coords ns → i ≤ length ns → length ns ≤ i → b ≡ boxOf coords ns
+  box-end b i bi l m = bi ∙ ap (λ (k : ℕ). boxTo k coords ns) (le-antisymm {n = i} {m = length ns} l m)
+
+-- the search among the edges of a flat list
+module _ (coords : List Float) (xs : List ℕ) (b : Bounds) (from : ℕ) where
+  abbrev pub Sought : ℕ → Type 0
+  Sought j = first (meets coords (pairs xs) b) j (length (pairs xs)) ≡ first (meets coords (pairs xs) b) from (length (pairs xs))
+
+  -- at edge j the code has its box e, and t: whether that meets b
+  module _ (j : ℕ) (e : Bounds) (t : Bool) (inv : Sought j) (h : j < length xs / 2) (ee : e ≡ edgeBox coords (getD xs (2 * j) 0, getD xs (2 * j + 1) 0))
+      (te : t ≡ boxesMeet e b) where
+    within : j < length (pairs xs)
+    within = omega (arith, length-pairs xs)
+
+    tested : meets coords (pairs xs) b j ≡ t
+    tested = ap (λ (f : Edge). boxesMeet (edgeBox coords f) b) (pairs-at xs j h) ∙ ap (λ (g : Bounds). boxesMeet g b) (sym ee) ∙ sym te
+
+    pub sought-on : t ≡ false → Sought (j + 1)
+    sought-on f = first-on (meets coords (pairs xs) b) j (length (pairs xs)) within (tested ∙ f) ∙ inv
+
+    pub sought-here : t ≡ true → j ≡ first (meets coords (pairs xs) b) from (length (pairs xs))
+    sought-here f = sym (first-here (meets coords (pairs xs) b) j (length (pairs xs)) within (tested ∙ f)) ∙ inv
+
+  pub sought-end : (j : ℕ) → Sought j → length xs / 2 ≤ j → j ≡ first (meets coords (pairs xs) b) from (length (pairs xs))
+  sought-end j inv h = sym (first-end (meets coords (pairs xs) b) j (length (pairs xs)) (omega (arith, length-pairs xs))) ∙ inv
