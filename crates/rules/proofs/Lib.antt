@@ -1,4 +1,3 @@
-pub mod ForLists
 pub mod Endings
 pub mod Accepts
 pub mod Course

@@ -13,7 +13,7 @@ use Rattle.rules.specs.Meetings.{Scene, netOf}
 use Rattle.rules.specs.Operations.{cuts, keeps, sceneFor, Piece, piecesOf, pieceAt, inside, kept, overCells, listing}
 use Rattle.rules.specs.Demand3.{ListedAt, SamePiece}
 use Rattle.lists.proofs.Gather.{gathered-at, each-at, passing-at}
-use Rattle.rules.proofs.ForLists.{in-list}
+use Rattle.lists.proofs.Gather.{in-list}
 
 -- ---- lists of pieces in which none stands twice
 

@@ -12,7 +12,7 @@ use Rattle.rules.specs.Meetings.{Scene, netOf, sceneOf}
 use Rattle.rules.specs.Operations.{cuts, keeps, sceneFor, Piece, piecesOf, pieceAt, inside, kept, overCells, listing}
 use Rattle.rules.specs.Demand3.{Kept, Listed, SamePiece, Unlisted}
 use Rattle.lists.proofs.Gather.{gathered-at, in-gathered, each-at, in-each, passing-at, in-passing, mem-at}
-use Rattle.rules.proofs.ForLists.{in-list}
+use Rattle.lists.proofs.Gather.{in-list}
 
 -- ---- one mesh's part of a listing
 

@@ -13,7 +13,7 @@ use Rattle.rules.specs.Operations.{Piece, listing}
 use Rattle.rules.specs.Overlay.{Lists, overlayOf, answered, written}
 use Rattle.rules.specs.Demand3.{Accepted, WrittenAt}
 use Rattle.lists.proofs.Regions.{front-in}
-use Rattle.rules.proofs.ForLists.{getD-any}
+use Rattle.lists.proofs.Gather.{getD-any}
 use Rattle.rules.proofs.Accepts.{accepted}
 
 -- where run j starts, the first at k

@@ -1,4 +1,4 @@
-pub mod ForLists
+pub mod Places
 pub mod Marks
 pub mod Orders
 pub mod Near

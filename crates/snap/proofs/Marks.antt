@@ -17,7 +17,7 @@ use Rattle.lists.proofs.Search.{has-at}
 use Rattle.lists.proofs.Gather.{length-each, getD-each}
 use Rattle.rules.specs.Snap.{named}
 use Rattle.snap.specs.Steps.{used, marked}
-use Rattle.snap.proofs.ForLists.{has-skip}
+use Rattle.snap.proofs.Places.{has-skip}
 
 -- the first k of the nodes name i
 abbrev pub namedBy : List ℕ → ℕ → ℕ → Bool

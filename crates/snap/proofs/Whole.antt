@@ -18,7 +18,7 @@ use Rattle.geometry.specs.Plane.{pointAt}
 use Rattle.entry.specs.Mesh.{mesh}
 use Rattle.rules.specs.Snap.{named, usedNodes, sortedIndicesFor, closestWithin, orShifted, numberOf, weld}
 use Rattle.snap.specs.Steps.{used, marked, before, inOrder, numberBy}
-use Rattle.snap.proofs.ForLists.{mid, length-part, front-is, put-front, lent-again, mid-mid}
+use Rattle.snap.proofs.Places.{mid, length-part, front-is, put-front, lent-again, mid-mid}
 use Rattle.snap.proofs.Marks.{length-used, getD-used, marked-used}
 use Rattle.snap.proofs.Orders.{length-orderTo}
 use Rattle.snap.proofs.Numbers.{numberIn}

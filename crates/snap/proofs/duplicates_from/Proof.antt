@@ -6,7 +6,7 @@ use Prim.Native.Nat.{_+_, _-_, _/_}
 use lib.ListN.{length, drop}
 use lib.Seq.{length-take-le}
 use borrow.Author.Needs.{needs}
-use Rattle.snap.proofs.ForLists.{length-part}
+use Rattle.snap.proofs.Places.{length-part}
 use Rattle.snap.proofs.Whole.{room, whole}
 use Rattle.snap.proofs.duplicates_from.Statement.{statement}
 use Rattle.snap.proofs.duplicates_from.Tie as tie

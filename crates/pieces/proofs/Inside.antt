@@ -1,0 +1,82 @@
+-- Inside the other mesh or not, and kept or not: the turns of `some_holds`, the answers of `keeps` and `is_kept`. Assumes nothing.
+use mathlib.Core.Path.{_≡_, refl, sym, ap, _∙_}
+use mathlib.Core.Bool.{Bool, true, false, not, _&&_, _||_}
+use mathlib.Core.List.{List, []}
+use Prim.Native.Nat.{ℕ, _+_, _-_, _≤_, _<_}
+use native.Mathlib.Omega.{arith}
+use lib.Ieee.{Float}
+use lib.ListN.{length, getD, take, drop}
+use Rattle.lists.specs.Search.{first, has}
+use Rattle.lists.proofs.Search.{and-true, first-on, first-here, first-end, has-true, has-false}
+use Rattle.geometry.specs.Inside.{inside}
+use Rattle.geometry.specs.declared.segment.Point.{Point}
+use Rattle.geometry.specs.declared.polygon.Inner.the-variants.{Inside}
+use Rattle.entry.specs.Mesh.{prior}
+use Rattle.entry.proofs.Ends.{prior-more}
+use Rattle.rules.specs.Mesh.{Side}
+use Rattle.rules.specs.SpatialIndex.{boxOf, boxHolds}
+use Rattle.rules.specs.Inside.{someHolds}
+use Rattle.rules.specs.Operations.{keeps, keptByUnion}
+use Rattle.pieces.specs.Pieces.{Rising, runsOf, sideOf}
+use Rattle.pieces.proofs.Runs.{length-runs, run-at, part-is}
+
+-- ---- `some_holds`
+
+-- the cell holds p
+abbrev pub holds : List Float → Point → List ℕ → Bool
+holds coords p cell = boxHolds (boxOf coords cell) p && inside coords cell p
+
+abbrev pub holdsAt : List Float → Point → List (List ℕ) → ℕ → Bool
+holdsAt coords p cells i = holds coords p (getD cells i [])
+
+-- none of the first i cells does
+abbrev pub Passed : List Float → List ℕ → List ℕ → Point → ℕ → ℕ → Type 0
+Passed coords nodes ends p start i =
+    (i ≤ length ends) × (start ≡ prior ends i) × (start ≤ length nodes)
+    × (first (holdsAt coords p (runsOf nodes ends)) i (length ends) ≡ first (holdsAt coords p (runsOf nodes ends)) 0 (length ends))
+
+module _ (coords : List Float) (nodes ends : List ℕ) (x y : Float) where
+  abbrev at : Point
+  at = record { x = x; y = y }
+
+  abbrev test : ℕ → Bool
+  test = holdsAt coords at (runsOf nodes ends)
+
+  pub passed-none : Passed coords nodes ends at 0 0
+  unfolding prior
+  passed-none = (omega arith, refl, omega arith, refl)
+
+  module _ (start i : ℕ) (inv : Passed coords nodes ends at start i) where
+    test-is : i < length ends → test i ≡ holds coords at (take (getD ends i 0 - start) (drop start nodes))
+    test-is h = ap (holds coords at) (run-at nodes ends i h ∙ sym (part-is nodes ends start i (inv .1)))
+
+    pub found : i < length ends → (r : Bool) → r ≡ holds coords at (take (getD ends i 0 - start) (drop start nodes)) → r ≡ true
+        → true ≡ someHolds coords (runsOf nodes ends) (Inside x y)
+    unfolding someHolds
+    found h r e t =
+        sym (ap (has test) (length-runs nodes ends) ∙ has-true test (length ends) i (sym (first-here test i (length ends) h (test-is h ∙ sym e ∙ t)) ∙ inv .3) h)
+
+    pub further : Rising ends (length nodes) → i < length ends → (r : Bool) → r ≡ holds coords at (take (getD ends i 0 - start) (drop start nodes)) → r ≡ false
+        → Passed coords nodes ends at (getD ends i 0) (i + 1)
+    further up h r e t = (omega arith, sym (prior-more ends i), up i h .1, first-on test i (length ends) h (test-is h ∙ sym e ∙ t) ∙ inv .3)
+
+    pub none-holds : length ends ≤ i → false ≡ someHolds coords (runsOf nodes ends) (Inside x y)
+    unfolding someHolds
+    none-holds h = sym (ap (has test) (length-runs nodes ends) ∙ has-false test (length ends) i (sym (first-end test i (length ends) h) ∙ inv .3) h)
+
+-- ---- `is_kept`
+
+-- what is kept either way is kept
+pub either-way : (op : ℕ) (w : Side) (t in-it out : Bool) → in-it ≡ keeps op w true → out ≡ keeps op w false → in-it && out ≡ true → true ≡ keeps op w t
+either-way op w true in-it out y n h = sym (and-true in-it out h .0) ∙ y
+either-way op w false in-it out y n h = sym (and-true in-it out h .1) ∙ n
+
+pub asked : (op : ℕ) (w : Side) (t t′ r : Bool) → t′ ≡ t → r ≡ keeps op w t′ → r ≡ keeps op w t
+asked op w t t′ r e h = h ∙ ap (keeps op w) e
+
+-- the rule of Union
+pub union-keeps : (cutter t : Bool) → not cutter || not t ≡ keptByUnion (sideOf cutter) t
+union-keeps true true = refl
+union-keeps true false = refl
+union-keeps false true = refl
+union-keeps false false = refl

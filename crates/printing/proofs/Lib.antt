@@ -1,0 +1,4 @@
+pub mod Pages
+pub mod FromRight
+pub mod Rests
+pub mod Nan

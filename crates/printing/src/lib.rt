@@ -1,0 +1,141 @@
+// Printing the program's text into a lent list.
+ghost use mathlib.Core.Path.{_≡_};
+ghost use Prim.Native.Nat.{_+_, _-_, _*_, _≤_, _<_, min};
+ghost use lib.ListN.{length, take, drop};
+ghost use Rattle.text.specs.Text.{listingText, refusedText, unreadText, meshText, firstText, inputText, answerText};
+ghost use Rattle.printing.specs.Page.{page, written, room, laid};
+ghost use Rattle.printing.specs.Told.{mesh, told};
+
+mod digits;
+mod lines;
+
+// the place after what is written, or that the list is full
+pub enum Put {
+    At(usize),
+    Full,
+}
+
+// what the program has to say; of an overlay, how many nodes and pieces the lists hold, and what was counted
+pub enum Answer {
+    Unread,
+    Refused(u32),
+    Overlay {
+        nodes: u32,
+        pieces: u32,
+        points: u32,
+        doubled: u32,
+    },
+}
+
+fn least(a: usize, b: usize) -> usize
+    ensures { λ r. ⌜ r ≡ min a b ⌝ }
+{
+    if a < b { a } else { b }
+}
+
+fn put_refused(out: &mut [u8], to: Put, n: u32) -> Put
+    ensures { λ r. ⌜ page r (now (out .exit)) ≡ written (page to (now (out .entry))) (refusedText n) ⌝ }
+{
+    let a = lines::put_bytes(out, to, b"(refused ");
+    let b = lines::put_decimal(out, a, n);
+    lines::put_bytes(out, b, b")\n")
+}
+
+fn put_listing(
+    out: &mut [u8],
+    to: Put,
+    coords: &[f64],
+    nodes: &[u32],
+    ends: &[u32],
+    kinds: &[u8],
+    families: &[u32],
+    pieces: u32,
+    points: u32,
+    doubled: u32,
+) -> Put
+    ensures { λ r. ⌜ page r (now (out .exit)) ≡ written (page to (now (out .entry))) (listingText (mesh (now (coords .entry)) (now (nodes .entry)) (now (ends .entry)) (now (kinds .entry)) (now (families .entry))) pieces points doubled) ⌝ }
+{
+    let a = lines::put_bytes(out, to, b"(overlay\n");
+    let b = lines::put_body(out, a, coords, nodes, ends, kinds, families);
+    let c = lines::put_count(out, b, pieces, points, doubled);
+    lines::put_bytes(out, c, b")\n")
+}
+
+// The text of an answer, from the list's first place on.
+pub fn print_answer(
+    out: &mut [u8],
+    answer: Answer,
+    coords: &[f64],
+    nodes: &[u32],
+    ends: &[u32],
+    kinds: &[u8],
+    families: &[u32],
+) -> Put
+    ensures { λ r. ⌜ (r ≡ room (length (now (out .entry))) (answerText (told answer (now (coords .entry)) (now (nodes .entry)) (now (ends .entry)) (now (kinds .entry)) (now (families .entry))))) × (now (out .exit) ≡ laid (now (out .entry)) (answerText (told answer (now (coords .entry)) (now (nodes .entry)) (now (ends .entry)) (now (kinds .entry)) (now (families .entry))))) ⌝ }
+{
+    match answer {
+        Answer::Unread => lines::put_bytes(out, Put::At(0), b"(unread)\n"),
+        Answer::Refused(n) => put_refused(out, Put::At(0), n),
+        Answer::Overlay {
+            nodes: count,
+            pieces,
+            points,
+            doubled,
+        } => {
+            let n = least(2 * count as usize, coords.len());
+            let k = least(pieces as usize, ends.len());
+            put_listing(
+                out,
+                Put::At(0),
+                &coords[..n],
+                nodes,
+                &ends[..k],
+                kinds,
+                families,
+                pieces,
+                points,
+                doubled,
+            )
+        }
+    }
+}
+
+fn put_mesh(
+    out: &mut [u8],
+    to: Put,
+    coords: &[f64],
+    nodes: &[u32],
+    ends: &[u32],
+    kinds: &[u8],
+    families: &[u32],
+) -> Put
+    ensures { λ r. ⌜ page r (now (out .exit)) ≡ written (page to (now (out .entry))) (meshText (mesh (now (coords .entry)) (now (nodes .entry)) (now (ends .entry)) (now (kinds .entry)) (now (families .entry)))) ⌝ }
+{
+    let a = lines::put_bytes(out, to, b"(mesh\n");
+    let b = lines::put_body(out, a, coords, nodes, ends, kinds, families);
+    lines::put_bytes(out, b, b")\n")
+}
+
+// The text of an input, from the list's first place on.
+pub fn print_input(
+    out: &mut [u8],
+    op: u32,
+    m: u32,
+    sc: &[f64],
+    sn: &[u32],
+    se: &[u32],
+    sk: &[u8],
+    sf: &[u32],
+    cc: &[f64],
+    cn: &[u32],
+    ce: &[u32],
+    ck: &[u8],
+    cf: &[u32],
+) -> Put
+    ensures { λ r. ⌜ (r ≡ room (length (now (out .entry))) (inputText op m (mesh (now (sc .entry)) (now (sn .entry)) (now (se .entry)) (now (sk .entry)) (now (sf .entry))) (mesh (now (cc .entry)) (now (cn .entry)) (now (ce .entry)) (now (ck .entry)) (now (cf .entry))))) × (now (out .exit) ≡ laid (now (out .entry)) (inputText op m (mesh (now (sc .entry)) (now (sn .entry)) (now (se .entry)) (now (sk .entry)) (now (sf .entry))) (mesh (now (cc .entry)) (now (cn .entry)) (now (ce .entry)) (now (ck .entry)) (now (cf .entry))))) ⌝ }
+{
+    let a = lines::put_first(out, Put::At(0), op, m);
+    let b = put_mesh(out, a, sc, sn, se, sk, sf);
+    let c = put_mesh(out, b, cc, cn, ce, ck, cf);
+    lines::put_bytes(out, c, b")\n")
+}

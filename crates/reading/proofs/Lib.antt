@@ -1,0 +1,4 @@
+pub mod Loops
+pub mod Many
+pub mod Patterns
+pub mod Rest

@@ -1,0 +1,10 @@
+pub mod Repeats
+pub mod Whole
+pub mod Inverse
+pub mod Lines
+pub mod Inputs
+pub mod Only
+pub mod OnlyLines
+pub mod OnlyInputs
+pub mod Sizes
+pub mod Samples

@@ -1,0 +1,131 @@
+-- Document 01's sample K1, and texts that are and are not read. Assumes nothing.
+use mathlib.Core.Path.{_≡_, refl}
+use mathlib.Core.Bool.{Bool, true, false, _&&_, not}
+use mathlib.Core.List.{List, [], _∷_, _++_}
+use Prim.Native.Nat.{ℕ}
+use Prim.Native.String.{String}
+use lib.Dec.{T}
+use Rattle.text.specs.Text.{bytes, Bits, overlay, answerText, bodyText, cellText, cellsText, countText, decimal, decimalTo, firstText, glyph, hex, hexTo, inputText, listingText, meshText, nodeText, nodesText, numbersText}
+use Rattle.text.specs.Read.{Parsed, none, got, Limits, atMost, limits, inputOf, firstOf, meshOf, nodesOf, cellsOf, repeated, nodeStep, nodeOf, entryStep, entriesOf, headOf, cellOf, addCell, cellStep, decimalOf, moreOf, hexOf, digitVal, hexVal, wordOf, after, andThen, orElse}
+use Rattle.text.specs.Inputs.{Input, textOf, given, read}
+
+abbrev texts : List String → List ℕ
+texts [] = []
+texts (l ∷ ls) = bytes l ++ texts ls
+
+abbrev k1Subject : Bits
+k1Subject =
+    record { coords = 0x0000000000000000 ∷ 0x0000000000000000 ∷ 0x4000000000000000 ∷ 0x0000000000000000 ∷ 0x4000000000000000 ∷ 0x4000000000000000 ∷ 0x0000000000000000 ∷ 0x4000000000000000 ∷ []; nodes = 0 ∷ 1 ∷ 2 ∷ 3 ∷ []; ends = 4 ∷ []; kinds = 8 ∷ []; families = 7 ∷ [] }
+
+abbrev k1Cutter : Bits
+k1Cutter =
+    record { coords = 0x3ff0000000000000 ∷ 0xbff0000000000000 ∷ 0x4008000000000000 ∷ 0xbff0000000000000 ∷ 0x4008000000000000 ∷ 0x4008000000000000 ∷ 0x3ff0000000000000 ∷ 0x4008000000000000 ∷ []; nodes = 0 ∷ 1 ∷ 2 ∷ 3 ∷ []; ends = 4 ∷ []; kinds = 11 ∷ []; families = 0 ∷ [] }
+
+abbrev k1 : Input
+k1 = record { op = 0; m = 9; subject = k1Subject; cutter = k1Cutter }
+
+abbrev k1Text : List ℕ
+k1Text =
+    texts
+    ("(overlay 0 9\n" ∷
+    "(mesh\n" ∷
+    "(node 0000000000000000 0000000000000000)\n" ∷
+    "(node 4000000000000000 0000000000000000)\n" ∷
+    "(node 4000000000000000 4000000000000000)\n" ∷
+    "(node 0000000000000000 4000000000000000)\n" ∷
+    "(cell 8 7 0 1 2 3)\n" ∷
+    ")\n" ∷
+    "(mesh\n" ∷
+    "(node 3ff0000000000000 bff0000000000000)\n" ∷
+    "(node 4008000000000000 bff0000000000000)\n" ∷
+    "(node 4008000000000000 4008000000000000)\n" ∷
+    "(node 3ff0000000000000 4008000000000000)\n" ∷
+    "(cell 11 0 0 1 2 3)\n" ∷
+    ")\n" ∷
+    ")\n" ∷
+    [])
+
+abbrev most : Limits
+most = atMost 512 512 2048
+
+-- no more than 512 nodes, 512 cells and 2,048 entries, however long the lists are
+document-limits : (limits 1024 2048 512 512 512 ≡ most) × (limits 4096 8192 2048 2048 2048 ≡ most)
+unfolding limits
+document-limits = (refl, refl)
+
+k1-text : textOf k1 ≡ k1Text
+unfolding inputText firstText meshText bodyText nodesText nodeText hex hexTo glyph decimal decimalTo cellsText cellText numbersText
+k1-text = refl
+
+k1-read : inputOf most most k1Text ≡ got (given k1) []
+unfolding inputOf firstOf meshOf nodesOf cellsOf repeated nodeStep nodeOf entryStep entriesOf headOf cellOf addCell cellStep decimalOf moreOf hexOf digitVal hexVal wordOf after andThen orElse read
+k1-read = refl
+
+abbrev k1Answer : Bits
+k1Answer =
+    record { coords = 0x0000000000000000 ∷ 0x0000000000000000 ∷ 0x4000000000000000 ∷ 0x0000000000000000 ∷ 0x4000000000000000 ∷ 0x4000000000000000 ∷ 0x0000000000000000 ∷ 0x4000000000000000 ∷ 0x3ff0000000000000 ∷ 0xbff0000000000000 ∷ 0x4008000000000000 ∷ 0xbff0000000000000 ∷ 0x4008000000000000 ∷ 0x4008000000000000 ∷ 0x3ff0000000000000 ∷ 0x4008000000000000 ∷ 0x3ff0000000000000 ∷ 0x0000000000000000 ∷ 0x3ff0000000000000 ∷ 0x4000000000000000 ∷ []; nodes = 3 ∷ 0 ∷ 8 ∷ 9 ∷ 9 ∷ 8 ∷ 1 ∷ 2 ∷ []; ends = 4 ∷ 8 ∷ []; kinds = 11 ∷ 11 ∷ []; families = 7 ∷ 7 ∷ [] }
+
+k1-answer : answerText (overlay k1Answer 2 2 0) ≡ texts
+    ("(overlay\n" ∷
+    "(node 0000000000000000 0000000000000000)\n" ∷
+    "(node 4000000000000000 0000000000000000)\n" ∷
+    "(node 4000000000000000 4000000000000000)\n" ∷
+    "(node 0000000000000000 4000000000000000)\n" ∷
+    "(node 3ff0000000000000 bff0000000000000)\n" ∷
+    "(node 4008000000000000 bff0000000000000)\n" ∷
+    "(node 4008000000000000 4008000000000000)\n" ∷
+    "(node 3ff0000000000000 4008000000000000)\n" ∷
+    "(node 3ff0000000000000 0000000000000000)\n" ∷
+    "(node 3ff0000000000000 4000000000000000)\n" ∷
+    "(cell 11 7 3 0 8 9)\n" ∷
+    "(cell 11 7 9 8 1 2)\n" ∷
+    "(count 2 2 0)\n" ∷
+    ")\n" ∷
+    [])
+unfolding answerText listingText countText bodyText nodesText nodeText hex hexTo glyph decimal decimalTo cellsText cellText numbersText
+k1-answer = refl
+
+-- ---- read or not
+abbrev isRead : List ℕ → Bool
+isRead t = elim (inputOf most most t) [ none ↦ false | got g u ↦ true ]
+
+abbrev every : (String → Bool) → List String → Bool
+every p [] = true
+every p (s ∷ ss) = p s && every p ss
+
+read-samples : T (every (λ s. isRead (bytes s))
+    ("(overlay 0 9\n(mesh\n(node 0000000000000000 000000000000000a)\n(cell 8 7 0 1)\n)\n(mesh\n)\n)\n" ∷
+    "(overlay 4294967295 0\n(mesh\n(node 0000000000000000 000000000000000a)\n(cell 8 7 0 1)\n)\n(mesh\n)\n)\n" ∷
+    "(overlay 0 9\n(mesh\n(node 0000000000000000 000000000000000a)\n(cell 255 4294967295)\n)\n(mesh\n)\n)\n" ∷
+    "(overlay 0 9\n(mesh\n(node 7ff8000000000000 fff0000000000001)\n(cell 8 7 0 1)\n)\n(mesh\n)\n)\n" ∷
+    "(overlay 5 1\n(mesh\n)\n(mesh\n)\n)\n" ∷
+    []))
+unfolding inputOf firstOf meshOf nodesOf cellsOf repeated nodeStep nodeOf entryStep entriesOf headOf cellOf addCell cellStep decimalOf moreOf hexOf digitVal hexVal wordOf after andThen orElse
+read-samples = tt
+
+unread-samples : T (every (λ s. not (isRead (bytes s)))
+    ("(overlay 00 9\n(mesh\n(node 0000000000000000 000000000000000a)\n(cell 8 7 0 1)\n)\n(mesh\n)\n)\n" ∷
+    "(overlay 0 09\n(mesh\n(node 0000000000000000 000000000000000a)\n(cell 8 7 0 1)\n)\n(mesh\n)\n)\n" ∷
+    "(overlay +0 9\n(mesh\n(node 0000000000000000 000000000000000a)\n(cell 8 7 0 1)\n)\n(mesh\n)\n)\n" ∷
+    "(overlay 0  9\n(mesh\n(node 0000000000000000 000000000000000a)\n(cell 8 7 0 1)\n)\n(mesh\n)\n)\n" ∷
+    " (overlay 0 9\n(mesh\n(node 0000000000000000 000000000000000a)\n(cell 8 7 0 1)\n)\n(mesh\n)\n)\n" ∷
+    "(overlay 0 9 \n(mesh\n(node 0000000000000000 000000000000000a)\n(cell 8 7 0 1)\n)\n(mesh\n)\n)\n" ∷
+    "(overlay 0 9\r\n(mesh\n(node 0000000000000000 000000000000000a)\n(cell 8 7 0 1)\n)\n(mesh\n)\n)\n" ∷
+    "(overlay 0\n(mesh\n(node 0000000000000000 000000000000000a)\n(cell 8 7 0 1)\n)\n(mesh\n)\n)\n" ∷
+    "(overlay 4294967296 9\n(mesh\n(node 0000000000000000 000000000000000a)\n(cell 8 7 0 1)\n)\n(mesh\n)\n)\n" ∷
+    "(overlay 0 9\n(mesh\n(node 0000000000000000 000000000000000A)\n(cell 8 7 0 1)\n)\n(mesh\n)\n)\n" ∷
+    "(overlay 0 9\n(mesh\n(node 0000000000000000 00000000000000a)\n(cell 8 7 0 1)\n)\n(mesh\n)\n)\n" ∷
+    "(overlay 0 9\n(mesh\n(node 0000000000000000 0000000000000000a)\n(cell 8 7 0 1)\n)\n(mesh\n)\n)\n" ∷
+    "(overlay 0 9\n(mesh\n(node 0000000000000000\t000000000000000a)\n(cell 8 7 0 1)\n)\n(mesh\n)\n)\n" ∷
+    "(overlay 0 9\n(mesh\n(node 0000000000000000 000000000000000a)\n(cell 8)\n)\n(mesh\n)\n)\n" ∷
+    "(overlay 0 9\n(mesh\n(node 0000000000000000 000000000000000a)\n(cell 256 7 0 1)\n)\n(mesh\n)\n)\n" ∷
+    "(overlay 0 9\n(mesh\n(node 0000000000000000 000000000000000a)\n(cell 8 7 0 1 )\n)\n(mesh\n)\n)\n" ∷
+    "(overlay 0 9\n(mesh\n(node 0000000000000000 000000000000000a)\n(cell 8 7 0 1)\n\n)\n(mesh\n)\n)\n" ∷
+    "(overlay 0 9\n(mesh\n(node 0000000000000000 000000000000000a)\n(cell 8 7 0 1)\n(node 0000000000000000 0000000000000000)\n)\n(mesh\n)\n)\n" ∷
+    "(overlay 0 9\n(mesh\n(node 0000000000000000 000000000000000a)\n(cell 8 7 0 1)\n)\n(mesh\n)\n)" ∷
+    "(overlay 0 9\n(mesh\n(node 0000000000000000 000000000000000a)\n(cell 8 7 0 1)\n)\n(mesh\n)\n)\n\n" ∷
+    "(overlay 0 9\n(mesh\n(node 0000000000000000 000000000000000a)\n(cell 8 7 0 1)\n)\n)\n" ∷
+    "" ∷
+    []))
+unfolding inputOf firstOf meshOf nodesOf cellsOf repeated nodeStep nodeOf entryStep entriesOf headOf cellOf addCell cellStep decimalOf moreOf hexOf digitVal hexVal wordOf after andThen orElse
+unread-samples = tt
