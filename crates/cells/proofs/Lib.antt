@@ -1,0 +1,4 @@
+pub mod Own
+pub mod Near
+pub mod Cut
+pub mod Scene

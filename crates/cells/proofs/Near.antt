@@ -1,0 +1,122 @@
+-- The edges near a cell, one after the other. Assumes nothing.
+use mathlib.Core.Path.{_≡_, refl, sym, ap, _∙_, subst}
+use mathlib.Core.List.{List, [], _∷_, _++_, append-nil, append-assoc}
+use Prim.Native.Nat.{ℕ, _+_, _*_, _/_, _≤_, _<_}
+use native.Mathlib.Omega.{arith}
+use lib.ListN.{length, getD}
+use lib.Ieee.{Float}
+use Rattle.lists.specs.Search.{first}
+use Rattle.lists.proofs.Search.{first-from}
+use Rattle.cutting.specs.Edges.{Edge, edgeAt}
+use Rattle.cutting.specs.Cell.{Laid, nearDarts, cellTable}
+use Rattle.cutting.specs.Lent.{slotsOf, pairs, Added}
+use Rattle.cutting.proofs.Joins.{near-turn, near-full}
+use Rattle.rules.specs.declared.Bounds.{Bounds}
+use Rattle.spatial_index.proofs.Candidates.{meets, places-next, places-end, length-pairs, pairs-at}
+use Rattle.edge_nodes.specs.Lent.{collectedIn}
+use Rattle.cells.specs.Cells.{laidIn, nearIn, candidatesFrom, Uncrowded, Held}
+
+-- ---- `add_near`
+
+pub near-laid : (coords : List Float) (outline : List Edge) (e : Edge) (ns xs : List ℕ) (n r : ℕ) (src dst marks src′ dst′ marks′ : List ℕ) → ns ≡ xs
+    → Added coords 0 (nearDarts outline (record { edge = e; nodes = ns })) n r src dst marks src′ dst′ marks′
+    → Added coords 0 (nearDarts outline (record { edge = e; nodes = xs })) n r src dst marks src′ dst′ marks′
+near-laid coords outline e ns xs n r src dst marks src′ dst′ marks′ q got =
+    subst (λ (l : List ℕ). Added coords 0 (nearDarts outline (record { edge = e; nodes = l })) n r src dst marks src′ dst′ marks′) q got
+
+-- ---- `near_darts`
+
+-- the table holds the near edges so far, j is the next
+pub record Nearing (coords : List Float) (subject cutter : List Edge) (met near : List ℕ) (b : Bounds) (first₀ : ℕ) (outline : List Edge) (src₀ dst₀ marks₀ src dst marks : List ℕ) (m j : ℕ) : Type 0 where
+  pub same-src : length src ≡ length src₀
+  pub same-dst : length dst ≡ length dst₀
+  pub same-marks : length marks ≡ length marks₀
+  pub small : m ≤ 1024
+  pub done : List Laid
+  pub from : ℕ
+  pub at : first (meets coords (pairs near) b) from (length (pairs near)) ≡ j
+  pub left : done ++ nearIn coords subject cutter met (pairs near) (candidatesFrom coords (pairs near) b from) ≡ nearIn coords subject cutter met (pairs near) (candidatesFrom coords (pairs near) b first₀)
+  pub held : slotsOf src dst marks m ≡ cellTable coords outline done
+
+module _ (coords : List Float) (subject cutter : List Edge) (met near : List ℕ) (b : Bounds) (first₀ : ℕ) (outline : List Edge) (src₀ dst₀ marks₀ : List ℕ) where
+  abbrev laid : Edge → Laid
+  laid = laidIn coords subject cutter met
+
+  abbrev nearBy : List ℕ → List Laid
+  nearBy = nearIn coords subject cutter met (pairs near)
+
+  abbrev from-on : ℕ → List ℕ
+  from-on = candidatesFrom coords (pairs near) b
+
+  abbrev found : ℕ → ℕ
+  found k = first (meets coords (pairs near) b) k (length (pairs near))
+
+  abbrev Nearing₀ : List ℕ → List ℕ → List ℕ → ℕ → ℕ → Type 0
+  Nearing₀ = Nearing coords subject cutter met near b first₀ outline src₀ dst₀ marks₀
+
+  pub near-start : (n j : ℕ) → n ≤ 1024 → slotsOf src₀ dst₀ marks₀ n ≡ cellTable coords outline [] → j ≡ found first₀ → Nearing₀ src₀ dst₀ marks₀ n j
+  near-start n j small t e = record {
+    same-src = refl;
+    same-dst = refl;
+    same-marks = refl;
+    small = small;
+    done = [];
+    from = first₀;
+    at = sym e;
+    left = refl;
+    held = t;
+  }
+
+  pub found-later : (j j′ : ℕ) → j′ ≡ found (j + 1) → j < j′
+  found-later j j′ e = omega (arith, e, first-from (meets coords (pairs near) b) (j + 1) (length (pairs near)))
+
+  module _ (src dst marks : List ℕ) (m j : ℕ) (v : Nearing₀ src dst marks m j) where
+    module _ (h : j < length near / 2) where
+      abbrev e : Edge
+      e = (getD near (2 * j) 0, getD near (2 * j + 1) 0)
+
+      at-j : edgeAt (pairs near) j ≡ e
+      at-j = pairs-at near j h
+
+      below : j < length (pairs near)
+      below = omega (arith, length-pairs near)
+
+      pub near-few : Uncrowded subject cutter met (pairs near) → length (collectedIn subject cutter met e) ≤ 256
+      near-few few = omega (arith, few j below, ap (λ (f : Edge). length (collectedIn subject cutter met f)) at-j)
+
+      split : v .done ++ laid e ∷ nearBy (from-on (j + 1)) ≡ nearBy (from-on first₀)
+      unfolding nearIn
+      split = ap (λ (f : Edge). v .done ++ laid f ∷ nearBy (from-on (j + 1))) (sym at-j) ∙ ap (λ (js : List ℕ). v .done ++ nearBy js) (sym (places-next (meets coords (pairs near) b) (v .from) (length (pairs near)) j (v .at) below)) ∙ v .left
+
+      module _ (r : ℕ) (src′ dst′ marks′ : List ℕ) (got : Added coords 0 (nearDarts outline (laid e)) m r src dst marks src′ dst′ marks′) where
+        pub near-step : (j′ : ℕ) → r ≤ 1024 → j′ ≡ found (j + 1) → length src′ ≡ length src → length dst′ ≡ length dst → length marks′ ≡ length marks → Nearing₀ src′ dst′ marks′ r j′
+        near-step j′ few next ls ld lm = record {
+          same-src = ls ∙ v .same-src;
+          same-dst = ld ∙ v .same-dst;
+          same-marks = lm ∙ v .same-marks;
+          small = few;
+          done = v .done ++ laid e ∷ [];
+          from = j + 1;
+          at = sym next;
+          left = append-assoc (v .done) (laid e ∷ []) (nearBy (from-on (j + 1))) ∙ split;
+          held = near-turn coords src dst marks src′ dst′ marks′ m r outline (v .done) (laid e) got few (v .held);
+        }
+
+        -- too many at this edge are too many in all
+        pub near-many : 1024 < r → Held (cellTable coords outline (nearBy (from-on first₀))) r src′ dst′ marks′
+        near-many many =
+            let all : 1024 < length (cellTable coords outline (v .done ++ laid e ∷ nearBy (from-on (j + 1)))) = near-full coords src dst marks src′ dst′ marks′ m r outline (v .done) (laid e) (nearBy (from-on (j + 1))) got many (v .held) in
+            record {
+              fits = λ few. absurd (omega (arith, few, many));
+              over = λ _. omega (arith, all, ap (λ (l : List Laid). length (cellTable coords outline l)) split);
+            }
+
+    pub near-end : length near / 2 ≤ j → Held (cellTable coords outline (nearBy (from-on first₀))) m src dst marks
+    unfolding nearIn
+    near-end past =
+        let none : from-on (v .from) ≡ [] = places-end (meets coords (pairs near) b) (v .from) (length (pairs near)) (omega (arith, past, length-pairs near, v .at)) in
+        let all : v .done ≡ nearBy (from-on first₀) = sym (append-nil (v .done)) ∙ ap (λ (js : List ℕ). v .done ++ nearBy js) (sym none) ∙ v .left in
+        record {
+          fits = λ few. v .held ∙ ap (cellTable coords outline) all;
+          over = λ many. absurd (omega (arith, many, v .small));
+        }

@@ -1,0 +1,301 @@
+// One cell cut by the other mesh's edges near it. Edges are flat lists of pairs, meetings five numbers each, as in `edge_nodes`.
+use cutting::cut::Walked;
+use cutting::cut::add_near_edge;
+use cutting::cut::add_own_edge;
+use cutting::cut::is_doubled;
+use cutting::cut::walk_dart_map;
+use edge_nodes::sorted_nodes;
+use rules::Bounds;
+use spatial_index::in_bounds;
+ghost use mathlib.Core.Path.{_≡_};
+ghost use mathlib.Core.Bool.{false};
+ghost use mathlib.Core.List.{[]};
+ghost use Prim.Native.Nat.{_≤_, _<_};
+ghost use lib.ListN.{length, take};
+ghost use Rattle.cutting.specs.Edges.{ring};
+ghost use Rattle.cutting.specs.Cell.{ownDarts, nearDarts, cellTable, doubled};
+ghost use Rattle.cutting.specs.Walk.{walk};
+ghost use Rattle.cutting.specs.Outcome.{refusal, ofWalk};
+ghost use Rattle.cutting.specs.Lent.{slotsOf, ends, pairs, Added, Outlined};
+ghost use Rattle.edge_nodes.specs.Lent.{collectedIn};
+ghost use Rattle.cells.specs.Cells.{laidIn, outlineIn, nearIn, candidatesFrom, cutAs, cutBy, cutCell, Uncrowded, nextCorner, Held};
+
+// What a cell comes to: the refusal or 0, how many pieces there are, and corners in them, and whether the cell is doubled; the corners, one piece
+// after the other, and where each piece ends among them.
+pub struct CutCell {
+    pub code: u32,
+    pub pieces: usize,
+    pub entries: usize,
+    pub doubled: bool,
+    pub nodes: [u32; 1024],
+    pub stops: [u32; 1024],
+}
+
+fn refused(code: u32) -> CutCell
+    ensures { λ r. ⌜ r ≡ cutAs (refusal code) false ⌝ }
+{
+    CutCell {
+        code,
+        pieces: 0,
+        entries: 0,
+        doubled: false,
+        nodes: [0u32; 1024],
+        stops: [0u32; 1024],
+    }
+}
+
+// The corner after corner i; after the last comes the first.
+fn next_corner(cell: &[u32], i: usize) -> u32
+    requires { ⌜ i < length (now cell) ⌝ }
+    ensures { λ r. ⌜ r ≡ nextCorner (now (cell .entry)) i ⌝ }
+{
+    let j = i + 1;
+    if j < cell.len() {
+        return cell[j];
+    }
+    cell[0]
+}
+
+// Adds the darts of the cell's own edge from a to b to the table of n slots and to the n entries of the outline.
+fn add_own(
+    coords: &[f64],
+    subject: &[u32],
+    cutter: &[u32],
+    met: &[u32],
+    a: u32,
+    b: u32,
+    outline: &mut [u32],
+    src: &mut [u32],
+    dst: &mut [u32],
+    marks: &mut [u32],
+    n: usize,
+) -> usize
+    requires { ⌜ (length (collectedIn (pairs (now subject)) (pairs (now cutter)) (now met) (a, b)) ≤ 256) × (n ≤ 1024) × (1024 ≤ length (now outline)) × (1024 ≤ length (now src)) × (1024 ≤ length (now dst)) × (1024 ≤ length (now marks)) ⌝ }
+    ensures { λ r. ⌜ Added (now (coords .entry)) 1 (ownDarts (laidIn (now (coords .entry)) (pairs (now (subject .entry))) (pairs (now (cutter .entry))) (now (met .entry)) (a, b))) n r (now (src .entry)) (now (dst .entry)) (now (marks .entry)) (now (src .exit)) (now (dst .exit)) (now (marks .exit))
+        × Outlined (ownDarts (laidIn (now (coords .entry)) (pairs (now (subject .entry))) (pairs (now (cutter .entry))) (now (met .entry)) (a, b))) n r (now (outline .entry)) (now (outline .exit)) ⌝ }
+{
+    let along = sorted_nodes(coords, subject, cutter, met, a, b);
+    let nodes = along.nodes;
+    let count = along.count;
+    add_own_edge(coords, a, b, &nodes[..count], outline, src, dst, marks, n)
+}
+
+// Makes the outline of the cell and the table of its own edges. Answers how many slots, and entries, there are; over 1,024 it stops.
+fn own_darts(
+    coords: &[f64],
+    subject: &[u32],
+    cutter: &[u32],
+    met: &[u32],
+    cell: &[u32],
+    outline: &mut [u32],
+    src: &mut [u32],
+    dst: &mut [u32],
+    marks: &mut [u32],
+) -> usize
+    requires { ⌜ Uncrowded (pairs (now subject)) (pairs (now cutter)) (now met) (ring (now cell)) × (1024 ≤ length (now outline)) × (1024 ≤ length (now src)) × (1024 ≤ length (now dst)) × (1024 ≤ length (now marks)) ⌝ }
+    ensures { λ r. ⌜ Held (cellTable (now (coords .entry)) (outlineIn (now (coords .entry)) (pairs (now (subject .entry))) (pairs (now (cutter .entry))) (now (met .entry)) (now (cell .entry))) []) r (now (src .exit)) (now (dst .exit)) (now (marks .exit))
+        × (r ≤ 1024 → take r (now (outline .exit)) ≡ ends (outlineIn (now (coords .entry)) (pairs (now (subject .entry))) (pairs (now (cutter .entry))) (now (met .entry)) (now (cell .entry)))) ⌝ }
+{
+    let mut n: usize = 0;
+    let mut i: usize = 0;
+    while i < cell.len() {
+        let a = cell[i];
+        let b = next_corner(cell, i);
+        n = add_own(
+            coords,
+            subject,
+            cutter,
+            met,
+            a,
+            b,
+            outline,
+            src,
+            dst,
+            marks,
+            n,
+        );
+        if 1024 < n {
+            return n;
+        }
+        i += 1;
+    }
+    n
+}
+
+// Adds an edge near the cell, from a to b, to the table of n slots.
+fn add_near(
+    coords: &[f64],
+    subject: &[u32],
+    cutter: &[u32],
+    met: &[u32],
+    outline: &[u32],
+    a: u32,
+    b: u32,
+    src: &mut [u32],
+    dst: &mut [u32],
+    marks: &mut [u32],
+    n: usize,
+) -> usize
+    requires { ⌜ (length (collectedIn (pairs (now subject)) (pairs (now cutter)) (now met) (a, b)) ≤ 256) × (n ≤ 1024) × (1024 ≤ length (now src)) × (1024 ≤ length (now dst)) × (1024 ≤ length (now marks)) ⌝ }
+    ensures { λ r. ⌜ Added (now (coords .entry)) 0 (nearDarts (pairs (now (outline .entry))) (laidIn (now (coords .entry)) (pairs (now (subject .entry))) (pairs (now (cutter .entry))) (now (met .entry)) (a, b))) n r (now (src .entry)) (now (dst .entry)) (now (marks .entry)) (now (src .exit)) (now (dst .exit)) (now (marks .exit)) ⌝ }
+{
+    let along = sorted_nodes(coords, subject, cutter, met, a, b);
+    let nodes = along.nodes;
+    let count = along.count;
+    add_near_edge(coords, outline, a, b, &nodes[..count], src, dst, marks, n)
+}
+
+// Adds the edges near the cell, by its finished outline, to the table of its own edges, of n slots. Answers how many slots there are then; over
+// 1,024 it stops.
+fn near_darts(
+    coords: &[f64],
+    subject: &[u32],
+    cutter: &[u32],
+    met: &[u32],
+    near: &[u32],
+    b: Bounds,
+    first: usize,
+    outline: &[u32],
+    src: &mut [u32],
+    dst: &mut [u32],
+    marks: &mut [u32],
+    n: usize,
+) -> usize
+    requires { ⌜ Uncrowded (pairs (now subject)) (pairs (now cutter)) (now met) (pairs (now near)) × (n ≤ 1024) × (1024 ≤ length (now src)) × (1024 ≤ length (now dst)) × (1024 ≤ length (now marks)) × (slotsOf (now src) (now dst) (now marks) n ≡ cellTable (now coords) (pairs (now outline)) []) ⌝ }
+    ensures { λ r. ⌜ Held (cellTable (now (coords .entry)) (pairs (now (outline .entry))) (nearIn (now (coords .entry)) (pairs (now (subject .entry))) (pairs (now (cutter .entry))) (now (met .entry)) (pairs (now (near .entry))) (candidatesFrom (now (coords .entry)) (pairs (now (near .entry))) b first))) r (now (src .exit)) (now (dst .exit)) (now (marks .exit)) ⌝ }
+{
+    let count = near.len() / 2;
+    let mut m = n;
+    let mut j = in_bounds(coords, near, b, first);
+    while j < count {
+        let p = near[2 * j];
+        let q = near[2 * j + 1];
+        m = add_near(
+            coords,
+            subject,
+            cutter,
+            met,
+            outline,
+            p,
+            q,
+            src,
+            dst,
+            marks,
+            m,
+        );
+        if 1024 < m {
+            return m;
+        }
+        j = in_bounds(coords, near, b, j + 1);
+    }
+    m
+}
+
+// Walks the table of n slots from the outline's darts. The part of refusal 11 that is looked at after a walk never fires (cutting's `without-test`),
+// so it is left out.
+fn walk_cell(src: &[u32], dst: &[u32], marks: &[u32], n: usize, outline: &[u32]) -> CutCell
+    requires { ⌜ (n ≤ 1024) × (n ≤ length (now src)) × (n ≤ length (now dst)) × (n ≤ length (now marks)) × (length (now outline) ≤ 2048) ⌝ }
+    ensures { λ r. ⌜ r ≡ cutAs (ofWalk (walk (pairs (now (outline .entry))) (slotsOf (now (src .entry)) (now (dst .entry)) (now (marks .entry)) n))) (doubled (slotsOf (now (src .entry)) (now (dst .entry)) (now (marks .entry)) n)) ⌝ }
+{
+    let mut nodes = [0u32; 1024];
+    let mut stops = [0u32; 1024];
+    let w = walk_dart_map(src, dst, marks, n, outline, &mut nodes, &mut stops);
+    let doubled = is_doubled(src, dst, n);
+    match w {
+        Walked::Closed(pieces, entries) => CutCell {
+            code: 0,
+            pieces,
+            entries,
+            doubled,
+            nodes,
+            stops,
+        },
+        Walked::Refused(code) => refused(code),
+    }
+}
+
+// Cuts a cell with a finished outline, whose own edges have the first n slots: adds the edges near it and walks.
+fn cut_outlined(
+    coords: &[f64],
+    subject: &[u32],
+    cutter: &[u32],
+    met: &[u32],
+    near: &[u32],
+    b: Bounds,
+    first: usize,
+    outline: &[u32],
+    src: &mut [u32],
+    dst: &mut [u32],
+    marks: &mut [u32],
+    n: usize,
+) -> CutCell
+    requires { ⌜ Uncrowded (pairs (now subject)) (pairs (now cutter)) (now met) (pairs (now near)) × (n ≤ 1024) × (1024 ≤ length (now src)) × (1024 ≤ length (now dst)) × (1024 ≤ length (now marks)) × (slotsOf (now src) (now dst) (now marks) n ≡ cellTable (now coords) (pairs (now outline)) []) × (length (now outline) ≤ 2048) ⌝ }
+    ensures { λ r. ⌜ r ≡ cutBy (pairs (now (outline .entry))) (cellTable (now (coords .entry)) (pairs (now (outline .entry))) (nearIn (now (coords .entry)) (pairs (now (subject .entry))) (pairs (now (cutter .entry))) (now (met .entry)) (pairs (now (near .entry))) (candidatesFrom (now (coords .entry)) (pairs (now (near .entry))) b first))) ⌝ }
+{
+    let slots = near_darts(
+        coords,
+        subject,
+        cutter,
+        met,
+        near,
+        b,
+        first,
+        outline,
+        src,
+        dst,
+        marks,
+        n,
+    );
+    if 1024 < slots {
+        return refused(10);
+    }
+    walk_cell(src, dst, marks, slots, outline)
+}
+
+// Cuts the cell by those edges of `near`, one of the two meshes' edges, whose box meets the box b, from the edge `first` on.
+pub fn cut_cell(
+    coords: &[f64],
+    subject: &[u32],
+    cutter: &[u32],
+    met: &[u32],
+    near: &[u32],
+    cell: &[u32],
+    b: Bounds,
+    first: usize,
+) -> CutCell
+    requires { ⌜ Uncrowded (pairs (now subject)) (pairs (now cutter)) (now met) (ring (now cell)) × Uncrowded (pairs (now subject)) (pairs (now cutter)) (now met) (pairs (now near)) ⌝ }
+    ensures { λ r. ⌜ r ≡ cutCell (now (coords .entry)) (pairs (now (subject .entry))) (pairs (now (cutter .entry))) (now (met .entry)) (pairs (now (near .entry))) (now (cell .entry)) b first ⌝ }
+{
+    let mut outline = [0u32; 1024];
+    let mut src = [0u32; 1024];
+    let mut dst = [0u32; 1024];
+    let mut marks = [0u32; 1024];
+    let own = own_darts(
+        coords,
+        subject,
+        cutter,
+        met,
+        cell,
+        &mut outline,
+        &mut src,
+        &mut dst,
+        &mut marks,
+    );
+    if 1024 < own {
+        return refused(10);
+    }
+    cut_outlined(
+        coords,
+        subject,
+        cutter,
+        met,
+        near,
+        b,
+        first,
+        &outline[..own],
+        &mut src,
+        &mut dst,
+        &mut marks,
+        own,
+    )
+}

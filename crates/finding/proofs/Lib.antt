@@ -1,0 +1,10 @@
+pub mod Passed
+pub mod Cells
+pub mod Layers
+pub mod Welded
+pub mod Whole
+pub mod Held
+pub mod Events
+pub mod Scenes
+pub mod Ends
+pub mod Result

@@ -1,0 +1,28 @@
+-- What this stage asks is what the entry gives. Assumes nothing.
+use mathlib.Core.Bool.{Bool, false}
+use Prim.Native.Nat.{ℕ, _≤_}
+use native.Mathlib.Omega.{arith}
+use lib.Dec.{eqb}
+use Rattle.entry.specs.Mesh.{Mesh}
+use Rattle.entry.specs.Passed.{Sound, Passed}
+use Rattle.finding.specs.Nets.{plain, Fit, Room}
+
+abbrev pub bare : Mesh → Mesh
+bare m = plain (m .coords) (m .nodes) (m .ends)
+
+pub fit-of : (lines : Bool) (m : Mesh) → Sound lines m → Fit lines (bare m)
+fit-of lines m ok =
+    record {
+      even = ok .even;
+      rises = ok .rises;
+      within = ok .within;
+      last = ok .last;
+      mostNodes = ok .mostNodes;
+      mostEntries = ok .mostEntries;
+      number = ok .number;
+      two = λ e i h. ok .lineKind i h e .1;
+    }
+
+-- the `requires` of `find`
+pub ready : (op m : ℕ) (s c : Mesh) (w : ℕ) → Passed op m s c w → (m ≤ 65536) × Fit false (bare s) × Fit (eqb op 5) (bare c) × Room m (bare s) (bare c) w
+ready op m s c w ok = (ok .most, fit-of false s (ok .subject), fit-of (eqb op 5) c (ok .cutter), omega (arith, ok .room))

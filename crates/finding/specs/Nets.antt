@@ -1,0 +1,73 @@
+-- Both meshes under one numbering, in the working list. Assumes nothing.
+use mathlib.Core.Path.{_≡_}
+use mathlib.Core.Bool.{Bool, true, cond}
+use mathlib.Core.List.{List, [], _++_, map}
+use Prim.Native.Nat.{ℕ, _+_, _*_, _≤_, _<_}
+use lib.ListN.{length, getD}
+use lib.Ieee.{Float}
+use Rattle.lists.specs.Regions.{front, put, zeros}
+use Rattle.cutting.specs.Lent.{ends}
+use Rattle.entry.specs.Mesh.{Mesh, mesh, nodeCount, prior, cellSize}
+use Rattle.rules.specs.Snap.{weld}
+use Rattle.rules.specs.Neighbours.{subjectNet, cutterNet}
+use Rattle.finding.specs.declared.numbering.Regions.{Regions}
+
+-- a mesh without its kinds and families, at which nothing here looks (proofs/Scenes.antt)
+abbrev pub plain : List Float → List ℕ → List ℕ → Mesh
+plain coords nodes ends = mesh coords nodes ends [] []
+
+-- ---- what passed the entry, as far as it is needed here (proofs/Passed.antt)
+
+-- a mesh, of lines or of cells
+pub record Fit (lines : Bool) (m : Mesh) : Type 0 where
+  pub even : length (m .coords) ≡ 2 * nodeCount m
+  pub rises : (i : ℕ) → i < length (m .ends) → prior (m .ends) i < getD (m .ends) i 0
+  pub within : (i : ℕ) → i < length (m .ends) → getD (m .ends) i 0 ≤ length (m .nodes)
+  pub last : prior (m .ends) (length (m .ends)) ≡ length (m .nodes)
+  pub mostNodes : nodeCount m ≤ 16384
+  pub mostEntries : length (m .nodes) ≤ 65536
+  pub number : (i : ℕ) → i < length (m .nodes) → getD (m .nodes) i 0 < nodeCount m
+  pub two : lines ≡ true → (i : ℕ) → i < length (m .ends) → cellSize (m .ends) i ≡ 2
+
+-- a working list of w numbers, for m meetings
+abbrev pub Room : ℕ → Mesh → Mesh → ℕ → Type 0
+Room m s c w = (nodeCount s + nodeCount c) + 3 * (length (s .nodes) + length (c .nodes)) + 5 * m ≤ w
+
+-- ---- the regions
+
+module _ (s c : Mesh) where
+  -- the cutter's node entries under the numbers of module 4
+  abbrev pub cutterEntries : List ℕ
+  cutterEntries = map (λ n. getD (weld s c) n 0) (c .nodes)
+
+  -- where the regions behind them begin: the subject's entries, its edges, the cutter's edges, the meetings
+  abbrev pub copiedAt : ℕ
+  copiedAt = nodeCount c + length (c .nodes)
+
+  abbrev pub subjectAt : ℕ
+  subjectAt = copiedAt + length (s .nodes)
+
+  abbrev pub cutterAt : ℕ
+  cutterAt = subjectAt + 2 * length (s .nodes)
+
+  abbrev pub metAt : ℕ
+  metAt = cutterAt + 2 * length (c .nodes)
+
+-- where they begin, and how many edges there are; the edges of lines are the cutter's entries
+unfoldable pub regionsOf : Bool → Mesh → Mesh → Regions
+regionsOf lines s c =
+    record {
+      entries = nodeCount c;
+      from = subjectAt s c;
+      subject = length (subjectNet s .edges);
+      at = cond lines (nodeCount c) (cutterAt s c);
+      cutter = length (cutterNet lines s c .edges);
+      base = metAt s c;
+    }
+
+-- the working list w then: the numbers of the cutter's nodes (zeros behind them, which the entries overwrite), both meshes' entries, and the edges
+unfoldable pub netted : Bool → Mesh → Mesh → List ℕ → List ℕ
+netted lines s c w =
+    let numbers = front w (weld s c ++ zeros (nodeCount s)) in
+    let entries = put (put numbers (nodeCount c) (cutterEntries s c)) (copiedAt s c) (s .nodes) in
+    put (put entries (subjectAt s c) (ends (subjectNet s .edges))) (cutterAt s c) (cond lines [] (ends (cutterNet lines s c .edges)))
