@@ -1,0 +1,352 @@
+// The cells of one mesh (document 01, module 7): each is copied or cut, and those of its pieces that the operation keeps are placed behind the others.
+use cells::CutCell;
+use cells::cut_cell;
+use cutting::cut::is_doubled;
+use lists::copy_u32;
+use pieces::place_pieces;
+use rules::Bounds;
+use spatial_index::bounds2;
+use spatial_index::in_bounds;
+ghost use mathlib.Core.Path.{_≡_};
+ghost use mathlib.Core.Bool.{true, cond};
+ghost use Prim.Native.Nat.{ℕ, _+_, _*_, _^_, _≤_, _<_};
+ghost use lib.Dec.{ltb};
+ghost use lib.ListN.{length};
+ghost use Rattle.lists.specs.Search.{bit};
+ghost use Rattle.lists.specs.Gather.{gathered};
+ghost use Rattle.cutting.specs.Edges.{ring};
+ghost use Rattle.cutting.specs.Cell.{copiedTable, doubled};
+ghost use Rattle.cutting.specs.Outcome.{copiedOutcome};
+ghost use Rattle.cutting.specs.Lent.{pairs};
+ghost use Rattle.rules.specs.Mesh.{theCutter};
+ghost use Rattle.rules.specs.Meetings.{Scene};
+ghost use Rattle.rules.specs.Operations.{cuts, kept};
+ghost use Rattle.cells.specs.Cells.{cutAs, nextCorner, Uncrowded};
+ghost use Rattle.pieces.specs.Pieces.{sideOf, Rising, room};
+ghost use Rattle.cutting_cells.specs.Listed.{cutIn, SceneIn, CellIn, MeshIn, cellEvents, twice, ListedBehind, Fits, CellsReady, MeshesIn, overBoth, noneYet};
+
+// The refusal or 0, and how many pieces, corners and doubled cells there are then.
+pub struct Listed {
+    pub code: u32,
+    pub count: usize,
+    pub entries: usize,
+    pub doubled: usize,
+}
+
+fn refused(code: u32) -> Listed
+    ensures { λ r. ⌜ (r .code ≡ code) × (r .count ≡ 0) × (r .entries ≡ 0) × (r .doubled ≡ 0) ⌝ }
+{
+    Listed {
+        code,
+        count: 0,
+        entries: 0,
+        doubled: 0,
+    }
+}
+
+// ---- A cell that is copied
+
+fn next_corner(cell: &[u32], i: usize) -> u32
+    requires { ⌜ i < length (now cell) ⌝ }
+    ensures { λ r. ⌜ r ≡ nextCorner (now (cell .entry)) i ⌝ }
+{
+    let j = i + 1;
+    if j < cell.len() {
+        return cell[j];
+    }
+    cell[0]
+}
+
+// Whether the table of the cell's own edges, each with a slot at both its ends, names a neighbour twice at some node.
+fn copy_doubled(cell: &[u32]) -> bool
+    requires { ⌜ length (now cell) ≤ 256 ⌝ }
+    ensures { λ r. ⌜ r ≡ doubled (copiedTable (now (cell .entry))) ⌝ }
+{
+    let mut src = [0u32; 512];
+    let mut dst = [0u32; 512];
+    let mut i: usize = 0;
+    while i < cell.len() {
+        let a = cell[i];
+        let b = next_corner(cell, i);
+        src[2 * i] = a;
+        dst[2 * i] = b;
+        src[2 * i + 1] = b;
+        dst[2 * i + 1] = a;
+        i += 1;
+    }
+    is_doubled(&src, &dst, 2 * cell.len())
+}
+
+// The cell itself as its one piece.
+fn copy_cell(cell: &[u32]) -> CutCell
+    requires { ⌜ length (now cell) ≤ 256 ⌝ }
+    ensures { λ r. ⌜ r ≡ cutAs (copiedOutcome (now (cell .entry))) (doubled (copiedTable (now (cell .entry)))) ⌝ }
+{
+    let mut nodes = [0u32; 1024];
+    let mut stops = [0u32; 1024];
+    let doubled = copy_doubled(cell);
+    copy_u32(&mut nodes, 0, cell);
+    stops[0] = cell.len() as u32;
+    CutCell {
+        code: 0,
+        pieces: 1,
+        entries: cell.len(),
+        doubled,
+        nodes,
+        stops,
+    }
+}
+
+// ---- Any cell
+
+// What the cell comes to, where `first` is the first of the edges `near` whose box meets b. A cell without one is copied.
+fn outcome_of(
+    coords: &[f64],
+    subject: &[u32],
+    cutter: &[u32],
+    met: &[u32],
+    near: &[u32],
+    cell: &[u32],
+    b: Bounds,
+    first: usize,
+) -> CutCell
+    requires { ⌜ Uncrowded (pairs (now subject)) (pairs (now cutter)) (now met) (ring (now cell)) × Uncrowded (pairs (now subject)) (pairs (now cutter)) (now met) (pairs (now near)) × (length (now cell) ≤ 256) ⌝ }
+    ensures { λ r. ⌜ r ≡ cutIn (now (coords .entry)) (pairs (now (subject .entry))) (pairs (now (cutter .entry))) (now (met .entry)) (pairs (now (near .entry))) (now (cell .entry)) b first ⌝ }
+{
+    if near.len() / 2 <= first {
+        return copy_cell(cell);
+    }
+    cut_cell(coords, subject, cutter, met, near, cell, b, first)
+}
+
+// A copied cell keeps its kind, and what is cut out of a cell is a PGON: `first` is one of n edges where the cell is cut.
+fn kind_of(kind: u8, first: usize, n: usize) -> u8
+    ensures { λ r. ⌜ r ≡ cond (ltb first n) 11 kind ⌝ }
+{
+    if first < n {
+        return 11;
+    }
+    kind
+}
+
+fn counted(n: usize, twice: bool) -> usize
+    requires { ⌜ n < 2 ^ 32 ⌝ }
+    ensures { λ r. ⌜ r ≡ n + bit twice ⌝ }
+{
+    if twice {
+        return n + 1;
+    }
+    n
+}
+
+// Places the kept pieces of one cell behind what p counts; the cells of the other mesh are those of `nodes` and `ends`.
+fn overlay_cell(
+    op: u32,
+    cutter: bool,
+    coords: &[f64],
+    subject: &[u32],
+    cut: &[u32],
+    met: &[u32],
+    near: &[u32],
+    nodes: &[u32],
+    ends: &[u32],
+    on: &mut [u32],
+    oe: &mut [u32],
+    ok: &mut [u8],
+    of: &mut [u32],
+    p: Listed,
+    cell: &[u32],
+    kind: u8,
+    family: u32,
+) -> Listed
+    requires { ⌜ Uncrowded (pairs (now subject)) (pairs (now cut)) (now met) (ring (now cell)) × Uncrowded (pairs (now subject)) (pairs (now cut)) (now met) (pairs (now near)) × (length (now cell) ≤ 256) × Rising (now ends) (length (now nodes))
+        × (p .count ≤ room (now oe) (now ok) (now of)) × (p .entries ≤ length (now on)) × (p .entries + 1024 < 2 ^ 32) × (p .doubled < 2 ^ 32) ⌝ }
+    ensures { λ r. ⌜ (r .code ≡ 0 → Fits 1 p (now (on .entry)) (now (oe .entry)) (now (ok .entry)) (now (of .entry)) r)
+        × ((sc : Scene) (i : ℕ) → SceneIn sc (sideOf cutter) (now (coords .entry)) (now (subject .entry)) (now (cut .entry)) (now (met .entry)) (now (near .entry)) (now (nodes .entry)) (now (ends .entry)) → CellIn sc (sideOf cutter) i (now (cell .entry)) kind family
+        → ListedBehind (cellEvents op sc (sideOf cutter) i) (kept sc (sideOf cutter) op i) (twice sc (sideOf cutter) i) p (now (on .entry)) (now (oe .entry)) (now (ok .entry)) (now (of .entry)) r (now (on .exit)) (now (oe .exit)) (now (ok .exit)) (now (of .exit))) ⌝ }
+{
+    let b = bounds2(coords, cell);
+    let first = in_bounds(coords, near, b, 0);
+    let r = outcome_of(coords, subject, cut, met, near, cell, b, first);
+    let code = r.code;
+    if code != 0 {
+        return refused(code);
+    }
+    let runs = r.nodes;
+    let stops = r.stops;
+    let m = r.entries;
+    let k = r.pieces;
+    let own = kind_of(kind, first, near.len() / 2);
+    let q = place_pieces(
+        op,
+        cutter,
+        coords,
+        nodes,
+        ends,
+        on,
+        oe,
+        ok,
+        of,
+        p.count,
+        p.entries,
+        &runs[..m],
+        &stops[..k],
+        own,
+        family,
+    );
+    let full = q.code;
+    if full != 0 {
+        return refused(full);
+    }
+    Listed {
+        code: 0,
+        count: q.count,
+        entries: q.entries,
+        doubled: counted(p.doubled, r.doubled),
+    }
+}
+
+// Cuts all cells of one mesh, with the corners `own` and their ends `stops`, and places their kept pieces behind what p counts.
+pub fn cut_cells(
+    op: u32,
+    cutter: bool,
+    coords: &[f64],
+    subject: &[u32],
+    cut: &[u32],
+    met: &[u32],
+    near: &[u32],
+    nodes: &[u32],
+    ends: &[u32],
+    own: &[u32],
+    stops: &[u32],
+    kinds: &[u8],
+    families: &[u32],
+    on: &mut [u32],
+    oe: &mut [u32],
+    ok: &mut [u8],
+    of: &mut [u32],
+    p: Listed,
+) -> Listed
+    requires { ⌜ CellsReady (pairs (now subject)) (pairs (now cut)) (now met) (now own) (now stops)
+        × Uncrowded (pairs (now subject)) (pairs (now cut)) (now met) (pairs (now near)) × Rising (now ends) (length (now nodes)) × Rising (now stops) (length (now own))
+        × (length (now kinds) ≡ length (now stops)) × (length (now families) ≡ length (now stops))
+        × (p .count ≤ room (now oe) (now ok) (now of)) × (p .entries ≤ length (now on)) × (p .entries + 1024 * length (now stops) < 2 ^ 32) × (p .doubled + length (now stops) < 2 ^ 32) × (p .code ≡ 0) ⌝ }
+    ensures { λ r. ⌜ (r .code ≡ 0 → Fits (length (now (stops .entry))) p (now (on .entry)) (now (oe .entry)) (now (ok .entry)) (now (of .entry)) r)
+        × ((sc : Scene) → SceneIn sc (sideOf cutter) (now (coords .entry)) (now (subject .entry)) (now (cut .entry)) (now (met .entry)) (now (near .entry)) (now (nodes .entry)) (now (ends .entry)) → MeshIn sc (sideOf cutter) (now (own .entry)) (now (stops .entry)) (now (kinds .entry)) (now (families .entry))
+        → ListedBehind (gathered (length (now (stops .entry))) (cellEvents op sc (sideOf cutter))) (gathered (length (now (stops .entry))) (kept sc (sideOf cutter) op)) (gathered (length (now (stops .entry))) (twice sc (sideOf cutter)))
+        p (now (on .entry)) (now (oe .entry)) (now (ok .entry)) (now (of .entry)) r (now (on .exit)) (now (oe .exit)) (now (ok .exit)) (now (of .exit))) ⌝ }
+{
+    let mut q = p;
+    let mut start: usize = 0;
+    for i in 0..stops.len() {
+        let e = stops[i] as usize;
+        q = overlay_cell(
+            op,
+            cutter,
+            coords,
+            subject,
+            cut,
+            met,
+            near,
+            nodes,
+            ends,
+            on,
+            oe,
+            ok,
+            of,
+            q,
+            &own[start..e],
+            kinds[i],
+            families[i],
+        );
+        if q.code != 0 {
+            return q;
+        }
+        start = e;
+    }
+    q
+}
+
+// Cuts the cells of the subject, and then those of the cutter where the operation cuts both meshes.
+pub fn cut_meshes(
+    op: u32,
+    coords: &[f64],
+    subject: &[u32],
+    cut: &[u32],
+    met: &[u32],
+    sn: &[u32],
+    se: &[u32],
+    sk: &[u8],
+    sf: &[u32],
+    cn: &[u32],
+    ce: &[u32],
+    ck: &[u8],
+    cf: &[u32],
+    on: &mut [u32],
+    oe: &mut [u32],
+    ok: &mut [u8],
+    of: &mut [u32],
+) -> Listed
+    requires { ⌜ CellsReady (pairs (now subject)) (pairs (now cut)) (now met) (now sn) (now se) × (cuts op theCutter ≡ true → CellsReady (pairs (now subject)) (pairs (now cut)) (now met) (now cn) (now ce))
+        × Uncrowded (pairs (now subject)) (pairs (now cut)) (now met) (pairs (now subject)) × Uncrowded (pairs (now subject)) (pairs (now cut)) (now met) (pairs (now cut))
+        × Rising (now se) (length (now sn)) × Rising (now ce) (length (now cn))
+        × (length (now sk) ≡ length (now se)) × (length (now sf) ≡ length (now se)) × (length (now ck) ≡ length (now ce)) × (length (now cf) ≡ length (now ce))
+        × (length (now se) ≤ 16384) × (length (now ce) ≤ 16384) ⌝ }
+    ensures { λ r. ⌜ (r .code ≡ 0 → Fits (length (now (se .entry)) + length (now (ce .entry))) noneYet (now (on .entry)) (now (oe .entry)) (now (ok .entry)) (now (of .entry)) r)
+        × ((sc : Scene) → MeshesIn sc (now (coords .entry)) (now (subject .entry)) (now (cut .entry)) (now (met .entry)) (now (sn .entry)) (now (se .entry)) (now (sk .entry)) (now (sf .entry)) (now (cn .entry)) (now (ce .entry)) (now (ck .entry)) (now (cf .entry))
+        → ListedBehind (overBoth op sc (cellEvents op sc)) (overBoth op sc (λ w. kept sc w op)) (overBoth op sc (twice sc)) noneYet (now (on .entry)) (now (oe .entry)) (now (ok .entry)) (now (of .entry)) r (now (on .exit)) (now (oe .exit)) (now (ok .exit)) (now (of .exit))) ⌝ }
+{
+    let none = Listed {
+        code: 0,
+        count: 0,
+        entries: 0,
+        doubled: 0,
+    };
+    let p = cut_cells(
+        op,
+        false,
+        coords,
+        subject,
+        cut,
+        met,
+        cut,
+        cn,
+        ce,
+        sn,
+        se,
+        sk,
+        sf,
+        on,
+        oe,
+        ok,
+        of,
+        none,
+    );
+    let code = p.code;
+    if code != 0 {
+        return p;
+    }
+    if (op == 1) | (op == 4) {
+        return cut_cells(
+            op,
+            true,
+            coords,
+            subject,
+            cut,
+            met,
+            subject,
+            sn,
+            se,
+            cn,
+            ce,
+            ck,
+            cf,
+            on,
+            oe,
+            ok,
+            of,
+            p,
+        );
+    }
+    p
+}

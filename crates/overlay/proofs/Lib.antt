@@ -1,0 +1,5 @@
+pub mod Returns
+pub mod Keys
+pub mod Whole
+pub mod Found
+pub mod Stages
