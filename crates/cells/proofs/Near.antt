@@ -12,7 +12,8 @@ use Rattle.cutting.specs.Cell.{Laid, nearDarts, cellTable}
 use Rattle.cutting.specs.Lent.{slotsOf, pairs, Added}
 use Rattle.cutting.proofs.Joins.{near-turn, near-full}
 use Rattle.rules.specs.declared.Bounds.{Bounds}
-use Rattle.spatial_index.proofs.Candidates.{meets, places-next, places-end, length-pairs, pairs-at}
+use Rattle.spatial_index.specs.Candidates.{meets}
+use Rattle.spatial_index.proofs.Candidates.{places-next, places-end, length-pairs, pairs-at}
 use Rattle.edge_nodes.specs.Lent.{collectedIn}
 use Rattle.cells.specs.Cells.{laidIn, nearIn, candidatesFrom, Uncrowded, Held}
 

@@ -21,7 +21,8 @@ use Rattle.rules.specs.SpatialIndex.{boxOf, candidates}
 use Rattle.rules.specs.Meetings.{Scene, netOf}
 use Rattle.rules.specs.Nodes.{sortedNodes}
 use Rattle.rules.specs.Cell.{laid, dartsOf, outlineBy, tableBy, outcomeBy, cellOf, nearOf, outlineOf, tableOf, outcomeOf}
-use Rattle.spatial_index.proofs.Candidates.{meets, places-next, places-end, candidates-from}
+use Rattle.spatial_index.specs.Candidates.{meets}
+use Rattle.spatial_index.proofs.Candidates.{places-next, places-end, candidates-from}
 use Rattle.edge_nodes.specs.Lent.{collectedIn, sortedIn, crowdedAt}
 use Rattle.edge_nodes.proofs.Scene.{same-collected}
 use Rattle.cells.specs.declared.CutCell.{CutCell}

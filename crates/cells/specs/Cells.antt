@@ -12,7 +12,7 @@ use Rattle.cutting.specs.Outcome as Outcome
 use Rattle.cutting.specs.Outcome.{Outcome, pieces, refusal, cutOutcome, flat}
 use Rattle.cutting.specs.Lent.{slotsOf}
 use Rattle.rules.specs.declared.Bounds.{Bounds}
-use Rattle.spatial_index.proofs.Candidates.{placesFrom, meets}
+use Rattle.spatial_index.specs.Candidates.{placesFrom, meets}
 use Rattle.edge_nodes.specs.Lent.{collectedIn, sortedIn}
 use Rattle.cells.specs.declared.CutCell.{CutCell}
 

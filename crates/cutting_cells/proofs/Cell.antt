@@ -25,7 +25,8 @@ use Rattle.rules.specs.Meetings.{Scene, netOf}
 use Rattle.rules.specs.Cell.{cellOf, nearOf, outlineOf, tableOf, outcomeBy, outcomeOf, kindBy, kindOf}
 use Rattle.rules.specs.Operations.{Piece, outcomePieces, kept}
 use Rattle.rules.specs.Refusals.{ofCell, firstRefusal}
-use Rattle.spatial_index.proofs.Candidates.{meets, length-pairs}
+use Rattle.spatial_index.specs.Candidates.{meets}
+use Rattle.spatial_index.proofs.Candidates.{length-pairs}
 use Rattle.edge_nodes.proofs.Scene.{Stored, sorted-is}
 use Rattle.cells.specs.declared.CutCell.{CutCell}
 use Rattle.cells.specs.Cells.{outlineIn, tableIn, candidatesFrom, cutAs, cutBy, cutCell}

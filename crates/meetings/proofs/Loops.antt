@@ -24,7 +24,8 @@ use Rattle.rules.specs.Neighbours.{Net}
 use Rattle.rules.specs.Meetings.{Met, segmentOf, recorded, addedBy, metPair, metAll, meetingsTo, meetings}
 use Rattle.rules.specs.Refusals.{Event, ofMeeting, firstRefusal}
 use Rattle.rules.proofs.Course.{edges-behind}
-use Rattle.spatial_index.proofs.Candidates.{placesFrom, places-next, places-end, meets, candidates-from, length-pairs, pairs-at}
+use Rattle.spatial_index.specs.Candidates.{placesFrom, meets}
+use Rattle.spatial_index.proofs.Candidates.{places-next, places-end, candidates-from, length-pairs, pairs-at}
 use Rattle.meetings.specs.declared.Found.{Found}
 use Rattle.meetings.specs.Booked.{booked, netOn, edgesIn, meetingsAt}
 use Rattle.meetings.specs.Steps.{edgeIn, metOf, metFrom, metWith, Ready, Grown, Answered}

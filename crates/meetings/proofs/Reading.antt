@@ -17,7 +17,7 @@ use Rattle.cutting.specs.Edges.{Edge, edgeAt}
 use Rattle.rules.specs.SpatialIndex.{edgeBox, candidates}
 use Rattle.rules.specs.Neighbours.{Net}
 use Rattle.rules.specs.Meetings.{Met, segmentOf, recorded, addedBy, metPair, metAll, meetingsTo, meetings}
-use Rattle.spatial_index.proofs.Candidates.{meets}
+use Rattle.spatial_index.specs.Candidates.{meets}
 use Rattle.meetings.specs.Booked.{bookOf, booked, netOn}
 
 -- ---- five numbers a meeting

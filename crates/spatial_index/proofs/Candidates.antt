@@ -14,18 +14,10 @@ use Rattle.lists.proofs.Gather.{gathered-ext, gathered-head}
 use Rattle.cutting.specs.Edges.{Edge, edgeAt}
 use Rattle.cutting.specs.Lent.{ends, pairs}
 use Rattle.rules.specs.declared.Bounds.{Bounds}
-use Rattle.rules.specs.SpatialIndex.{edgeBox, boxesMeet, candidates}
+use Rattle.rules.specs.SpatialIndex.{candidates}
+use Rattle.spatial_index.specs.Candidates.{placesAmong, placesFrom, meets}
 
 -- ---- the numbers that pass, one after the other
-
--- of the m numbers k, k + 1, .. those that pass p
-unfoldable pub placesAmong : (ℕ → Bool) → ℕ → ℕ → List ℕ
-placesAmong p k zero = []
-placesAmong p k (suc m) = cond (p k) (k ∷ []) [] ++ placesAmong p (suc k) m
-
--- the numbers from k on, below n, that pass p, rising
-abbrev pub placesFrom : (ℕ → Bool) → ℕ → ℕ → List ℕ
-placesFrom p k n = placesAmong p k (n - k)
 
 among-is : (p : ℕ → Bool) (k m : ℕ) → placesAmong p k m ≡ gathered m (λ i. cond (p (k + i)) ((k + i) ∷ []) [])
 unfolding placesAmong gathered
@@ -110,10 +102,6 @@ length-ends [] = refl
 length-ends (e ∷ es) = omega (arith, length-ends es)
 
 -- ---- the candidates of a box
-
--- edge j is one of them
-abbrev pub meets : List Float → List Edge → Bounds → ℕ → Bool
-meets coords es b j = boxesMeet (edgeBox coords (edgeAt es j)) b
 
 -- those from k on, and all of them
 pub candidates-from : (coords : List Float) (es : List Edge) (b : Bounds) → placesFrom (meets coords es b) 0 (length es) ≡ candidates coords es b

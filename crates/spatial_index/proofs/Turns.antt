@@ -16,7 +16,8 @@ use Rattle.cutting.specs.Edges.{Edge}
 use Rattle.cutting.specs.Lent.{pairs}
 use Rattle.rules.specs.declared.Bounds.{Bounds}
 use Rattle.rules.specs.SpatialIndex.{stretched, boxTo, boxOf, edgeBox, boxesMeet}
-use Rattle.spatial_index.proofs.Candidates.{meets, length-pairs, pairs-at}
+use Rattle.spatial_index.specs.Candidates.{meets}
+use Rattle.spatial_index.proofs.Candidates.{length-pairs, pairs-at}
 
 module _ (coords : List Float) (ns : List ℕ) where
   pub box-turn : (b c : Bounds) (p : Point) (i : ℕ) → b ≡ boxTo i coords ns → p ≡ pointAt coords (getD ns i 0) → c ≡ stretched b p → c ≡ boxTo (i + 1) coords ns
