@@ -207,7 +207,7 @@ fn overlay_cell(
 }
 
 // Cuts all cells of one mesh, with the corners `own` and their ends `stops`, and places their kept pieces behind what p counts.
-pub fn cut_cells(
+fn cut_cells(
     op: u32,
     cutter: bool,
     coords: &[f64],
