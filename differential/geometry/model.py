@@ -29,7 +29,7 @@ def quotient(a, b):
 
 
 def exact(x):
-    """What is not finite counts as 0 (reading 22)."""
+    """What is not finite counts as 0 (docs/DECISIONS.md)."""
     return Fraction(x) if math.isfinite(x) else Fraction(0)
 
 
