@@ -82,8 +82,8 @@ module _ (coords : List Float) (subject cutter : List Edge) (met near : List ℕ
       below : j < length (pairs near)
       below = omega (arith, length-pairs near)
 
-      pub near-few : Uncrowded subject cutter met (pairs near) → length (collectedIn subject cutter met e) ≤ 256
-      near-few few = omega (arith, few j below, ap (λ (f : Edge). length (collectedIn subject cutter met f)) at-j)
+      pub near-few : (links : List ℕ) → Uncrowded subject cutter met links (pairs near) → length (collectedIn subject cutter met e) ≤ 256
+      near-few links u = omega (arith, u .few j below, ap (λ (f : Edge). length (collectedIn subject cutter met f)) at-j)
 
       split : v .done ++ laid e ∷ nearBy (from-on (j + 1)) ≡ nearBy (from-on first₀)
       unfolding nearIn

@@ -121,11 +121,11 @@ module _ (coords : List Float) (subject cutter : List Edge) (met cell outline₀
       split : v .done ++ e ∷ sidesFrom cell (i + 1) ≡ ring cell
       split = ap (λ (c : ℕ). v .done ++ (getD cell i 0, c) ∷ sidesFrom cell (i + 1)) eb ∙ ap (λ (es : List Edge). v .done ++ es) (sym (sides-next cell i h)) ∙ v .left
 
-      pub own-few : Uncrowded subject cutter met (ring cell) → length (collectedIn subject cutter met e) ≤ 256
-      own-few few =
+      pub own-few : (links : List ℕ) → Uncrowded subject cutter met links (ring cell) → length (collectedIn subject cutter met e) ≤ 256
+      own-few links u =
           let at : edgeAt (ring cell) i ≡ e = ap₂ edgeAt (sym split) (sym (v .counted)) ∙ edge-behind (v .done) e (sidesFrom cell (i + 1)) in
           let below : i < length (ring cell) = omega (arith, v .counted, ap length split, length-append (v .done) (e ∷ sidesFrom cell (i + 1))) in
-          omega (arith, few i below, ap (λ (f : Edge). length (collectedIn subject cutter met f)) at)
+          omega (arith, u .few i below, ap (λ (f : Edge). length (collectedIn subject cutter met f)) at)
 
       laid-split : ls ++ laid e ∷ map laid (sidesFrom cell (i + 1)) ≡ map laid (ring cell)
       laid-split = sym (map-append laid (v .done) (e ∷ sidesFrom cell (i + 1))) ∙ ap (map laid) split

@@ -24,6 +24,7 @@ use Rattle.rules.specs.Cell.{laid, dartsOf, outlineBy, tableBy, outcomeBy, cell
 use Rattle.spatial_index.specs.Candidates.{meets}
 use Rattle.spatial_index.proofs.Candidates.{places-next, places-end, candidates-from}
 use Rattle.edge_nodes.specs.Lent.{collectedIn, sortedIn, crowdedAt}
+use Rattle.edge_nodes.specs.Links.{Linked}
 use Rattle.edge_nodes.proofs.Scene.{same-collected}
 use Rattle.cells.specs.declared.CutCell.{CutCell}
 use Rattle.cells.proofs.Cut.{front-fits}
@@ -31,15 +32,19 @@ use Rattle.cells.specs.Cells.{laidIn, outlineIn, nearIn, tableIn, candid
 
 -- ---- refusal 9 passed
 
-module _ (subject cutter : List Edge) (met : List ℕ) (es : List Edge) where
-  pub not-overfull : has (crowdedAt es subject cutter met) (length es) ≡ false → Uncrowded subject cutter met es
-  not-overfull none i h = ltb-false 256 (length (collectedIn subject cutter met (edgeAt es i))) (has-none (crowdedAt es subject cutter met) (length es) i none h)
+module _ (subject cutter : List Edge) (met links : List ℕ) (es : List Edge) where
+  pub not-overfull : Linked subject cutter met links → has (crowdedAt es subject cutter met) (length es) ≡ false → Uncrowded subject cutter met links es
+  not-overfull chained none = record {
+    linked = chained;
+    few = λ i h. ltb-false 256 (length (collectedIn subject cutter met (edgeAt es i))) (has-none (crowdedAt es subject cutter met) (length es) i none h);
+  }
 
   -- and so of edges that have their keys among these
-  pub same-keys : Uncrowded subject cutter met es → (fs : List Edge) → ((i : ℕ) → i < length fs → (k : ℕ) × (k < length es) × (sameKey (edgeAt es k) (edgeAt fs i) ≡ true)) → Uncrowded subject cutter met fs
-  same-keys few fs among i h =
-      let k = among i h in
-      omega (arith, few (k .0) (k .1), ap length (same-collected (edgeAt es (k .0)) (edgeAt fs i) (k .2) subject cutter met))
+  pub same-keys : Uncrowded subject cutter met links es → (fs : List Edge) → ((i : ℕ) → i < length fs → (k : ℕ) × (k < length es) × (sameKey (edgeAt es k) (edgeAt fs i) ≡ true)) → Uncrowded subject cutter met links fs
+  same-keys u fs among = record {
+    linked = u .linked;
+    few = λ i h. let k = among i h in omega (arith, u .few (k .0) (k .1), ap length (same-collected (edgeAt es (k .0)) (edgeAt fs i) (k .2) subject cutter met));
+  }
 
 -- ---- the candidates from the first on are all
 

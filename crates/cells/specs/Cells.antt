@@ -14,6 +14,7 @@ use Rattle.cutting.specs.Lent.{slotsOf}
 use Rattle.rules.specs.declared.Bounds.{Bounds}
 use Rattle.spatial_index.specs.Candidates.{placesFrom, meets}
 use Rattle.edge_nodes.specs.Lent.{collectedIn, sortedIn}
+use Rattle.edge_nodes.specs.Links.{Linked}
 use Rattle.cells.specs.declared.CutCell.{CutCell}
 
 module _ (coords : List Float) (subject cutter : List Edge) (met : List ℕ) where
@@ -51,9 +52,10 @@ unfoldable pub cutCell : List Float → List Edge → List Edge → List ℕ →
 cutCell coords subject cutter met near cell b first =
     cutBy (outlineIn coords subject cutter met cell) (tableIn coords subject cutter met near (candidatesFrom coords near b first) cell)
 
--- under no key of the edges es over 256 nodes were collected (refusal 9)
-abbrev pub Uncrowded : List Edge → List Edge → List ℕ → List Edge → Type 0
-Uncrowded subject cutter met es = (i : ℕ) → i < length es → length (collectedIn subject cutter met (edgeAt es i)) ≤ 256
+-- The meetings are chained by the list `links`, and under no key of the edges es over 256 nodes were collected (refusal 9).
+pub record Uncrowded (subject cutter : List Edge) (met links : List ℕ) (es : List Edge) : Type 0 where
+  pub linked : Linked subject cutter met links
+  pub few : (i : ℕ) → i < length es → length (collectedIn subject cutter met (edgeAt es i)) ≤ 256
 
 -- ---- what only inner functions' contracts cite
 

@@ -1,4 +1,4 @@
-// One cell cut by the other mesh's edges near it. Edges are flat lists of pairs, meetings five numbers each, as in `edge_nodes`.
+// One cell cut by the other mesh's edges near it. Edges are flat lists of pairs, meetings five numbers each and chained by `links`, as in `edge_nodes`.
 use cutting::cut::Walked;
 use cutting::cut::add_near_edge;
 use cutting::cut::add_own_edge;
@@ -17,7 +17,9 @@ ghost use Rattle.cutting.specs.Cell.{ownDarts, nearDarts, cellTable, doubled};
 ghost use Rattle.cutting.specs.Walk.{walk};
 ghost use Rattle.cutting.specs.Outcome.{refusal, ofWalk};
 ghost use Rattle.cutting.specs.Lent.{slotsOf, ends, pairs, Added, Outlined};
+ghost use Rattle.spatial_index.specs.Blocks.{Covered};
 ghost use Rattle.edge_nodes.specs.Lent.{collectedIn};
+ghost use Rattle.edge_nodes.specs.Links.{Linked};
 ghost use Rattle.cells.specs.Cells.{laidIn, outlineIn, nearIn, candidatesFrom, cutAs, cutBy, cutCell, Uncrowded, nextCorner, Held};
 
 // What a cell comes to: the refusal or 0, how many pieces there are, and corners in them, and whether the cell is doubled; the corners, one piece
@@ -62,6 +64,7 @@ fn add_own(
     subject: &[u32],
     cutter: &[u32],
     met: &[u32],
+    links: &[u32],
     a: u32,
     b: u32,
     outline: &mut [u32],
@@ -70,11 +73,11 @@ fn add_own(
     marks: &mut [u32],
     n: usize,
 ) -> usize
-    requires { ⌜ (length (collectedIn (pairs (now subject)) (pairs (now cutter)) (now met) (a, b)) ≤ 256) × (n ≤ 1024) × (1024 ≤ length (now outline)) × (1024 ≤ length (now src)) × (1024 ≤ length (now dst)) × (1024 ≤ length (now marks)) ⌝ }
+    requires { ⌜ Linked (pairs (now subject)) (pairs (now cutter)) (now met) (now links) × (length (collectedIn (pairs (now subject)) (pairs (now cutter)) (now met) (a, b)) ≤ 256) × (n ≤ 1024) × (1024 ≤ length (now outline)) × (1024 ≤ length (now src)) × (1024 ≤ length (now dst)) × (1024 ≤ length (now marks)) ⌝ }
     ensures { λ r. ⌜ Added (now (coords .entry)) 1 (ownDarts (laidIn (now (coords .entry)) (pairs (now (subject .entry))) (pairs (now (cutter .entry))) (now (met .entry)) (a, b))) n r (now (src .entry)) (now (dst .entry)) (now (marks .entry)) (now (src .exit)) (now (dst .exit)) (now (marks .exit))
         × Outlined (ownDarts (laidIn (now (coords .entry)) (pairs (now (subject .entry))) (pairs (now (cutter .entry))) (now (met .entry)) (a, b))) n r (now (outline .entry)) (now (outline .exit)) ⌝ }
 {
-    let along = sorted_nodes(coords, subject, cutter, met, a, b);
+    let along = sorted_nodes(coords, subject, cutter, met, links, a, b);
     let nodes = along.nodes;
     let count = along.count;
     add_own_edge(coords, a, b, &nodes[..count], outline, src, dst, marks, n)
@@ -86,13 +89,14 @@ fn own_darts(
     subject: &[u32],
     cutter: &[u32],
     met: &[u32],
+    links: &[u32],
     cell: &[u32],
     outline: &mut [u32],
     src: &mut [u32],
     dst: &mut [u32],
     marks: &mut [u32],
 ) -> usize
-    requires { ⌜ Uncrowded (pairs (now subject)) (pairs (now cutter)) (now met) (ring (now cell)) × (1024 ≤ length (now outline)) × (1024 ≤ length (now src)) × (1024 ≤ length (now dst)) × (1024 ≤ length (now marks)) ⌝ }
+    requires { ⌜ Uncrowded (pairs (now subject)) (pairs (now cutter)) (now met) (now links) (ring (now cell)) × (1024 ≤ length (now outline)) × (1024 ≤ length (now src)) × (1024 ≤ length (now dst)) × (1024 ≤ length (now marks)) ⌝ }
     ensures { λ r. ⌜ Held (cellTable (now (coords .entry)) (outlineIn (now (coords .entry)) (pairs (now (subject .entry))) (pairs (now (cutter .entry))) (now (met .entry)) (now (cell .entry))) []) r (now (src .exit)) (now (dst .exit)) (now (marks .exit))
         × (r ≤ 1024 → take r (now (outline .exit)) ≡ ends (outlineIn (now (coords .entry)) (pairs (now (subject .entry))) (pairs (now (cutter .entry))) (now (met .entry)) (now (cell .entry)))) ⌝ }
 {
@@ -106,6 +110,7 @@ fn own_darts(
             subject,
             cutter,
             met,
+            links,
             a,
             b,
             outline,
@@ -128,6 +133,7 @@ fn add_near(
     subject: &[u32],
     cutter: &[u32],
     met: &[u32],
+    links: &[u32],
     outline: &[u32],
     a: u32,
     b: u32,
@@ -136,10 +142,10 @@ fn add_near(
     marks: &mut [u32],
     n: usize,
 ) -> usize
-    requires { ⌜ (length (collectedIn (pairs (now subject)) (pairs (now cutter)) (now met) (a, b)) ≤ 256) × (n ≤ 1024) × (1024 ≤ length (now src)) × (1024 ≤ length (now dst)) × (1024 ≤ length (now marks)) ⌝ }
+    requires { ⌜ Linked (pairs (now subject)) (pairs (now cutter)) (now met) (now links) × (length (collectedIn (pairs (now subject)) (pairs (now cutter)) (now met) (a, b)) ≤ 256) × (n ≤ 1024) × (1024 ≤ length (now src)) × (1024 ≤ length (now dst)) × (1024 ≤ length (now marks)) ⌝ }
     ensures { λ r. ⌜ Added (now (coords .entry)) 0 (nearDarts (pairs (now (outline .entry))) (laidIn (now (coords .entry)) (pairs (now (subject .entry))) (pairs (now (cutter .entry))) (now (met .entry)) (a, b))) n r (now (src .entry)) (now (dst .entry)) (now (marks .entry)) (now (src .exit)) (now (dst .exit)) (now (marks .exit)) ⌝ }
 {
-    let along = sorted_nodes(coords, subject, cutter, met, a, b);
+    let along = sorted_nodes(coords, subject, cutter, met, links, a, b);
     let nodes = along.nodes;
     let count = along.count;
     add_near_edge(coords, outline, a, b, &nodes[..count], src, dst, marks, n)
@@ -152,7 +158,9 @@ fn near_darts(
     subject: &[u32],
     cutter: &[u32],
     met: &[u32],
+    links: &[u32],
     near: &[u32],
+    boxes: &[f64],
     b: Bounds,
     first: usize,
     outline: &[u32],
@@ -161,12 +169,12 @@ fn near_darts(
     marks: &mut [u32],
     n: usize,
 ) -> usize
-    requires { ⌜ Uncrowded (pairs (now subject)) (pairs (now cutter)) (now met) (pairs (now near)) × (n ≤ 1024) × (1024 ≤ length (now src)) × (1024 ≤ length (now dst)) × (1024 ≤ length (now marks)) × (slotsOf (now src) (now dst) (now marks) n ≡ cellTable (now coords) (pairs (now outline)) []) ⌝ }
+    requires { ⌜ Uncrowded (pairs (now subject)) (pairs (now cutter)) (now met) (now links) (pairs (now near)) × Covered (now coords) (pairs (now near)) (now boxes) × (n ≤ 1024) × (1024 ≤ length (now src)) × (1024 ≤ length (now dst)) × (1024 ≤ length (now marks)) × (slotsOf (now src) (now dst) (now marks) n ≡ cellTable (now coords) (pairs (now outline)) []) ⌝ }
     ensures { λ r. ⌜ Held (cellTable (now (coords .entry)) (pairs (now (outline .entry))) (nearIn (now (coords .entry)) (pairs (now (subject .entry))) (pairs (now (cutter .entry))) (now (met .entry)) (pairs (now (near .entry))) (candidatesFrom (now (coords .entry)) (pairs (now (near .entry))) b first))) r (now (src .exit)) (now (dst .exit)) (now (marks .exit)) ⌝ }
 {
     let count = near.len() / 2;
     let mut m = n;
-    let mut j = in_bounds(coords, near, b, first);
+    let mut j = in_bounds(coords, near, boxes, b, first);
     while j < count {
         let p = near[2 * j];
         let q = near[2 * j + 1];
@@ -175,6 +183,7 @@ fn near_darts(
             subject,
             cutter,
             met,
+            links,
             outline,
             p,
             q,
@@ -186,7 +195,7 @@ fn near_darts(
         if 1024 < m {
             return m;
         }
-        j = in_bounds(coords, near, b, j + 1);
+        j = in_bounds(coords, near, boxes, b, j + 1);
     }
     m
 }
@@ -220,7 +229,9 @@ fn cut_outlined(
     subject: &[u32],
     cutter: &[u32],
     met: &[u32],
+    links: &[u32],
     near: &[u32],
+    boxes: &[f64],
     b: Bounds,
     first: usize,
     outline: &[u32],
@@ -229,7 +240,7 @@ fn cut_outlined(
     marks: &mut [u32],
     n: usize,
 ) -> CutCell
-    requires { ⌜ Uncrowded (pairs (now subject)) (pairs (now cutter)) (now met) (pairs (now near)) × (n ≤ 1024) × (1024 ≤ length (now src)) × (1024 ≤ length (now dst)) × (1024 ≤ length (now marks)) × (slotsOf (now src) (now dst) (now marks) n ≡ cellTable (now coords) (pairs (now outline)) []) × (length (now outline) ≤ 2048) ⌝ }
+    requires { ⌜ Uncrowded (pairs (now subject)) (pairs (now cutter)) (now met) (now links) (pairs (now near)) × Covered (now coords) (pairs (now near)) (now boxes) × (n ≤ 1024) × (1024 ≤ length (now src)) × (1024 ≤ length (now dst)) × (1024 ≤ length (now marks)) × (slotsOf (now src) (now dst) (now marks) n ≡ cellTable (now coords) (pairs (now outline)) []) × (length (now outline) ≤ 2048) ⌝ }
     ensures { λ r. ⌜ r ≡ cutBy (pairs (now (outline .entry))) (cellTable (now (coords .entry)) (pairs (now (outline .entry))) (nearIn (now (coords .entry)) (pairs (now (subject .entry))) (pairs (now (cutter .entry))) (now (met .entry)) (pairs (now (near .entry))) (candidatesFrom (now (coords .entry)) (pairs (now (near .entry))) b first))) ⌝ }
 {
     let slots = near_darts(
@@ -237,7 +248,9 @@ fn cut_outlined(
         subject,
         cutter,
         met,
+        links,
         near,
+        boxes,
         b,
         first,
         outline,
@@ -252,18 +265,21 @@ fn cut_outlined(
     walk_cell(src, dst, marks, slots, outline)
 }
 
-// Cuts the cell by those edges of `near`, one of the two meshes' edges, whose box meets the box b, from the edge `first` on.
+// Cuts the cell by those edges of `near`, one of the two meshes' edges, whose box meets the box b, from the edge `first` on; `boxes` are those of
+// blocks of `near`.
 pub fn cut_cell(
     coords: &[f64],
     subject: &[u32],
     cutter: &[u32],
     met: &[u32],
+    links: &[u32],
     near: &[u32],
+    boxes: &[f64],
     cell: &[u32],
     b: Bounds,
     first: usize,
 ) -> CutCell
-    requires { ⌜ Uncrowded (pairs (now subject)) (pairs (now cutter)) (now met) (ring (now cell)) × Uncrowded (pairs (now subject)) (pairs (now cutter)) (now met) (pairs (now near)) ⌝ }
+    requires { ⌜ Uncrowded (pairs (now subject)) (pairs (now cutter)) (now met) (now links) (ring (now cell)) × Uncrowded (pairs (now subject)) (pairs (now cutter)) (now met) (now links) (pairs (now near)) × Covered (now coords) (pairs (now near)) (now boxes) ⌝ }
     ensures { λ r. ⌜ r ≡ cutCell (now (coords .entry)) (pairs (now (subject .entry))) (pairs (now (cutter .entry))) (now (met .entry)) (pairs (now (near .entry))) (now (cell .entry)) b first ⌝ }
 {
     let mut outline = [0u32; 1024];
@@ -275,6 +291,7 @@ pub fn cut_cell(
         subject,
         cutter,
         met,
+        links,
         cell,
         &mut outline,
         &mut src,
@@ -289,7 +306,9 @@ pub fn cut_cell(
         subject,
         cutter,
         met,
+        links,
         near,
+        boxes,
         b,
         first,
         &outline[..own],

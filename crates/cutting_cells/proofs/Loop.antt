@@ -79,8 +79,8 @@ module _ (op : ℕ) (cutter : Bool) (coords : List Float) (subject cut met near 
               omega (arith, f .fewDoubled, h, b),
             )
 
-        pub cell-uncrowded : (s c : List Edge) (ms : List ℕ) → Uncrowded s c ms (ring (getD (runsOf own stops) i [])) → Uncrowded s c ms (ring (take (getD stops i 0 - start) (drop start own)))
-        cell-uncrowded s c ms u = subst (λ (l : List ℕ). Uncrowded s c ms (ring l)) (part-cell own stops start i (inv .1) h) u
+        pub cell-uncrowded : (s c : List Edge) (ms ls : List ℕ) → Uncrowded s c ms ls (ring (getD (runsOf own stops) i [])) → Uncrowded s c ms ls (ring (take (getD stops i 0 - start) (drop start own)))
+        cell-uncrowded s c ms ls u = subst (λ (l : List ℕ). Uncrowded s c ms ls (ring l)) (part-cell own stops start i (inv .1) h) u
 
         pub cell-short : Rising stops (length own) → cellSize stops i ≤ 256 → length (take (getD stops i 0 - start) (drop start own)) ≤ 256
         cell-short up k = omega (arith, part-long own stops start i (inv .1) h up, k)

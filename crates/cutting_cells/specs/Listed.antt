@@ -91,9 +91,9 @@ pub record Fits (n : ℕ) (p : Listed) (on oe ok of : List ℕ) (r : Listed) : T
 -- ---- both meshes
 
 -- What is asked of the cells of a mesh with the corners `own` and their ends `stops`: no key of their edges has too many nodes, and no cell too many.
-abbrev pub CellsReady : (subject cutter : List Edge) (met own stops : List ℕ) → Type 0
-CellsReady subject cutter met own stops =
-    (i : ℕ) → i < length stops → Uncrowded subject cutter met (ring (getD (runsOf own stops) i [])) × (cellSize stops i ≤ 256)
+abbrev pub CellsReady : (subject cutter : List Edge) (met links own stops : List ℕ) → Type 0
+CellsReady subject cutter met links own stops =
+    (i : ℕ) → i < length stops → Uncrowded subject cutter met links (ring (getD (runsOf own stops) i [])) × (cellSize stops i ≤ 256)
 
 -- a scene whose subject stands in the first four lists of meshes, its cutter in the last four
 pub record MeshesIn (sc : Scene) (coords : List Float) (subject cutter met sn se sk sf cn ce ck cf : List ℕ) : Type 0 where

@@ -5,6 +5,7 @@ use cutting::cut::is_doubled;
 use lists::copy_u32;
 use pieces::place_pieces;
 use rules::Bounds;
+use spatial_index::block_bounds;
 use spatial_index::bounds2;
 use spatial_index::in_bounds;
 ghost use mathlib.Core.Path.{_≡_};
@@ -21,6 +22,7 @@ ghost use Rattle.cutting.specs.Lent.{pairs};
 ghost use Rattle.rules.specs.Mesh.{theCutter};
 ghost use Rattle.rules.specs.Meetings.{Scene};
 ghost use Rattle.rules.specs.Operations.{cuts, kept};
+ghost use Rattle.spatial_index.specs.Blocks.{Covered};
 ghost use Rattle.cells.specs.Cells.{cutAs, nextCorner, Uncrowded};
 ghost use Rattle.pieces.specs.Pieces.{sideOf, Rising, room};
 ghost use Rattle.cutting_cells.specs.Listed.{cutIn, SceneIn, CellIn, MeshIn, cellEvents, twice, ListedBehind, Fits, CellsReady, MeshesIn, overBoth, noneYet};
@@ -105,18 +107,31 @@ fn outcome_of(
     subject: &[u32],
     cutter: &[u32],
     met: &[u32],
+    links: &[u32],
     near: &[u32],
+    boxes: &[f64],
     cell: &[u32],
     b: Bounds,
     first: usize,
 ) -> CutCell
-    requires { ⌜ Uncrowded (pairs (now subject)) (pairs (now cutter)) (now met) (ring (now cell)) × Uncrowded (pairs (now subject)) (pairs (now cutter)) (now met) (pairs (now near)) × (length (now cell) ≤ 256) ⌝ }
+    requires { ⌜ Uncrowded (pairs (now subject)) (pairs (now cutter)) (now met) (now links) (ring (now cell)) × Uncrowded (pairs (now subject)) (pairs (now cutter)) (now met) (now links) (pairs (now near)) × Covered (now coords) (pairs (now near)) (now boxes) × (length (now cell) ≤ 256) ⌝ }
     ensures { λ r. ⌜ r ≡ cutIn (now (coords .entry)) (pairs (now (subject .entry))) (pairs (now (cutter .entry))) (now (met .entry)) (pairs (now (near .entry))) (now (cell .entry)) b first ⌝ }
 {
     if near.len() / 2 <= first {
         return copy_cell(cell);
     }
-    cut_cell(coords, subject, cutter, met, near, cell, b, first)
+    cut_cell(
+        coords,
+        subject,
+        cutter,
+        met,
+        links,
+        near,
+        boxes,
+        cell,
+        b,
+        first,
+    )
 }
 
 // A copied cell keeps its kind, and what is cut out of a cell is a PGON: `first` is one of n edges where the cell is cut.
@@ -139,7 +154,8 @@ fn counted(n: usize, twice: bool) -> usize
     n
 }
 
-// Places the kept pieces of one cell behind what p counts; the cells of the other mesh are those of `nodes` and `ends`.
+// Places the kept pieces of one cell behind what p counts; the cells of the other mesh are those of `nodes` and `ends`, its edges `near`, with the
+// boxes of blocks of them.
 fn overlay_cell(
     op: u32,
     cutter: bool,
@@ -147,7 +163,9 @@ fn overlay_cell(
     subject: &[u32],
     cut: &[u32],
     met: &[u32],
+    links: &[u32],
     near: &[u32],
+    boxes: &[f64],
     nodes: &[u32],
     ends: &[u32],
     on: &mut [u32],
@@ -159,15 +177,26 @@ fn overlay_cell(
     kind: u8,
     family: u32,
 ) -> Listed
-    requires { ⌜ Uncrowded (pairs (now subject)) (pairs (now cut)) (now met) (ring (now cell)) × Uncrowded (pairs (now subject)) (pairs (now cut)) (now met) (pairs (now near)) × (length (now cell) ≤ 256) × Rising (now ends) (length (now nodes))
+    requires { ⌜ Uncrowded (pairs (now subject)) (pairs (now cut)) (now met) (now links) (ring (now cell)) × Uncrowded (pairs (now subject)) (pairs (now cut)) (now met) (now links) (pairs (now near)) × Covered (now coords) (pairs (now near)) (now boxes) × (length (now cell) ≤ 256) × Rising (now ends) (length (now nodes))
         × (p .count ≤ room (now oe) (now ok) (now of)) × (p .entries ≤ length (now on)) × (p .entries + 1024 < 2 ^ 32) × (p .doubled < 2 ^ 32) ⌝ }
     ensures { λ r. ⌜ (r .code ≡ 0 → Fits 1 p (now (on .entry)) (now (oe .entry)) (now (ok .entry)) (now (of .entry)) r)
         × ((sc : Scene) (i : ℕ) → SceneIn sc (sideOf cutter) (now (coords .entry)) (now (subject .entry)) (now (cut .entry)) (now (met .entry)) (now (near .entry)) (now (nodes .entry)) (now (ends .entry)) → CellIn sc (sideOf cutter) i (now (cell .entry)) kind family
         → ListedBehind (cellEvents op sc (sideOf cutter) i) (kept sc (sideOf cutter) op i) (twice sc (sideOf cutter) i) p (now (on .entry)) (now (oe .entry)) (now (ok .entry)) (now (of .entry)) r (now (on .exit)) (now (oe .exit)) (now (ok .exit)) (now (of .exit))) ⌝ }
 {
     let b = bounds2(coords, cell);
-    let first = in_bounds(coords, near, b, 0);
-    let r = outcome_of(coords, subject, cut, met, near, cell, b, first);
+    let first = in_bounds(coords, near, boxes, b, 0);
+    let r = outcome_of(
+        coords,
+        subject,
+        cut,
+        met,
+        links,
+        near,
+        boxes,
+        cell,
+        b,
+        first,
+    );
     let code = r.code;
     if code != 0 {
         return refused(code);
@@ -206,7 +235,8 @@ fn overlay_cell(
     }
 }
 
-// Cuts all cells of one mesh, with the corners `own` and their ends `stops`, and places their kept pieces behind what p counts.
+// Cuts all cells of one mesh, with the corners `own` and their ends `stops`, and places their kept pieces behind what p counts. The searches for the
+// edges near a cell share the boxes of blocks of `near`.
 fn cut_cells(
     op: u32,
     cutter: bool,
@@ -214,6 +244,7 @@ fn cut_cells(
     subject: &[u32],
     cut: &[u32],
     met: &[u32],
+    links: &[u32],
     near: &[u32],
     nodes: &[u32],
     ends: &[u32],
@@ -227,8 +258,8 @@ fn cut_cells(
     of: &mut [u32],
     p: Listed,
 ) -> Listed
-    requires { ⌜ CellsReady (pairs (now subject)) (pairs (now cut)) (now met) (now own) (now stops)
-        × Uncrowded (pairs (now subject)) (pairs (now cut)) (now met) (pairs (now near)) × Rising (now ends) (length (now nodes)) × Rising (now stops) (length (now own))
+    requires { ⌜ CellsReady (pairs (now subject)) (pairs (now cut)) (now met) (now links) (now own) (now stops)
+        × Uncrowded (pairs (now subject)) (pairs (now cut)) (now met) (now links) (pairs (now near)) × Rising (now ends) (length (now nodes)) × Rising (now stops) (length (now own))
         × (length (now kinds) ≡ length (now stops)) × (length (now families) ≡ length (now stops))
         × (p .count ≤ room (now oe) (now ok) (now of)) × (p .entries ≤ length (now on)) × (p .entries + 1024 * length (now stops) < 2 ^ 32) × (p .doubled + length (now stops) < 2 ^ 32) × (p .code ≡ 0) ⌝ }
     ensures { λ r. ⌜ (r .code ≡ 0 → Fits (length (now (stops .entry))) p (now (on .entry)) (now (oe .entry)) (now (ok .entry)) (now (of .entry)) r)
@@ -236,6 +267,8 @@ fn cut_cells(
         → ListedBehind (gathered (length (now (stops .entry))) (cellEvents op sc (sideOf cutter))) (gathered (length (now (stops .entry))) (kept sc (sideOf cutter) op)) (gathered (length (now (stops .entry))) (twice sc (sideOf cutter)))
         p (now (on .entry)) (now (oe .entry)) (now (ok .entry)) (now (of .entry)) r (now (on .exit)) (now (oe .exit)) (now (ok .exit)) (now (of .exit))) ⌝ }
 {
+    let mut boxes = [0.0; 4096];
+    block_bounds(coords, near, &mut boxes);
     let mut q = p;
     let mut start: usize = 0;
     for i in 0..stops.len() {
@@ -247,7 +280,9 @@ fn cut_cells(
             subject,
             cut,
             met,
+            links,
             near,
+            &boxes,
             nodes,
             ends,
             on,
@@ -274,6 +309,7 @@ pub fn cut_meshes(
     subject: &[u32],
     cut: &[u32],
     met: &[u32],
+    links: &[u32],
     sn: &[u32],
     se: &[u32],
     sk: &[u8],
@@ -287,8 +323,8 @@ pub fn cut_meshes(
     ok: &mut [u8],
     of: &mut [u32],
 ) -> Listed
-    requires { ⌜ CellsReady (pairs (now subject)) (pairs (now cut)) (now met) (now sn) (now se) × (cuts op theCutter ≡ true → CellsReady (pairs (now subject)) (pairs (now cut)) (now met) (now cn) (now ce))
-        × Uncrowded (pairs (now subject)) (pairs (now cut)) (now met) (pairs (now subject)) × Uncrowded (pairs (now subject)) (pairs (now cut)) (now met) (pairs (now cut))
+    requires { ⌜ CellsReady (pairs (now subject)) (pairs (now cut)) (now met) (now links) (now sn) (now se) × (cuts op theCutter ≡ true → CellsReady (pairs (now subject)) (pairs (now cut)) (now met) (now links) (now cn) (now ce))
+        × Uncrowded (pairs (now subject)) (pairs (now cut)) (now met) (now links) (pairs (now subject)) × Uncrowded (pairs (now subject)) (pairs (now cut)) (now met) (now links) (pairs (now cut))
         × Rising (now se) (length (now sn)) × Rising (now ce) (length (now cn))
         × (length (now sk) ≡ length (now se)) × (length (now sf) ≡ length (now se)) × (length (now ck) ≡ length (now ce)) × (length (now cf) ≡ length (now ce))
         × (length (now se) ≤ 16384) × (length (now ce) ≤ 16384) ⌝ }
@@ -309,6 +345,7 @@ pub fn cut_meshes(
         subject,
         cut,
         met,
+        links,
         cut,
         cn,
         ce,
@@ -334,6 +371,7 @@ pub fn cut_meshes(
             subject,
             cut,
             met,
+            links,
             subject,
             sn,
             se,

@@ -28,6 +28,9 @@ module _ (es : List Edge) (met : List ℕ) (which : ℕ) (e : Edge) where
   pub count-turn : (q n r : ℕ) → Counted es met which e q n → q < length met / 5 → (r ≡ length (underAt es met which e q)) × (r ≤ 2) → Counted es met which e (q + 1) (n + r)
   count-turn q n r inv h got = (omega arith, omega (arith, length-under es met which e q, inv .1, got .0), omega (arith, inv .2, got .1))
 
+  pub count-moved : (k q n : ℕ) → Counted es met which e k n → k ≤ q → q ≤ length met / 5 → under q es met which e ≡ under k es met which e → Counted es met which e q n
+  count-moved k q n inv h l z = (l, inv .1 ∙ ap length (sym z), omega (arith, inv .2))
+
   pub count-end : (q n : ℕ) → Counted es met which e q n → length met / 5 ≤ q → length met ≤ 327680
       → (n ≡ length (under (length met / 5) es met which e)) × (n ≤ 131072)
   count-end q n inv h short =

@@ -136,6 +136,12 @@ module _ (f : ℕ → Projected) (es : List Edge) (met : List ℕ) (which : ℕ)
         ∙ sym (ap (sortOnto byProjection xs) (ap (map f) (under-more es met which e q) ∙ map-append f (under q es met which e) (underAt es met which e q))),
   )
 
+  -- no nodes were left out
+  pub collect-moved : (k q m : ℕ) (ys : List Projected) → Collected f es met which e n xs k m ys → q ≤ length met / 5 → under q es met which e ≡ under k es met which e
+      → Collected f es met which e n xs q m ys
+  collect-moved k q m ys inv l z =
+      (l, inv .1 ∙ ap (λ (us : List ℕ). n + length us) (sym z), inv .2 ∙ ap (λ (us : List ℕ). sortOnto byProjection xs (map f us)) (sym z))
+
   pub collect-end : (q m : ℕ) (ys : List Projected) → Collected f es met which e n xs q m ys → length met / 5 ≤ q
       → (m ≡ n + length (under (length met / 5) es met which e)) × (ys ≡ sortOnto byProjection xs (map f (under (length met / 5) es met which e)))
   collect-end q m ys inv h =

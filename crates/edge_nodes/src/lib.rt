@@ -1,5 +1,10 @@
 // The nodes on an edge (document 01, module 7): those that meetings collected under its key, by their projections.
 // Edges are flat lists of pairs. A meeting takes five numbers: its subject edge, its cutter edge, how many nodes it has (1 or 2), and these.
+mod chains;
+
+use chains::head_of;
+pub use chains::link_meetings;
+use chains::next_of;
 use geometry::polygon::point_at;
 use lists::insert_at_f64;
 use lists::insert_at_u32;
@@ -16,6 +21,8 @@ ghost use Rattle.lists.specs.Regions.{front};
 ghost use Rattle.cutting.specs.Edges.{edgeAt, key, sameKey};
 ghost use Rattle.cutting.specs.Lent.{pairs};
 ghost use Rattle.rules.specs.Nodes.{negative, totalBefore, projected, byProjection};
+ghost use Rattle.edge_nodes.specs.Links.{Linked};
+ghost use Rattle.edge_nodes.specs.Chained.{Chains};
 ghost use Rattle.edge_nodes.specs.Lent.{listed, metNodes, underAt, under, collectedIn, sortedIn, crowdedAt, pushed, filled};
 
 // Some nodes of an edge, in order: the first `count`, and zeros behind them.
@@ -196,6 +203,7 @@ fn collect(
     coords: &[f64],
     edges: &[u32],
     met: &[u32],
+    links: &[u32],
     which: usize,
     a: u32,
     b: u32,
@@ -204,17 +212,19 @@ fn collect(
     n: usize,
 ) -> usize
     requires { ⌜ (which < 2) × (n + length (under (length (now met) / 5) (pairs (now edges)) (now met) which (a, b)) ≤ length (now along))
-        × (n + length (under (length (now met) / 5) (pairs (now edges)) (now met) which (a, b)) ≤ length (now nodes)) ⌝ }
+        × (n + length (under (length (now met) / 5) (pairs (now edges)) (now met) which (a, b)) ≤ length (now nodes))
+        × Chains (pairs (now edges)) (now met) (now links) which ⌝ }
     ensures { λ r. ⌜ (r ≡ n + length (under (length (now (met .entry)) / 5) (pairs (now (edges .entry))) (now (met .entry)) which (a, b)))
         × (listed (now (along .exit)) (now (nodes .exit)) r
         ≡ sortOnto byProjection (listed (now (along .entry)) (now (nodes .entry)) n) (map (projected (now (coords .entry)) (key (a, b))) (under (length (now (met .entry)) / 5) (pairs (now (edges .entry))) (now (met .entry)) which (a, b)))) ⌝ }
 {
     let count = met.len() / 5;
     let mut m = n;
-    let mut q: usize = 0;
+    let v = lower(a, b);
+    let mut q = head_of(met, links, which, v);
     while q < count {
         m = collect_met(coords, edges, met, which, a, b, q, along, nodes, m);
-        q += 1;
+        q = next_of(met, links, which, q);
     }
     m
 }
@@ -260,26 +270,27 @@ pub fn sorted_nodes(
     subject: &[u32],
     cutter: &[u32],
     met: &[u32],
+    links: &[u32],
     a: u32,
     b: u32,
 ) -> Along
-    requires { ⌜ length (collectedIn (pairs (now subject)) (pairs (now cutter)) (now met) (a, b)) ≤ 256 ⌝ }
+    requires { ⌜ Linked (pairs (now subject)) (pairs (now cutter)) (now met) (now links) × (length (collectedIn (pairs (now subject)) (pairs (now cutter)) (now met) (a, b)) ≤ 256) ⌝ }
     ensures { λ r. ⌜ r ≡ filled (sortedIn (now (coords .entry)) (pairs (now (subject .entry))) (pairs (now (cutter .entry))) (now (met .entry)) (a, b)) ⌝ }
 {
     let mut along = [0.0; 257];
-    let mut nodes = [0u32; 257];
+    let mut ns = [0u32; 257];
     let k0 = lower(a, b);
     let k1 = upper(a, b);
-    insert_node(coords, a, b, &mut along, &mut nodes, 0, k0);
-    let n = collect(coords, subject, met, 0, a, b, &mut along, &mut nodes, 1);
-    let m = collect(coords, cutter, met, 1, a, b, &mut along, &mut nodes, n);
+    insert_node(coords, a, b, &mut along, &mut ns, 0, k0);
+    let n = collect(coords, subject, met, links, 0, a, b, &mut along, &mut ns, 1);
+    let m = collect(coords, cutter, met, links, 1, a, b, &mut along, &mut ns, n);
     if m == 1 {
         return Along {
             count: 0,
             nodes: [0u32; 258],
         };
     }
-    dedup(&nodes[..m], k1)
+    dedup(&ns[..m], k1)
 }
 
 // How many nodes meeting q collects under the key of a, b.
@@ -300,23 +311,25 @@ fn count_met(edges: &[u32], met: &[u32], which: usize, a: u32, b: u32, q: usize)
     0
 }
 
-fn count_under(edges: &[u32], met: &[u32], which: usize, a: u32, b: u32) -> usize
-    requires { ⌜ (which < 2) × (length (now met) ≤ 327680) ⌝ }
+// How many nodes all meetings collect under it.
+fn count_under(edges: &[u32], met: &[u32], links: &[u32], which: usize, a: u32, b: u32) -> usize
+    requires { ⌜ (which < 2) × (length (now met) ≤ 327680) × Chains (pairs (now edges)) (now met) (now links) which ⌝ }
     ensures { λ r. ⌜ (r ≡ length (under (length (now (met .entry)) / 5) (pairs (now (edges .entry))) (now (met .entry)) which (a, b))) × (r ≤ 131072) ⌝ }
 {
     let count = met.len() / 5;
     let mut n: usize = 0;
-    let mut q: usize = 0;
+    let v = lower(a, b);
+    let mut q = head_of(met, links, which, v);
     while q < count {
         n += count_met(edges, met, which, a, b, q);
-        q += 1;
+        q = next_of(met, links, which, q);
     }
     n
 }
 
 // Whether over 256 nodes are collected under the key of some edge of `edges` (refusal 9).
-pub fn overfull(edges: &[u32], subject: &[u32], cutter: &[u32], met: &[u32]) -> bool
-    requires { ⌜ length (now met) ≤ 327680 ⌝ }
+pub fn overfull(edges: &[u32], subject: &[u32], cutter: &[u32], met: &[u32], links: &[u32]) -> bool
+    requires { ⌜ Linked (pairs (now subject)) (pairs (now cutter)) (now met) (now links) × (length (now met) ≤ 327680) ⌝ }
     ensures { λ r. ⌜ r ≡ has (crowdedAt (pairs (now (edges .entry))) (pairs (now (subject .entry))) (pairs (now (cutter .entry))) (now (met .entry))) (length (now (edges .entry)) / 2) ⌝ }
 {
     let n = edges.len() / 2;
@@ -324,8 +337,8 @@ pub fn overfull(edges: &[u32], subject: &[u32], cutter: &[u32], met: &[u32]) -> 
     while i < n {
         let a = first_of(edges, i);
         let b = second_of(edges, i);
-        let x = count_under(subject, met, 0, a, b);
-        let y = count_under(cutter, met, 1, a, b);
+        let x = count_under(subject, met, links, 0, a, b);
+        let y = count_under(cutter, met, links, 1, a, b);
         if 256 < x + y {
             return true;
         }

@@ -1,8 +1,8 @@
 -- How `place_coords`, `crowded` and `find` end, over plain variables. Assumes nothing.
 use mathlib.Core.Path.{_≡_, refl, sym, ap, ap₂, _∙_}
 use mathlib.Core.Bool.{Bool, true, false, cond, not, _||_, true≢false}
-use mathlib.Core.List.{List, [], _++_}
-use Prim.Native.Nat.{ℕ, _+_, _*_, _-_, _/_, _≤_}
+use mathlib.Core.List.{List, [], _++_, append-nil}
+use Prim.Native.Nat.{ℕ, _+_, _*_, _-_, _/_, _≤_, _<_}
 use native.Mathlib.Omega.{arith}
 use lib.Dec.{eqb, leb}
 use lib.ListN.{length, take, drop, length-append}
@@ -11,7 +11,7 @@ use borrow.Author.Tests.{leb-true, leb-false, lt-leb, not-true, not-false}
 use Rattle.lists.specs.Search.{has}
 use Rattle.lists.specs.Gather.{joined}
 use Rattle.lists.specs.Regions.{run, front, put, copied}
-use Rattle.lists.proofs.Regions.{length-front, take-front-of, front-put, copied-fits, length-copied}
+use Rattle.lists.proofs.Regions.{length-front, take-front-of, front-put, copied-fits, length-copied, length-run, put-append}
 use Rattle.cutting.specs.Edges.{Edge}
 use Rattle.cutting.specs.Lent.{ends, pairs}
 use Rattle.entry.specs.Mesh.{Mesh, mesh}
@@ -24,14 +24,16 @@ use Rattle.spatial_index.proofs.Candidates.{pairs-ends}
 use Rattle.snap.proofs.Places.{put-front}
 use Rattle.meetings.specs.Booked.{booked, netOn, meetingsAt}
 use Rattle.meetings.proofs.Reading.{length-booked, booked-at, meetings-fit, by-edges}
+use Rattle.edge_nodes.specs.Links.{linksOf, Linked}
 use Rattle.edge_nodes.specs.Lent.{crowdedAt}
+use Rattle.edge_nodes.proofs.Linked.{linked}
 use Rattle.edge_nodes.proofs.Scene.{noMet, Stored, numbers-stored, overfull-is}
 use Rattle.finding.specs.declared.numbering.Regions.{Regions}
 use Rattle.finding.specs.declared.stages.Found.{Found}
 use Rattle.finding.specs.Nets.{Fit, Room, subjectAt, cutterAt, metAt, regionsOf, netted}
-use Rattle.finding.specs.Found.{foundEvents, foundAs, refusedAs, worked, bothFull}
+use Rattle.finding.specs.Found.{foundEvents, foundAs, refusedAs, chains, linksIn, worked, bothFull}
 use Rattle.finding.proofs.Whole.{length-held, subjects-held, cutters-held, subjects-before, cutters-before}
-use Rattle.finding.proofs.Held.{subjects-found, cutters-found, met-found}
+use Rattle.finding.proofs.Held.{with, subjects-found, cutters-found, met-found, behind-found, worked-with, links-long}
 use Rattle.finding.proofs.Events.{early-met, few-met, no-place, met-refused, met-all}
 
 -- ---- `place_coords`
@@ -81,6 +83,13 @@ pub parts-are : (w : List ℕ) (a b c i j k : ℕ) (r : Bool) → r ≡ bothFull
     → r ≡ bothFull (run w a i) (run w b j) (run w c k)
 parts-are w a b c i j k r e =
     e ∙ ap₂ (λ (x y : List ℕ). bothFull x y (take (c + k - c) (drop c w))) (part-is w a i) (part-is w b j) ∙ ap (bothFull (run w a i) (run w b j)) (part-is w c k)
+
+-- what `either_overfull` asks, of parts as they are lent
+pub parts-asked : (w : List ℕ) (a b c i j k l : ℕ) → c + k + l ≤ length w → k ≤ 327680 → Linked (pairs (run w a i)) (pairs (run w b j)) (run w c k) (run w (c + k) l)
+    → Linked (pairs (take (a + i - a) (drop a w))) (pairs (take (b + j - b) (drop b w))) (take (c + k - c) (drop c w)) (take (c + k + l - (c + k)) (drop (c + k) w))
+    × (length (take (c + k - c) (drop c w)) ≤ 327680)
+parts-asked w a b c i j k l fits few held =
+    rw (part-is w a i, part-is w b j, part-is w c k, part-is w (c + k) l) (held, omega (arith, few, length-run w c k (omega (arith, fits))))
 
 -- ---- `find`
 
@@ -223,35 +232,90 @@ module _ (op m : ℕ) (sc cc : List Float) (sn se cn ce : List ℕ) (fs : Fit fa
       pub few : k ≤ m
       few = omega (arith, told .1 z .0, ap length met-are, few-met (scene .met) m (length oc / 2 - points) 0 0 (sym (none 0 0)))
 
-      pub work-is : w₂ ≡ worked op s c w₀
-      unfolding regionsOf worked
-      work-is =
+      booked-long : length (booked (scene .met)) ≡ 5 * k
+      booked-long = omega (arith, length-booked (scene .met), told .1 z .0, ap length met-are)
+
+      -- the meetings, and nothing behind them yet
+      work-then : w₂ ≡ with op sc cc sn se cn ce fs fc w₀ room₀ []
+      unfolding regionsOf
+      work-then =
           told .1 z .3 ∙ ap₂ (λ (w : List ℕ) (ms : List Met). put w (r .base) (booked ms)) we met-are
           ∙ ap (λ (x : Regions). put (netted lines s c w₀) (x .base) (booked (scene .met))) re
+          ∙ ap (put (netted lines s c w₀) (metAt s c)) (sym (append-nil (booked (scene .met))))
 
-      -- ---- what `crowded` reads
+      -- a run of a list w with zs behind the meetings, by places that the regions give
+      module _ (w zs : List ℕ) (is : w ≡ with op sc cc sn se cn ce fs fc w₀ room₀ zs) where
+        held : (a n : Regions → ℕ) → run w (a r) (n r) ≡ run (with op sc cc sn se cn ce fs fc w₀ room₀ zs) (a (regionsOf lines s c)) (n (regionsOf lines s c))
+        held a n = ap₂ (λ (x : Regions) (v : List ℕ). run v (a x) (n x)) re is
 
-      -- what it asks
-      pub crowded-asks : (r .from + 2 * r .subject ≤ r .base) × (r .at + 2 * r .cutter ≤ r .base) × (r .base + 5 * k ≤ length w₁) × (k ≤ 65536)
-      crowded-asks = (asked .3, asked .5, omega (arith, asked .7, few), omega (arith, few, most))
+        subjects-lent : run w (r .from) (2 * r .subject) ≡ ends subjects
+        unfolding regionsOf
+        subjects-lent = held (λ x. x .from) (λ x. 2 * x .subject) ∙ subjects-found op sc cc sn se cn ce fs fc w₀ room₀ zs
 
-      -- a run of it, by places that the regions give
-      held : (a n : Regions → ℕ) → run w₂ (a r) (n r) ≡ run (worked op s c w₀) (a (regionsOf lines s c)) (n (regionsOf lines s c))
-      held a n = ap₂ (λ (x : Regions) (w : List ℕ). run w (a x) (n x)) re work-is
+        cutters-lent : run w (r .at) (2 * r .cutter) ≡ ends cutters
+        unfolding regionsOf
+        cutters-lent = held (λ x. x .at) (λ x. 2 * x .cutter) ∙ cutters-found op sc cc sn se cn ce fs fc w₀ room₀ zs
 
-      subjects-lent : run w₂ (r .from) (2 * r .subject) ≡ ends subjects
+        met-lent : run w (r .base) (5 * k) ≡ booked (scene .met)
+        unfolding regionsOf
+        met-lent =
+            held (λ x. x .base) (λ x. 5 * k) ∙ ap (λ (i : ℕ). run (with op sc cc sn se cn ce fs fc w₀ room₀ zs) (metAt s c) (5 * i)) (told .1 z .0 ∙ ap length met-are)
+            ∙ met-found op sc cc sn se cn ce fs fc w₀ room₀ zs
+
+        behind-lent : (n : ℕ) → n ≡ length zs → run w (r .base + 5 * k) n ≡ zs
+        unfolding regionsOf
+        behind-lent n l =
+            held (λ x. x .base + 5 * k) (λ x. n)
+            ∙ ap₂ (λ (i j : ℕ). run (with op sc cc sn se cn ce fs fc w₀ room₀ zs) (metAt s c + 5 * i) j) (told .1 z .0 ∙ ap length met-are) l
+            ∙ behind-found op sc cc sn se cn ce fs fc w₀ room₀ zs
+
+      -- what `link_meetings` asks
+      pub links-asked : (h : ℕ) → h ≡ placed / 2 + 1
+          → (r .from + 2 * r .subject ≤ r .base + 5 * k) × (r .at + 2 * r .cutter ≤ r .base + 5 * k) × (r .base + 5 * k ≤ r .base + 5 * k) × (r .base + 5 * k + 2 * h + 2 * k ≤ length w₁)
+          × (0 < h) × (k ≤ 65536)
       unfolding regionsOf
-      subjects-lent = held (λ x. x .from) (λ x. 2 * x .subject) ∙ subjects-found op sc cc sn se cn ce fs fc w₀ room₀
+      links-asked h e =
+          let fit : metAt s c + 5 * k + 2 * h + 2 * k ≤ length w₁ = omega (arith, e, room, few, length-work, fs .even, fc .even) in
+          (omega (arith, asked .3), omega (arith, asked .5), omega arith, rw re fit, omega (arith, e), omega (arith, few, most))
 
-      cutters-lent : run w₂ (r .at) (2 * r .cutter) ≡ ends cutters
-      unfolding regionsOf
-      cutters-lent = held (λ x. x .at) (λ x. 2 * x .cutter) ∙ cutters-found op sc cc sn se cn ce fs fc w₀ room₀
+      -- ---- with the links
 
-      met-lent : run w₂ (r .base) (5 * k) ≡ booked (scene .met)
-      unfolding regionsOf
-      met-lent =
-          held (λ x. x .base) (λ x. 5 * k) ∙ ap (λ (i : ℕ). run (worked op s c w₀) (metAt s c) (5 * i)) (told .1 z .0 ∙ ap length met-are)
-          ∙ met-found op sc cc sn se cn ce fs fc w₀ room₀
+      module _ (h : ℕ) (he : h ≡ placed / 2 + 1) (w₃ : List ℕ)
+          (le : w₃ ≡ put w₂ (r .base + 5 * k) (linksOf h (pairs (run w₂ (r .from) (2 * r .subject))) (pairs (run w₂ (r .at) (2 * r .cutter))) (run w₂ (r .base) (5 * k)))) where
+        chains-are : h ≡ chains s c
+        chains-are = omega (arith, he, fs .even, fc .even)
+
+        links-are : linksOf h (pairs (run w₂ (r .from) (2 * r .subject))) (pairs (run w₂ (r .at) (2 * r .cutter))) (run w₂ (r .base) (5 * k)) ≡ linksIn op s c
+        unfolding sceneOf
+        links-are =
+            ap₂ (λ (es fs : List ℕ). linksOf h (pairs es) (pairs fs) (run w₂ (r .base) (5 * k))) (subjects-lent w₂ [] work-then) (cutters-lent w₂ [] work-then)
+            ∙ ap₂ (λ (es fs : List Edge). linksOf h es fs (run w₂ (r .base) (5 * k))) (pairs-ends subjects) (pairs-ends cutters)
+            ∙ ap₂ (λ (i : ℕ) (ms : List ℕ). linksOf i subjects cutters ms) chains-are (met-lent w₂ [] work-then)
+
+        pub work-with : w₃ ≡ with op sc cc sn se cn ce fs fc w₀ room₀ (linksIn op s c)
+        unfolding regionsOf
+        work-with =
+            let base : metAt s c ≤ length (netted lines s c w₀) = omega (arith, room, length-held lines sc cc sn se cn ce fs fc w₀ room₀) in
+            let end : r .base + 5 * k ≡ metAt s c + length (booked (scene .met)) = rw re (omega (arith, booked-long)) in
+            let fit : metAt s c + length (booked (scene .met)) ≤ length (netted lines s c w₀) = omega (arith, booked-long, few, room, length-held lines sc cc sn se cn ce fs fc w₀ room₀) in
+            let then : w₂ ≡ put (netted lines s c w₀) (metAt s c) (booked (scene .met)) = work-then ∙ ap (put (netted lines s c w₀) (metAt s c)) (append-nil (booked (scene .met))) in
+            le ∙ ap₂ (λ (i : ℕ) (ls : List ℕ). put w₂ i ls) end links-are ∙ ap (λ (w : List ℕ). put w (metAt s c + length (booked (scene .met))) (linksIn op s c)) then
+            ∙ put-append (netted lines s c w₀) (metAt s c) base (booked (scene .met)) (linksIn op s c) fit
+
+        pub work-is : w₃ ≡ worked op s c w₀
+        work-is = work-with ∙ sym (worked-with op sc cc sn se cn ce fs fc w₀ room₀)
+
+        lent-linked : Linked (pairs (ends subjects)) (pairs (ends cutters)) (booked (scene .met)) (linksIn op s c)
+        unfolding sceneOf
+        lent-linked = rw (pairs-ends subjects, pairs-ends cutters) (linked (chains s c) subjects cutters (booked (scene .met)) (omega arith))
+
+        -- what `crowded` asks
+        pub crowded-asks : (r .from + 2 * r .subject ≤ r .base) × (r .at + 2 * r .cutter ≤ r .base) × (r .base + 5 * k + 2 * (h + k) ≤ length w₁) × (k ≤ 65536)
+            × Linked (pairs (run w₃ (r .from) (2 * r .subject))) (pairs (run w₃ (r .at) (2 * r .cutter))) (run w₃ (r .base) (5 * k)) (run w₃ (r .base + 5 * k) (2 * (h + k)))
+        crowded-asks =
+            let a = links-asked h he in
+            let long : 2 * (h + k) ≡ length (linksIn op s c) = omega (arith, chains-are, links-long op sc cc sn se cn ce fs fc w₀ room₀, told .1 z .0, ap length met-are) in
+            (asked .3, asked .5, omega (arith, a .3), a .5, rw (subjects-lent w₃ (linksIn op s c) work-with, cutters-lent w₃ (linksIn op s c) work-with, met-lent w₃ (linksIn op s c) work-with, behind-lent w₃ (linksIn op s c) work-with (2 * (h + k)) long) lent-linked)
 
       stored : Stored (scene .met) (booked (scene .met))
       unfolding sceneOf
@@ -271,15 +335,16 @@ module _ (op m : ℕ) (sc cc : List Float) (sn se cn ce : List ℕ) (fs : Fit fa
 
       -- ---- on 0
 
-      abbrev foundWith : Regions → ℕ → ℕ → Found
-      foundWith x i j = record { code = 0; regions = x; met = i; next = j }
+      abbrev foundWith : Regions → ℕ → ℕ → ℕ → Found
+      foundWith x i j h = record { code = 0; regions = x; met = i; next = j; chains = h }
 
-      answer-is : foundWith r k next ≡ foundAs op s c
+      answer-is : (h : ℕ) → h ≡ placed / 2 + 1 → foundWith r k next h ≡ foundAs op s c
       unfolding foundAs sceneOf
-      answer-is =
+      answer-is h he =
+          let all : h ≡ chains s c = omega (arith, he, fs .even, fc .even) in
           let half : next ≡ length (sc ++ cc ++ addedBy (scene .met)) / 2 =
           told .1 z .1 ∙ ap₂ (λ (i : ℕ) (ms : List Met). (i + length (addedBy ms)) / 2) (sym len) met-are ∙ ap (λ (i : ℕ). i / 2) (sym (length-append (sc ++ cc) (addedBy (scene .met)))) in
-          ap (λ (x : Regions). foundWith x k next) re ∙ ap₂ (λ (i j : ℕ). foundWith (regionsOf lines s c) i j) (told .1 z .0 ∙ ap length met-are) half
+          ap₂ (λ (x : Regions) (l : ℕ). foundWith x k next l) re all ∙ ap₂ (λ (i j : ℕ). foundWith (regionsOf lines s c) i j (chains s c)) (told .1 z .0 ∙ ap length met-are) half
 
       coords-are : oc₂ ≡ front oc (scene .coords)
       unfolding sceneOf
@@ -287,11 +352,14 @@ module _ (op m : ℕ) (sc cc : List Float) (sn se cn ce : List ℕ) (fs : Fit fa
           told .1 z .2 ∙ ap₂ (λ (l : List Float) (ms : List Met). put l placed (addedBy ms)) oe met-are
           ∙ put-front placed oc (sc ++ cc) (addedBy (scene .met)) len fits
 
-      module _ (b : Bool) (be : b ≡ bothFull (run w₂ (r .from) (2 * r .subject)) (run w₂ (r .at) (2 * r .cutter)) (run w₂ (r .base) (5 * k))) where
+      module _ (h : ℕ) (he : h ≡ placed / 2 + 1) (w₃ : List ℕ)
+          (le : w₃ ≡ put w₂ (r .base + 5 * k) (linksOf h (pairs (run w₂ (r .from) (2 * r .subject))) (pairs (run w₂ (r .at) (2 * r .cutter))) (run w₂ (r .base) (5 * k))))
+          (b : Bool) (be : b ≡ bothFull (run w₃ (r .from) (2 * r .subject)) (run w₃ (r .at) (2 * r .cutter)) (run w₃ (r .base) (5 * k))) where
         b-is : b ≡ crowded scene
         b-is =
-            be ∙ ap₂ (λ (x y : List ℕ). bothFull x y (run w₂ (r .base) (5 * k))) subjects-lent cutters-lent
-            ∙ ap (bothFull (ends subjects) (ends cutters)) met-lent ∙ crowded-is
+            let with-links = work-with h he w₃ le in
+            be ∙ ap₂ (λ (x y : List ℕ). bothFull x y (run w₃ (r .base) (5 * k))) (subjects-lent w₃ (linksIn op s c) with-links) (cutters-lent w₃ (linksIn op s c) with-links)
+            ∙ ap (bothFull (ends subjects) (ends cutters)) (met-lent w₃ (linksIn op s c) with-links) ∙ crowded-is
 
         end-code : (q n : ℕ) → cond b 9 0 ≡ firstRefusal m (length oc / 2) q n (foundEvents op s c)
         unfolding foundEvents
@@ -304,5 +372,5 @@ module _ (op m : ℕ) (sc cc : List Float) (sn se cn ce : List ℕ) (fs : Fit fa
         nine-stop t a oc′ w′ is = refused-end a 9 oc′ w′ is (λ y. absurd (omega (arith, y))) (λ q n. sym (ap (λ (u : Bool). cond u 9 0) t) ∙ end-code q n)
 
         -- none
-        pub all-found : b ≡ false → Told (foundWith r k next) oc₂ w₂
-        all-found f = (λ q n. sym (ap (λ (u : Bool). cond u 9 0) f) ∙ end-code q n, λ y. absurd (y refl), λ y. (answer-is, coords-are, work-is))
+        pub all-found : b ≡ false → Told (foundWith r k next h) oc₂ w₃
+        all-found f = (λ q n. sym (ap (λ (u : Bool). cond u 9 0) f) ∙ end-code q n, λ y. absurd (y refl), λ y. (answer-is h he, coords-are, work-is h he w₃ le))

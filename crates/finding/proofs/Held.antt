@@ -1,24 +1,46 @@
--- What the working list holds where nothing is refused: both nets and the meetings. Assumes nothing.
-use mathlib.Core.Path.{_≡_, _∙_}
+-- What the working list holds where nothing is refused: both nets, the meetings, and what is put behind these. Assumes nothing.
+use mathlib.Core.Path.{_≡_, refl, sym, ap, _∙_}
 use mathlib.Core.Bool.{Bool, false, cond}
-use mathlib.Core.List.{List, []}
+use mathlib.Core.List.{List, [], _++_, append-assoc}
 use Prim.Native.Nat.{ℕ, _+_, _*_, _≤_}
 use native.Mathlib.Omega.{arith}
 use lib.Dec.{eqb}
-use lib.ListN.{length}
+use lib.ListN.{length, take, drop, length-append}
+use lib.Seq.{take-at, drop-at, drop-drop}
 use lib.Ieee.{Float}
-use Rattle.lists.specs.Regions.{run}
-use Rattle.lists.proofs.Regions.{length-put, run-put, run-before}
+use Rattle.lists.specs.Regions.{run, front, put}
+use Rattle.lists.proofs.Regions.{length-put, drop-put, run-before}
 use Rattle.cutting.specs.Lent.{ends}
 use Rattle.entry.specs.Mesh.{Mesh, mesh, nodeCount}
 use Rattle.rules.specs.Neighbours.{subjectNet, cutterNet}
 use Rattle.rules.specs.Meetings.{Met}
 use Rattle.rules.specs.Operations.{sceneFor}
+use Rattle.edge_nodes.specs.Links.{linksOf}
+use Rattle.edge_nodes.proofs.Linked.{length-links}
 use Rattle.meetings.specs.Booked.{booked}
 use Rattle.meetings.proofs.Reading.{length-booked}
 use Rattle.finding.specs.Nets.{Fit, Room, cutterEntries, subjectAt, cutterAt, metAt, netted}
-use Rattle.finding.specs.Found.{worked}
+use Rattle.finding.specs.Found.{chains, linksIn, worked}
 use Rattle.finding.proofs.Whole.{length-held, entries-held, subjects-held, cutters-held, subjects-before, cutters-before}
+
+-- ---- two lists in one region
+
+module _ (w : List ℕ) (b : ℕ) (hb : b ≤ length w) (xs ys : List ℕ) where
+  opened : drop b (put w b (xs ++ ys)) ≡ xs ++ (ys ++ drop (length (xs ++ ys)) (drop b w))
+  unfolding front
+  opened = drop-put w b hb (xs ++ ys) ∙ append-assoc xs ys (drop (length (xs ++ ys)) (drop b w))
+
+  pub run-first : (n : ℕ) → length xs ≡ n → run (put w b (xs ++ ys)) b n ≡ xs
+  unfolding run
+  run-first n l = ap (take n) opened ∙ take-at xs (ys ++ drop (length (xs ++ ys)) (drop b w)) n l
+
+  pub run-second : (n k : ℕ) → length xs ≡ n → length ys ≡ k → run (put w b (xs ++ ys)) (b + n) k ≡ ys
+  unfolding run
+  run-second n k l m =
+      let rest : List ℕ = drop (length (xs ++ ys)) (drop b w) in
+      ap (take k) (sym (drop-drop n b (put w b (xs ++ ys))) ∙ ap (drop n) opened ∙ drop-at xs (ys ++ rest) n l) ∙ take-at ys rest k m
+
+-- ---- the regions, with zs behind the meetings
 
 module _ (op : ℕ) (sc cc : List Float) (sn se cn ce : List ℕ) (fs : Fit false (mesh sc sn se [] [])) (fc : Fit (eqb op 5) (mesh cc cn ce [] [])) (w₀ : List ℕ)
     (room : Room 0 (mesh sc sn se [] []) (mesh cc cn ce [] []) (length w₀)) where
@@ -37,28 +59,42 @@ module _ (op : ℕ) (sc cc : List Float) (sn se cn ce : List ℕ) (fs : Fit fals
   base : metAt s c ≤ length (netted lines s c w₀)
   base = omega (arith, room, length-held lines sc cc sn se cn ce fs fc w₀ room)
 
-  before : (a n : ℕ) → a + n ≤ metAt s c → run (worked op s c w₀) a n ≡ run (netted lines s c w₀) a n
+  abbrev pub with : List ℕ → List ℕ
+  with zs = put (netted lines s c w₀) (metAt s c) (booked met ++ zs)
+
+  module _ (zs : List ℕ) where
+    before : (a n : ℕ) → a + n ≤ metAt s c → run (with zs) a n ≡ run (netted lines s c w₀) a n
+    before a n h = run-before (netted lines s c w₀) (metAt s c) base (booked met ++ zs) a n h
+
+    pub entries-found : run (with zs) (nodeCount c) (length cn) ≡ cutterEntries s c
+    entries-found = before (nodeCount c) (length cn) (omega arith) ∙ entries-held lines sc cc sn se cn ce fs fc w₀ room
+
+    pub subjects-found : run (with zs) (subjectAt s c) (2 * length (subjectNet s .edges)) ≡ ends (subjectNet s .edges)
+    subjects-found =
+        before (subjectAt s c) (2 * length (subjectNet s .edges)) (subjects-before lines sc cc sn se cn ce fs fc w₀ room .0) ∙ subjects-held lines sc cc sn se cn ce fs fc w₀ room
+
+    pub cutters-found : run (with zs) (cond lines (nodeCount c) (cutterAt s c)) (2 * length (cutterNet lines s c .edges)) ≡ ends (cutterNet lines s c .edges)
+    cutters-found =
+        before (cond lines (nodeCount c) (cutterAt s c)) (2 * length (cutterNet lines s c .edges)) (cutters-before lines sc cc sn se cn ce fs fc w₀ room .0)
+        ∙ cutters-held lines sc cc sn se cn ce fs fc w₀ room
+
+    pub met-found : run (with zs) (metAt s c) (5 * length met) ≡ booked met
+    met-found = run-first (netted lines s c w₀) (metAt s c) base (booked met) zs (5 * length met) (length-booked met)
+
+    pub behind-found : run (with zs) (metAt s c + 5 * length met) (length zs) ≡ zs
+    behind-found = run-second (netted lines s c w₀) (metAt s c) base (booked met) zs (5 * length met) (length zs) (length-booked met) refl
+
+  pub worked-with : worked op s c w₀ ≡ with (linksIn op s c)
   unfolding worked
-  before a n h = run-before (netted lines s c w₀) (metAt s c) base (booked met) a n h
+  worked-with = refl
 
-  pub entries-found : run (worked op s c w₀) (nodeCount c) (length cn) ≡ cutterEntries s c
-  entries-found = before (nodeCount c) (length cn) (omega arith) ∙ entries-held lines sc cc sn se cn ce fs fc w₀ room
-
-  pub subjects-found : run (worked op s c w₀) (subjectAt s c) (2 * length (subjectNet s .edges)) ≡ ends (subjectNet s .edges)
-  subjects-found =
-      before (subjectAt s c) (2 * length (subjectNet s .edges)) (subjects-before lines sc cc sn se cn ce fs fc w₀ room .0) ∙ subjects-held lines sc cc sn se cn ce fs fc w₀ room
-
-  pub cutters-found : run (worked op s c w₀) (cond lines (nodeCount c) (cutterAt s c)) (2 * length (cutterNet lines s c .edges)) ≡ ends (cutterNet lines s c .edges)
-  cutters-found =
-      before (cond lines (nodeCount c) (cutterAt s c)) (2 * length (cutterNet lines s c .edges)) (cutters-before lines sc cc sn se cn ce fs fc w₀ room .0)
-      ∙ cutters-held lines sc cc sn se cn ce fs fc w₀ room
-
-  pub met-found : run (worked op s c w₀) (metAt s c) (5 * length met) ≡ booked met
-  unfolding worked
-  met-found = run-put (netted lines s c w₀) (metAt s c) base (booked met) (5 * length met) (length-booked met)
+  pub links-long : length (linksIn op s c) ≡ 2 * (chains s c + length met)
+  links-long =
+      omega (arith, length-links (chains s c) (sceneFor op s c .subject .edges) (sceneFor op s c .cutter .edges) (booked met), length-booked met)
 
   pub length-worked : (m : ℕ) → Room m s c (length w₀) → length met ≤ m → length (worked op s c w₀) ≡ length w₀
   unfolding worked
   length-worked m more few =
       let same = length-held lines sc cc sn se cn ce fs fc w₀ room in
-      length-put (netted lines s c w₀) (metAt s c) base (booked met) (omega (arith, more, few, same, length-booked met)) ∙ same
+      length-put (netted lines s c w₀) (metAt s c) base (booked met ++ linksIn op s c)
+      (omega (arith, more, few, same, length-append (booked met) (linksIn op s c), length-booked met, links-long)) ∙ same

@@ -1,6 +1,6 @@
 -- What the stages behind `find` cite, for meshes with their kinds and families: where it answers 0, what its answer is and what the lists hold. Assumes
 -- nothing.
-use mathlib.Core.Path.{_≡_, sym, ap, _∙_}
+use mathlib.Core.Path.{_≡_, sym, ap, ap₂, _∙_}
 use mathlib.Core.Bool.{false, cond}
 use mathlib.Core.List.{List, [], _∷_, _++_, map}
 use Prim.Native.Nat.{ℕ, _+_, _*_, _-_, _/_, _≤_}
@@ -11,33 +11,36 @@ use lib.ListN.{length, getD, replicate}
 use lib.Ieee.{Float}
 use Rattle.lists.specs.Gather.{joined}
 use Rattle.lists.specs.Regions.{run, front}
+use Rattle.cutting.specs.Edges.{Edge}
 use Rattle.cutting.specs.Lent.{ends}
 use Rattle.entry.specs.Mesh.{Mesh}
-use Rattle.rules.specs.Meetings.{Scene, sceneOf}
+use Rattle.rules.specs.Meetings.{Met, Scene, sceneOf}
 use Rattle.rules.specs.Nodes.{crowded}
 use Rattle.rules.specs.Operations.{sceneFor}
 use Rattle.rules.specs.Refusals.{point, stop, ofMeeting, firstRefusal}
 use Rattle.rules.proofs.Course.{points-fit, points-over}
+use Rattle.edge_nodes.specs.Links.{linksOf}
 use Rattle.meetings.specs.Booked.{booked}
 use Rattle.finding.specs.declared.stages.Found.{Found}
 use Rattle.finding.specs.Nets.{Fit, Room, cutterEntries, regionsOf}
-use Rattle.finding.specs.Found.{foundEvents, foundAs, refusedAs, worked}
+use Rattle.finding.specs.Found.{foundEvents, foundAs, refusedAs, chains, linksIn, worked}
 use Rattle.finding.proofs.Passed.{bare}
 use Rattle.finding.proofs.Whole.{subjects-before, cutters-before}
-use Rattle.finding.proofs.Held.{entries-found, subjects-found, cutters-found, met-found, length-worked}
+use Rattle.finding.proofs.Held.{with, entries-found, subjects-found, cutters-found, met-found, behind-found, worked-with, links-long, length-worked}
 use Rattle.finding.proofs.Events.{early-append, early-points, early-met, first-passes, no-nine, few-met}
 use Rattle.finding.proofs.Scenes.{subjects-bare, cutters-bare, weld-bare, met-bare, coords-bare, events-bare, found-bare}
 
--- both nets and the meetings, in the regions that the answer names
+-- both nets, the meetings and their links, in the regions that the answer names
 pub record Holds (op : ℕ) (s c : Mesh) (r : Found) (w : List ℕ) : Type 0 where
   pub entries : run w (r .regions .entries) (length (c .nodes)) ≡ cutterEntries s c
   pub subject : run w (r .regions .from) (2 * r .regions .subject) ≡ ends (sceneFor op s c .subject .edges)
   pub cutter : run w (r .regions .at) (2 * r .regions .cutter) ≡ ends (sceneFor op s c .cutter .edges)
   pub met : run w (r .regions .base) (5 * r .met) ≡ booked (sceneFor op s c .met)
+  pub links : run w (r .regions .base + 5 * r .met) (2 * (chains s c + r .met)) ≡ linksIn op s c
   pub entries-fit : r .regions .entries + length (c .nodes) ≤ r .regions .base
   pub subject-fits : r .regions .from + 2 * r .regions .subject ≤ r .regions .base
   pub cutter-fits : r .regions .at + 2 * r .regions .cutter ≤ r .regions .base
-  pub met-fits : r .regions .base + 5 * r .met ≤ length w
+  pub links-fit : r .regions .base + 5 * r .met + 2 * (chains s c + r .met) ≤ length w
   pub met-few : r .met ≤ 65536
 
 module _ (op m : ℕ) (s c : Mesh) where
@@ -91,20 +94,29 @@ module _ (op m : ℕ) (s c : Mesh) where
       few : length (sceneFor op (bare s) (bare c) .met) ≤ m
       few = omega (arith, ap length (met-bare op s c), met-few (length oc / 2) 0 0 none)
 
-      held : Holds op s c (foundAs op (bare s) (bare c)) (worked op (bare s) (bare c) w₀)
+      links-bare : linksIn op (bare s) (bare c) ≡ linksIn op s c
+      unfolding sceneOf
+      links-bare =
+          ap₂ (λ (es fs : List Edge). linksOf (chains s c) es fs (booked (sceneFor op (bare s) (bare c) .met))) (subjects-bare (eqb op 5) s c) (cutters-bare (eqb op 5) s c)
+          ∙ ap (λ (ms : List Met). linksOf (chains s c) (scene .subject .edges) (scene .cutter .edges) (booked ms)) (met-bare op s c)
+
+      held : Holds op s c (foundAs op (bare s) (bare c)) (with op (s .coords) (c .coords) (s .nodes) (s .ends) (c .nodes) (c .ends) fs fc w₀ room₀ (linksIn op (bare s) (bare c)))
       unfolding foundAs regionsOf sceneOf
       held =
           record {
-            entries = entries-found op (s .coords) (c .coords) (s .nodes) (s .ends) (c .nodes) (c .ends) fs fc w₀ room₀ ∙ ap (λ (ws : List ℕ). map (λ n. getD ws n 0) (c .nodes)) (weld-bare (eqb op 5) s c);
-            subject = subjects-found op (s .coords) (c .coords) (s .nodes) (s .ends) (c .nodes) (c .ends) fs fc w₀ room₀ ∙ ap ends (subjects-bare (eqb op 5) s c);
-            cutter = cutters-found op (s .coords) (c .coords) (s .nodes) (s .ends) (c .nodes) (c .ends) fs fc w₀ room₀ ∙ ap ends (cutters-bare (eqb op 5) s c);
-            met = met-found op (s .coords) (c .coords) (s .nodes) (s .ends) (c .nodes) (c .ends) fs fc w₀ room₀ ∙ ap booked (met-bare op s c);
+            entries = entries-found op (s .coords) (c .coords) (s .nodes) (s .ends) (c .nodes) (c .ends) fs fc w₀ room₀ (linksIn op (bare s) (bare c)) ∙ ap (λ (ws : List ℕ). map (λ n. getD ws n 0) (c .nodes)) (weld-bare (eqb op 5) s c);
+            subject = subjects-found op (s .coords) (c .coords) (s .nodes) (s .ends) (c .nodes) (c .ends) fs fc w₀ room₀ (linksIn op (bare s) (bare c)) ∙ ap ends (subjects-bare (eqb op 5) s c);
+            cutter = cutters-found op (s .coords) (c .coords) (s .nodes) (s .ends) (c .nodes) (c .ends) fs fc w₀ room₀ (linksIn op (bare s) (bare c)) ∙ ap ends (cutters-bare (eqb op 5) s c);
+            met = met-found op (s .coords) (c .coords) (s .nodes) (s .ends) (c .nodes) (c .ends) fs fc w₀ room₀ (linksIn op (bare s) (bare c)) ∙ ap booked (met-bare op s c);
+            links =
+                ap (run (with op (s .coords) (c .coords) (s .nodes) (s .ends) (c .nodes) (c .ends) fs fc w₀ room₀ (linksIn op (bare s) (bare c))) _) (sym (links-long op (s .coords) (c .coords) (s .nodes) (s .ends) (c .nodes) (c .ends) fs fc w₀ room₀))
+                ∙ behind-found op (s .coords) (c .coords) (s .nodes) (s .ends) (c .nodes) (c .ends) fs fc w₀ room₀ (linksIn op (bare s) (bare c)) ∙ links-bare;
             entries-fit = omega arith;
             subject-fits = subjects-before (eqb op 5) (s .coords) (c .coords) (s .nodes) (s .ends) (c .nodes) (c .ends) fs fc w₀ room₀ .0;
             cutter-fits = cutters-before (eqb op 5) (s .coords) (c .coords) (s .nodes) (s .ends) (c .nodes) (c .ends) fs fc w₀ room₀ .0;
-            met-fits = omega (arith, room, few, length-worked op (s .coords) (c .coords) (s .nodes) (s .ends) (c .nodes) (c .ends) fs fc w₀ room₀ m room few);
+            links-fit = omega (arith, room, few, ap length (worked-with op (s .coords) (c .coords) (s .nodes) (s .ends) (c .nodes) (c .ends) fs fc w₀ room₀), length-worked op (s .coords) (c .coords) (s .nodes) (s .ends) (c .nodes) (c .ends) fs fc w₀ room₀ m room few);
             met-few = omega (arith, few, most);
           }
 
       pub holds : Holds op s c r w′
-      holds = rw (told .2 z .0, told .2 z .2) held
+      holds = rw (told .2 z .0, told .2 z .2, worked-with op (s .coords) (c .coords) (s .nodes) (s .ends) (c .nodes) (c .ends) fs fc w₀ room₀) held

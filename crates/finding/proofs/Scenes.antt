@@ -23,7 +23,7 @@ use Rattle.meetings.specs.Booked.{booked, netOn}
 use Rattle.meetings.proofs.Reading.{by-edges}
 use Rattle.finding.specs.declared.numbering.Regions.{Regions}
 use Rattle.finding.specs.Nets.{copiedAt, subjectAt, cutterAt, metAt, regionsOf, netted}
-use Rattle.finding.specs.Found.{foundEvents, foundAs, worked}
+use Rattle.finding.specs.Found.{foundEvents, chains, foundAs}
 use Rattle.finding.proofs.Passed.{bare}
 use Rattle.finding.proofs.Events.{Early, early-append, early-points, early-met, early-nine, passes}
 
@@ -91,12 +91,8 @@ module _ (op : ℕ) (s c : Mesh) where
   pub found-bare : foundAs op (bare s) (bare c) ≡ foundAs op s c
   unfolding foundAs
   found-bare =
-      ap (λ (r : Regions). record { code = 0; regions = r; met = length (sceneFor op (bare s) (bare c) .met); next = length (sceneFor op (bare s) (bare c) .coords) / 2 }) (regions-bare (eqb op 5) s c)
-      ∙ ap₂ (λ (ms : List Met) (xs : List Float). record { code = 0; regions = regionsOf (eqb op 5) s c; met = length ms; next = length xs / 2 }) met-bare coords-bare
-
-  pub worked-bare : (w : List ℕ) → worked op (bare s) (bare c) w ≡ worked op s c w
-  unfolding worked
-  worked-bare w = ap₂ (λ (v : List ℕ) (ms : List Met). put v (metAt s c) (booked ms)) (netted-bare (eqb op 5) s c w) met-bare
+      ap (λ (r : Regions). record { code = 0; regions = r; met = length (sceneFor op (bare s) (bare c) .met); next = length (sceneFor op (bare s) (bare c) .coords) / 2; chains = chains s c }) (regions-bare (eqb op 5) s c)
+      ∙ ap₂ (λ (ms : List Met) (xs : List Float). record { code = 0; regions = regionsOf (eqb op 5) s c; met = length ms; next = length xs / 2; chains = chains s c }) met-bare coords-bare
 
   -- the course begins with what is found, and then come the cells
   pub course-is : let sc : Scene = sceneFor op s c in

@@ -29,9 +29,9 @@ pub record Fit (lines : Bool) (m : Mesh) : Type 0 where
   pub number : (i : ℕ) → i < length (m .nodes) → getD (m .nodes) i 0 < nodeCount m
   pub two : lines ≡ true → (i : ℕ) → i < length (m .ends) → cellSize (m .ends) i ≡ 2
 
--- a working list of w numbers, for m meetings
+-- a working list of w numbers, for m meetings and their links
 abbrev pub Room : ℕ → Mesh → Mesh → ℕ → Type 0
-Room m s c w = (nodeCount s + nodeCount c) + 3 * (length (s .nodes) + length (c .nodes)) + 5 * m ≤ w
+Room m s c w = 3 * (nodeCount s + nodeCount c) + 3 * (length (s .nodes) + length (c .nodes)) + 7 * m + 2 ≤ w
 
 -- ---- the regions
 

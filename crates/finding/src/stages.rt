@@ -6,22 +6,26 @@ ghost use Prim.Native.Nat.{ℕ, _+_, _*_, _/_, _≤_};
 ghost use lib.Dec.{eqb, leb};
 ghost use lib.ListN.{length};
 ghost use Rattle.lists.specs.Regions.{run, front};
+ghost use Rattle.cutting.specs.Lent.{pairs};
+ghost use Rattle.edge_nodes.specs.Links.{Linked};
 ghost use Rattle.rules.specs.Operations.{sceneFor};
 ghost use Rattle.rules.specs.Refusals.{firstRefusal};
 ghost use Rattle.finding.specs.Nets.{plain, Fit, Room};
 ghost use Rattle.finding.specs.Found.{bothFull, foundEvents, foundAs, refusedAs, worked};
 use crate::numbering::Regions;
 use crate::numbering::nets;
+use edge_nodes::link_meetings;
 use edge_nodes::overfull;
 use lists::copy_f64;
 use meetings::compute_intersections;
 
-// The refusal or 0; where the edges stand, how many meetings there are, and how many nodes.
+// The refusal or 0; where the edges stand, how many meetings, nodes and chains of meetings there are.
 pub struct Found {
     pub code: u32,
     pub regions: Regions,
     pub met: usize,
     pub next: usize,
+    pub chains: usize,
 }
 
 fn refused(code: u32) -> Found
@@ -40,6 +44,7 @@ fn refused(code: u32) -> Found
         regions,
         met: 0,
         next: 0,
+        chains: 0,
     }
 }
 
@@ -55,17 +60,17 @@ fn place_coords(sc: &[f64], cc: &[f64], oc: &mut [f64]) -> bool
 }
 
 // Whether over 256 nodes are collected under the key of an edge of either mesh.
-fn either_overfull(subject: &[u32], cutter: &[u32], met: &[u32]) -> bool
-    requires { ⌜ length (now met) ≤ 327680 ⌝ }
+fn either_overfull(subject: &[u32], cutter: &[u32], met: &[u32], links: &[u32]) -> bool
+    requires { ⌜ Linked (pairs (now subject)) (pairs (now cutter)) (now met) (now links) × (length (now met) ≤ 327680) ⌝ }
     ensures { λ r. ⌜ r ≡ bothFull (now (subject .entry)) (now (cutter .entry)) (now (met .entry)) ⌝ }
 {
-    if overfull(subject, subject, cutter, met) {
+    if overfull(subject, subject, cutter, met, links) {
         return true;
     }
-    overfull(cutter, subject, cutter, met)
+    overfull(cutter, subject, cutter, met, links)
 }
 
-// Refusal 9, by the working list.
+// Refusal 9, by the working list, in which the links of h chains stand behind the meetings.
 fn crowded(
     w: &[u32],
     from: usize,
@@ -74,17 +79,20 @@ fn crowded(
     cutter: usize,
     base: usize,
     met: usize,
+    h: usize,
 ) -> bool
-    requires { ⌜ (from + 2 * subject ≤ base) × (at + 2 * cutter ≤ base) × (base + 5 * met ≤ length (now w)) × (met ≤ 65536) ⌝ }
+    requires { ⌜ (from + 2 * subject ≤ base) × (at + 2 * cutter ≤ base) × (base + 5 * met + 2 * (h + met) ≤ length (now w)) × (met ≤ 65536)
+        × Linked (pairs (run (now w) from (2 * subject))) (pairs (run (now w) at (2 * cutter))) (run (now w) base (5 * met)) (run (now w) (base + 5 * met) (2 * (h + met))) ⌝ }
     ensures { λ r. ⌜ r ≡ bothFull (run (now (w .entry)) from (2 * subject)) (run (now (w .entry)) at (2 * cutter)) (run (now (w .entry)) base (5 * met)) ⌝ }
 {
     let s = from + 2 * subject;
     let c = at + 2 * cutter;
     let e = base + 5 * met;
-    either_overfull(&w[from..s], &w[at..c], &w[base..e])
+    let l = e + 2 * (h + met);
+    either_overfull(&w[from..s], &w[at..c], &w[base..e], &w[e..l])
 }
 
-// The coordinates of both meshes and the new points go to the front of oc, the edges and the meetings to the working list. Where it refuses, both lists
+// The coordinates of both meshes and the new points go to the front of oc, the edges, the meetings and their links to the working list. Where it refuses, both lists
 // are to be cleared.
 pub fn find(
     op: u32,
@@ -126,7 +134,19 @@ pub fn find(
     if code != 0 {
         return refused(code);
     }
-    if crowded(w, n.from, n.subject, n.at, n.cutter, n.base, f.met) {
+    let h = (sc.len() + cc.len()) / 2 + 1;
+    link_meetings(
+        w,
+        n.from,
+        n.subject,
+        n.at,
+        n.cutter,
+        n.base,
+        f.met,
+        n.base + 5 * f.met,
+        h,
+    );
+    if crowded(w, n.from, n.subject, n.at, n.cutter, n.base, f.met, h) {
         return refused(9);
     }
     Found {
@@ -134,5 +154,6 @@ pub fn find(
         regions: n,
         met: f.met,
         next: f.next,
+        chains: h,
     }
 }

@@ -9,7 +9,7 @@ use lib.Ieee.{Float}
 use Rattle.lists.specs.Gather.{joined}
 use Rattle.lists.specs.Regions.{put}
 use Rattle.lists.proofs.Gather.{joined-append}
-use Rattle.lists.proofs.Regions.{put-none, put-store, put-append, length-put}
+use Rattle.lists.proofs.Regions.{put-none, put-append, length-put}
 use Rattle.geometry.specs.Meet.{meeting}
 use Rattle.geometry.specs.declared.segment.PointId.{PointId}
 use Rattle.geometry.specs.declared.segment.Meeting.{Meeting}
@@ -18,21 +18,13 @@ use Rattle.cutting.specs.Edges.{Edge}
 use Rattle.rules.specs.Meetings.{Met, nodeOf, segmentOf, recorded, addedBy}
 use Rattle.rules.specs.Refusals.{Event, ofMeeting, firstRefusal}
 use Rattle.rules.proofs.Course.{refused-first}
+use Rattle.spatial_index.proofs.Stores.{first-store, next-store}
 use Rattle.meetings.specs.declared.Found.{Found}
 use Rattle.meetings.specs.Booked.{bookOf, booked}
 use Rattle.meetings.specs.Steps.{metOf, Grown, Answered}
 use Rattle.meetings.proofs.Reading.{length-booked}
 
 -- ---- stores, one behind the other
-
-module _ {A : Type 0} (w : List A) (at : ℕ) (d : A) where
-  pub first-store : (v : A) → at < length w → set w at v ≡ put w at (v ∷ [])
-  first-store v h =
-      let here : at ≡ at + 0 = omega arith in
-      ap₂ (λ (l : List A) (k : ℕ). set l k v) (sym (put-none w at)) here ∙ put-store w at (omega arith) [] v d (omega arith)
-
-  pub next-store : (xs : List A) (k : ℕ) (l : List A) (v : A) → length xs ≡ k → at + k < length w → l ≡ put w at xs → set l (at + k) v ≡ put w at (xs ++ v ∷ [])
-  next-store xs k l v n h e = ap₂ (λ (s : List A) (i : ℕ). set s (at + i) v) e (sym n) ∙ put-store w at (omega arith) xs v d (omega arith)
 
 pub five : (w : List ℕ) (at i j k u v : ℕ) → at + 5 ≤ length w → set (set (set (set (set w at i) (at + 1) j) (at + 2) k) (at + 3) u) (at + 4) v ≡ put w at (i ∷ j ∷ k ∷ u ∷ v ∷ [])
 five w at i j k u v h =

@@ -10,7 +10,7 @@ use lib.Seq.{length-take-le}
 use lib.Ieee.{Float}
 use Rattle.lists.specs.Search.{first}
 use Rattle.lists.specs.Gather.{joined}
-use Rattle.lists.specs.Regions.{run, put}
+use Rattle.lists.specs.Regions.{run, front, put}
 use Rattle.lists.proofs.Search.{first-from}
 use Rattle.lists.proofs.Regions.{put-before, run-before, length-run, getD-run}
 use Rattle.geometry.specs.Meet.{meeting}
@@ -25,6 +25,8 @@ use Rattle.rules.specs.Meetings.{Met, segmentOf, recorded, addedBy, metPair, me
 use Rattle.rules.specs.Refusals.{Event, ofMeeting, firstRefusal}
 use Rattle.rules.proofs.Course.{edges-behind}
 use Rattle.spatial_index.specs.Candidates.{placesFrom, meets}
+use Rattle.spatial_index.specs.Blocks.{blockBoxes, Covered}
+use Rattle.spatial_index.proofs.Covered.{covered}
 use Rattle.spatial_index.proofs.Candidates.{places-next, places-end, candidates-from, length-pairs, pairs-at}
 use Rattle.meetings.specs.declared.Found.{Found}
 use Rattle.meetings.specs.Booked.{booked, netOn, edgesIn, meetingsAt}
@@ -147,6 +149,18 @@ module _ (oc : List Float) (w : List ℕ) (placed se ce cn base m i met next : �
         let all : pairs (take (ce + 2 * cn - ce) (drop ce w′)) ≡ fs₀ = ap (λ (x : ℕ). pairs (take x (drop ce w′))) n ∙ kf in
         s ∙ ap₂ (λ (cs : List Float) (es : List Edge). first (meets cs es b) k (length es)) kc all ∙ ap (λ (x : Bounds). first (meets (take placed oc) fs₀ x) k (length fs₀)) kb
 
+    cover : (boxes oc′ : List Float) (w′ : List ℕ) → take placed oc′ ≡ take placed oc → edgesIn w′ ce cn ≡ fs₀ → Covered (take placed oc) fs₀ boxes
+        → Covered (take placed oc′) (pairs (take (ce + 2 * cn - ce) (drop ce w′))) boxes
+    unfolding run
+    cover boxes oc′ w′ kc kf c =
+        let n : ce + 2 * cn - ce ≡ 2 * cn = omega arith in
+        let all : pairs (take (ce + 2 * cn - ce) (drop ce w′)) ≡ fs₀ = ap (λ (x : ℕ). pairs (take x (drop ce w′))) n ∙ kf in
+        rw (kc, all) c
+
+    -- the boxes cover the cutter's edges as the search reads them
+    pub cover-start : (boxes : List Float) → Covered (take placed oc) fs₀ boxes → Covered (take placed oc) (pairs (take (ce + 2 * cn - ce) (drop ce w))) boxes
+    cover-start boxes c = cover boxes oc w refl refl c
+
     pub walk-start : (g : Found) (b : Bounds) (j : ℕ) → g .code ≡ 0 → g .met ≡ met → g .next ≡ next → b ≡ box₀ → Sought oc w b 0 j → Walked oc w g j
     walk-start g b j c a n kb s = (
       0,
@@ -191,6 +205,11 @@ module _ (oc : List Float) (w : List ℕ) (placed se ce cn base m i met next : �
           onto m base oc w met next whole _ oc₂ w₂ h left
           (answered-stop m base oc w met next (done ++ one) (from (g .next + length (addedBy one) / 2) (j + 1)) oc₂ w₂ h oc₂ w₂
           (answered-then m base oc w met next (enough oc w placed base m met next ready) done oc₁ w₁ g (inv .3) one oc₂ w₂ h found) z)
+
+      pub cover-turn : h .code ≡ 0 → (boxes : List Float) → Covered (take placed oc) fs₀ boxes → Covered (take placed oc₂) (pairs (take (ce + 2 * cn - ce) (drop ce w₂))) boxes
+      cover-turn z boxes c =
+          let both = grown-then m base oc w met next (enough oc w placed base m met next ready) done oc₁ w₁ g (inv .3) one oc₂ w₂ h (found .grown z) in
+          cover boxes oc₂ w₂ (coords-kept oc w placed base m met next ready (done ++ one) oc₂ w₂ h both) (edges-kept oc w placed base m met next ready (done ++ one) oc₂ w₂ h both ce cn hc) c
 
       pub walk-turn : h .code ≡ 0 → (b : Bounds) (j′ : ℕ) → b ≡ box₀ → Sought oc₂ w₂ b (j + 1) j′ → Walked oc₂ w₂ h j′
       walk-turn z b j′ kb s =
@@ -245,7 +264,7 @@ module _ (oc : List Float) (w : List ℕ) (placed se sn ce cn base m : ℕ) wher
     ready₀ = (pre .0, pre .2, pre .7, pre .8, omega arith, omega (arith, pre .1), omega (arith, pre .0, pre .1), omega (arith, pre .1))
 
     -- what the contract says
-    settled : (oc′ : List Float) (w′ : List ℕ) (r : Found) → Answered m base oc w 0 (placed / 2) allMet oc′ w′ r → Promised oc′ w′ r
+    pub settled : (oc′ : List Float) (w′ : List ℕ) (r : Found) → Answered m base oc w 0 (placed / 2) allMet oc′ w′ r → Promised oc′ w′ r
     unfolding firstRefusal
     settled oc′ w′ r a = (λ q n. coded q n (ℕ-discrete (r .code) 0), λ z. lists (a .grown z))
       where
@@ -263,11 +282,24 @@ module _ (oc : List Float) (w : List ℕ) (placed se sn ce cn base m : ℕ) wher
             let at : base + 5 * 0 ≡ base = omega arith in
             (omega (arith, g .met-is), omega (arith, g .next-is, pre .1), g .points ∙ ap (λ (k : ℕ). put oc k (addedBy allMet)) (pre .1), g .numbers ∙ ap (λ (k : ℕ). put w k (booked allMet)) at)
 
+    -- the boxes that `block_bounds` makes
+    pub covered-by : (w₀ boxes : List Float) → boxes ≡ front w₀ (blockBoxes (take placed oc) (take (ce + 2 * cn - ce) (drop ce w)) (length w₀ / 4)) → Covered (take placed oc) (edgesIn w ce cn) boxes
+    unfolding run
+    covered-by w₀ boxes e =
+        let n : ce + 2 * cn - ce ≡ 2 * cn = omega arith in
+        covered (take placed oc) (run w ce (2 * cn)) w₀ boxes (e ∙ ap (λ (x : ℕ). front w₀ (blockBoxes (take placed oc) (take x (drop ce w)) (length w₀ / 4))) n)
+
     pub begin : (f : Found) → f .code ≡ 0 → f .met ≡ 0 → f .next ≡ placed / 2 → Through oc w f 0
     unfolding meetingsTo
     begin f c a b =
         let none = grown-none m base oc w 0 (placed / 2) f c a b (omega arith) (omega (arith, pre .0, pre .1)) in
         (omega arith, none, ready-on oc w placed base m 0 (placed / 2) ready₀ [] oc w f none, refl, refl)
+
+    -- the boxes made at the start still cover
+    pub covers : (oc₁ : List Float) (w₁ : List ℕ) (f : Found) (i : ℕ) (boxes : List Float) → Through oc₁ w₁ f i → Covered (take placed oc) (edgesIn w ce cn) boxes
+        → Covered (take placed oc₁) (edgesIn w₁ ce cn) boxes
+    covers oc₁ w₁ f i boxes inv c =
+        rw (coords-kept oc w placed base m 0 (placed / 2) ready₀ (metTo i) oc₁ w₁ f (inv .1), edges-kept oc w placed base m 0 (placed / 2) ready₀ (metTo i) oc₁ w₁ f (inv .1) ce cn (pre .5)) c
 
     module _ (oc₁ : List Float) (w₁ : List ℕ) (f : Found) (i : ℕ) (inv : Through oc₁ w₁ f i) (l : i < sn) (oc₂ : List Float) (w₂ : List ℕ) (h : Found)
         (ans : Answered m base oc₁ w₁ (f .met) (f .next) (metWith (take placed oc₁) i (edgeIn w₁ se i) (edgesIn w₁ ce cn) (f .next)) oc₂ w₂ h) where
@@ -312,18 +344,17 @@ module _ (oc : List Float) (w : List ℕ) (placed se sn ce cn base m : ℕ) wher
       count : length (subject .edges) ≡ sn
       count = count-in w se sn (omega (arith, pre .3, pre .7))
 
-      pub stop : (h .code ≡ 0 → ⊥) → Promised oc₂ w₂ h
+      pub stop : (h .code ≡ 0 → ⊥) → Answered m base oc w 0 (placed / 2) allMet oc₂ w₂ h
       unfolding meetings
       stop z =
           let rest = edges-behind (take placed oc) subject cutter (i + 1) (sn - (i + 1)) in
           let all : sn - (i + 1) + (i + 1) ≡ length (subject .edges) = omega (arith, count) in
           let whole : allMet ≡ metTo (i + 1) ++ rest .0 = ap (λ (k : ℕ). metTo k) (sym all) ∙ rest .1 in
-          settled oc₂ w₂ h
-          (onto m base oc w 0 (placed / 2) _ _ oc₂ w₂ h whole (answered-stop m base oc w 0 (placed / 2) (metTo (i + 1)) (rest .0) oc₂ w₂ h oc₂ w₂ so-far z))
+          onto m base oc w 0 (placed / 2) _ _ oc₂ w₂ h whole (answered-stop m base oc w 0 (placed / 2) (metTo (i + 1)) (rest .0) oc₂ w₂ h oc₂ w₂ so-far z)
 
-    pub finish : (oc₁ : List Float) (w₁ : List ℕ) (f : Found) (i : ℕ) → Through oc₁ w₁ f i → sn ≤ i → Promised oc₁ w₁ f
+    pub finish : (oc₁ : List Float) (w₁ : List ℕ) (f : Found) (i : ℕ) → Through oc₁ w₁ f i → sn ≤ i → Answered m base oc w 0 (placed / 2) allMet oc₁ w₁ f
     unfolding meetings
     finish oc₁ w₁ f i inv l =
         let all : length (subject .edges) ≡ i = omega (arith, inv .0, count-in w se sn (omega (arith, pre .3, pre .7))) in
         let whole : allMet ≡ metTo i = ap (λ (k : ℕ). metTo k) all in
-        settled oc₁ w₁ f (onto m base oc w 0 (placed / 2) _ _ oc₁ w₁ f whole (answered m base oc w 0 (placed / 2) (metTo i) oc₁ w₁ f (inv .1)))
+        onto m base oc w 0 (placed / 2) _ _ oc₁ w₁ f whole (answered m base oc w 0 (placed / 2) (metTo i) oc₁ w₁ f (inv .1))

@@ -9,12 +9,14 @@ ghost use Rattle.lists.specs.Regions.{put};
 ghost use Rattle.geometry.specs.Meet.{meeting};
 ghost use Rattle.rules.specs.Meetings.{nodeOf, segmentOf, addedBy};
 ghost use Rattle.rules.specs.Refusals.{ofMeeting, firstRefusal};
+ghost use Rattle.spatial_index.specs.Blocks.{Covered};
 ghost use Rattle.meetings.specs.Booked.{edgesIn, booked, meetingsAt};
 ghost use Rattle.meetings.specs.Steps.{edgeIn, metOf, metWith, Ready, Answered};
 use geometry::polygon::point_at;
 use geometry::segment::Meeting;
 use geometry::segment::PointId;
 use geometry::segment::Segment;
+use spatial_index::block_bounds;
 use spatial_index::edge_bounds;
 use spatial_index::in_bounds;
 
@@ -185,6 +187,7 @@ fn add_intersection(
 fn of_edge(
     oc: &mut [f64],
     w: &mut [u32],
+    boxes: &[f64],
     placed: usize,
     se: usize,
     ce: usize,
@@ -195,7 +198,8 @@ fn of_edge(
     met: usize,
     next: usize,
 ) -> Found
-    requires { ⌜ (Ready (now oc) (now w) placed base m met next) × (se + 2 * i + 2 ≤ base) × (ce + 2 * cn ≤ base) × (i < 65536) × (cn ≤ 65536) ⌝ }
+    requires { ⌜ (Ready (now oc) (now w) placed base m met next) × (se + 2 * i + 2 ≤ base) × (ce + 2 * cn ≤ base) × (i < 65536) × (cn ≤ 65536)
+        × (Covered (take placed (now oc)) (edgesIn (now w) ce cn) (now boxes)) ⌝ }
     ensures { λ r. ⌜ Answered m base (now (oc .entry)) (now (w .entry)) met next
         (metWith (take placed (now (oc .entry))) i (edgeIn (now (w .entry)) se i) (edgesIn (now (w .entry)) ce cn) next)
         (now (oc .exit)) (now (w .exit)) r ⌝ }
@@ -204,15 +208,49 @@ fn of_edge(
     let b = w[se + 2 * i + 1];
     let bounds = edge_bounds(&oc[..placed], a, b);
     let mut g = Found { code: 0, met, next };
-    let mut j = in_bounds(&oc[..placed], &w[ce..ce + 2 * cn], bounds, 0);
+    let mut j = in_bounds(&oc[..placed], &w[ce..ce + 2 * cn], boxes, bounds, 0);
     while j < cn {
         g = add_intersection(oc, w, placed, se, ce, base, m, i, j, g.met, g.next);
         if g.code != 0 {
             return g;
         }
-        j = in_bounds(&oc[..placed], &w[ce..ce + 2 * cn], bounds, j + 1);
+        j = in_bounds(&oc[..placed], &w[ce..ce + 2 * cn], boxes, bounds, j + 1);
     }
     g
+}
+
+// Those of all the subject's edges, with the boxes of blocks of the cutter's.
+fn of_edges(
+    oc: &mut [f64],
+    w: &mut [u32],
+    boxes: &[f64],
+    placed: usize,
+    se: usize,
+    sn: usize,
+    ce: usize,
+    cn: usize,
+    base: usize,
+    m: usize,
+) -> Found
+    requires { ⌜ ((placed ≤ length (now oc)) × (2 * (placed / 2) ≡ placed) × (placed ≤ 65536) × (se + 2 * sn ≤ base) × (sn ≤ 65536) × (ce + 2 * cn ≤ base) × (cn ≤ 65536)
+        × (base + 5 * m ≤ length (now w)) × (m ≤ 65536)) × (Covered (take placed (now oc)) (edgesIn (now w) ce cn) (now boxes)) ⌝ }
+    ensures { λ r. ⌜ Answered m base (now (oc .entry)) (now (w .entry)) 0 (placed / 2) (meetingsAt (now (oc .entry)) (now (w .entry)) placed se sn ce cn)
+        (now (oc .exit)) (now (w .exit)) r ⌝ }
+{
+    let mut f = Found {
+        code: 0,
+        met: 0,
+        next: placed / 2,
+    };
+    let mut i: usize = 0;
+    while i < sn {
+        f = of_edge(oc, w, boxes, placed, se, ce, cn, base, m, i, f.met, f.next);
+        if f.code != 0 {
+            return f;
+        }
+        i += 1;
+    }
+    f
 }
 
 // The meetings by subject edge, then candidate in rising index; new points are numbered as found. The first `placed` numbers of oc are the coordinates
@@ -237,18 +275,7 @@ pub fn compute_intersections(
         × (now (oc .exit) ≡ put (now (oc .entry)) placed (addedBy (meetingsAt (now (oc .entry)) (now (w .entry)) placed se sn ce cn)))
         × (now (w .exit) ≡ put (now (w .entry)) base (booked (meetingsAt (now (oc .entry)) (now (w .entry)) placed se sn ce cn)))) ⌝ }
 {
-    let mut f = Found {
-        code: 0,
-        met: 0,
-        next: placed / 2,
-    };
-    let mut i: usize = 0;
-    while i < sn {
-        f = of_edge(oc, w, placed, se, ce, cn, base, m, i, f.met, f.next);
-        if f.code != 0 {
-            return f;
-        }
-        i += 1;
-    }
-    f
+    let mut boxes = [0.0; 4096];
+    block_bounds(&oc[..placed], &w[ce..ce + 2 * cn], &mut boxes);
+    of_edges(oc, w, &boxes, placed, se, sn, ce, cn, base, m)
 }

@@ -9,7 +9,7 @@ use lib.ListN.{length, getD, take, drop, length-append, length-map}
 use lib.Ieee.{Float}
 use borrow.Author.Tests.{eqb-true, ne-eqb}
 use Rattle.lists.specs.Gather.{joined}
-use Rattle.lists.specs.Regions.{front}
+use Rattle.lists.specs.Regions.{run, front}
 use Rattle.lists.proofs.Gather.{joined-append}
 use Rattle.lists.proofs.Regions.{take-front-of}
 use Rattle.geometry.specs.declared.segment.Meeting.{Meeting}
@@ -27,6 +27,8 @@ use Rattle.rules.specs.Meetings.{Met, Scene, addedBy, recorded, segmentOf, metP
 use Rattle.rules.specs.Nodes.{crowded}
 use Rattle.rules.specs.Operations.{cuts, sceneFor}
 use Rattle.rules.specs.Refusals.{firstRefusal}
+use Rattle.edge_nodes.specs.Links.{Linked}
+use Rattle.edge_nodes.proofs.Linked.{linked}
 use Rattle.edge_nodes.proofs.Scene.{noMet, Stored, numbers-stored}
 use Rattle.meetings.specs.Booked.{booked}
 use Rattle.meetings.proofs.Reading.{length-booked, booked-at, meetings-fit}
@@ -34,7 +36,7 @@ use Rattle.cells.specs.Cells.{Uncrowded}
 use Rattle.pieces.specs.Pieces.{runsOf}
 use Rattle.finding.specs.declared.stages.Found.{Found}
 use Rattle.finding.specs.Nets.{cutterEntries}
-use Rattle.finding.specs.Found.{foundEvents, foundAs, refusedAs, worked}
+use Rattle.finding.specs.Found.{foundEvents, chains, foundAs, refusedAs, linksIn, worked}
 use Rattle.finding.proofs.Passed.{bare, ready}
 use Rattle.finding.proofs.Cells.{cells-lists, cells-renumbered}
 use Rattle.finding.proofs.Ends.{part-is}
@@ -132,6 +134,10 @@ module _ (op m : ℕ) (s c : Mesh) (w₀ : List ℕ) (ok : Passed op m s c (leng
   points : take (2 * x .next) oc′ ≡ sc .coords
   points = ap (take (2 * x .next)) placed ∙ take-front-of oc (sc .coords) (2 * x .next) next-long
 
+  chains-are : x .chains ≡ chains s c
+  unfolding foundAs
+  chains-are = let r = ready op m s c (length w₀) ok in ap (λ (y : Found). y .chains) (answer-is op m s c (r .0) (r .1) (r .2) w₀ (r .3) oc oc′ w′ x told z)
+
   -- the regions of the working list as they are lent
   abbrev subject : List ℕ
   subject = part w′ (x .regions .from) (x .regions .from + 2 * x .regions .subject)
@@ -142,12 +148,15 @@ module _ (op m : ℕ) (s c : Mesh) (w₀ : List ℕ) (ok : Passed op m s c (leng
   abbrev met : List ℕ
   met = part w′ (x .regions .base) (x .regions .base + 5 * x .met)
 
+  abbrev links : List ℕ
+  links = part w′ (x .regions .base + 5 * x .met) (x .regions .base + 5 * x .met + 2 * (x .chains + x .met))
+
   abbrev nodes : List ℕ
   nodes = part w′ (x .regions .entries) (x .regions .entries + length (c .nodes))
 
-  pub regions-in : (x .regions .from + 2 * x .regions .subject ≤ length w′) × (x .regions .at + 2 * x .regions .cutter ≤ length w′) × (x .regions .base + 5 * x .met ≤ length w′)
+  pub regions-in : (x .regions .from + 2 * x .regions .subject ≤ length w′) × (x .regions .at + 2 * x .regions .cutter ≤ length w′) × (x .regions .base + 5 * x .met + 2 * (x .chains + x .met) ≤ length w′)
       × (x .regions .entries + length (c .nodes) ≤ length w′)
-  regions-in = (omega (arith, held .subject-fits, held .met-fits), omega (arith, held .cutter-fits, held .met-fits), held .met-fits, omega (arith, held .entries-fit, held .met-fits))
+  regions-in = (omega (arith, held .subject-fits, held .links-fit), omega (arith, held .cutter-fits, held .links-fit), omega (arith, held .links-fit, chains-are), omega (arith, held .entries-fit, held .links-fit))
 
   nodes-are : nodes ≡ cutterEntries s c
   nodes-are = part-is w′ (x .regions .entries) (length (c .nodes)) ∙ held .entries
@@ -170,11 +179,18 @@ module _ (op m : ℕ) (s c : Mesh) (w₀ : List ℕ) (ok : Passed op m s c (leng
       (part-is w′ (x .regions .at) (2 * x .regions .cutter) ∙ held .cutter) stored cells-are
 
   -- an edge of a net, read from its list
-  few-read : (es fs : List Edge) → es ≡ fs → Uncrowded (sc .subject .edges) (sc .cutter .edges) met fs → Uncrowded (pairs subject) (pairs cutter) met es
+  few-read : (es fs : List Edge) → es ≡ fs → Uncrowded (sc .subject .edges) (sc .cutter .edges) met links fs → Uncrowded (pairs subject) (pairs cutter) met links es
   few-read es fs h u =
-      subst (λ (y : List Edge). Uncrowded y (pairs cutter) met es) (lists-hold .subjectCut .subjectEdges)
-      (subst (λ (y : List Edge). Uncrowded (sc .subject .edges) y met es) (lists-hold .subjectCut .cutterEdges)
-      (subst (λ (y : List Edge). Uncrowded (sc .subject .edges) (sc .cutter .edges) met y) (sym h) u))
+      subst (λ (y : List Edge). Uncrowded y (pairs cutter) met links es) (lists-hold .subjectCut .subjectEdges)
+      (subst (λ (y : List Edge). Uncrowded (sc .subject .edges) y met links es) (lists-hold .subjectCut .cutterEdges)
+      (subst (λ (y : List Edge). Uncrowded (sc .subject .edges) (sc .cutter .edges) met links y) (sym h) u))
+
+  lent-linked : Linked (sc .subject .edges) (sc .cutter .edges) met links
+  lent-linked =
+      let from : links ≡ linksIn op s c =
+      part-is w′ (x .regions .base + 5 * x .met) (2 * (x .chains + x .met))
+      ∙ ap (λ (k : ℕ). run w′ (x .regions .base + 5 * x .met) (2 * (k + x .met))) chains-are ∙ held .links in
+      rw (part-is w′ (x .regions .base) (5 * x .met) ∙ held .met, from) (linked (chains s c) (sc .subject .edges) (sc .cutter .edges) (booked (sc .met)) (omega arith))
 
   subject-own : computeDescending (runsOf (s .nodes) (s .ends)) ≡ sc .subject .edges
   unfolding sceneOf subjectNet cellsOf cellAt
@@ -189,12 +205,12 @@ module _ (op m : ℕ) (s c : Mesh) (w₀ : List ℕ) (ok : Passed op m s c (leng
   nodes-long : length nodes ≡ length (c .nodes)
   nodes-long = ap length nodes-are ∙ length-map (c .nodes) (λ k. getD (weld s c) k 0)
 
-  pub lists-ready : MeshesReady op subject cutter met (s .nodes) (s .ends) (s .kinds) (s .families) nodes (c .ends) (c .kinds) (c .families)
+  pub lists-ready : MeshesReady op subject cutter met links (s .nodes) (s .ends) (s .kinds) (s .families) nodes (c .ends) (c .kinds) (c .families)
   lists-ready =
-      let few = not-crowded sc met stored uncrowded in
+      let few = not-crowded sc met links stored lent-linked uncrowded in
       record {
-        subjectCells = cells-ready (pairs subject) (pairs cutter) met (s .nodes) (s .ends) (few-read (computeDescending (runsOf (s .nodes) (s .ends))) (sc .subject .edges) subject-own (few .0)) (ok .subject .cellMost);
-        cutterCells = λ h. cells-ready (pairs subject) (pairs cutter) met nodes (c .ends) (few-read (computeDescending (runsOf nodes (c .ends))) (sc .cutter .edges) (cutter-own h) (few .1)) (ok .cutter .cellMost);
+        subjectCells = cells-ready (pairs subject) (pairs cutter) met links (s .nodes) (s .ends) (few-read (computeDescending (runsOf (s .nodes) (s .ends))) (sc .subject .edges) subject-own (few .0)) (ok .subject .cellMost);
+        cutterCells = λ h. cells-ready (pairs subject) (pairs cutter) met links nodes (c .ends) (few-read (computeDescending (runsOf nodes (c .ends))) (sc .cutter .edges) (cutter-own h) (few .1)) (ok .cutter .cellMost);
         subjectFew = few-read (pairs subject) (sc .subject .edges) (sym (lists-hold .subjectCut .subjectEdges)) (few .0);
         cutterFew = few-read (pairs cutter) (sc .cutter .edges) (sym (lists-hold .subjectCut .cutterEdges)) (few .1);
         subjectRise = λ i h. (omega (arith, ok .subject .rises i h), ok .subject .within i h);

@@ -17,6 +17,8 @@ use Rattle.entry.specs.Mesh.{cellSize}
 use Rattle.rules.specs.Neighbours.{added, addedAll, descendingTo, computeDescending}
 use Rattle.rules.specs.Meetings.{Scene}
 use Rattle.rules.specs.Nodes.{collected, overfull, crowded}
+use Rattle.edge_nodes.specs.Links.{Linked}
+use Rattle.edge_nodes.specs.Lent.{collectedIn}
 use Rattle.edge_nodes.proofs.Scene.{Stored, collected-is}
 use Rattle.cells.specs.Cells.{Uncrowded}
 use Rattle.cells.proofs.Scene.{same-keys}
@@ -81,12 +83,12 @@ descending-has (suc n) cells j i h l = go (decLe (suc j) n) (λ b. descending-ha
         let same : n ≡ j = omega (arith, h, b) in
         subst (λ (k : ℕ). Among (addedAll (descendingTo n cells) (ring (getD cells k []))) (edgeAt (ring (getD cells j [])) i)) (sym same) (all-have (ring (getD cells j [])) (descendingTo n cells) i l)
 
-pub cells-ready : (subject cutter : List Edge) (met own stops : List ℕ) → Uncrowded subject cutter met (computeDescending (runsOf own stops)) → ((i : ℕ) → i < length stops → cellSize stops i ≤ 256)
-    → CellsReady subject cutter met own stops
-cells-ready subject cutter met own stops few small i h =
+pub cells-ready : (subject cutter : List Edge) (met links own stops : List ℕ) → Uncrowded subject cutter met links (computeDescending (runsOf own stops)) → ((i : ℕ) → i < length stops → cellSize stops i ≤ 256)
+    → CellsReady subject cutter met links own stops
+cells-ready subject cutter met links own stops few small i h =
     let cells : List (List ℕ) = runsOf own stops in
     let below : i < length cells = omega (arith, h, length-runs own stops) in
-    (same-keys subject cutter met (computeDescending cells) few (ring (getD cells i [])) (λ k l. descending-has (length cells) cells i k below l), small i h)
+    (same-keys subject cutter met links (computeDescending cells) few (ring (getD cells i [])) (λ k l. descending-has (length cells) cells i k below l), small i h)
 
 -- ---- refusal 9 passed
 
@@ -94,15 +96,15 @@ or-false : (a b : Bool) → a || b ≡ false → (a ≡ false) × (b ≡ false)
 or-false true b h = absurd (omega (arith, ap (λ (t : Bool). cond {A = ℕ} t 1 0) h))
 or-false false b h = (refl, h)
 
-module _ (sc : Scene) (met : List ℕ) (stored : Stored (sc .met) met) where
-  not-over : (es : List Edge) → overfull sc es ≡ false → Uncrowded (sc .subject .edges) (sc .cutter .edges) met es
-  not-over es none i h =
+module _ (sc : Scene) (met links : List ℕ) (stored : Stored (sc .met) met) (linked : Linked (sc .subject .edges) (sc .cutter .edges) met links) where
+  few-under : (es : List Edge) → overfull sc es ≡ false → (i : ℕ) → i < length es → length (collectedIn (sc .subject .edges) (sc .cutter .edges) met (edgeAt es i)) ≤ 256
+  few-under es none i h =
       let few : length (collected sc (edgeAt es i)) ≤ 256 = ltb-false 256 (length (collected sc (edgeAt es i))) (has-none (λ k. ltb 256 (length (collected sc (edgeAt es k)))) (length es) i none h) in
       omega (arith, few, ap length (collected-is sc met stored (edgeAt es i)))
 
   pub not-crowded : crowded sc ≡ false
-      → Uncrowded (sc .subject .edges) (sc .cutter .edges) met (sc .subject .edges) × Uncrowded (sc .subject .edges) (sc .cutter .edges) met (sc .cutter .edges)
+      → Uncrowded (sc .subject .edges) (sc .cutter .edges) met links (sc .subject .edges) × Uncrowded (sc .subject .edges) (sc .cutter .edges) met links (sc .cutter .edges)
   unfolding crowded
   not-crowded h =
       let both = or-false (overfull sc (sc .subject .edges)) (overfull sc (sc .cutter .edges)) h in
-      (not-over (sc .subject .edges) (both .0), not-over (sc .cutter .edges) (both .1))
+      (record { linked = linked; few = few-under (sc .subject .edges) (both .0) }, record { linked = linked; few = few-under (sc .cutter .edges) (both .1) })

@@ -59,12 +59,15 @@ module _ (op m : ℕ) (s c : Mesh) (oc : List Float) (on oe ok of w : List ℕ) 
     abbrev met : List ℕ
     met = part w₁ (x .regions .base) (x .regions .base + 5 * x .met)
 
+    abbrev links : List ℕ
+    links = part w₁ (x .regions .base + 5 * x .met) (x .regions .base + 5 * x .met + 2 * (x .chains + x .met))
+
     abbrev nodes : List ℕ
     nodes = part w₁ (x .regions .entries) (x .regions .entries + length (c .nodes))
 
     -- what `cut_found` asks
-    pub asked : (2 * x .next ≤ length oc₁) × (x .regions .from + 2 * x .regions .subject ≤ length w₁) × (x .regions .at + 2 * x .regions .cutter ≤ length w₁) × (x .regions .base + 5 * x .met ≤ length w₁)
-        × (x .regions .entries + length (c .nodes) ≤ length w₁) × MeshesReady op subject cutter met (s .nodes) (s .ends) (s .kinds) (s .families) nodes (c .ends) (c .kinds) (c .families)
+    pub asked : (2 * x .next ≤ length oc₁) × (x .regions .from + 2 * x .regions .subject ≤ length w₁) × (x .regions .at + 2 * x .regions .cutter ≤ length w₁) × (x .regions .base + 5 * x .met + 2 * (x .chains + x .met) ≤ length w₁)
+        × (x .regions .entries + length (c .nodes) ≤ length w₁) × MeshesReady op subject cutter met links (s .nodes) (s .ends) (s .kinds) (s .families) nodes (c .ends) (c .kinds) (c .families)
     asked =
         let h = regions-in op m s c w pa oc oc₁ w₁ x told z in
         (points-in op m s c w pa oc oc₁ w₁ x told z, h .0, h .1, h .2, h .3, lists-ready op m s c w pa oc oc₁ w₁ x told z)

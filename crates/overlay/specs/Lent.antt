@@ -16,11 +16,11 @@ abbrev pub part : List ℕ → ℕ → ℕ → List ℕ
 part w a b = take (b - a) (drop a w)
 
 -- what `cut_meshes` asks of the lists
-pub record MeshesReady (op : ℕ) (subject cutter met sn se sk sf cn ce ck cf : List ℕ) : Type 0 where
-  pub subjectCells : CellsReady (pairs subject) (pairs cutter) met sn se
-  pub cutterCells : cuts op theCutter ≡ true → CellsReady (pairs subject) (pairs cutter) met cn ce
-  pub subjectFew : Uncrowded (pairs subject) (pairs cutter) met (pairs subject)
-  pub cutterFew : Uncrowded (pairs subject) (pairs cutter) met (pairs cutter)
+pub record MeshesReady (op : ℕ) (subject cutter met links sn se sk sf cn ce ck cf : List ℕ) : Type 0 where
+  pub subjectCells : CellsReady (pairs subject) (pairs cutter) met links sn se
+  pub cutterCells : cuts op theCutter ≡ true → CellsReady (pairs subject) (pairs cutter) met links cn ce
+  pub subjectFew : Uncrowded (pairs subject) (pairs cutter) met links (pairs subject)
+  pub cutterFew : Uncrowded (pairs subject) (pairs cutter) met links (pairs cutter)
   pub subjectRise : Rising se (length sn)
   pub cutterRise : Rising ce (length cn)
   pub subjectKinds : length sk ≡ length se

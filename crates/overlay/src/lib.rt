@@ -37,8 +37,8 @@ fn plain(code: u32) -> Answer
     }
 }
 
-// Cuts the cells by what stands in oc and w: `next` points; s edges of the subject, c of the cutter and the meetings, from `from`, `at` and `base` on; the
-// n node entries of the cutter, from `entries` on.
+// Cuts the cells by what stands in oc and w: `next` points; s edges of the subject, c of the cutter and the meetings, from `from`, `at` and `base` on, with
+// the links of h chains behind these; the n node entries of the cutter, from `entries` on.
 fn cut_found(
     op: u32,
     next: usize,
@@ -49,6 +49,7 @@ fn cut_found(
     c: usize,
     base: usize,
     met: usize,
+    h: usize,
     n: usize,
     oc: &[f64],
     w: &[u32],
@@ -64,8 +65,8 @@ fn cut_found(
     ok: &mut [u8],
     of: &mut [u32],
 ) -> Listed
-    requires { ⌜ (2 * next ≤ length (now oc)) × (from + 2 * s ≤ length (now w)) × (at + 2 * c ≤ length (now w)) × (base + 5 * met ≤ length (now w)) × (entries + n ≤ length (now w))
-        × MeshesReady op (part (now w) from (from + 2 * s)) (part (now w) at (at + 2 * c)) (part (now w) base (base + 5 * met)) (now sn) (now se) (now sk) (now sf) (part (now w) entries (entries + n)) (now ce) (now ck) (now cf) ⌝ }
+    requires { ⌜ (2 * next ≤ length (now oc)) × (from + 2 * s ≤ length (now w)) × (at + 2 * c ≤ length (now w)) × (base + 5 * met + 2 * (h + met) ≤ length (now w)) × (entries + n ≤ length (now w))
+        × MeshesReady op (part (now w) from (from + 2 * s)) (part (now w) at (at + 2 * c)) (part (now w) base (base + 5 * met)) (part (now w) (base + 5 * met) (base + 5 * met + 2 * (h + met))) (now sn) (now se) (now sk) (now sf) (part (now w) entries (entries + n)) (now ce) (now ck) (now cf) ⌝ }
     ensures { λ r. ⌜ (r .code ≡ 0 → Fits (length (now (se .entry)) + length (now (ce .entry))) noneYet (now (on .entry)) (now (oe .entry)) (now (ok .entry)) (now (of .entry)) r)
         × ((v : Scene) → MeshesIn v (take (2 * next) (now (oc .entry))) (part (now (w .entry)) from (from + 2 * s)) (part (now (w .entry)) at (at + 2 * c)) (part (now (w .entry)) base (base + 5 * met)) (now (sn .entry)) (now (se .entry)) (now (sk .entry)) (now (sf .entry)) (part (now (w .entry)) entries (entries + n)) (now (ce .entry)) (now (ck .entry)) (now (cf .entry))
         → ListedBehind (overBoth op v (cellEvents op v)) (overBoth op v (λ w. kept v w op)) (overBoth op v (twice v)) noneYet (now (on .entry)) (now (oe .entry)) (now (ok .entry)) (now (of .entry)) r (now (on .exit)) (now (oe .exit)) (now (ok .exit)) (now (of .exit))) ⌝ }
@@ -74,6 +75,7 @@ fn cut_found(
     let s_end = from + 2 * s;
     let c_end = at + 2 * c;
     let met_end = base + 5 * met;
+    let links_end = met_end + 2 * (h + met);
     let n_end = entries + n;
     cut_meshes(
         op,
@@ -81,6 +83,7 @@ fn cut_found(
         &w[from..s_end],
         &w[at..c_end],
         &w[base..met_end],
+        &w[met_end..links_end],
         sn,
         se,
         sk,
@@ -142,6 +145,7 @@ fn run(
         g.cutter,
         g.base,
         met,
+        f.chains,
         cn.len(),
         oc,
         work,

@@ -97,6 +97,10 @@ twice = lent (i ∷ -i ∷ i ∷ iii ∷ []) (0 ∷ 1 ∷ 0 ∷ 1 ∷ []) (2 ∷
 abbrev nearby : Mesh
 nearby = lent (0x3d71_9799_812d_ea11 ∷ o ∷ 0x3d61_9799_812d_ea11 ∷ o ∷ i ∷ i ∷ []) (0 ∷ 1 ∷ 2 ∷ []) (3 ∷ []) (5 ∷ []) (0 ∷ [])
 
+-- a triangle, and a node that it doesn't name, at the square's first
+abbrev unnamed : Mesh
+unnamed = lent (i ∷ i ∷ iii ∷ i ∷ i ∷ iii ∷ o ∷ o ∷ []) (0 ∷ 1 ∷ 2 ∷ []) (3 ∷ []) (5 ∷ []) (0 ∷ [])
+
 -- a triangle behind the one away from it; and lines: 42 along its first edge, each of which brings six entries under that edge's key, and k across it,
 -- each of which brings one
 abbrev triangles : Mesh
@@ -152,8 +156,13 @@ rows =
     ∷ pieces-of (o ∷ o ∷ i ∷ -i ∷ i ∷ i ∷ -i ∷ i ∷ -i ∷ -i ∷ []) ((1, 2) ∷ (2, 0) ∷ (0, 3) ∷ (3, 4) ∷ (4, 0) ∷ (0, 1) ∷ []) (0 ∷ 1 ∷ 2 ∷ 4 ∷ 0 ∷ 3 ∷ []) (3 ∷ 6 ∷ [])
     -- the key's second node isn't sorted with the others
     ∷ nodes-along (o ∷ o ∷ i ∷ o ∷ ii ∷ o ∷ []) (0, 1) (2 ∷ []) (0 ∷ 2 ∷ 1 ∷ [])
-    -- a node at the weld distance itself isn't near
+    -- at equal projections nodes stay as collected, and -0 stands before 0
+    ∷ nodes-along (o ∷ o ∷ ii ∷ o ∷ i ∷ i ∷ i ∷ -i ∷ []) (0, 1) (3 ∷ 2 ∷ []) (0 ∷ 3 ∷ 2 ∷ 1 ∷ [])
+    ∷ nodes-along (i ∷ i ∷ o ∷ o ∷ ii ∷ o ∷ i ∷ i ∷ []) (0, 1) (2 ∷ 3 ∷ []) (0 ∷ 3 ∷ 2 ∷ 1 ∷ [])
+    -- a node at the weld distance itself isn't near; a node that no cell names isn't welded, and none is welded to it
     ∷ weld-of square nearby (4 ∷ 0 ∷ 6 ∷ [])
+    ∷ weld-of square unnamed (4 ∷ 5 ∷ 6 ∷ 7 ∷ [])
+    ∷ weld-of unnamed square (4 ∷ 5 ∷ 6 ∷ 7 ∷ [])
     -- boxes that only touch meet
     ∷ near-box (o ∷ o ∷ i ∷ i ∷ i ∷ i ∷ ii ∷ ii ∷ []) (0, 1) (2, 3) (0 ∷ [])
     -- K1 with room for it and no more; with one number, one node entry, or one place for a piece less; with a working list too short

@@ -40,7 +40,7 @@ refused-requires c κs = search needs
 -- src/lib.rt:238:9
 returns : tie.Need-returns
 returns c =
-    let s = c .before .before .before .before .before .before .before .before .before .before .before .before .before .before .before .before .before in
+    let s = c .before .before .before .before .before .before .before .before .before .before .before .before .before .before .before .before .before .before .before in
     let a = s .args in
     let o = c .before .before .before .before .before .before .own-darts in
     c .refused .ensures ∙ too-many-own (a .coords .now) (pairs (a .subject .now)) (pairs (a .cutter .now)) (a .met .now) (pairs (a .near .now)) (a .cell .now) (a .b) (a .first) (o .ensures .0 .over (c .before .if1 .taken))
@@ -52,10 +52,10 @@ array-share-prefix-outline c = search needs
 -- src/lib.rt:240:64
 slice-aggregate-cut-outlined : tie.Need-slice-aggregate-cut-outlined
 slice-aggregate-cut-outlined c =
-    let s = c .before .before .before .before .before .before .before .before .before .before .before .before .before .before .before .before .before in
+    let s = c .before .before .before .before .before .before .before .before .before .before .before .before .before .before .before .before .before .before .before in
     let a = s .args in
     let o = c .before .before .before .before .before .before .own-darts in
-    sym (length-take-le (o .result) (o .last .1 .1 .1 .1 .1 .0) (omega (arith, c .before .if1 .left, o .kept .1 .1 .1 .1 .1 .0)))
+    sym (length-take-le (o .result) (o .last .1 .1 .1 .1 .1 .1 .0) (omega (arith, c .before .if1 .left, o .kept .1 .1 .1 .1 .1 .1 .0)))
 
 -- src/lib.rt:240:79
 slice-aggregate-cut-outlined-2 : tie.Need-slice-aggregate-cut-outlined-2
@@ -72,18 +72,18 @@ slice-aggregate-cut-outlined-4 c = search needs
 -- src/lib.rt:240:5
 cut-outlined-requires : tie.Need-cut-outlined-requires
 cut-outlined-requires c κs =
-    let s = c .before .before .before .before .before .before .before .before .before .before .before .before .before .before .before .before .before .before .before .before in
+    let s = c .before .before .before .before .before .before .before .before .before .before .before .before .before .before .before .before .before .before .before .before .before .before in
     let a = s .args in
     let o = c .before .before .before .before .before .before .before .before .before .own-darts in
-    (s .pre .1, c .before .before .before .before .if1 .left, omega (arith, o .kept .1 .1 .1 .1 .1 .1 .0), omega (arith, o .kept .1 .1 .1 .1 .1 .1 .1 .0), omega (arith, o .kept .1 .1 .1 .1 .1 .1 .1 .1 .0), own-table (a .coords .now) (outlineIn (a .coords .now) (pairs (a .subject .now)) (pairs (a .cutter .now)) (a .met .now) (a .cell .now)) (o .last .1 .1 .1 .1 .1 .0) (o .result) (c .before .before .before .before .if1 .left) (o .ensures .1) (o .last .1 .1 .1 .1 .1 .1 .0) (o .last .1 .1 .1 .1 .1 .1 .1 .0) (o .last .1 .1 .1 .1 .1 .1 .1 .1 .0) (o .ensures .0), omega (arith, length-take-le (o .result) (o .last .1 .1 .1 .1 .1 .0) (omega (arith, c .before .before .before .before .if1 .left, o .kept .1 .1 .1 .1 .1 .0)), c .before .before .before .before .if1 .left))
+    (s .pre .1, s .pre .2, c .before .before .before .before .if1 .left, omega (arith, o .kept .1 .1 .1 .1 .1 .1 .1 .0), omega (arith, o .kept .1 .1 .1 .1 .1 .1 .1 .1 .0), omega (arith, o .kept .1 .1 .1 .1 .1 .1 .1 .1 .1 .0), own-table (a .coords .now) (outlineIn (a .coords .now) (pairs (a .subject .now)) (pairs (a .cutter .now)) (a .met .now) (a .cell .now)) (o .last .1 .1 .1 .1 .1 .1 .0) (o .result) (c .before .before .before .before .if1 .left) (o .ensures .1) (o .last .1 .1 .1 .1 .1 .1 .1 .0) (o .last .1 .1 .1 .1 .1 .1 .1 .1 .0) (o .last .1 .1 .1 .1 .1 .1 .1 .1 .1 .0) (o .ensures .0), omega (arith, length-take-le (o .result) (o .last .1 .1 .1 .1 .1 .1 .0) (omega (arith, c .before .before .before .before .if1 .left, o .kept .1 .1 .1 .1 .1 .1 .0)), c .before .before .before .before .if1 .left))
 
 -- src/lib.rt:218:1
 returns-2 : tie.Need-returns-2
 returns-2 c =
-    let s = c .before .before .before .before .before .before .before .before .before .before .before .before .before .before .before .before .before .before .before .before .before .before .before .before in
+    let s = c .before .before .before .before .before .before .before .before .before .before .before .before .before .before .before .before .before .before .before .before .before .before .before .before .before .before in
     let a = s .args in
     let o = c .before .before .before .before .before .before .before .before .before .before .before .before .before .own-darts in
-    cut-as-lent (a .coords .now) (pairs (a .subject .now)) (pairs (a .cutter .now)) (a .met .now) (pairs (a .near .now)) (a .cell .now) (a .b) (a .first) (o .last .1 .1 .1 .1 .1 .0) (o .result) (c .before .before .before .cut-outlined .result) (c .before .before .before .before .before .before .before .before .if1 .left) (o .ensures .1) (c .before .before .before .cut-outlined .ensures)
+    cut-as-lent (a .coords .now) (pairs (a .subject .now)) (pairs (a .cutter .now)) (a .met .now) (pairs (a .near .now)) (a .cell .now) (a .b) (a .first) (o .last .1 .1 .1 .1 .1 .1 .0) (o .result) (c .before .before .before .cut-outlined .result) (c .before .before .before .before .before .before .before .before .if1 .left) (o .ensures .1) (c .before .before .before .cut-outlined .ensures)
 
 pub cut-cell-spec : {M : Type 1} → statement M
 cut-cell-spec =

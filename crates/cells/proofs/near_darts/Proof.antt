@@ -12,21 +12,21 @@ use Rattle.cells.proofs.add_near.Reads as add-near-reads
 use Rattle.spatial_index.proofs.in_bounds.Reads as in-bounds-reads
 
 abbrev Inv-loop : tie.InvT-loop
-Inv-loop coords subject cutter met near b first outline src₀ dst₀ marks₀ n count m₀ j₀ src dst marks m j = Nearing coords (pairs subject) (pairs cutter) met near b first (pairs outline) src₀ dst₀ marks₀ src dst marks m j
+Inv-loop coords subject cutter met links near boxes b first outline src₀ dst₀ marks₀ n count m₀ j₀ src dst marks m j = Nearing coords (pairs subject) (pairs cutter) met near b first (pairs outline) src₀ dst₀ marks₀ src dst marks m j
 
 abbrev μ-loop : tie.MeasureT-loop
-μ-loop coords subject cutter met near b first outline src₀ dst₀ marks₀ n count m₀ j₀ src dst marks m j = length near / 2 - j
+μ-loop coords subject cutter met links near boxes b first outline src₀ dst₀ marks₀ n count m₀ j₀ src dst marks m j = length near / 2 - j
 
 -- src/lib.rt:157:9
 in-bounds-requires : tie.Need-in-bounds-requires Inv-loop μ-loop
-in-bounds-requires c κs = search needs
+in-bounds-requires c κs = c .before .before .before .before .before .before .before .before .before .before .before .pre .1
 
 -- src/lib.rt:158:5
 loop-holds : tie.Need-loop-holds Inv-loop μ-loop
 loop-holds c =
-    let s = c .before .before .before .before .before .before .before .before .before .before in
+    let s = c .before .before .before .before .before .before .before .before .before .before .before .before in
     let a = s .args in
-    near-start (a .coords .now) (pairs (a .subject .now)) (pairs (a .cutter .now)) (a .met .now) (a .near .now) (a .b) (a .first) (pairs (a .outline .now)) (a .src .now) (a .dst .now) (a .marks .now) (a .n) (c .in-bounds .result) (s .pre .1) (s .pre .5) (c .in-bounds .ensures)
+    near-start (a .coords .now) (pairs (a .subject .now)) (pairs (a .cutter .now)) (a .met .now) (a .near .now) (a .b) (a .first) (pairs (a .outline .now)) (a .src .now) (a .dst .now) (a .marks .now) (a .n) (c .in-bounds .result) (s .pre .2) (s .pre .6) (c .in-bounds .ensures)
 
 -- src/lib.rt:159:22
 mul-p : tie.Need-mul-p Inv-loop μ-loop
@@ -59,10 +59,10 @@ shared-slice-read-q c = search needs
 -- src/lib.rt:161:9
 add-near-requires : tie.Need-add-near-requires Inv-loop μ-loop
 add-near-requires c κs =
-    let s = c .before .before .before .before .before .before .before .before .before .before .before .before .before .before .before .before .before in
+    let s = c .before .before .before .before .before .before .before .before .before .before .before .before .before .before .before .before .before .before .before in
     let a = s .args in
     let l = c .before .before .before .before .before .before .loop in
-    (near-few (a .coords .now) (pairs (a .subject .now)) (pairs (a .cutter .now)) (a .met .now) (a .near .now) (a .b) (a .first) (pairs (a .outline .now)) (a .src .now) (a .dst .now) (a .marks .now) (l .src) (l .dst) (l .marks) (l .m) (l .j) (l .inv) (c .before .before .before .before .before .loop-test .taken) (s .pre .0), l .inv .small, omega (arith, l .inv .same-src, s .pre .2), omega (arith, l .inv .same-dst, s .pre .3), omega (arith, l .inv .same-marks, s .pre .4))
+    (s .pre .0 .linked, near-few (a .coords .now) (pairs (a .subject .now)) (pairs (a .cutter .now)) (a .met .now) (a .near .now) (a .b) (a .first) (pairs (a .outline .now)) (a .src .now) (a .dst .now) (a .marks .now) (l .src) (l .dst) (l .marks) (l .m) (l .j) (l .inv) (c .before .before .before .before .before .loop-test .taken) (a .links .now) (s .pre .0), l .inv .small, omega (arith, l .inv .same-src, s .pre .3), omega (arith, l .inv .same-dst, s .pre .4), omega (arith, l .inv .same-marks, s .pre .5))
 
 -- src/lib.rt:163:13
 same-length : tie.Need-same-length Inv-loop μ-loop
@@ -79,25 +79,25 @@ same-length-3 c = search needs
 -- src/lib.rt:163:13
 returns : tie.Need-returns Inv-loop μ-loop
 returns c =
-    let s = c .before .before .before .before .before .before .before .before .before .before .before .before .before .before .before .before .before .before .before .before .before .before .before .before .before in
+    let s = c .before .before .before .before .before .before .before .before .before .before .before .before .before .before .before .before .before .before .before .before .before .before .before .before .before .before .before in
     let a = s .args in
     let l = c .before .before .before .before .before .before .before .before .before .before .before .before .before .before .loop in
     let e = c .before .before .before .before .before .before .before .add-near in
-    near-many (a .coords .now) (pairs (a .subject .now)) (pairs (a .cutter .now)) (a .met .now) (a .near .now) (a .b) (a .first) (pairs (a .outline .now)) (a .src .now) (a .dst .now) (a .marks .now) (l .src) (l .dst) (l .marks) (l .m) (l .j) (l .inv) (c .before .before .before .before .before .before .before .before .before .before .before .before .before .loop-test .taken) (e .result) (e .last .1 .1 .1 .1 .1 .1 .1 .0) (e .last .1 .1 .1 .1 .1 .1 .1 .1 .0) (e .last .1 .1 .1 .1 .1 .1 .1 .1 .1 .0) (e .ensures) (c .if1 .taken)
+    near-many (a .coords .now) (pairs (a .subject .now)) (pairs (a .cutter .now)) (a .met .now) (a .near .now) (a .b) (a .first) (pairs (a .outline .now)) (a .src .now) (a .dst .now) (a .marks .now) (l .src) (l .dst) (l .marks) (l .m) (l .j) (l .inv) (c .before .before .before .before .before .before .before .before .before .before .before .before .before .loop-test .taken) (e .result) (e .last .1 .1 .1 .1 .1 .1 .1 .1 .0) (e .last .1 .1 .1 .1 .1 .1 .1 .1 .1 .0) (e .last .1 .1 .1 .1 .1 .1 .1 .1 .1 .1 .0) (e .ensures) (c .if1 .taken)
 
 -- src/lib.rt:165:40
 add-in-bounds : tie.Need-add-in-bounds Inv-loop μ-loop
 add-in-bounds c =
-    omega (arith, c .before .before .before .before .before .before .before .before .before .before .before .before .before .loop-test .taken, c .before .before .before .before .before .before .before .before .before .before .before .before .before .before .before .before .before .before .before .before .before .before .before .before .before .good .1 .1 .1 .1 .0)
+    omega (arith, c .before .before .before .before .before .before .before .before .before .before .before .before .before .loop-test .taken, c .before .before .before .before .before .before .before .before .before .before .before .before .before .before .before .before .before .before .before .before .before .before .before .before .before .before .before .good .1 .1 .1 .1 .1 .0)
 
 -- src/lib.rt:165:9
 in-bounds-requires-2 : tie.Need-in-bounds-requires-2 Inv-loop μ-loop
-in-bounds-requires-2 c κs = search needs
+in-bounds-requires-2 c κs = c .before .before .before .before .before .before .before .before .before .before .before .before .before .before .before .before .before .before .before .before .before .before .before .before .before .before .before .pre .1
 
 -- src/lib.rt:158:5
 loop-less : tie.Need-loop-less Inv-loop μ-loop
 loop-less c =
-    let s = c .before .before .before .before .before .before .before .before .before .before .before .before .before .before .before .before .before .before .before .before .before .before .before .before .before .before in
+    let s = c .before .before .before .before .before .before .before .before .before .before .before .before .before .before .before .before .before .before .before .before .before .before .before .before .before .before .before .before in
     let a = s .args in
     let l = c .before .before .before .before .before .before .before .before .before .before .before .before .before .before .before .loop in
     let e = c .before .before .before .before .before .before .before .before .add-near in
@@ -106,11 +106,11 @@ loop-less c =
 -- src/lib.rt:158:5
 loop-again : tie.Need-loop-again Inv-loop μ-loop
 loop-again c =
-    let s = c .before .before .before .before .before .before .before .before .before .before .before .before .before .before .before .before .before .before .before .before .before .before .before .before .before .before in
+    let s = c .before .before .before .before .before .before .before .before .before .before .before .before .before .before .before .before .before .before .before .before .before .before .before .before .before .before .before .before in
     let a = s .args in
     let l = c .before .before .before .before .before .before .before .before .before .before .before .before .before .before .before .loop in
     let e = c .before .before .before .before .before .before .before .before .add-near in
-    near-step (a .coords .now) (pairs (a .subject .now)) (pairs (a .cutter .now)) (a .met .now) (a .near .now) (a .b) (a .first) (pairs (a .outline .now)) (a .src .now) (a .dst .now) (a .marks .now) (l .src) (l .dst) (l .marks) (l .m) (l .j) (l .inv) (c .before .before .before .before .before .before .before .before .before .before .before .before .before .before .loop-test .taken) (e .result) (e .last .1 .1 .1 .1 .1 .1 .1 .0) (e .last .1 .1 .1 .1 .1 .1 .1 .1 .0) (e .last .1 .1 .1 .1 .1 .1 .1 .1 .1 .0) (e .ensures) (c .in-bounds2 .result) (c .before .if1 .left) (c .in-bounds2 .ensures) (e .kept .1 .1 .1 .1 .1 .1 .1 .0) (e .kept .1 .1 .1 .1 .1 .1 .1 .1 .0) (e .kept .1 .1 .1 .1 .1 .1 .1 .1 .1 .0)
+    near-step (a .coords .now) (pairs (a .subject .now)) (pairs (a .cutter .now)) (a .met .now) (a .near .now) (a .b) (a .first) (pairs (a .outline .now)) (a .src .now) (a .dst .now) (a .marks .now) (l .src) (l .dst) (l .marks) (l .m) (l .j) (l .inv) (c .before .before .before .before .before .before .before .before .before .before .before .before .before .before .loop-test .taken) (e .result) (e .last .1 .1 .1 .1 .1 .1 .1 .1 .0) (e .last .1 .1 .1 .1 .1 .1 .1 .1 .1 .0) (e .last .1 .1 .1 .1 .1 .1 .1 .1 .1 .1 .0) (e .ensures) (c .in-bounds2 .result) (c .before .if1 .left) (c .in-bounds2 .ensures) (e .kept .1 .1 .1 .1 .1 .1 .1 .1 .0) (e .kept .1 .1 .1 .1 .1 .1 .1 .1 .1 .0) (e .kept .1 .1 .1 .1 .1 .1 .1 .1 .1 .1 .0)
 
 -- src/lib.rt:138:1
 same-length-4 : tie.Need-same-length-4 Inv-loop μ-loop
@@ -127,7 +127,7 @@ same-length-6 c = search needs
 -- src/lib.rt:138:1
 returns-2 : tie.Need-returns-2 Inv-loop μ-loop
 returns-2 c =
-    let s = c .before .before .before .before .before .before .before .before .before .before .before .before in
+    let s = c .before .before .before .before .before .before .before .before .before .before .before .before .before .before in
     let a = s .args in
     let l = c .before .loop in
     near-end (a .coords .now) (pairs (a .subject .now)) (pairs (a .cutter .now)) (a .met .now) (a .near .now) (a .b) (a .first) (pairs (a .outline .now)) (a .src .now) (a .dst .now) (a .marks .now) (l .src) (l .dst) (l .marks) (l .m) (l .j) (l .inv) (c .loop-test .left)

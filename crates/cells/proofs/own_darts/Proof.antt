@@ -12,15 +12,15 @@ use Rattle.cells.proofs.add_own.Reads as add-own-reads
 use Rattle.cells.proofs.next_corner.Reads as next-corner-reads
 
 abbrev Inv-loop : tie.InvT-loop
-Inv-loop coords subject cutter met cell outline₀ src₀ dst₀ marks₀ n₀ i₀ outline src dst marks n i = Outlining coords (pairs subject) (pairs cutter) met cell outline₀ src₀ dst₀ marks₀ outline src dst marks n i
+Inv-loop coords subject cutter met links cell outline₀ src₀ dst₀ marks₀ n₀ i₀ outline src dst marks n i = Outlining coords (pairs subject) (pairs cutter) met cell outline₀ src₀ dst₀ marks₀ outline src dst marks n i
 
 abbrev μ-loop : tie.MeasureT-loop
-μ-loop coords subject cutter met cell outline₀ src₀ dst₀ marks₀ n₀ i₀ outline src dst marks n i = length cell - i
+μ-loop coords subject cutter met links cell outline₀ src₀ dst₀ marks₀ n₀ i₀ outline src dst marks n i = length cell - i
 
 -- src/lib.rt:101:5
 loop-holds : tie.Need-loop-holds Inv-loop μ-loop
 loop-holds c =
-    let s = c .before .before .before .before .before .before .before .before .before in
+    let s = c .before .before .before .before .before .before .before .before .before .before in
     let a = s .args in
     outline-start (a .coords .now) (pairs (a .subject .now)) (pairs (a .cutter .now)) (a .met .now) (a .cell .now) (a .outline .now) (a .src .now) (a .dst .now) (a .marks .now)
 
@@ -39,11 +39,11 @@ next-corner-requires c κs = search needs
 -- src/lib.rt:104:9
 add-own-requires : tie.Need-add-own-requires Inv-loop μ-loop
 add-own-requires c κs =
-    let s = c .before .before .before .before .before .before .before .before .before .before .before .before .before .before .before .before .before in
+    let s = c .before .before .before .before .before .before .before .before .before .before .before .before .before .before .before .before .before .before in
     let a = s .args in
     let l = c .before .before .before .before .before .before .before .loop in
     let x = c .before .before .before .before .next-corner in
-    (own-few (a .coords .now) (pairs (a .subject .now)) (pairs (a .cutter .now)) (a .met .now) (a .cell .now) (a .outline .now) (a .src .now) (a .dst .now) (a .marks .now) (l .outline) (l .src) (l .dst) (l .marks) (l .n) (l .i) (l .inv) (x .result) (c .before .before .before .before .before .before .loop-test .taken) (x .ensures) (s .pre .0), l .inv .small, omega (arith, l .inv .same-outline, s .pre .1), omega (arith, l .inv .same-src, s .pre .2), omega (arith, l .inv .same-dst, s .pre .3), omega (arith, l .inv .same-marks, s .pre .4))
+    (s .pre .0 .linked, own-few (a .coords .now) (pairs (a .subject .now)) (pairs (a .cutter .now)) (a .met .now) (a .cell .now) (a .outline .now) (a .src .now) (a .dst .now) (a .marks .now) (l .outline) (l .src) (l .dst) (l .marks) (l .n) (l .i) (l .inv) (x .result) (c .before .before .before .before .before .before .loop-test .taken) (x .ensures) (a .links .now) (s .pre .0), l .inv .small, omega (arith, l .inv .same-outline, s .pre .1), omega (arith, l .inv .same-src, s .pre .2), omega (arith, l .inv .same-dst, s .pre .3), omega (arith, l .inv .same-marks, s .pre .4))
 
 -- src/lib.rt:106:13
 same-length : tie.Need-same-length Inv-loop μ-loop
@@ -64,17 +64,17 @@ same-length-4 c = search needs
 -- src/lib.rt:106:13
 returns : tie.Need-returns Inv-loop μ-loop
 returns c =
-    let s = c .before .before .before .before .before .before .before .before .before .before .before .before .before .before .before .before .before .before .before .before .before .before .before .before .before .before .before in
+    let s = c .before .before .before .before .before .before .before .before .before .before .before .before .before .before .before .before .before .before .before .before .before .before .before .before .before .before .before .before in
     let a = s .args in
     let l = c .before .before .before .before .before .before .before .before .before .before .before .before .before .before .before .before .before .loop in
     let x = c .before .before .before .before .before .before .before .before .before .before .before .before .before .before .next-corner in
     let e = c .before .before .before .before .before .before .before .before .before .add-own in
-    outline-over (a .coords .now) (pairs (a .subject .now)) (pairs (a .cutter .now)) (a .met .now) (a .cell .now) (a .outline .now) (a .src .now) (a .dst .now) (a .marks .now) (l .outline) (l .src) (l .dst) (l .marks) (l .n) (l .i) (l .inv) (x .result) (c .before .before .before .before .before .before .before .before .before .before .before .before .before .before .before .before .loop-test .taken) (x .ensures) (e .result) (e .last .1 .1 .1 .1 .1 .1 .0) (e .last .1 .1 .1 .1 .1 .1 .1 .0) (e .last .1 .1 .1 .1 .1 .1 .1 .1 .0) (e .last .1 .1 .1 .1 .1 .1 .1 .1 .1 .0) (e .ensures) (c .if1 .taken)
+    outline-over (a .coords .now) (pairs (a .subject .now)) (pairs (a .cutter .now)) (a .met .now) (a .cell .now) (a .outline .now) (a .src .now) (a .dst .now) (a .marks .now) (l .outline) (l .src) (l .dst) (l .marks) (l .n) (l .i) (l .inv) (x .result) (c .before .before .before .before .before .before .before .before .before .before .before .before .before .before .before .before .loop-test .taken) (x .ensures) (e .result) (e .last .1 .1 .1 .1 .1 .1 .1 .0) (e .last .1 .1 .1 .1 .1 .1 .1 .1 .0) (e .last .1 .1 .1 .1 .1 .1 .1 .1 .1 .0) (e .last .1 .1 .1 .1 .1 .1 .1 .1 .1 .1 .0) (e .ensures) (c .if1 .taken)
 
 -- src/lib.rt:108:9
 add-i : tie.Need-add-i Inv-loop μ-loop
 add-i c =
-    omega (arith, c .before .before .before .before .before .before .before .before .before .before .before .before .before .before .before .before .loop-test .taken, c .before .before .before .before .before .before .before .before .before .before .before .before .before .before .before .before .before .before .before .before .before .before .before .before .before .before .before .good .1 .1 .1 .1 .0)
+    omega (arith, c .before .before .before .before .before .before .before .before .before .before .before .before .before .before .before .before .loop-test .taken, c .before .before .before .before .before .before .before .before .before .before .before .before .before .before .before .before .before .before .before .before .before .before .before .before .before .before .before .before .good .1 .1 .1 .1 .1 .0)
 
 -- src/lib.rt:101:5
 loop-less : tie.Need-loop-less Inv-loop μ-loop
@@ -83,12 +83,12 @@ loop-less c = search needs
 -- src/lib.rt:101:5
 loop-again : tie.Need-loop-again Inv-loop μ-loop
 loop-again c =
-    let s = c .before .before .before .before .before .before .before .before .before .before .before .before .before .before .before .before .before .before .before .before .before .before .before .before .before .before .before in
+    let s = c .before .before .before .before .before .before .before .before .before .before .before .before .before .before .before .before .before .before .before .before .before .before .before .before .before .before .before .before in
     let a = s .args in
     let l = c .before .before .before .before .before .before .before .before .before .before .before .before .before .before .before .before .before .loop in
     let x = c .before .before .before .before .before .before .before .before .before .before .before .before .before .before .next-corner in
     let e = c .before .before .before .before .before .before .before .before .before .add-own in
-    outline-turn (a .coords .now) (pairs (a .subject .now)) (pairs (a .cutter .now)) (a .met .now) (a .cell .now) (a .outline .now) (a .src .now) (a .dst .now) (a .marks .now) (l .outline) (l .src) (l .dst) (l .marks) (l .n) (l .i) (l .inv) (x .result) (c .before .before .before .before .before .before .before .before .before .before .before .before .before .before .before .before .loop-test .taken) (x .ensures) (e .result) (e .last .1 .1 .1 .1 .1 .1 .0) (e .last .1 .1 .1 .1 .1 .1 .1 .0) (e .last .1 .1 .1 .1 .1 .1 .1 .1 .0) (e .last .1 .1 .1 .1 .1 .1 .1 .1 .1 .0) (e .ensures) (c .if1 .left) (s .pre .1) (e .kept .1 .1 .1 .1 .1 .1 .0) (e .kept .1 .1 .1 .1 .1 .1 .1 .0) (e .kept .1 .1 .1 .1 .1 .1 .1 .1 .0) (e .kept .1 .1 .1 .1 .1 .1 .1 .1 .1 .0)
+    outline-turn (a .coords .now) (pairs (a .subject .now)) (pairs (a .cutter .now)) (a .met .now) (a .cell .now) (a .outline .now) (a .src .now) (a .dst .now) (a .marks .now) (l .outline) (l .src) (l .dst) (l .marks) (l .n) (l .i) (l .inv) (x .result) (c .before .before .before .before .before .before .before .before .before .before .before .before .before .before .before .before .loop-test .taken) (x .ensures) (e .result) (e .last .1 .1 .1 .1 .1 .1 .1 .0) (e .last .1 .1 .1 .1 .1 .1 .1 .1 .0) (e .last .1 .1 .1 .1 .1 .1 .1 .1 .1 .0) (e .last .1 .1 .1 .1 .1 .1 .1 .1 .1 .1 .0) (e .ensures) (c .if1 .left) (s .pre .1) (e .kept .1 .1 .1 .1 .1 .1 .1 .0) (e .kept .1 .1 .1 .1 .1 .1 .1 .1 .0) (e .kept .1 .1 .1 .1 .1 .1 .1 .1 .1 .0) (e .kept .1 .1 .1 .1 .1 .1 .1 .1 .1 .1 .0)
 
 -- src/lib.rt:84:1
 same-length-5 : tie.Need-same-length-5 Inv-loop μ-loop
@@ -109,7 +109,7 @@ same-length-8 c = search needs
 -- src/lib.rt:84:1
 returns-2 : tie.Need-returns-2 Inv-loop μ-loop
 returns-2 c =
-    let s = c .before .before .before .before .before .before .before .before .before .before .before in
+    let s = c .before .before .before .before .before .before .before .before .before .before .before .before in
     let a = s .args in
     let l = c .before .loop in
     outline-end (a .coords .now) (pairs (a .subject .now)) (pairs (a .cutter .now)) (a .met .now) (a .cell .now) (a .outline .now) (a .src .now) (a .dst .now) (a .marks .now) (l .outline) (l .src) (l .dst) (l .marks) (l .n) (l .i) (l .inv) (c .loop-test .left)

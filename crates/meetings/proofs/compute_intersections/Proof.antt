@@ -1,88 +1,80 @@
-use mathlib.Core.Path.{refl, _∙_}
-use Prim.Native.Nat.{_-_}
+-- `meetings::compute_intersections` meets its contract: the boxes that it makes cover the cutter's edges. Assumes nothing.
+use mathlib.Core.Path.{sym}
 use native.Mathlib.Omega.{arith}
-use Rattle.meetings.proofs.Loops.{Through, begin, go-on, stop, finish}
+use lib.Seq.{length-take-le}
+use Rattle.meetings.proofs.Loops.{covered-by, settled}
 use borrow.Author.Needs.{needs}
 use Rattle.meetings.proofs.compute_intersections.Statement.{statement}
 use Rattle.meetings.proofs.compute_intersections.Tie as tie
-use Rattle.meetings.proofs.compute_intersections.Reads as reads
-use Rattle.meetings.proofs.compute_intersections.Lts as lts
-use Rattle.meetings.proofs.of_edge.Reads as of-edge-reads
 
-abbrev Inv-loop : tie.InvT-loop
-Inv-loop oc₀ w₀ placed se sn ce cn base m f₀ i₀ oc w f i = Through oc₀ w₀ placed se sn ce cn base m oc w f i
+slice-reshare-prefix-block-bounds : tie.Need-slice-reshare-prefix-block-bounds
+slice-reshare-prefix-block-bounds c = search needs
 
-abbrev μ-loop : tie.MeasureT-loop
-μ-loop oc₀ w₀ placed se sn ce cn base m f₀ i₀ oc w f i = sn - i
+slice-aggregate-block-bounds : tie.Need-slice-aggregate-block-bounds
+slice-aggregate-block-bounds c = sym (length-take-le _ _ (omega (arith, c .before .before .before .pre .0)))
 
--- src/lib.rt:161:5
-loop-holds : tie.Need-loop-holds Inv-loop μ-loop
-loop-holds c = let a = c .before .before .args in
-    begin (a .oc .now) (a .w .now) (a .placed) (a .se) (a .sn) (a .ce) (a .cn) (a .base) (a .m) (c .before .before .pre) _ refl refl refl
+mul-block-bounds : tie.Need-mul-block-bounds
+mul-block-bounds c = search needs
 
--- src/lib.rt:162:9
-of-edge-requires : tie.Need-of-edge-requires Inv-loop μ-loop
-of-edge-requires c κs =
-    (c .before .before .before .loop .inv .2, omega (arith, c .before .before .loop-test .taken, c .before .before .before .before .before .before .pre .3), c .before .before .before .before .before .before .pre .5, omega (arith, c .before .before .loop-test .taken, c .before .before .before .before .before .before .pre .4), c .before .before .before .before .before .before .pre .6)
+add-block-bounds : tie.Need-add-block-bounds
+add-block-bounds c = search needs
 
--- src/lib.rt:164:13
-same-length : tie.Need-same-length Inv-loop μ-loop
-same-length c = c .before .before .before .before .before .before .of-edge .kept .0 ∙ c .before .before .before .before .before .before .before .before .before .before .loop .inv .3
+mul-block-bounds-2 : tie.Need-mul-block-bounds-2
+mul-block-bounds-2 c = search needs
 
--- src/lib.rt:164:13
-same-length-2 : tie.Need-same-length-2 Inv-loop μ-loop
-same-length-2 c = c .before .before .before .before .before .before .of-edge .kept .1 .0 ∙ c .before .before .before .before .before .before .before .before .before .before .loop .inv .4
+sub-block-bounds : tie.Need-sub-block-bounds
+sub-block-bounds c = search needs
 
--- src/lib.rt:164:13
-returns : tie.Need-returns Inv-loop μ-loop
-returns c = let a = c .before .before .before .before .before .before .before .before .before .before .before .before .before .args in
-    let l = c .before .before .before .before .before .before .before .before .before .before .loop in
-    stop (a .oc .now) (a .w .now) (a .placed) (a .se) (a .sn) (a .ce) (a .cn) (a .base) (a .m) (c .before .before .before .before .before .before .before .before .before .before .before .before .before .pre) (l .oc) (l .w) (l .f) (l .i) (l .inv) (c .before .before .before .before .before .before .before .before .before .loop-test .taken)
-    (c .before .before .before .before .before .before .of-edge .last .0) (c .before .before .before .before .before .before .of-edge .last .1 .0) (c .before .before .before .before .before .before .of-edge .result) (c .before .before .before .before .before .before .of-edge .ensures) (c .if1 .taken)
+part-block-bounds-start : tie.Need-part-block-bounds-start
+part-block-bounds-start c = search needs
 
--- src/lib.rt:166:9
-add-i : tie.Need-add-i Inv-loop μ-loop
-add-i c = omega (arith, c .before .before .before .before .before .before .before .before .before .loop-test .taken, c .before .before .before .before .before .before .before .before .before .before .before .before .before .pre .4)
+part-block-bounds-end : tie.Need-part-block-bounds-end
+part-block-bounds-end c = search needs
 
--- src/lib.rt:161:5
-loop-less : tie.Need-loop-less Inv-loop μ-loop
-loop-less c = search needs
+slice-aggregate-block-bounds-2 : tie.Need-slice-aggregate-block-bounds-2
+slice-aggregate-block-bounds-2 c = search needs
 
--- src/lib.rt:161:5
-loop-again : tie.Need-loop-again Inv-loop μ-loop
-loop-again c = let a = c .before .before .before .before .before .before .before .before .before .before .before .before .before .args in
-    let l = c .before .before .before .before .before .before .before .before .before .before .loop in
-    go-on (a .oc .now) (a .w .now) (a .placed) (a .se) (a .sn) (a .ce) (a .cn) (a .base) (a .m) (c .before .before .before .before .before .before .before .before .before .before .before .before .before .pre) (l .oc) (l .w) (l .f) (l .i) (l .inv) (c .before .before .before .before .before .before .before .before .before .loop-test .taken)
-    (c .before .before .before .before .before .before .of-edge .last .0) (c .before .before .before .before .before .before .of-edge .last .1 .0) (c .before .before .before .before .before .before .of-edge .result) (c .before .before .before .before .before .before .of-edge .ensures) (c .if1 .left)
+block-bounds-requires : tie.Need-block-bounds-requires
+block-bounds-requires c κs = search needs
 
--- src/lib.rt:149:1
-same-length-3 : tie.Need-same-length-3 Inv-loop μ-loop
-same-length-3 c = c .before .loop .inv .3
+slice-aggregate-of-edges : tie.Need-slice-aggregate-of-edges
+slice-aggregate-of-edges c = search needs
 
--- src/lib.rt:149:1
-same-length-4 : tie.Need-same-length-4 Inv-loop μ-loop
-same-length-4 c = c .before .loop .inv .4
+of-edges-requires : tie.Need-of-edges-requires
+of-edges-requires c κs =
+    let s = c .before .before .before .before .before .before .before .before .before .before .before in
+    let a = s .args in
+    (s .pre, covered-by (a .oc .now) (a .w .now) (a .placed) (a .se) (a .sn) (a .ce) (a .cn) (a .base) (a .m) (s .pre) _ _ (c .before .before .before .before .block-bounds .ensures))
 
--- src/lib.rt:149:1
-returns-2 : tie.Need-returns-2 Inv-loop μ-loop
-returns-2 c = let a = c .before .before .before .before .args in
-    let l = c .before .loop in
-    finish (a .oc .now) (a .w .now) (a .placed) (a .se) (a .sn) (a .ce) (a .cn) (a .base) (a .m) (c .before .before .before .before .pre) (l .oc) (l .w) (l .f) (l .i) (l .inv) (c .loop-test .left)
+same-length : tie.Need-same-length
+same-length c = search needs
+
+same-length-2 : tie.Need-same-length-2
+same-length-2 c = search needs
+
+returns : tie.Need-returns
+returns c =
+    let s = c .before .before .before .before .before .before .before .before .before .before .before .before .before .before .before .before in
+    let a = s .args in
+    let x = c .before .before .before .before .of-edges in
+    settled (a .oc .now) (a .w .now) (a .placed) (a .se) (a .sn) (a .ce) (a .cn) (a .base) (a .m) (s .pre) (x .last .0) (x .last .1 .0) (x .result) (x .ensures)
 
 pub compute-intersections-spec : {M : Type 1} → statement M
 compute-intersections-spec =
     tie.close
     (tie.spec
-    Inv-loop
-    μ-loop
-    loop-holds
-    of-edge-requires
+    slice-reshare-prefix-block-bounds
+    slice-aggregate-block-bounds
+    mul-block-bounds
+    add-block-bounds
+    mul-block-bounds-2
+    sub-block-bounds
+    part-block-bounds-start
+    part-block-bounds-end
+    slice-aggregate-block-bounds-2
+    block-bounds-requires
+    slice-aggregate-of-edges
+    of-edges-requires
     same-length
     same-length-2
-    returns
-    add-i
-    loop-less
-    loop-again
-    same-length-3
-    same-length-4
-    returns-2)
+    returns)
