@@ -153,7 +153,8 @@ fn block_apart(boxes: &[f64], b: Bounds, j: usize) -> bool
     !bounds_meet(e, b)
 }
 
-// The first edge from `from` on whose box meets the given box: a block is passed over where its own does not meet. Where there is none the count of edges, or `from` if that is larger.
+// The first edge from `from` on whose box meets the given box; where there is none the count of edges, or `from` if that is larger. A block is passed
+// over where its own box does not meet.
 pub fn in_bounds(coords: &[f64], edges: &[u32], boxes: &[f64], b: Bounds, from: usize) -> usize
     requires { ⌜ Covered (now coords) (pairs (now edges)) (now boxes) ⌝ }
     ensures { λ r. ⌜ r ≡ first (λ j. boxesMeet (edgeBox (now (coords .entry)) (edgeAt (pairs (now (edges .entry))) j)) b) from (length (pairs (now (edges .entry)))) ⌝ }
