@@ -1,11 +1,12 @@
--- `overlay_main::answer` meets its contract. Assumes nothing.
-use mathlib.Core.Path.{sym}
-use Prim.Native.Nat.{_*_}
+-- `program::answer` meets its contract. Assumes nothing.
+use Rattle.program.proofs.Answers.{unread-printed, read-printed}
+use mathlib.Core.Path.{sym, refl}
+use Prim.Native.Nat.{_*_, _+_}
 use native.Mathlib.Omega.{arith}
 use lib.Seq.{length-take-le}
 use borrow.Author.Needs.{needs}
-use Rattle.overlay_main.proofs.answer.Statement.{statement}
-use Rattle.overlay_main.proofs.answer.Tie as tie
+use Rattle.program.proofs.answer.Statement.{statement}
+use Rattle.program.proofs.answer.Tie as tie
 
 slice-aggregate-read-input : tie.Need-slice-aggregate-read-input
 slice-aggregate-read-input c = search needs
@@ -64,14 +65,14 @@ slice-aggregate-print-answer-5 c = search needs
 print-answer-requires : tie.Need-print-answer-requires
 print-answer-requires c κs = search needs
 
-place-requires : tie.Need-place-requires
-place-requires c κs = search needs
-
 same-length : tie.Need-same-length
 same-length c = search needs
 
 returns : tie.Need-returns
-returns c = search needs
+returns c = let a = c .before .before .before .before .before .before .before .before .before .before .before .before .before .before .before .before .before .before .before .before .before .before .before .before .before .before .before .before .before .before .before .before .before .before .args in
+    let i = c .before .before .before .before .before .before .before .before .before .before .before .before .before .before .before .before .before .before .before .before .before .read-input in
+    let w = c .before .before .print-answer in
+    unread-printed (a .s .now) (i .last .1 .0) (i .last .1 .1 .0) (i .last .1 .1 .1 .0) (i .last .1 .1 .1 .1 .0) (i .last .1 .1 .1 .1 .1 .0) (a .out .now) (w .last .0) (w .result) (rw (c .before .before .before .before .before .before .before .before .before .enum-told .given .1) at (i .ensures .0)) (w .ensures)
 
 add-nodes : tie.Need-add-nodes
 add-nodes c =
@@ -218,13 +219,21 @@ slice-aggregate-cut-10 c =
     sym (length-take-le (at-r .r .given .0 .1 .1 .1 .0 .cells) (at-read-input .read-input .last .1 .1 .1 .1 .1 .1 .1 .1 .1 .1 .0) (rw (at-read-input .read-input .kept .1 .1 .1 .1 .1 .1 .1 .1 .1 .1 .0) (rw (at-r .r .given .1) at (at-read-input .read-input .ensures .2 .to-families))))
 
 cut-requires : tie.Need-cut-requires
-cut-requires c κs = search needs
+cut-requires c κs = let i = c .before .before .before .before .before .before .before .before .before .before .before .before .before .before .before .before .before .before .before .before .before .before .before .before .before .before .before .before .read-input in
+    let r = c .before .before .before .before .before .before .before .before .before .before .before .before .before .before .before .before .r in
+    omega (arith, rw (r .given .1) at (i .ensures .1 .points), rw (r .given .1) at (i .ensures .2 .points))
 
 same-length-2 : tie.Need-same-length-2
 same-length-2 c = search needs
 
 returns-2 : tie.Need-returns-2
-returns-2 c = search needs
+returns-2 c = let a = c .before .before .before .before .before .before .before .before .before .before .before .before .before .before .before .before .before .before .before .before .before .before .before .before .before .before .before .before .before .before .before .before .before .before .before .before .before .before .before .before .before .before .before .before .args in
+    let i = c .before .before .before .before .before .before .before .before .before .before .before .before .before .before .before .before .before .before .before .before .before .before .before .before .before .before .before .before .before .before .before .read-input in
+    let r = c .before .before .before .before .before .before .before .before .before .before .before .before .before .before .before .before .before .before .before .r in
+    let w = c .before .before .cut in
+    let l = i .last .1 in
+    let k = i .kept .1 in
+    read-printed (a .s .now) (r .given .0 .0) (r .given .0 .1 .0) (r .given .0 .1 .1 .0 .points + r .given .0 .1 .1 .1 .0 .points) (r .given .0 .1 .1 .0) (r .given .0 .1 .1 .1 .0) (l .0) (l .1 .0) (l .1 .1 .0) (l .1 .1 .1 .0) (l .1 .1 .1 .1 .0) (l .1 .1 .1 .1 .1 .0) (l .1 .1 .1 .1 .1 .1 .0) (l .1 .1 .1 .1 .1 .1 .1 .0) (l .1 .1 .1 .1 .1 .1 .1 .1 .0) (l .1 .1 .1 .1 .1 .1 .1 .1 .1 .0) (a .out .now) (w .last .1 .1 .1 .1 .1 .1 .1 .1 .1 .1 .1 .1 .1 .0) (w .result) (rw (r .given .1) at (i .ensures .0)) (rw (k .0) (rw (r .given .1) at (i .ensures .1 .points))) (rw (k .1 .1 .1 .1 .1 .0) (rw (r .given .1) at (i .ensures .2 .points))) refl (w .ensures)
 
 pub answer-spec : {M : Type 1} → statement M
 answer-spec =
@@ -249,7 +258,6 @@ answer-spec =
     slice-aggregate-print-answer-4
     slice-aggregate-print-answer-5
     print-answer-requires
-    place-requires
     same-length
     returns
     add-nodes

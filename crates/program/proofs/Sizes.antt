@@ -1,0 +1,127 @@
+-- No answer is longer than 233,524 bytes. Assumes nothing.
+use mathlib.Core.Path.{_≡_, refl, sym, ap, _∙_}
+use mathlib.Core.Bool.{Bool, true, false, cond}
+use mathlib.Core.List.{List, [], _∷_, map}
+use Prim.Native.Nat.{ℕ, _+_, _*_, _≤_}
+use native.Mathlib.Omega.{arith}
+use native.Mathlib.Nat.{le-trans}
+use lib.Dec.{eqb}
+use lib.ListN.{length, take, length-append, length-map}
+use lib.Seq.{take-all}
+use lib.Ieee.{toBits, binary64}
+use borrow.Author.Tests.{le-leb, eqb-true}
+use borrow.Table.Elements.{take-le}
+use Rattle.lists.specs.Regions.{front}
+use Rattle.lists.proofs.Regions.{take-front-of}
+use Rattle.cutting.specs.Outcome.{flat, stops}
+use Rattle.cutting.proofs.Steps.{stops-length}
+use Rattle.entry.specs.Mesh.{Mesh}
+use Rattle.rules.specs.Operations.{Piece, listing}
+use Rattle.rules.specs.Overlay.{Result, cleared, written, answered as succeeded, overlayOf}
+use Rattle.rules.proofs.Endings.{Ending, input, state-met, success, ending, input-refused, state-refused, succeeds}
+use Rattle.rules.proofs.Lengths.{accepted-fits, lengths-kept}
+use Rattle.text.specs.Text.{unread, refused, overlay, answerText}
+use Rattle.text.specs.Read.{Given, Parsed, none, got, inputOf}
+use Rattle.text.proofs.Sizes.{Rising, no-end, end, overlay-size, refused-size}
+use Rattle.printing.specs.Page.{room, laid}
+use Rattle.printing.specs.Told.{bits, mesh as bitsOf}
+use Rattle.printing.specs.declared.Put.{Put}
+use Rattle.printing.specs.declared.Put.the-variants.{At, Full}
+use Rattle.program.specs.Answered.{most, lent, blank, told, answered, answerTo}
+
+-- ---- where pieces end
+
+stops-rise : (m k : ℕ) (ps : List (List ℕ)) → k + length (flat ps) ≤ m → Rising m k (stops k ps)
+unfolding flat stops
+stops-rise m k [] h = no-end {n = k} (omega (arith, h))
+stops-rise m k (p ∷ ps) h = end {n = k} {e = k + length p} (omega arith) (stops-rise m (k + length p) ps (omega (arith, h, length-append p (flat ps))))
+
+module _ (op m : ℕ) (s c : Mesh) where
+  abbrev r : Result
+  r = overlayOf op m s c blank
+
+  ends-of : succeeded op s c blank .lists .ends ≡ front (blank .ends) (stops 0 (map (λ (p : Piece). p .nodes) (listing op s c)))
+  unfolding succeeded written
+  ends-of = refl
+
+  pieces-of : succeeded op s c blank .pieces ≡ length (listing op s c)
+  unfolding succeeded
+  pieces-of = refl
+
+  success-rises : overlayOf op m s c blank ≡ succeeded op s c blank → r .code ≡ 0 → Rising 8192 0 (take (succeeded op s c blank .pieces) (succeeded op s c blank .lists .ends))
+  unfolding blank
+  success-rises same z =
+      let runs = map (λ (p : Piece). p .nodes) (listing op s c) in
+      let fits = accepted-fits op m s c blank z .nodes in
+      let ends = ap (take (succeeded op s c blank .pieces)) ends-of ∙ take-front-of (blank .ends) (stops 0 runs) _ (stops-length 0 runs ∙ length-map (listing op s c) (λ (p : Piece). p .nodes) ∙ sym pieces-of) in
+      rw ends (stops-rise 8192 0 runs (omega (arith, fits)))
+
+  rises : r .code ≡ 0 → Rising 8192 0 (take (r .pieces) (r .lists .ends))
+  rises z = go (ending op m s c blank)
+    where
+      no-pieces : (l : List ℕ) → Rising 8192 0 (take 0 l)
+      no-pieces l = no-end {n = 0} (omega arith)
+
+      go : Ending op m s c blank → Rising 8192 0 (take (r .pieces) (r .lists .ends))
+      go (input n) = rw (input-refused op m s c blank n) (no-pieces (blank .ends))
+      go (state-met e n) = rw (state-refused op m s c blank e n) (no-pieces (cleared blank .ends))
+      go (success e f) = let same = succeeds op m s c blank e f in rw same (success-rises same z)
+
+  coords-few : (k : ℕ) → length (bits (take k (r .lists .coords))) ≤ 4096
+  unfolding bits blank
+  coords-few k = omega (arith, length-map (take k (r .lists .coords)) (toBits binary64), take-le k (r .lists .coords), lengths-kept op m s c blank .coords)
+
+  ends-few : (k : ℕ) → length (take k (r .lists .ends)) ≤ 2048
+  unfolding blank
+  ends-few k = omega (arith, take-le k (r .lists .ends), lengths-kept op m s c blank .ends)
+
+  -- what is printed of an overlay
+  told-size : (n : ℕ) → length (answerText (told n r)) ≤ 233524
+  unfolding told
+  told-size n = go (eqb (r .code) 0) refl
+    where
+      go : (b : Bool) → eqb (r .code) 0 ≡ b → length (answerText (cond b (overlay (bitsOf (take (2 * (n + r .points)) (r .lists .coords)) (r .lists .nodes) (take (r .pieces) (r .lists .ends)) (r .lists .kinds) (r .lists .families)) (r .pieces) (r .points) (r .doubled)) (refused (r .code)))) ≤ 233524
+      go true e = overlay-size _ (r .pieces) (r .points) (r .doubled) (coords-few (2 * (n + r .points))) (ends-few (r .pieces)) (rises (eqb-true (r .code) 0 e))
+      go false e = omega (arith, refused-size (r .code))
+
+unread-size : length (answerText unread) ≤ 233524
+unfolding answerText
+unread-size = omega arith
+
+answered-size : (g : Parsed Given) → length (answerText (answered g)) ≤ 233524
+unfolding answered
+answered-size none = unread-size
+answered-size (got g t) = told-size (g .first .op) (g .first .m) (lent (g .subject)) (lent (g .cutter)) _
+
+-- every answer
+pub answer-size : (t : List ℕ) → length (answerTo t) ≤ 233524
+unfolding answerTo
+answer-size t = answered-size (inputOf most most t)
+
+-- so a list of so many bytes holds it
+pub answer-whole : (t o : List ℕ) → 233524 ≤ length o → room (length o) (answerTo t) ≡ At (length (answerTo t))
+unfolding room
+answer-whole t o h = rw (le-leb (length (answerTo t)) (length o) (le-trans (answer-size t) h)) refl
+
+-- ---- in a list of at least so many bytes
+
+abbrev place : Put → ℕ
+place (At p) = p
+place Full = 0
+
+abbrev full : Put → ℕ
+full (At p) = 0
+full Full = 1
+
+laid-front : (t o : List ℕ) → length t ≤ length o → laid o t ≡ front o t
+unfolding laid front
+laid-front t o h = rw (take-all (length o) t h) refl
+
+module _ (t o o₁ : List ℕ) (r : Put) (h : 233524 ≤ length o) (got : (r ≡ room (length o) (answerTo t)) × (o₁ ≡ laid o (answerTo t))) where
+  pub reply-at : (p : ℕ) → r ≡ At p → (p ≡ length (answerTo t)) × (o₁ ≡ front o (answerTo t)) × (p ≤ 233524)
+  reply-at p e =
+      let at : p ≡ length (answerTo t) = ap place (sym e ∙ got .0 ∙ answer-whole t o h) in
+      (at, got .1 ∙ laid-front (answerTo t) o (le-trans (answer-size t) h), rw at (answer-size t))
+
+  pub reply-never-full : r ≡ Full → ⊥
+  reply-never-full e = absurd (omega (arith, ap full (sym e ∙ got .0 ∙ answer-whole t o h)))

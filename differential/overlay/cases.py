@@ -1,0 +1,282 @@
+#!/usr/bin/env python3
+"""cases.py OUT LAW STORED SMALLEST: writes the inputs that crates/overlay_cases replays, and their right answers.
+
+OUT/data/NAME.in are the inputs, OUT/args their names in order, OUT/stdout each name and its answer. No answer comes from the
+program under test. Those of overlays are what LAW lists (`oracle-law`, as oracle.sh builds it), with the cells that it tells to be
+doubled, which must be as many as stand here; where its walk finds no next dart the answer is refusal 11. Other refusals, and text
+that can't be read, stand here, from document 01. STORED is a folder of inputs with right answers, NAME.in and NAME.out; SMALLEST is the
+oracle's cases/: islands, unmerged neighbours, and the smallest inputs on which the Rust and document 01's orders differ.
+Prints a table of what is made: name, answer, where it comes from.
+"""
+import math
+import os
+import struct
+import subprocess
+import sys
+
+
+def bits(x):
+    return struct.pack('>d', x).hex()
+
+
+def mesh(points, cells):
+    """Points are pairs of floats; cells are (kind, family, node numbers)."""
+    nodes = [f'(node {bits(x)} {bits(y)})' for x, y in points]
+    lines = [f'(cell {" ".join(map(str, (k, f, *c)))})' for k, f, c in cells]
+    return ['(mesh', *nodes, *lines, ')']
+
+
+def overlay(op, m, subject, cutter):
+    return '\n'.join([f'(overlay {op} {m}', *mesh(*subject), *mesh(*cutter), ')']) + '\n'
+
+
+def box(a, b, c, d, family=0, kind=11):
+    return [(a, b), (c, b), (c, d), (a, d)], [(kind, family, (0, 1, 2, 3))]
+
+
+def refused(n):
+    return f'(refused {n})\n'
+
+
+UNREAD = '(unread)\n'
+SQUARE = box(0., 0., 2., 2., 7, 8)
+STRIP = box(1., -1., 3., 3.)
+K1 = overlay(0, 9, SQUARE, STRIP)
+
+
+class Listed:
+    """An accepted overlay: the oracle lists it, with so many doubled cells."""
+
+    def __init__(self, doubled=0):
+        self.doubled = doubled
+
+
+def fan(corners, lines, op=5, m=None):
+    """A polygon between y = 0 and y = 1, and lines from one point below through both sides.
+
+    The table has two slots for each part of an edge: the outline has a part for each corner and two more for each line, a
+    line has three, two of them outside. So there are 2 corners + 10 lines of them."""
+    n = len(corners)
+    points = [(lines / 2, -1.)] + [(2. * i + 2 - lines / 2, 2.) for i in range(lines)]
+    return overlay(op, m or 2 * lines, (corners, [(11, 7, range(n))]), (points, [(1, 0, (0, i + 1)) for i in range(lines)]))
+
+
+def wide(lines, extra=0):
+    """Four corners around the fan's lines, and `extra` more on the right side."""
+    w = 2. * lines
+    right = [(w + (i + 1) / 8, (i + 1) / (extra + 1)) for i in range(extra)]
+    return [(-w, 0.), (w, 0.), *right, (w, 1.), (-w, 1.)]
+
+
+def repeated(cells, lines, kind, corners, more=()):
+    """The same cell many times, cut by the same lines across x = 0 to 1; `more` cells besides."""
+    points = list(corners)
+    first = []
+    for k, p in more:
+        c = (k, 9, range(len(points), len(points) + len(p)))
+        points += p
+        first.append(c)
+    cs = [(kind, 7, range(len(corners)))] * cells
+    cs = sorted(cs + first, key=lambda c: c[0])
+    ends = [(-1., (i + 1) / (lines + 1)) for i in range(lines)], [(2., (i + 1) / (lines + 1)) for i in range(lines)]
+    lp = [p for pair in zip(*ends) for p in pair]
+    return overlay(5, 2 * lines * (1 + len(first)), (points, cs), (lp, [(1, 0, (2 * i, 2 * i + 1)) for i in range(lines)]))
+
+
+def ring(n):
+    """A polygon of n corners around the origin."""
+    return [(math.cos(2 * math.pi * i / n), math.sin(2 * math.pi * i / n)) for i in range(n)], [(11, 7, range(n))]
+
+
+def along(k):
+    """A triangle whose first edge 42 lines run along, six entries each under its key, and k lines across it, one each."""
+    points = [(3., 3.), (4., 3.), (4., 4.), (0., 0.), (2., 0.), (0., 2.)]
+    cells = [(5, 1, (0, 1, 2)), (5, 2, (3, 4, 5))]
+    lines = [(1, 0, (0, 1))] * 42 + [(1, 0, (2, 3))] * k
+    return overlay(5, 126 + k, (points, cells), ([(0., 0.), (2., 0.), (1., -1.), (1., .25)], lines))
+
+
+def sized(total):
+    """A well-formed input of so many bytes, too large for the working list."""
+    def grid(cells, family):
+        p = [(float(i % 32), float(i // 32)) for i in range(512)]
+        c = [(8, family, (q, q + 1, q + 33, q + 32)) for q in (i // 31 * 32 + i % 31 for i in range(cells))]
+        return p, c
+    left = total - len(overlay(0, 9, grid(460, 1), grid(300, 1)))
+    subject, cutter = grid(460, 1), grid(300, 1)
+    cells = subject[1]
+    for i, (k, f, c) in enumerate(cells):
+        more = min(9, left)
+        cells[i] = k, 10 ** more, c
+        left -= more
+    text = overlay(0, 9, subject, cutter)
+    assert len(text) == total, (len(text), total)
+    return text
+
+
+def many(nodes=4, cells=1, entries=4):
+    """A subject of so many nodes, cells and entries: polygons on the first three nodes, the last of them with what is left over."""
+    p = [(float(i % 2), float(i // 2)) for i in range(nodes)]
+    sizes = [3] * cells
+    if entries != 3 * cells:
+        sizes[-1] += entries - 3 * cells
+    return overlay(0, 9, (p, [(11, 1, [i % nodes for i in range(n)]) for n in sizes]), STRIP)
+
+
+def made():
+    """(name, text, answer, where the answer comes from)"""
+    oracle, doc = 'the published Rust', 'document 01'
+    yield 'k1', K1, Listed(), doc + ' and ' + oracle
+    line = [(1., -1.), (1., 1.)], [(1, 0, (0, 1))]
+    yield 'k10', overlay(5, 9, SQUARE, line), refused(11), doc
+    for op in 1, 2, 3, 4:
+        yield f'k1-op{op}', overlay(op, 9, SQUARE, STRIP), Listed(), oracle
+    # ---- limits of document 01
+    yield 'limit-256-on-an-edge', along(4), Listed(1), oracle
+    yield 'limit-257-on-an-edge', along(5), refused(9), doc
+    yield 'limit-1024-slots', fan(wide(101, 3), 101), Listed(), oracle
+    yield 'limit-1026-slots', fan(wide(101, 4), 101), refused(10), doc
+    yield 'limit-256-corners', overlay(0, 9, ring(256), box(0., -2., 2., 2.)), Listed(), oracle
+    yield 'limit-257-corners', overlay(0, 9, ring(257), box(0., -2., 2., 2.)), refused(4), doc
+    yield 'limit-256-corners-cutter', overlay(0, 9, box(0., -2., 2., 2.), ring(256)), Listed(), oracle
+    yield 'limit-257-corners-cutter', overlay(0, 9, box(0., -2., 2., 2.), ring(257)), refused(4), doc
+    quad = [(0., 0.), (1., 0.), (1., 1.), (0., 1.)]
+    tip = [(0., 0.), (1., 0.), (.5, 1.)]
+    away = [(5., 5.), (6., 5.), (5., 6.)]
+    yield 'limit-2048-pieces-8192-entries', repeated(64, 31, 8, quad), Listed(), oracle
+    yield 'limit-8193-entries', repeated(63, 31, 8, quad, [(11, quad[:2] + [(1.5, .01)] + quad[2:])]), refused(12), doc
+    yield 'limit-2048-pieces', repeated(64, 31, 5, tip), Listed(), oracle
+    yield 'limit-2049-pieces', repeated(64, 31, 5, tip, [(5, away)]), refused(12), doc
+    yield 'limit-working-list', overlay(0, 1004, SQUARE, STRIP), Listed(), oracle
+    yield 'limit-working-list-short', overlay(0, 1005, SQUARE, STRIP), refused(7), doc
+    yield 'limit-2-meetings', overlay(0, 2, SQUARE, STRIP), Listed(), oracle
+    yield 'limit-1-meeting', overlay(0, 1, SQUARE, STRIP), refused(8), doc
+    yield 'limit-2-to-40', overlay(0, 9, SQUARE, box(1., -1., 2. ** 40, 3.)), Listed(), oracle
+    yield 'limit-above-2-to-40', overlay(0, 9, SQUARE, box(1., -1., 2. ** 40 + 2. ** -12, 3.)), refused(3), doc
+    # ---- refusals because of the input; the lowest number wins, whichever mesh
+    yield 'refused-1-operation', overlay(6, 9, SQUARE, STRIP), refused(1), doc
+    yield 'refused-1-largest-operation', overlay(4294967295, 9, SQUARE, STRIP), refused(1), doc
+    yield 'refused-1-no-meetings', overlay(0, 0, SQUARE, STRIP), refused(1), doc
+    yield 'refused-1-meetings', overlay(0, 65537, SQUARE, STRIP), refused(1), doc
+    yield 'refused-7-not-1', overlay(0, 65536, SQUARE, STRIP), refused(7), doc
+    empty = SQUARE[0], [(8, 7, ())]
+    yield 'refused-2', overlay(0, 9, SQUARE, empty), refused(2), doc
+    yield 'refused-3-minus-zero', overlay(0, 9, box(-0., 0., 2., 2.), STRIP), refused(3), doc
+    for name, kind, nodes in ('kind', 7, 4), ('line', 1, 2), ('triangle-of-4', 5, 4), ('quad-of-3', 8, 3), ('polygon-of-2', 11, 2):
+        yield f'refused-4-{name}', overlay(0, 9, (SQUARE[0], [(kind, 7, range(nodes))]), STRIP), refused(4), doc
+    yield 'refused-4-kinds-fall', overlay(0, 9, (SQUARE[0], [(8, 7, (0, 1, 2, 3)), (5, 7, (0, 1, 2))]), STRIP), refused(4), doc
+    yield 'refused-4-cells-as-lines', overlay(5, 9, SQUARE, STRIP), refused(4), doc
+    yield 'refused-5', overlay(0, 9, SQUARE, (STRIP[0], [(11, 0, (0, 1, 2, 4))])), refused(5), doc
+    yield 'refused-6', overlay(0, 9, (SQUARE[0], [(8, 7, (0, 1, 2, 0))]), STRIP), refused(6), doc
+    yield 'refused-3-before-5', overlay(0, 9, (SQUARE[0], [(8, 7, (0, 1, 2, 9))]), box(1., -1., math.inf, 3.)), refused(3), doc
+    yield 'refused-2-before-3', overlay(0, 9, box(math.nan, 0., 2., 2.), empty), refused(2), doc
+    yield 'refused-5-before-6', overlay(0, 9, (SQUARE[0], [(8, 7, (0, 1, 2, 0))]), (STRIP[0], [(11, 0, (0, 1, 9))])), refused(5), doc
+    # ---- the text
+    yield 'read-65536-bytes', sized(65536), refused(7), doc
+    yield 'read-65537-bytes', sized(65537), UNREAD, doc
+    yield 'read-512-nodes', many(nodes=512), Listed(), oracle
+    yield 'read-513-nodes', many(nodes=513), UNREAD, doc
+    yield 'read-512-cells', many(cells=512, entries=1536), refused(7), doc
+    yield 'read-513-cells', many(cells=513, entries=1539), UNREAD, doc
+    yield 'read-2048-entries', many(nodes=256, cells=512, entries=2048).replace('(overlay 0 9\n', '(overlay 9 9\n'), refused(1), doc
+    yield 'read-2049-entries', many(nodes=256, cells=512, entries=2049).replace('(overlay 0 9\n', '(overlay 9 9\n'), UNREAD, doc
+    yield 'read-largest-family', K1.replace('(cell 8 7', '(cell 8 4294967295'), Listed(), oracle
+    yield 'read-family-too-large', K1.replace('(cell 8 7', '(cell 8 4294967296'), UNREAD, doc
+    yield 'read-kind-255', K1.replace('(cell 8 7', '(cell 255 7'), refused(4), doc
+    yield 'read-kind-256', K1.replace('(cell 8 7', '(cell 256 7'), UNREAD, doc
+    yield 'read-leading-zero', K1.replace('(cell 8 7', '(cell 08 7'), UNREAD, doc
+    yield 'read-capital', K1.replace('3ff', '3Ff', 1), UNREAD, doc
+    yield 'read-two-spaces', K1.replace('(cell 8 7', '(cell 8  7'), UNREAD, doc
+    yield 'read-15-digits', K1.replace('(node 0000000000000000', '(node 000000000000000', 1), UNREAD, doc
+    yield 'read-17-digits', K1.replace('(node 0000000000000000', '(node 00000000000000000', 1), UNREAD, doc
+    yield 'read-no-last-newline', K1[:-1], UNREAD, doc
+    yield 'read-text-after-the-end', K1 + '\n', UNREAD, doc
+    yield 'read-twice', K1 + K1, UNREAD, doc
+    yield 'read-carriage-returns', K1.replace('\n', '\r\n'), UNREAD, doc
+    yield 'read-nothing', '', UNREAD, doc
+    yield 'read-no-cells', overlay(0, 9, ([], []), ([], [])), Listed(), oracle
+    # ---- what made inputs rarely reach
+    ell = [(0., 0.), (2., 0.), (2., 1.), (1., 1.), (1., 2.), (0., 2.)], [(11, 0, range(6))]
+    for op in 2, 3:
+        yield f'rare-reflex-corner-op{op}', overlay(op, 9, box(.75, .75, .875, .875, 7), ell), Listed(), oracle
+        yield f'rare-reflex-corner-outside-op{op}', overlay(op, 9, box(1.125, 1.125, 1.25, 1.25, 7), ell), Listed(), oracle
+    d = 2. ** -24
+    # the triangle's corner is met by both cutter edges at (0, 0), and projects outside both: beyond (0, 0), whose number is
+    # their keys' second node or first. The part from (0, 0) to it so enters the table twice.
+    corner = [(-d, d), (-2., -2.), (2., -2.)], [(5, 7, (0, 1, 2))]
+    last = [(0., -1.), (1., -1.), (1., 0.), (0., 0.)], [(11, 0, (0, 1, 2, 3))]
+    first = [(0., 0.), (0., -1.), (1., -1.), (1., 0.)], [(11, 0, (0, 1, 2, 3))]
+    for op in 0, 2:
+        yield f'rare-behind-the-second-node-op{op}', overlay(op, 20, corner, last), Listed(1), oracle
+        yield f'rare-before-the-first-node-op{op}', overlay(op, 20, corner, first), Listed(1), oracle
+    # edges along a diagonal, one beside the other by e: |cross31| is eps, 2^-32, for e = 2^-39; the first two cells get a corner more
+    half = [(0., 0.), (128., 0.), (128., 128.)], [(5, 7, (0, 1, 2))]
+    for name, e in ('below', 2. ** -39 - 2. ** -45), ('is', 2. ** -39), ('above', 2. ** -39 + 2. ** -45):
+        beside = [(64., 64 + e), (192., 192 + e), (64., 192.)], [(5, 0, (0, 1, 2))]
+        yield f'rare-cross31-{name}-eps', overlay(0, 20, half, beside), Listed(), oracle
+    # squared distances are 0, so every cutter node gets one number, and the table names it twice at itself
+    t = 2. ** -600
+    yield 'rare-tiny-same', overlay(0, 20, box(0., 0., t, t, 7), box(0., 0., t, t)), Listed(1), oracle
+    yield 'rare-tiny-half', overlay(0, 20, box(0., 0., t, t, 7), box(0., 0., t, t / 2)), Listed(1), oracle
+    # eps is 0, so edges that end at a common corner meet in a new point beside it; the part between belongs to two of the cell's edges
+    t = 2. ** -520
+    yield 'rare-no-eps-same', overlay(0, 40, box(0., 0., t, t, 7), box(0., 0., t, t)), Listed(1), oracle
+    yield 'rare-no-eps-beside', overlay(0, 40, box(0., 0., t, t, 7), box(t, 0., 2 * t, t)), Listed(1), oracle
+    yield 'rare-welded', overlay(0, 20, SQUARE, box(2. ** -42, 2. ** -42, 1., 1.)), Listed(), oracle
+    yield 'rare-not-welded', overlay(0, 20, SQUARE, box(2. ** -39, 2. ** -39, 1., 1.)), Listed(), oracle
+
+
+def listed(law, name, text, doubled):
+    """What the oracle lists, with the doubled cells. It groups pieces by kind, which here are made with kinds rising."""
+    run = subprocess.run([law, 'count'], input=text, capture_output=True, text=True, check=True)
+    got, told = run.stdout, run.stderr.count('doubled\n')
+    lines = got.splitlines(keepends=True)
+    if got == '(panic no next dart)\n':
+        return refused(11)
+    if len(lines) < 2 or not lines[-2].startswith('(count '):
+        sys.exit(f'{name}: the oracle says {got.strip()[:200]}')
+    if told != doubled:
+        sys.exit(f'{name}: the oracle tells {told} doubled cells, not {doubled}')
+    return ''.join(lines[:-2]) + lines[-2].replace(')', f' {doubled})') + lines[-1]
+
+
+def read(path):
+    with open(path, 'rb') as f:
+        return f.read()
+
+
+# cells that the smallest inputs double: the same line twice; an edge of no length that another's part runs back over
+DOUBLED = {'map-order-panic-op5.in': 1, 'rounded-angles-op5.in': 1}
+
+
+def answers(law, stored, smallest):
+    """(name, text, answer, where the answer comes from)"""
+    for f in sorted(os.listdir(stored)):
+        if f.endswith('.in'):
+            yield f, read(f'{stored}/{f}'), read(f'{stored}/{f[:-3]}.out'), None
+    for f in sorted(os.listdir(smallest)):
+        text = read(f'{smallest}/{f}')
+        yield f, text, listed(law, f, text.decode(), DOUBLED.get(f, 0)).encode(), 'the published Rust'
+    text = read(os.path.join(os.path.dirname(os.path.abspath(__file__)), '../../examples/soil.in'))
+    yield 'soil.in', text, listed(law, 'soil.in', text.decode(), 0).encode(), 'the published Rust'
+    for name, text, answer, source in made():
+        if isinstance(answer, Listed):
+            answer = listed(law, name, text, answer.doubled)
+        yield f'{name}.in', text.encode(), answer.encode(), source
+
+
+def main():
+    out, law, stored, smallest = sys.argv[1:]
+    os.makedirs(f'{out}/data', exist_ok=True)
+    with open(f'{out}/args', 'w') as args, open(f'{out}/stdout', 'wb') as stdout:
+        for name, text, answer, source in answers(law, stored, smallest):
+            with open(f'{out}/data/{name}', 'wb') as f:
+                f.write(text)
+            args.write(name + '\n')
+            stdout.write(name.encode() + b'\n' + answer)
+            if source:
+                last = answer.decode().split('\n')
+                print(f'| {name[:-3]} | {last[0] if len(last) < 4 else last[-3]} | {source} |')
+
+
+main()

@@ -1,0 +1,183 @@
+#!/usr/bin/env python3
+"""draw.py [FILE...] > picture.svg: draws the program's inputs and answers side by side; `-` or no file is standard input.
+
+Cells are coloured by family and pieces outlined, y upwards. Of an input the subject's cells are filled and the cutter's outlines
+dashed; of an answer the new points are dots. A text that is neither gives a message and exit status 1.
+"""
+import math
+import re
+import struct
+import sys
+from html import escape
+
+COLOURS = '#e8cf92 #d49a74 #9ecbe0 #b9d38f #b09bc8 #e3a9ae #8fc1ab #c9c3b4 #a8b5dd #d8b0d0'.split()
+LINE, DASH, DOT, TEXT = '#3a3a3a', '#1f5f9f', '#c8322b', '#222222'
+WIDTH, HEIGHT, LEAST, GAP, HEAD, FOOT = 440, 340, 250, 28, 34, 40
+NUMBER = r' (\d{1,10})'
+
+
+class Malformed(Exception):
+    pass
+
+
+class Mesh:
+    """Nodes as pairs of floats; cells as (family, node numbers)."""
+
+    def __init__(self):
+        self.nodes = []
+        self.cells = []
+
+
+class Reader:
+    def __init__(self, name, text):
+        self.name, self.lines, self.at = name, text.splitlines(), 0
+
+    def fail(self, what):
+        raise Malformed(f'{self.name}, line {self.at + 1}: {what}')
+
+    def match(self, pattern):
+        """The next line's groups where it fits, and then the line is past."""
+        found = self.at < len(self.lines) and re.fullmatch(pattern, self.lines[self.at])
+        self.at += bool(found)
+        return found
+
+    def need(self, pattern, what):
+        return self.match(pattern) or self.fail(f'{what} is missing')
+
+    def body(self):
+        mesh = Mesh()
+        while m := self.match(r'\(node ([0-9a-f]{16}) ([0-9a-f]{16})\)'):
+            x, y = (struct.unpack('>d', bytes.fromhex(h))[0] for h in m.groups())
+            if not (abs(x) <= 2.0 ** 40 and abs(y) <= 2.0 ** 40):
+                self.fail('a coordinate that no picture holds')
+            mesh.nodes.append((x, y))
+        while m := self.match(rf'\(cell{NUMBER}{NUMBER}((?:{NUMBER})*)\)'):
+            corners = [int(n) for n in m[3].split()]
+            if not corners or max(corners) >= len(mesh.nodes):
+                self.fail('a cell whose corners are no nodes')
+            mesh.cells.append((int(m[2]), corners))
+        return mesh
+
+    def mesh(self):
+        self.need(r'\(mesh', '`(mesh`')
+        mesh = self.body()
+        self.need(r'\)', 'a mesh\'s `)`')
+        return mesh
+
+    def panel(self):
+        """(title, cells to fill, outlines to dash, points to dot)"""
+        if not self.lines:
+            self.fail('nothing to draw')
+        if m := self.match(rf'\(overlay{NUMBER}{NUMBER}'):
+            subject, cutter = self.mesh(), self.mesh()
+            title = f'before: {count(len(subject.cells), "cell")}, cut by {len(cutter.cells)}'
+            panel = title, subject, cutter, []
+        elif self.match(r'\(overlay'):
+            mesh = self.body()
+            m = self.need(rf'\(count{NUMBER}{NUMBER}{NUMBER}\)', '`(count`')
+            pieces, points, doubled = map(int, m.groups())
+            if pieces != len(mesh.cells) or points > len(mesh.nodes):
+                self.fail('the counts are not those of the listing')
+            title = f'after: {count(pieces, "piece")}, {count(points, "new point")}'
+            if doubled:
+                title += f', {count(doubled, "doubled cell")}'
+            panel = title, mesh, Mesh(), mesh.nodes[len(mesh.nodes) - points:]
+        else:
+            self.fail(f'nothing to draw: {self.lines[0][:60]}')
+        self.need(r'\)', 'the last `)`')
+        if self.at < len(self.lines):
+            self.fail('text after the end')
+        return panel
+
+
+def count(n, word):
+    return f'{n} {word}' if n == 1 else f'{n} {word}s'
+
+
+def used(panel):
+    """The places that a panel draws."""
+    _, filled, dashed, points = panel
+    return [m.nodes[c] for m in (filled, dashed) for _, corners in m.cells for c in corners] + points
+
+
+class Frame:
+    """All panels have one scale."""
+
+    def __init__(self, places):
+        xs, ys = zip(*places) if places else ((0.0,), (0.0,))
+        self.left, self.top = min(xs), max(ys)
+        wide, high = max(xs) - self.left, self.top - min(ys)
+        self.scale = min(WIDTH / wide if wide else math.inf, HEIGHT / high if high else math.inf)
+        if not math.isfinite(self.scale):
+            self.scale = 1.0
+        self.width, self.height = max(wide * self.scale, LEAST), high * self.scale
+
+    def place(self, p):
+        return f'{(p[0] - self.left) * self.scale:.2f},{(self.top - p[1]) * self.scale:.2f}'
+
+
+def drawn(panel, frame, colour):
+    title, filled, dashed, points = panel
+    yield f'<text x="0" y="-12">{escape(title)}</text>'
+    for family, corners in filled.cells:
+        path = ' '.join(frame.place(filled.nodes[c]) for c in corners)
+        yield f'<polygon points="{path}" fill="{colour[family]}" stroke="{LINE}" stroke-width="1"/>'
+    for a, b in sorted({tuple(sorted(e)) for _, corners in dashed.cells for e in zip(corners, corners[1:] + corners[:1])}):
+        path = f'M{frame.place(dashed.nodes[a])}L{frame.place(dashed.nodes[b])}'
+        yield f'<path d="{path}" stroke="{DASH}" stroke-width="1.3" stroke-dasharray="5 3"/>'
+    for p in points:
+        x, y = frame.place(p).split(',')
+        yield f'<circle cx="{x}" cy="{y}" r="2.6" fill="{DOT}"/>'
+
+
+def legend(families, colour, dashed, dots):
+    x = 0
+    if len(families) > 6:
+        yield f'<text x="0" y="11">{len(families)} families</text>'
+        families, x = [], 110
+    for f in families:
+        yield f'<rect x="{x}" y="0" width="13" height="13" fill="{colour[f]}" stroke="{LINE}"/>'
+        yield f'<text x="{x + 19}" y="11">family {f}</text>'
+        x += 34 + 7 * len(f'family {f}')
+    if dashed:
+        yield f'<path d="M{x} 7h26" stroke="{DASH}" stroke-width="1.2" stroke-dasharray="5 3"/><text x="{x + 32}" y="11">cutter</text>'
+        x += 90
+    if dots:
+        yield f'<circle cx="{x + 4}" cy="7" r="2.6" fill="{DOT}"/><text x="{x + 13}" y="11">new point</text>'
+
+
+def picture(panels):
+    families = sorted({f for p in panels for f, _ in p[1].cells})
+    colour = {f: COLOURS[i % len(COLOURS)] for i, f in enumerate(families)}
+    frame = Frame([q for p in panels for q in used(p)])
+    step = round(frame.width) + GAP
+    width = max(len(panels) * step + GAP, 330)
+    height = HEAD + frame.height + FOOT + 10
+    yield f'<svg xmlns="http://www.w3.org/2000/svg" width="{width}" height="{height:.0f}" viewBox="0 0 {width} {height:.0f}" font-family="sans-serif" font-size="13" fill="{TEXT}">'
+    yield f'<rect width="{width}" height="{height:.0f}" fill="#ffffff"/>'
+    for i, panel in enumerate(panels):
+        yield f'<g transform="translate({GAP + i * step} {HEAD})" stroke-linejoin="round">'
+        yield from drawn(panel, frame, colour)
+        yield '</g>'
+    yield f'<g transform="translate({GAP} {HEAD + frame.height + 22:.0f})">'
+    yield from legend(families, colour, any(p[2].cells for p in panels), any(p[3] for p in panels))
+    yield '</g>'
+    yield '</svg>'
+
+
+def read(name):
+    if name == '-':
+        return Reader('standard input', sys.stdin.buffer.read().decode('ascii'))
+    with open(name, 'rb') as f:
+        return Reader(name, f.read().decode('ascii'))
+
+
+def main():
+    try:
+        panels = [read(name).panel() for name in sys.argv[1:] or ['-']]
+    except (Malformed, OSError, UnicodeDecodeError) as e:
+        sys.exit(f'draw.py: {e}')
+    print('\n'.join(picture(panels)))
+
+
+main()
