@@ -13,7 +13,7 @@ use Rattle.lists.specs.Sort.{sortOnto}
 use Rattle.lists.specs.Regions.{put}
 use Rattle.lists.proofs.Search.{first-here, first-end, has-true, has-false}
 use Rattle.cutting.specs.Edges.{Edge, edgeAt, key, sameKey, turn}
-use Rattle.cutting.specs.Cell.{windows, orEnds, dartsAlong, ownDarts, isNew, fresh, nearDarts, edgeSlots, standsBefore}
+use Rattle.cutting.specs.Cell.{windows, orEnds, dartsAlong, ownDarts, isNew, fresh, nearDarts, edgeSlots, reverseMark, standsBefore}
 use Rattle.cutting.specs.Lent.{slotsOf, ends, pairs, Inserted, Added, Outlined}
 use Rattle.cutting.proofs.Grow.{the-same, one-more, windows-next, windows-end, windows-length}
 
@@ -29,15 +29,15 @@ windows-count [] h = absurd (omega arith)
 windows-count (x ∷ ns) h = omega (arith, windows-length x ns)
 
 module _ (coords : List Float) (second : ℕ) (nodes outline src dst marks : List ℕ) (n r : ℕ) (some : 0 < length nodes) (er : r ≡ n + 2 * (length nodes - 1)) where
-  pub darts-full : 1024 < r → Added coords 1 (dartsAlong second nodes) n r src dst marks src dst marks × Outlined (dartsAlong second nodes) n r outline outline
+  pub darts-full : 1024 < r → Added coords reverseMark (dartsAlong second nodes) n r src dst marks src dst marks × Outlined (dartsAlong second nodes) n r outline outline
   darts-full h = (
     record { count = omega (arith, darts-length second nodes some); grows = λ l. absurd (omega arith); full = λ l. (refl, refl, refl) },
     record { grows = λ l. absurd (omega arith); full = λ l. refl },
   )
 
   pub darts-fit : (outline′ src′ dst′ marks′ : List ℕ) → r ≤ 1024
-      → (outline′ ≡ put outline n (ends (map (turn (eqb second (getD nodes 0 0))) (windows nodes)))) × Inserted (sortOnto (standsBefore coords) (slotsOf src dst marks n) (edgeSlots 1 (map (turn (eqb second (getD nodes 0 0))) (windows nodes)))) (n + 2 * length (windows nodes)) src dst marks src′ dst′ marks′
-      → Added coords 1 (dartsAlong second nodes) n r src dst marks src′ dst′ marks′ × Outlined (dartsAlong second nodes) n r outline outline′
+      → (outline′ ≡ put outline n (ends (map (turn (eqb second (getD nodes 0 0))) (windows nodes)))) × Inserted (sortOnto (standsBefore coords) (slotsOf src dst marks n) (edgeSlots reverseMark (map (turn (eqb second (getD nodes 0 0))) (windows nodes)))) (n + 2 * length (windows nodes)) src dst marks src′ dst′ marks′
+      → Added coords reverseMark (dartsAlong second nodes) n r src dst marks src′ dst′ marks′ × Outlined (dartsAlong second nodes) n r outline outline′
   unfolding dartsAlong
   darts-fit outline′ src′ dst′ marks′ h laid = (
     record { count = omega (arith, darts-length second nodes some); grows = λ l. the-same _ _ _ _ _ _ _ _ _ _ refl (omega (arith, windows-count nodes some)) (laid .1); full = λ l. absurd (omega arith) },
@@ -46,7 +46,7 @@ module _ (coords : List Float) (second : ℕ) (nodes outline src dst marks : Lis
 
 module _ (coords : List Float) (a b : ℕ) (nodes outline src dst marks outline′ src′ dst′ marks′ : List ℕ) (n r : ℕ) where
   abbrev Own : List Edge → Type 0
-  Own es = Added coords 1 es n r src dst marks src′ dst′ marks′ × Outlined es n r outline outline′
+  Own es = Added coords reverseMark es n r src dst marks src′ dst′ marks′ × Outlined es n r outline outline′
 
   pub own-whole : length nodes ≡ 0 → Own (dartsAlong b (a ∷ b ∷ [])) → Own (ownDarts (record { edge = (a, b); nodes = nodes }))
   unfolding ownDarts

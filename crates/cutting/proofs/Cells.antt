@@ -1,23 +1,27 @@
 -- The theorem's proof at a cell's own table. Assumes nothing.
-use mathlib.Core.Path.{_≡_, refl, sym, ap, ap₂, _∙_}
+use mathlib.Core.Path.{_≡_, refl, sym, ap, ap₂, _∙_, subst}
 use mathlib.Core.Logic.{_⊎_, inl, inr}
 use mathlib.Core.Bool.{Bool, true, false, cond, not, _&&_, _||_}
-use mathlib.Core.List.{List, [], _∷_, append-nil}
-use Prim.Native.Nat.{ℕ, _+_, _≤_, _<_}
+use mathlib.Core.List.{List, [], _∷_, _++_, append-nil, append-assoc}
+use Prim.Native.Nat.{ℕ, _+_, _-_, _≤_, _<_}
 use native.Mathlib.Omega.{arith}
-use lib.ListN.{length}
+use lib.ListN.{length, take, drop}
+use lib.Seq.{take-at, drop-at}
 use lib.Ieee.{Float}
 use lib.IntN.{ℤ, negℤ, _+ℤ_, _-ℤ_, _*ℤ_, *ℤ-comm, negℤ-+ℤ, negℤ-negℤ, +ℤ-comm}
 use borrow.Author.Tests.{ltb-false, lt-ltb, le-ltb}
 use Rattle.exact.specs.Exact.{coord}
 use Rattle.geometry.specs.Plane.{pointAt}
 use Rattle.lists.specs.Gather.{all, tally}
+use Rattle.lists.specs.Regions.{front}
 use Rattle.lists.proofs.Gather.{tally-append}
 use Rattle.cutting.specs.Edges.{Edge, ring, rings, times}
-use Rattle.cutting.specs.Cell.{Laid, inner, edgeSlots, table, cellTable, copiedTable, names, doubled}
+use Rattle.cutting.specs.Cell.{Laid, inner, edgeSlots, reverseMark, table, cellTable, copiedTable, names, doubled}
 use Rattle.cutting.specs.Walk.{Next, more, closed, stuck, broken, walk}
-use Rattle.cutting.specs.Outcome.{Outcome, refusal, pieces, ofWalk, walked, closesUp, afterWalk, tooMany, cutOutcome}
+use Rattle.cutting.specs.Outcome.{Outcome, refusal, pieces, ofWalk, walked, closesUp, afterWalk, tooMany, cutOutcome, flat, stops}
 use Rattle.cutting.specs.Areas.{term, doubledArea, doubledAreas, Closes, ClosesUp}
+use Rattle.cutting.specs.Lent.{answer, cornersIn, endsIn, piecesIn}
+use Rattle.cutting.specs.declared.cut.Walked.the-variants.{Closed}
 use Rattle.cutting.proofs.EdgeLaws.{hit-self}
 use Rattle.cutting.proofs.Tables.{names-edges, single, even, closes}
 use Rattle.cutting.proofs.Sums.{sum, sum-append, sum-even}
@@ -77,6 +81,22 @@ module _ (outline : List Edge) (ps : List (List ℕ)) (close : (a b : ℕ) → C
   unfolding closesUp
   closes-test = ap₂ (λ (x y : Bool). x && y) (all-edges _ outline outer) (all-edges _ (rings ps) other)
 
+-- ---- pieces in two lists
+
+pieces-behind : (from : ℕ) (ps : List (List ℕ)) (ns ss : List ℕ) → piecesIn from (length ps) (flat ps ++ ns) (stops from ps ++ ss) ≡ ps
+unfolding piecesIn flat stops
+pieces-behind from [] ns ss = refl
+pieces-behind from (p ∷ ps) ns ss =
+    let size : length p ≡ from + length p - from = omega arith in
+    let all : p ++ flat ps ++ ns ≡ p ++ (flat ps ++ ns) = append-assoc p (flat ps) ns in
+    ap₂ (λ (q : List ℕ) (qs : List (List ℕ)). q ∷ qs)
+    (ap (take (from + length p - from)) all ∙ take-at p (flat ps ++ ns) (from + length p - from) size)
+    (ap (λ (w : List ℕ). piecesIn (from + length p) (length ps) w (stops (from + length p) ps ++ ss)) (ap (drop (from + length p - from)) all ∙ drop-at p (flat ps ++ ns) (from + length p - from) size) ∙ pieces-behind (from + length p) ps ns ss)
+
+pieces-read : (from : ℕ) (ps : List (List ℕ)) (nodes stops₀ : List ℕ) → piecesIn from (length ps) (front nodes (flat ps)) (front stops₀ (stops from ps)) ≡ ps
+unfolding front
+pieces-read from ps nodes stops₀ = pieces-behind from ps (drop (length (flat ps)) nodes) (drop (length (stops from ps)) stops₀)
+
 -- ---- a cell that is cut
 
 module _ (coords : List Float) (outline : List Edge) (near : List Laid) where
@@ -127,6 +147,20 @@ module _ (coords : List Float) (outline : List Edge) (near : List Laid) where
       of-walk broken q = let z : _≡_ {A = ℕ} 0 1 = cc in absurd (omega arith)
       of-walk (more s) q = let z : _≡_ {A = ℕ} 0 1 = cc in absurd (omega arith)
 
+  -- the pieces as they are read from the answer and the lists
+  pub read-closes-up : doubled (cellTable coords outline near) ≡ false → (nodes stops₀ : List ℕ) (k m : ℕ)
+      → let o : Outcome = ofWalk (walk outline (cellTable coords outline near)) in answer o ≡ Closed k m → ClosesUp coords outline (piecesIn 0 k (cornersIn o nodes) (endsIn o stops₀))
+  unfolding cornersIn endsIn
+  read-closes-up clean nodes stops₀ k m = go (walk outline (cellTable coords outline near)) refl
+    where
+      go : (x : Next) → walk outline (cellTable coords outline near) ≡ x → answer (ofWalk x) ≡ Closed k m → ClosesUp coords outline (piecesIn 0 k (cornersIn (ofWalk x) nodes) (endsIn (ofWalk x) stops₀))
+      go (closed ps) e q =
+          let count : k ≡ length ps = cc in
+          subst (ClosesUp coords outline) (sym (ap (λ (j : ℕ). piecesIn 0 j (front nodes (flat ps)) (front stops₀ (stops 0 ps))) count ∙ pieces-read 0 ps nodes stops₀)) (closes-up clean ps e)
+      go stuck e q = let z : _≡_ {A = ℕ} 0 1 = cc in absurd (omega arith)
+      go broken e q = let z : _≡_ {A = ℕ} 0 1 = cc in absurd (omega arith)
+      go (more s) e q = let z : _≡_ {A = ℕ} 0 1 = cc in absurd (omega arith)
+
 -- ---- a cell that is copied
 
 pub copy-closes-up : (coords : List Float) (cell : List ℕ) → doubled (copiedTable cell) ≡ false → ClosesUp coords (ring cell) (cell ∷ [])
@@ -138,5 +172,5 @@ copy-closes-up coords cell clean = record { edges = edges; areas = areas coords 
 
     edges : (a b : ℕ) → Closes (ring cell) (cell ∷ []) a b
     edges a b =
-        let most : times a b (ring cell) + times b a (ring cell) ≤ 1 = omega (arith, single (table (ring cell) []) clean a b, tally-append (names a b) (edgeSlots 1 (ring cell)) [], names-edges 1 a b (ring cell)) in
+        let most : times a b (ring cell) + times b a (ring cell) ≤ 1 = omega (arith, single (table (ring cell) []) clean a b, tally-append (names a b) (edgeSlots reverseMark (ring cell)) [], names-edges reverseMark a b (ring cell)) in
         record { outer = λ h. omega (arith, ap (times a b) same, ap (times b a) same); other = λ h h′. omega (arith, ap (times a b) same, ap (times b a) same) }

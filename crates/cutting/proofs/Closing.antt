@@ -9,8 +9,10 @@ use lib.Ieee.{Float}
 use Rattle.cutting.specs.Edges.{Edge, ring, rings}
 use Rattle.cutting.specs.Cell.{Laid, cellTable, copiedTable, doubled}
 use Rattle.cutting.specs.Walk.{closed, stuck, walk}
-use Rattle.cutting.specs.Outcome.{pieces, refusal, ofWalk, closesUp, tooMany, cutOutcome}
+use Rattle.cutting.specs.Outcome.{Outcome, pieces, refusal, ofWalk, closesUp, tooMany, cutOutcome}
 use Rattle.cutting.specs.Areas.{ClosesUp}
+use Rattle.cutting.specs.Lent.{answer, cornersIn, endsIn, piecesIn}
+use Rattle.cutting.specs.declared.cut.Walked.the-variants.{Closed}
 use Rattle.cutting.proofs.Cells as cells
 
 -- for any coordinates, any outline and any near edges
@@ -27,6 +29,11 @@ module _ (coords : List Float) (outline : List Edge) (near : List Laid) where
   -- The same of the pieces of a cell that gives no refusal.
   pub accepted-closes-up : doubled (cellTable coords outline near) ≡ false → (ps : List (List ℕ)) → cutOutcome outline (cellTable coords outline near) ≡ pieces ps → ClosesUp coords outline ps
   accepted-closes-up = cells.accepted-closes-up coords outline near
+
+  -- And of the pieces as they are read from the answer and the two lists of `walk_dart_map`.
+  pub read-closes-up : doubled (cellTable coords outline near) ≡ false → (nodes stops : List ℕ) (k m : ℕ)
+      → let o : Outcome = ofWalk (walk outline (cellTable coords outline near)) in answer o ≡ Closed k m → ClosesUp coords outline (piecesIn 0 k (cornersIn o nodes) (endsIn o stops))
+  read-closes-up = cells.read-closes-up coords outline near
 
   -- So the part of refusal 11 after the walk never fires.
   pub test-passes : doubled (cellTable coords outline near) ≡ false → (ps : List (List ℕ)) → walk outline (cellTable coords outline near) ≡ closed ps → closesUp outline (rings ps) ≡ true

@@ -6,16 +6,15 @@ use Prim.Native.Nat.{ℕ, zero, suc, _+_, _*_, _-_, _≤_, _<_}
 use native.Mathlib.Omega.{arith}
 use lib.Dec.{eqb, ltb}
 use lib.ListN.{length, getD, set, length-set, length-map}
-use lib.Seq.{getD-set-same, getD-set-other}
 use borrow.Author.Tests.{ltb-true, ltb-false, lt-ltb, eqb-true, eq-eqb}
-use Rattle.lists.specs.Search.{bit, many}
 use Rattle.lists.specs.Gather.{tally}
 use Rattle.cutting.specs.Edges.{Edge, times}
 use Rattle.cutting.specs.Cell.{Slot, table}
 use Rattle.cutting.specs.Walk.{State, Phase, between, along, Next, more, closed, stuck, broken, run, step, go, rest, taken, popped, cross, arrive, onward, after, slot, leads, starts, walkFrom, srcs, dsts, marksOf, walk}
-use Rattle.lists.proofs.Search.{many-change, many-has, many-bound}
+use Rattle.lists.proofs.Search.{many-has, many-bound}
 use Rattle.cutting.proofs.EdgeLaws.{hit-self}
-use Rattle.cutting.proofs.Kept.{named, after-hit}
+use Rattle.cutting.proofs.Rounds.{after-hit, unmarked, unmarked-mark}
+use Rattle.cutting.proofs.Kept.{named}
 use Rattle.cutting.proofs.Tables.{named-table, slot-found, found}
 
 -- a walk that has come to its end
@@ -24,15 +23,6 @@ Ended (more s) = ⊥
 Ended (closed ps) = Unit {0}
 Ended stuck = Unit {0}
 Ended broken = ⊥
-
-unfoldable pub unmarked : ℕ → List ℕ → ℕ
-unmarked n marks = many (λ i. eqb (getD marks i 0) 0) n
-
-pub unmarked-mark : (n : ℕ) (marks : List ℕ) (i : ℕ) → i < n → n ≤ length marks → getD marks i 0 ≡ 0 → unmarked n marks ≡ 1 + unmarked n (set marks i 1)
-unfolding unmarked
-unmarked-mark n marks i h l e =
-    let gone = many-change (λ k. eqb (getD marks k 0) 0) (λ k. eqb (getD (set marks i 1) k 0) 0) i n h (λ k ne. ap (λ (v : ℕ). eqb v 0) (sym (getD-set-other marks i k 1 0 ne))) (ap (λ (v : ℕ). eqb v 0) (getD-set-same marks i 1 0 (omega arith))) in
-    omega (arith, ap (λ (v : ℕ). bit (eqb v 0)) e)
 
 module _ (n : ℕ) (src dst : List ℕ) where
   abbrev Below : List ℕ → Type 0
@@ -94,7 +84,7 @@ module _ (n : ℕ) (src dst : List ℕ) where
       }
       arrive-sound r r< false =
           let j = after n src (set marks i 1) (getD dst i 0) r in
-          onward-sound r j r< (ltb j n) refl (λ l. after-hit n src dst (set marks i 1) (getD dst i 0) r r< l .1)
+          onward-sound r j r< (ltb j n) refl (λ l. after-hit n src (set marks i 1) (getD dst i 0) r r< l .1)
 
       back-found : slot n src dst (getD dst i 0) (getD src i 0) < n
       unfolding named

@@ -15,7 +15,7 @@ use Rattle.lists.proofs.Gather.{joined-snoc}
 use Rattle.lists.proofs.Sort.{sortOnto-append}
 use Rattle.lists.proofs.Regions.{put-none, put-store}
 use Rattle.cutting.specs.Edges.{Edge, turn, hops}
-use Rattle.cutting.specs.Cell.{Slot, edgeSlots, windows, standsBefore}
+use Rattle.cutting.specs.Cell.{Slot, edgeSlots, reverseMark, windows, standsBefore}
 use Rattle.cutting.specs.Lent.{slotsOf, ends, Inserted}
 use Rattle.cutting.proofs.CellLaws.{slots-append}
 
@@ -113,7 +113,7 @@ pub record Laying (coords : List Float) (inv : Bool) (nodes outline₀ src₀ ds
   pub counted : length done ≡ i
   pub left : done ++ map (turn inv) (windows (drop i nodes)) ≡ map (turn inv) (windows nodes)
   pub outlined : outline ≡ put outline₀ n (ends done)
-  pub inserted : Inserted (sortOnto (standsBefore coords) (slotsOf src₀ dst₀ marks₀ n) (edgeSlots 1 done)) k src₀ dst₀ marks₀ src dst marks
+  pub inserted : Inserted (sortOnto (standsBefore coords) (slotsOf src₀ dst₀ marks₀ n) (edgeSlots reverseMark done)) k src₀ dst₀ marks₀ src dst marks
 
 module _ (coords : List Float) (inv : Bool) (nodes outline₀ src₀ dst₀ marks₀ : List ℕ) (n : ℕ) where
   pub lay-start : Laying coords inv nodes outline₀ src₀ dst₀ marks₀ n outline₀ src₀ dst₀ marks₀ 0 n
@@ -143,7 +143,7 @@ module _ (coords : List Float) (inv : Bool) (nodes outline₀ src₀ dst₀ mark
     pub lay-turn : (a b : ℕ) (src′ dst′ marks′ : List ℕ) → i + 1 < length nodes → k + 2 ≤ length outline₀
         → a ≡ cond inv (getD nodes (i + 1) 0) (getD nodes i 0) → b ≡ cond inv (getD nodes i 0) (getD nodes (i + 1) 0)
         → length (set (set outline k a) (k + 1) b) ≡ length outline → length src′ ≡ length src → length dst′ ≡ length dst → length marks′ ≡ length marks
-        → Inserted (sortOnto (standsBefore coords) (slotsOf src dst marks k) (edgeSlots 1 ((a, b) ∷ []))) (k + 2) src dst marks src′ dst′ marks′
+        → Inserted (sortOnto (standsBefore coords) (slotsOf src dst marks k) (edgeSlots reverseMark ((a, b) ∷ []))) (k + 2) src dst marks src′ dst′ marks′
         → Laying coords inv nodes outline₀ src₀ dst₀ marks₀ n (set (set outline k a) (k + 1) b) src′ dst′ marks′ (i + 1) (k + 2)
     lay-turn a b src′ dst′ marks′ h fits ea eb lo ls ld lm ins =
         let e : Edge = turn inv (getD nodes i 0, getD nodes (i + 1) 0) in
@@ -159,11 +159,11 @@ module _ (coords : List Float) (inv : Bool) (nodes outline₀ src₀ dst₀ mark
           counted = omega (arith, length-append (v .done) (e ∷ []), v .counted);
           left = append-assoc (v .done) (e ∷ []) (map (turn inv) (windows (drop (i + 1) nodes))) ∙ ap (λ (es : List Edge). v .done ++ map (turn inv) es) (sym (windows-next nodes i h)) ∙ v .left;
           outlined = ends-more outline₀ outline n k a b (v .done) e (omega (arith, v .count)) (omega (arith, v .count, v .counted)) fits (v .outlined) (ap (λ (x : Edge). x .0) is-e) (ap (λ (x : Edge). x .1) is-e);
-          inserted = one-more coords src₀ dst₀ marks₀ src dst marks src′ dst′ marks′ n 1 k (v .done) e (v .inserted) (the-same _ _ _ _ _ _ _ _ _ _ (ap (λ (x : Edge). sortOnto (standsBefore coords) (slotsOf src dst marks k) (edgeSlots 1 (x ∷ []))) is-e) refl ins);
+          inserted = one-more coords src₀ dst₀ marks₀ src dst marks src′ dst′ marks′ n reverseMark k (v .done) e (v .inserted) (the-same _ _ _ _ _ _ _ _ _ _ (ap (λ (x : Edge). sortOnto (standsBefore coords) (slotsOf src dst marks k) (edgeSlots reverseMark (x ∷ []))) is-e) refl ins);
         }
 
-    pub lay-end : length nodes ≤ i + 1 → (outline ≡ put outline₀ n (ends (map (turn inv) (windows nodes)))) × Inserted (sortOnto (standsBefore coords) (slotsOf src₀ dst₀ marks₀ n) (edgeSlots 1 (map (turn inv) (windows nodes)))) (n + 2 * length (windows nodes)) src₀ dst₀ marks₀ src dst marks
+    pub lay-end : length nodes ≤ i + 1 → (outline ≡ put outline₀ n (ends (map (turn inv) (windows nodes)))) × Inserted (sortOnto (standsBefore coords) (slotsOf src₀ dst₀ marks₀ n) (edgeSlots reverseMark (map (turn inv) (windows nodes)))) (n + 2 * length (windows nodes)) src₀ dst₀ marks₀ src dst marks
     lay-end h =
         let all : v .done ≡ map (turn inv) (windows nodes) = sym (append-nil (v .done)) ∙ ap (λ (es : List Edge). v .done ++ map (turn inv) es) (sym (windows-end nodes i h)) ∙ v .left in
         let len : length (v .done) ≡ length (windows nodes) = ap length all ∙ length-map (windows nodes) (turn inv) in
-        (v .outlined ∙ ap (λ (es : List Edge). put outline₀ n (ends es)) all, the-same _ _ _ _ _ _ _ _ _ _ (ap (λ (es : List Edge). sortOnto (standsBefore coords) (slotsOf src₀ dst₀ marks₀ n) (edgeSlots 1 es)) all) (omega (arith, v .count, v .counted, len)) (v .inserted))
+        (v .outlined ∙ ap (λ (es : List Edge). put outline₀ n (ends es)) all, the-same _ _ _ _ _ _ _ _ _ _ (ap (λ (es : List Edge). sortOnto (standsBefore coords) (slotsOf src₀ dst₀ marks₀ n) (edgeSlots reverseMark es)) all) (omega (arith, v .count, v .counted, len)) (v .inserted))

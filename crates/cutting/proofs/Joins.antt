@@ -17,7 +17,7 @@ use Rattle.lists.proofs.Search.{both-true}
 use Rattle.lists.proofs.Gather.{joined-append, joined-snoc}
 use Rattle.lists.proofs.Sort.{sortOnto-append, length-sorted, sorted-tally}
 use Rattle.cutting.specs.Edges.{Edge, turn, hops, ring}
-use Rattle.cutting.specs.Cell.{Laid, dartsAlong, ownDarts, outlineDarts, nearDarts, inner, Slot, edgeSlots, table, standsBefore, cellTable, copiedTable, names, doubled}
+use Rattle.cutting.specs.Cell.{Laid, dartsAlong, ownDarts, outlineDarts, nearDarts, inner, Slot, edgeSlots, reverseMark, table, standsBefore, cellTable, copiedTable, names, doubled}
 use Rattle.cutting.specs.Lent.{slotsOf, ends, pairs, Added}
 use Rattle.cutting.specs.Walk.{walk}
 use Rattle.cutting.specs.Outcome.{refusal, ofWalk, cutOutcome}
@@ -61,28 +61,28 @@ module _ (coords : List Float) where
   before = standsBefore coords
 
   -- after the own edges so far, one more
-  pub own-more : (own : List Laid) (l : Laid) → sortOnto before (sorted before (edgeSlots 1 (outlineDarts own))) (edgeSlots 1 (ownDarts l)) ≡ sorted before (edgeSlots 1 (outlineDarts (own ++ l ∷ [])))
+  pub own-more : (own : List Laid) (l : Laid) → sortOnto before (sorted before (edgeSlots reverseMark (outlineDarts own))) (edgeSlots reverseMark (ownDarts l)) ≡ sorted before (edgeSlots reverseMark (outlineDarts (own ++ l ∷ [])))
   unfolding outlineDarts
   own-more own l =
-      sym (sortOnto-append before [] (edgeSlots 1 (joined ownDarts own)) (edgeSlots 1 (ownDarts l))) ∙ ap (sorted before) (sym (slots-append 1 (joined ownDarts own) (ownDarts l))) ∙ ap (λ (es : List Edge). sorted before (edgeSlots 1 es)) (sym (joined-snoc ownDarts own l))
+      sym (sortOnto-append before [] (edgeSlots reverseMark (joined ownDarts own)) (edgeSlots reverseMark (ownDarts l))) ∙ ap (sorted before) (sym (slots-append reverseMark (joined ownDarts own) (ownDarts l))) ∙ ap (λ (es : List Edge). sorted before (edgeSlots reverseMark es)) (sym (joined-snoc ownDarts own l))
 
   module _ (outline : List Edge) where
     -- with no near edges
-    pub none-near : sorted before (edgeSlots 1 outline) ≡ cellTable coords outline []
+    pub none-near : sorted before (edgeSlots reverseMark outline) ≡ cellTable coords outline []
     unfolding cellTable table inner joined edgeSlots
-    none-near = ap (sorted before) (sym (append-nil (edgeSlots 1 outline)))
+    none-near = ap (sorted before) (sym (append-nil (edgeSlots reverseMark outline)))
 
     -- after the near edges so far, one more
     pub near-more : (near : List Laid) (l : Laid) → sortOnto before (cellTable coords outline near) (edgeSlots 0 (nearDarts outline l)) ≡ cellTable coords outline (near ++ l ∷ [])
     unfolding cellTable table inner
     near-more near l =
         let ds = nearDarts outline in
-        sym (sortOnto-append before [] (edgeSlots 1 outline ++ edgeSlots 0 (joined ds near)) (edgeSlots 0 (ds l)))
-        ∙ ap (sorted before) (append-assoc (edgeSlots 1 outline) (edgeSlots 0 (joined ds near)) (edgeSlots 0 (ds l)) ∙ ap (λ (t : List Slot). edgeSlots 1 outline ++ t) (sym (slots-append 0 (joined ds near) (ds l)) ∙ ap (edgeSlots 0) (sym (joined-snoc ds near l))))
+        sym (sortOnto-append before [] (edgeSlots reverseMark outline ++ edgeSlots 0 (joined ds near)) (edgeSlots 0 (ds l)))
+        ∙ ap (sorted before) (append-assoc (edgeSlots reverseMark outline) (edgeSlots 0 (joined ds near)) (edgeSlots 0 (ds l)) ∙ ap (λ (t : List Slot). edgeSlots reverseMark outline ++ t) (sym (slots-append 0 (joined ds near) (ds l)) ∙ ap (edgeSlots 0) (sym (joined-snoc ds near l))))
 
     pub cell-length : (near : List Laid) → length (cellTable coords outline near) ≡ 2 * length outline + 2 * length (inner outline near)
     unfolding cellTable table
-    cell-length near = omega (arith, length-sorted before (edgeSlots 1 outline ++ edgeSlots 0 (inner outline near)), length-append (edgeSlots 1 outline) (edgeSlots 0 (inner outline near)), slots-length 1 outline, slots-length 0 (inner outline near))
+    cell-length near = omega (arith, length-sorted before (edgeSlots reverseMark outline ++ edgeSlots 0 (inner outline near)), length-append (edgeSlots reverseMark outline) (edgeSlots 0 (inner outline near)), slots-length reverseMark outline, slots-length 0 (inner outline near))
 
     -- once over 1,024 slots, always over: by a near edge
     pub near-over : (near : List Laid) (l : Laid) (later : List Laid) → 1024 < length (cellTable coords outline near) + 2 * length (nearDarts outline l) → 1024 < length (cellTable coords outline (near ++ l ∷ later))
@@ -100,11 +100,11 @@ module _ (coords : List Float) where
 -- ---- a turn of a loop over own edges, and of one over near edges
 
 module _ (coords : List Float) (src dst marks src′ dst′ marks′ : List ℕ) (n r : ℕ) where
-  pub own-turn : (own : List Laid) (l : Laid) → Added coords 1 (ownDarts l) n r src dst marks src′ dst′ marks′ → r ≤ 1024
-      → slotsOf src dst marks n ≡ sorted (standsBefore coords) (edgeSlots 1 (outlineDarts own)) → slotsOf src′ dst′ marks′ r ≡ sorted (standsBefore coords) (edgeSlots 1 (outlineDarts (own ++ l ∷ [])))
-  own-turn own l a h e = a .grows h .holds ∙ ap (λ (t : List Slot). sortOnto (standsBefore coords) t (edgeSlots 1 (ownDarts l))) e ∙ own-more coords own l
+  pub own-turn : (own : List Laid) (l : Laid) → Added coords reverseMark (ownDarts l) n r src dst marks src′ dst′ marks′ → r ≤ 1024
+      → slotsOf src dst marks n ≡ sorted (standsBefore coords) (edgeSlots reverseMark (outlineDarts own)) → slotsOf src′ dst′ marks′ r ≡ sorted (standsBefore coords) (edgeSlots reverseMark (outlineDarts (own ++ l ∷ [])))
+  own-turn own l a h e = a .grows h .holds ∙ ap (λ (t : List Slot). sortOnto (standsBefore coords) t (edgeSlots reverseMark (ownDarts l))) e ∙ own-more coords own l
 
-  pub own-full : (own : List Laid) (l : Laid) (later near : List Laid) → Added coords 1 (ownDarts l) n r src dst marks src′ dst′ marks′ → 1024 < r → n ≡ 2 * length (outlineDarts own)
+  pub own-full : (own : List Laid) (l : Laid) (later near : List Laid) → Added coords reverseMark (ownDarts l) n r src dst marks src′ dst′ marks′ → 1024 < r → n ≡ 2 * length (outlineDarts own)
       → 1024 < length (cellTable coords (outlineDarts (own ++ l ∷ later)) near)
   own-full own l later near a h e = own-over coords own l later near (omega (arith, a .count))
 
@@ -165,6 +165,6 @@ doubled-as t u same = go (doubled t) (doubled u) refl refl
     go false true e f = let r = twice u f in absurd (omega (arith, r .2, same (names (r .0) (r .1)), single t e (r .0) (r .1)))
 
 -- a copied cell's table, made like any other, is doubled where its own is
-pub copied-doubled : (coords : List Float) (cell : List ℕ) → doubled (sorted (standsBefore coords) (edgeSlots 1 (ring cell))) ≡ doubled (copiedTable cell)
+pub copied-doubled : (coords : List Float) (cell : List ℕ) → doubled (sorted (standsBefore coords) (edgeSlots reverseMark (ring cell))) ≡ doubled (copiedTable cell)
 unfolding copiedTable table edgeSlots
-copied-doubled coords cell = doubled-as _ _ (λ p. sorted-tally (standsBefore coords) p (edgeSlots 1 (ring cell))) ∙ ap doubled (sym (append-nil (edgeSlots 1 (ring cell))))
+copied-doubled coords cell = doubled-as _ _ (λ p. sorted-tally (standsBefore coords) p (edgeSlots reverseMark (ring cell))) ∙ ap doubled (sym (append-nil (edgeSlots reverseMark (ring cell))))

@@ -9,11 +9,12 @@ use lib.Dec.{eqb, ltb}
 use lib.ListN.{length, getD, set, length-set}
 use lib.Seq.{getD-set-same, getD-set-other}
 use borrow.Author.Tests.{ltb-true, eqb-true}
-use Rattle.lists.specs.Search.{bit, many, first}
+use Rattle.lists.specs.Search.{bit, many}
 use Rattle.lists.proofs.Search.{many-change, many-le, many-less, first-hit}
 use Rattle.cutting.specs.Edges.{Edge, hops, ring, rings, hit, times}
+use Rattle.cutting.proofs.Rounds.{after-hit}
 use Rattle.cutting.proofs.EdgeLaws.{end, both, hit-back, end-snoc, times-snoc, rings-snoc}
-use Rattle.cutting.specs.Walk.{State, Phase, between, along, Next, more, closed, stuck, broken, run, step, go, rest, taken, popped, cross, arrive, onward, after, slot, leads, openAt, orElse}
+use Rattle.cutting.specs.Walk.{State, Phase, between, along, Next, more, closed, stuck, broken, run, step, go, rest, taken, popped, cross, arrive, onward, after, slot, leads}
 
 pub bit-and : (s t : Bool) → bit (s && t) ≤ bit s
 bit-and true true = omega arith
@@ -60,26 +61,11 @@ module _ (n : ℕ) (src dst : List ℕ) where
   unfolding free named
   free-named a b marks = many-le _ _ n (λ k. bit-and (leads src dst a b k) (eqb (getD marks k 0) 0))
 
-  -- what the two searches find
+  -- what the search finds
   pub slot-hit : (a b : ℕ) → slot n src dst a b < n → (getD src (slot n src dst a b) 0 ≡ a) × (getD dst (slot n src dst a b) 0 ≡ b)
   unfolding slot
   slot-hit a b h =
       both (getD src (slot n src dst a b) 0) a (getD dst (slot n src dst a b) 0) b (first-hit (leads src dst a b) 0 n h)
-
-  pub after-hit : (marks : List ℕ) (a r : ℕ) → r < n → after n src marks a r < n → (getD src (after n src marks a r) 0 ≡ a) × (getD marks (after n src marks a r) 0 ≡ 0)
-  unfolding after
-  after-hit marks a r h l = both _ a _ 0 (late (ltb (first test (r + 1) n) n) refl l)
-    where
-      test : ℕ → Bool
-      test = openAt src marks a
-
-      early : (t : Bool) → ltb (first test 0 r) r ≡ t → orElse t (first test 0 r) n < n → test (orElse t (first test 0 r) n) ≡ true
-      early true e l = first-hit test 0 r (ltb-true (first test 0 r) r e)
-      early false e l = absurd (omega arith)
-
-      late : (t : Bool) → ltb (first test (r + 1) n) n ≡ t → let j : ℕ = orElse t (first test (r + 1) n) (orElse (ltb (first test 0 r) r) (first test 0 r) n) in j < n → test j ≡ true
-      late true e l = first-hit test (r + 1) n l
-      late false e l = early (ltb (first test 0 r) r) refl l
 
   -- how often the darts walked so far lead from a to b
   abbrev pub walked : ℕ → ℕ → List (List ℕ) → Phase → ℕ
@@ -202,7 +188,7 @@ module _ (n : ℕ) (src dst : List ℕ) where
             }
         arrive-fine false t =
             let j = after n src (set marks i 1) (getD dst i 0) r in
-            onward-fine j (ltb j n) refl (λ l. after-hit (set marks i 1) (getD dst i 0) r r< l)
+            onward-fine j (ltb j n) refl (λ l. after-hit n src (set marks i 1) (getD dst i 0) r r< l)
 
       cross-fine : (marks heap : List ℕ) (done : List (List ℕ)) (start : ℕ) (mid : List ℕ) (i : ℕ) → Kept marks heap done (along start mid i) → (t : Bool) → ltb (slot n src dst (getD dst i 0) (getD src i 0)) n ≡ t → Fine (cross n src dst (set marks i 1) heap done start mid (getD dst i 0) (slot n src dst (getD dst i 0) (getD src i 0)) t)
       unfolding cross

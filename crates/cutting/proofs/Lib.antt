@@ -6,6 +6,7 @@ pub mod Closing
 pub mod Doubles
 pub mod EdgeLaws
 pub mod Ends
+pub mod Fronts
 pub mod Grow
 pub mod Heaps
 pub mod Kept

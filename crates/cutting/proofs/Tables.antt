@@ -10,7 +10,7 @@ use borrow.Author.Tests.{ltb-false}
 use Rattle.lists.specs.Search.{bit, many}
 use Rattle.lists.specs.Gather.{tally}
 use Rattle.cutting.specs.Edges.{Edge, rings, hit, times}
-use Rattle.cutting.specs.Cell.{Slot, edgeSlots, table, names, doubled}
+use Rattle.cutting.specs.Cell.{Slot, edgeSlots, reverseMark, table, names, doubled}
 use Rattle.cutting.specs.Walk.{closed, slot, leads, starts, walkFrom, srcs, dsts, marksOf, walk}
 use Rattle.cutting.specs.Areas.{Closes}
 use Rattle.lists.proofs.Gather.{tally-append}
@@ -37,7 +37,7 @@ unfolding tally edgeSlots times
 names-edges back a b [] = omega arith
 names-edges back a b (e ∷ es) = omega (arith, names-edges back a b es, hit-back a b (e .1) (e .0))
 
-opens-outline : (a b : ℕ) (es : List Edge) → tally (opens a b) (edgeSlots 1 es) ≡ times a b es
+opens-outline : (a b : ℕ) (es : List Edge) → tally (opens a b) (edgeSlots reverseMark es) ≡ times a b es
 unfolding tally edgeSlots times
 opens-outline a b [] = refl
 opens-outline a b (e ∷ es) = omega (arith, opens-outline a b es, ap bit (and-true (eqb (e .0) a && eqb (e .1) b)), ap bit (and-false (eqb (e .1) a && eqb (e .0) b)))
@@ -84,11 +84,11 @@ module _ (n : ℕ) (src dst : List ℕ) where
 module _ (outline inner : List Edge) (t : List Slot) (sorted : (p : Slot → Bool) → tally p t ≡ tally p (table outline inner)) where
   pub named-table : (a b : ℕ) → named (length t) (srcs t) (dsts t) a b ≡ times a b outline + times b a outline + (times a b inner + times b a inner)
   unfolding table
-  named-table a b = omega (arith, named-tally a b t, sorted (names a b), tally-append (names a b) (edgeSlots 1 outline) (edgeSlots 0 inner), names-edges 1 a b outline, names-edges 0 a b inner)
+  named-table a b = omega (arith, named-tally a b t, sorted (names a b), tally-append (names a b) (edgeSlots reverseMark outline) (edgeSlots 0 inner), names-edges reverseMark a b outline, names-edges 0 a b inner)
 
   free-table : (a b : ℕ) → free (length t) (srcs t) (dsts t) a b (marksOf t) ≡ times a b outline + (times a b inner + times b a inner)
   unfolding table
-  free-table a b = omega (arith, free-tally a b t, sorted (opens a b), tally-append (opens a b) (edgeSlots 1 outline) (edgeSlots 0 inner), opens-outline a b outline, opens-inner a b inner)
+  free-table a b = omega (arith, free-tally a b t, sorted (opens a b), tally-append (opens a b) (edgeSlots reverseMark outline) (edgeSlots 0 inner), opens-outline a b outline, opens-inner a b inner)
 
   pub found : (a b : ℕ) → 0 < times a b outline → slot (length t) (srcs t) (dsts t) a b < length t
   found a b h = slot-found (length t) (srcs t) (dsts t) a b (omega (arith, named-table a b))

@@ -4,17 +4,16 @@ use mathlib.Core.List.{List, [], _∷_, _++_, append-assoc}
 use Prim.Native.Nat.{ℕ, _+_, _*_, _-_, _≤_, _<_}
 use native.Mathlib.Omega.{arith}
 use lib.Dec.{eqb}
-use Rattle.cutting.proofs.Kept.{after-hit}
 use lib.ListN.{length, getD, set, take, drop, take-append-drop, length-append, length-set}
 use lib.Seq.{length-take-le}
-use Rattle.cutting.specs.declared.cut.Walked.the-variants.{Closed, Refused}
+use Rattle.cutting.specs.declared.cut.Walked.the-variants.{Refused}
 use borrow.Author.Tests.{eq-eqb, ne-eqb, lt-ltb, le-ltb}
 use Rattle.lists.specs.Regions.{front}
 use Rattle.lists.proofs.Search.{many-has, many-bound}
-use Rattle.cutting.proofs.Ends.{unmarked, unmarked-mark}
+use Rattle.cutting.proofs.Rounds.{after-hit, unmarked, unmarked-mark}
 use Rattle.cutting.specs.Walk.{Phase, between, along, Next, run, after, slot, walkFrom}
 use Rattle.cutting.specs.Outcome.{ofWalk, flat, stops}
-use Rattle.cutting.specs.Lent.{stacked, Room, answer, Written}
+use Rattle.cutting.specs.Lent.{stacked, Room, closedWith, answer, Written}
 use Rattle.cutting.proofs.Steps.{length-stacked, stacked-push, stacked-pop, take-push, drop-push, flat-snoc, stops-snoc, stops-length, run-more, run-closed, run-stuck, run-broken, step-closed, step-missing, step-skip, step-open, step-lost, step-close, step-onward, step-stuck}
 
 -- the walk's own place, as the code holds it
@@ -167,17 +166,17 @@ module _ {n top : ℕ} {src dst marks₀ heap₀ nodes₀ ends₀ : List ℕ} (r
             }
 
     -- the heap is empty
-    pub at-close : n ≤ at → sp ≡ 0 → (Closed k m ≡ answer (ofWalk r)) × Written (ofWalk r) nodes₀ ends₀ nodes ends
+    pub at-close : n ≤ at → sp ≡ 0 → (closedWith k m ≡ answer (ofWalk r)) × Written (ofWalk r) nodes₀ ends₀ nodes ends
     unfolding front
     at-close h empty = from (v .phase) (v .shape) (v .still)
       where
-        from : (p : Phase) → Shape n marks nodes at start m k (v .done) p → Runs p → (Closed k m ≡ answer (ofWalk r)) × Written (ofWalk r) nodes₀ ends₀ nodes ends
+        from : (p : Phase) → Shape n marks nodes at start m k (v .done) p → Runs p → (closedWith k m ≡ answer (ofWalk r)) × Written (ofWalk r) nodes₀ ends₀ nodes ends
         from (along first mid j) sh st = absurd (omega arith)
         from between sh st =
             let bare : run n src dst (v .fuel) (record { marks = marks; heap = []; done = v .done; phase = between }) ≡ r = unfold stacked in (rw empty at st) in
             let e = run-closed n src dst r (v .fuel) _ (omega (arith, v .enough)) bare (v .done) (step-closed n src dst marks [] (v .done)) in
             let len : length (flat (v .done)) ≡ m = sym (ap length (sh .1)) ∙ length-take-le m nodes (omega (arith, room .corners, v .same-nodes)) in
-            (ap₂ (λ x y. Closed x y) (sym (v .counted)) (sym len) ∙ ap (λ (t : Next). answer (ofWalk t)) e, subst (λ (t : Next). Written (ofWalk t) nodes₀ ends₀ nodes ends) e (sym (take-append-drop m nodes) ∙ ap₂ (λ (a b : List ℕ). a ++ b) (sh .1) (v .rest-nodes ∙ ap (λ (x : ℕ). drop x nodes₀) (sym len)), sym (take-append-drop k ends) ∙ ap₂ (λ (a b : List ℕ). a ++ b) (v .ended) (v .rest-ends ∙ ap (λ (x : ℕ). drop x ends₀) (sym (stops-length 0 (v .done) ∙ v .counted)))))
+            (ap₂ closedWith (sym (v .counted)) (sym len) ∙ ap (λ (t : Next). answer (ofWalk t)) e, subst (λ (t : Next). Written (ofWalk t) nodes₀ ends₀ nodes ends) e (sym (take-append-drop m nodes) ∙ ap₂ (λ (a b : List ℕ). a ++ b) (sh .1) (v .rest-nodes ∙ ap (λ (x : ℕ). drop x nodes₀) (sym len)), sym (take-append-drop k ends) ∙ ap₂ (λ (a b : List ℕ). a ++ b) (v .ended) (v .rest-ends ∙ ap (λ (x : ℕ). drop x ends₀) (sym (stops-length 0 (v .done) ∙ v .counted)))))
 
     -- the slot `at` is walked; q is its reverse
     module _ (h : at < n) (y q : ℕ) (ey : y ≡ getD dst at 0) (eq : q ≡ slot n src dst y (getD src at 0)) where
@@ -241,7 +240,7 @@ module _ {n top : ℕ} {src dst marks₀ heap₀ nodes₀ ends₀ : List ℕ} (r
 
           module _ (j< : j < n) where
             open-there : getD (set marks at 1) j 0 ≡ 0
-            open-there = rw ej (after-hit n src dst (set marks at 1) y q q< (rw (← ej) j<) .1)
+            open-there = rw ej (after-hit n src (set marks at 1) y q q< (rw (← ej) j<) .1)
 
             pub next-fits : m < length nodes
             next-fits = omega (arith, (on-slot h) .low, fewer, some-unmarked n (set marks at 1) j j< open-there, room .corners, v .same-nodes)

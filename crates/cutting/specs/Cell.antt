@@ -75,9 +75,12 @@ unfoldable pub edgeSlots : ℕ → List Edge → List Slot
 edgeSlots back [] = []
 edgeSlots back (e ∷ es) = record { src = e .0; dst = e .1; mark = 0 } ∷ record { src = e .1; dst = e .0; mark = back } ∷ edgeSlots back es
 
--- the reverses of outline darts are marked
+-- the mark of the reverse of an outline dart: never walked
+abbrev pub reverseMark : ℕ
+reverseMark = 1
+
 unfoldable pub table : List Edge → List Edge → List Slot
-table outline inside = edgeSlots 1 outline ++ edgeSlots 0 inside
+table outline inside = edgeSlots reverseMark outline ++ edgeSlots 0 inside
 
 -- ---- `sort_cell_dart_map`: by falling angle of the rounded differences, at one node
 

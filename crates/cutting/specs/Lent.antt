@@ -1,8 +1,9 @@
 -- A cell's table, outline and pieces in lent lists. Assumes nothing.
 use mathlib.Core.Path.{_≡_}
+use mathlib.Core.Bool.{cond}
 use mathlib.Core.List.{List, [], _∷_}
-use Prim.Native.Nat.{ℕ, zero, suc, _+_, _*_, _≤_, _<_}
-use lib.ListN.{length, getD, drop}
+use Prim.Native.Nat.{ℕ, zero, suc, _+_, _*_, _-_, _≤_, _<_}
+use lib.ListN.{length, getD, take, drop}
 use lib.Ieee.{Float}
 use Rattle.lists.specs.Gather.{each, joined}
 use Rattle.lists.specs.Sort.{sortOnto}
@@ -11,7 +12,8 @@ use Rattle.cutting.specs.Edges.{Edge}
 use Rattle.cutting.specs.Cell.{Slot, edgeSlots, standsBefore}
 use Rattle.cutting.specs.declared.cut.Walked.{Walked}
 use Rattle.cutting.specs.declared.cut.Walked.the-variants.{Closed, Refused}
-use Rattle.cutting.specs.Outcome.{Outcome, refusal, pieces, flat, stops}
+use Rattle.cutting.specs.Walk.{srcs, dsts, marksOf}
+use Rattle.cutting.specs.Outcome.{Outcome, refusal, pieces, tooMany, flat, stops}
 
 abbrev pub slotAt : List ℕ → List ℕ → List ℕ → ℕ → Slot
 slotAt src dst marks i = record { src = getD src i 0; dst = getD dst i 0; mark = getD marks i 0 }
@@ -34,6 +36,66 @@ unfoldable pub stacked : List ℕ → ℕ → List ℕ
 stacked xs zero = []
 stacked xs (suc k) = getD xs k 0 ∷ stacked xs k
 
+-- ---- a table and an outline that grow
+
+-- a table of so many slots, at the front of three lists
+pub record Table : Type 0 where
+  pub slots : ℕ
+  pub src : List ℕ
+  pub dst : List ℕ
+  pub marks : List ℕ
+
+abbrev pub tableIn : ℕ → List ℕ → List ℕ → List ℕ → Table
+tableIn n src dst marks = record { slots = n; src = src; dst = dst; marks = marks }
+
+-- a list as written where the slots are at most 1,024, as it was where they are more
+abbrev pub unlessFull : ℕ → List ℕ → List ℕ → List ℕ
+unlessFull slots written w = cond (tooMany slots) w written
+
+-- The table with more darts, each with a slot at both its ends, the second one with the mark `back`: all slots in the table's order.
+unfoldable pub withDarts : List Float → ℕ → List Edge → Table → Table
+withDarts coords back darts t =
+    let slots = t .slots + 2 * length darts in
+    let s = sortOnto (standsBefore coords) (slotsOf (t .src) (t .dst) (t .marks) (t .slots)) (edgeSlots back darts) in
+    record {
+      slots = slots;
+      src = unlessFull slots (front (t .src) (srcs s)) (t .src);
+      dst = unlessFull slots (front (t .dst) (dsts s)) (t .dst);
+      marks = unlessFull slots (front (t .marks) (marksOf s)) (t .marks);
+    }
+
+-- the outline of n entries with more darts
+unfoldable pub outlineWith : List Edge → ℕ → List ℕ → List ℕ
+outlineWith darts n outline = unlessFull (n + 2 * length darts) (put outline n (ends darts)) outline
+
+-- ---- the walk's answer
+
+-- for k pieces with m corners in all
+abbrev pub closedWith : ℕ → ℕ → Walked
+closedWith k m = Closed k m
+
+-- how many pieces and corners, or the refusal by document 01's number
+abbrev pub answer : Outcome → Walked
+answer (pieces ps) = closedWith (length ps) (length (flat ps))
+answer (refusal k) = Refused k
+
+-- what the lists of corners and of ends come to: the pieces at their front, or zeros on a refusal
+unfoldable pub cornersIn : Outcome → List ℕ → List ℕ
+cornersIn (pieces ps) nodes = front nodes (flat ps)
+cornersIn (refusal k) nodes = zeros (length nodes)
+
+unfoldable pub endsIn : Outcome → List ℕ → List ℕ
+endsIn (pieces ps) stops₀ = front stops₀ (stops 0 ps)
+endsIn (refusal k) stops₀ = zeros (length stops₀)
+
+-- the first k pieces as they are read from the two lists, after the first `from` corners
+unfoldable pub piecesIn : ℕ → ℕ → List ℕ → List ℕ → List (List ℕ)
+piecesIn from zero nodes stops₀ = []
+piecesIn from (suc k) nodes [] = []
+piecesIn from (suc k) nodes (e ∷ stops₀) = take (e - from) nodes ∷ piecesIn e k (drop (e - from) nodes) stops₀
+
+-- ---- what only inner functions' contracts and laws cite
+
 -- Three lists come to hold the r slots of t in front, and what stands behind them stays.
 pub record Inserted (t : List Slot) (r : ℕ) (src dst marks src′ dst′ marks′ : List ℕ) : Type 0 where
   pub holds : slotsOf src′ dst′ marks′ r ≡ t
@@ -51,22 +113,6 @@ pub record Added (coords : List Float) (back : ℕ) (es : List Edge) (n r : ℕ)
 pub record Outlined (darts : List Edge) (n r : ℕ) (outline outline′ : List ℕ) : Type 0 where
   pub grows : r ≤ 1024 → outline′ ≡ put outline n (ends darts)
   pub full : 1024 < r → outline′ ≡ outline
-
--- an answer by document 01's numbers: how many pieces and corners, or the refusal
-abbrev pub answer : Outcome → Walked
-answer (pieces ps) = Closed (length ps) (length (flat ps))
-answer (refusal k) = Refused k
-
--- what the lists of corners and of ends come to: the pieces at their front, or zeros on a refusal
-unfoldable pub cornersIn : Outcome → List ℕ → List ℕ
-cornersIn (pieces ps) nodes = front nodes (flat ps)
-cornersIn (refusal k) nodes = zeros (length nodes)
-
-unfoldable pub endsIn : Outcome → List ℕ → List ℕ
-endsIn (pieces ps) stops₀ = front stops₀ (stops 0 ps)
-endsIn (refusal k) stops₀ = zeros (length stops₀)
-
--- ---- what only inner functions' contracts cite
 
 pub record Room (n top : ℕ) (src dst marks heap nodes stops : List ℕ) : Type 0 where
   pub small : n ≤ 1024

@@ -11,10 +11,10 @@ ghost use Rattle.lists.specs.Search.{bit, first};
 ghost use Rattle.lists.specs.Sort.{insert, sortOnto};
 ghost use Rattle.lists.specs.Regions.{put};
 ghost use Rattle.cutting.specs.Edges.{turn};
-ghost use Rattle.cutting.specs.Cell.{Laid, windows, dartsAlong, ownDarts, isNew, fresh, nearDarts, edgeSlots, isLess, stands, standsBefore, doubled};
+ghost use Rattle.cutting.specs.Cell.{Laid, windows, dartsAlong, ownDarts, isNew, fresh, nearDarts, edgeSlots, reverseMark, isLess, stands, standsBefore, doubled};
 ghost use Rattle.cutting.specs.Walk.{leads, openAt, slot, after, starts, walkFrom, walk};
 ghost use Rattle.cutting.specs.Outcome.{ofWalk};
-ghost use Rattle.cutting.specs.Lent.{slotsOf, ends, pairs, stacked, Inserted, Added, Outlined, Room, Written, answer, cornersIn, endsIn};
+ghost use Rattle.cutting.specs.Lent.{slotsOf, ends, pairs, stacked, tableIn, withDarts, outlineWith, Inserted, Added, Outlined, Room, Written, closedWith, answer, cornersIn, endsIn};
 
 fn wide(x: u32) -> usize
     ensures { λ r. ⌜ r ≡ x ⌝ }
@@ -120,7 +120,7 @@ fn add_along(
 )
     requires { ⌜ (n + 2 * length (now nodes) ≤ length (now outline) + 2) × (n + 2 * length (now nodes) ≤ length (now src) + 2) × (n + 2 * length (now nodes) ≤ length (now dst) + 2) × (n + 2 * length (now nodes) ≤ length (now marks) + 2) ⌝ }
     ensures { λ _. ⌜ now (outline .exit) ≡ put (now (outline .entry)) n (ends (map (turn inv) (windows (now (nodes .entry))))) ⌝ }
-    ensures { λ _. ⌜ Inserted (sortOnto (standsBefore (now (coords .entry))) (slotsOf (now (src .entry)) (now (dst .entry)) (now (marks .entry)) n) (edgeSlots 1 (map (turn inv) (windows (now (nodes .entry)))))) (n + 2 * length (windows (now (nodes .entry)))) (now (src .entry)) (now (dst .entry)) (now (marks .entry)) (now (src .exit)) (now (dst .exit)) (now (marks .exit)) ⌝ }
+    ensures { λ _. ⌜ Inserted (sortOnto (standsBefore (now (coords .entry))) (slotsOf (now (src .entry)) (now (dst .entry)) (now (marks .entry)) n) (edgeSlots reverseMark (map (turn inv) (windows (now (nodes .entry)))))) (n + 2 * length (windows (now (nodes .entry)))) (now (src .entry)) (now (dst .entry)) (now (marks .entry)) (now (src .exit)) (now (dst .exit)) (now (marks .exit)) ⌝ }
 {
     let mut i = 0;
     let mut k = n;
@@ -149,7 +149,7 @@ fn add_darts(
     n: usize,
 ) -> usize
     requires { ⌜ (0 < length (now nodes)) × (n ≤ 1024) × (1024 ≤ length (now outline)) × (1024 ≤ length (now src)) × (1024 ≤ length (now dst)) × (1024 ≤ length (now marks)) ⌝ }
-    ensures { λ r. ⌜ Added (now (coords .entry)) 1 (dartsAlong second (now (nodes .entry))) n r (now (src .entry)) (now (dst .entry)) (now (marks .entry)) (now (src .exit)) (now (dst .exit)) (now (marks .exit)) × Outlined (dartsAlong second (now (nodes .entry))) n r (now (outline .entry)) (now (outline .exit)) ⌝ }
+    ensures { λ r. ⌜ Added (now (coords .entry)) reverseMark (dartsAlong second (now (nodes .entry))) n r (now (src .entry)) (now (dst .entry)) (now (marks .entry)) (now (src .exit)) (now (dst .exit)) (now (marks .exit)) × Outlined (dartsAlong second (now (nodes .entry))) n r (now (outline .entry)) (now (outline .exit)) ⌝ }
 {
     let slots = n + 2 * (nodes.len() - 1);
     if 1024 < slots {
@@ -174,7 +174,8 @@ pub fn add_own_edge(
     n: usize,
 ) -> usize
     requires { ⌜ (n ≤ 1024) × (1024 ≤ length (now outline)) × (1024 ≤ length (now src)) × (1024 ≤ length (now dst)) × (1024 ≤ length (now marks)) ⌝ }
-    ensures { λ r. ⌜ Added (now (coords .entry)) 1 (ownDarts (record { edge = (a, b); nodes = now (nodes .entry) })) n r (now (src .entry)) (now (dst .entry)) (now (marks .entry)) (now (src .exit)) (now (dst .exit)) (now (marks .exit)) × Outlined (ownDarts (record { edge = (a, b); nodes = now (nodes .entry) })) n r (now (outline .entry)) (now (outline .exit)) ⌝ }
+    ensures { λ r. ⌜ (tableIn r (now (src .exit)) (now (dst .exit)) (now (marks .exit)) ≡ withDarts (now (coords .entry)) reverseMark (ownDarts (record { edge = (a, b); nodes = now (nodes .entry) })) (tableIn n (now (src .entry)) (now (dst .entry)) (now (marks .entry))))
+        × (now (outline .exit) ≡ outlineWith (ownDarts (record { edge = (a, b); nodes = now (nodes .entry) })) n (now (outline .entry))) ⌝ }
 {
     if nodes.len() == 0 {
         let both = [a, b];
@@ -261,7 +262,7 @@ pub fn add_near_edge(
     n: usize,
 ) -> usize
     requires { ⌜ (n ≤ 1024) × (1024 ≤ length (now src)) × (1024 ≤ length (now dst)) × (1024 ≤ length (now marks)) ⌝ }
-    ensures { λ r. ⌜ Added (now (coords .entry)) 0 (nearDarts (pairs (now (outline .entry))) (record { edge = (a, b); nodes = now (nodes .entry) })) n r (now (src .entry)) (now (dst .entry)) (now (marks .entry)) (now (src .exit)) (now (dst .exit)) (now (marks .exit)) ⌝ }
+    ensures { λ r. ⌜ tableIn r (now (src .exit)) (now (dst .exit)) (now (marks .exit)) ≡ withDarts (now (coords .entry)) 0 (nearDarts (pairs (now (outline .entry))) (record { edge = (a, b); nodes = now (nodes .entry) })) (tableIn n (now (src .entry)) (now (dst .entry)) (now (marks .entry))) ⌝ }
 {
     if nodes.len() == 0 {
         let r = n + 2;
@@ -362,6 +363,13 @@ pub enum Walked {
     Refused(u32),
 }
 
+// The answer for k pieces with m corners in all.
+fn closed(k: usize, m: usize) -> Walked
+    ensures { λ r. ⌜ r ≡ closedWith k m ⌝ }
+{
+    Walked::Closed(k, m)
+}
+
 // Walks the table of n slots from the slots on the heap, of which there are `top`. A turn is a step of the definition.
 fn walk_on(
     src: &[u32],
@@ -407,7 +415,7 @@ fn walk_on(
             }
         } else {
             if sp == 0 {
-                return Walked::Closed(k, m);
+                return closed(k, m);
             }
             sp -= 1;
             let i = wide(heap[sp]);

@@ -1,5 +1,6 @@
 use mathlib.Core.Path.{sym}
 use lib.Seq.{length-take-le}
+use Rattle.cutting.proofs.Fronts.{added}
 use Rattle.cells.proofs.Near.{near-laid}
 use Rattle.cells.proofs.Cut.{along-is, along-fits}
 use borrow.Author.Needs.{needs}
@@ -43,7 +44,7 @@ same-length-3 c = search needs
 -- src/lib.rt:114:1
 returns : tie.Need-returns
 returns c =
-    near-laid _ _ _ _ _ _ _ _ _ _ _ _ _ (along-is (c .before .before .before .before .before .before .before .before .before .before .before .before .sorted-nodes .result) _ (c .before .before .before .before .before .before .before .before .before .before .before .before .sorted-nodes .ensures)) (c .before .before .before .before .before .before .add-near-edge .ensures)
+    near-laid _ _ _ _ _ _ _ _ _ _ _ _ _ (along-is (c .before .before .before .before .before .before .before .before .before .before .before .before .sorted-nodes .result) _ (c .before .before .before .before .before .before .before .before .before .before .before .before .sorted-nodes .ensures)) (added _ _ _ _ _ _ _ _ _ _ _ (c .before .before .before .before .before .before .add-near-edge .ensures))
 
 pub add-near-spec : {M : Type 1} → statement M
 add-near-spec =

@@ -1,5 +1,6 @@
 use mathlib.Core.Path.{sym}
 use lib.Seq.{length-take-le}
+use Rattle.cutting.proofs.Fronts.{own-added}
 use Rattle.cells.proofs.Own.{own-laid}
 use Rattle.cells.proofs.Cut.{along-is, along-fits}
 use borrow.Author.Needs.{needs}
@@ -47,7 +48,7 @@ same-length-4 c = search needs
 -- src/lib.rt:60:1
 returns : tie.Need-returns
 returns c =
-    own-laid _ _ _ _ _ _ _ _ _ _ _ _ _ _ (along-is (c .before .before .before .before .before .before .before .before .before .before .before .before .before .before .before .sorted-nodes .result) _ (c .before .before .before .before .before .before .before .before .before .before .before .before .before .before .before .sorted-nodes .ensures)) (c .before .before .before .before .before .before .before .before .add-own-edge .ensures)
+    own-laid _ _ _ _ _ _ _ _ _ _ _ _ _ _ (along-is (c .before .before .before .before .before .before .before .before .before .before .before .before .before .before .before .sorted-nodes .result) _ (c .before .before .before .before .before .before .before .before .before .before .before .before .before .before .before .sorted-nodes .ensures)) (own-added _ _ _ _ _ _ _ _ _ _ _ _ _ (c .before .before .before .before .before .before .before .before .add-own-edge .ensures))
 
 pub add-own-spec : {M : Type 1} → statement M
 add-own-spec =

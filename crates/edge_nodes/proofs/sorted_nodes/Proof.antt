@@ -45,14 +45,16 @@ slice-aggregate-collect c = search needs
 slice-aggregate-collect-2 : tie.Need-slice-aggregate-collect-2
 slice-aggregate-collect-2 c = search needs
 
--- src/lib.rt:226:9
+-- either kind has its links: the order of the two is settled by what is returned
 collect-requires : tie.Need-collect-requires
 collect-requires c κs =
     let a = c .before .before .before .before .before .before .before .before .before .before .before .before .before .before .args in
+    let x = subject-chains (a .met .now) (a .links .now) (pairs (a .subject .now)) (pairs (a .cutter .now)) (c .before .before .before .before .before .before .before .before .before .before .before .before .before .before .pre .0) in
+    let y = cutter-chains (a .met .now) (a .links .now) (pairs (a .subject .now)) (pairs (a .cutter .now)) (c .before .before .before .before .before .before .before .before .before .before .before .before .before .before .pre .0) in
     let few = c .before .before .before .before .before .before .before .before .before .before .before .before .before .before .pre .1 in
     let put = c .before .before .before .before .insert-node in
     let n = length-collected (pairs (a .subject .now)) (pairs (a .cutter .now)) (a .met .now) (a .a, a .b) in
-    (omega arith, omega (arith, n, few, put .kept .1 .1 .1 .0), omega (arith, n, few, put .kept .1 .1 .1 .1 .0), subject-chains (a .met .now) (a .links .now) (pairs (a .subject .now)) (pairs (a .cutter .now)) (c .before .before .before .before .before .before .before .before .before .before .before .before .before .before .pre .0))
+    (omega arith, omega (arith, n, few, put .kept .1 .1 .1 .0), omega (arith, n, few, put .kept .1 .1 .1 .1 .0), search (x, y))
 
 -- src/lib.rt:227:51
 slice-aggregate-collect-3 : tie.Need-slice-aggregate-collect-3
@@ -66,6 +68,8 @@ slice-aggregate-collect-4 c = search needs
 collect-requires-2 : tie.Need-collect-requires-2
 collect-requires-2 c κs =
     let a = c .before .before .before .before .before .before .before .before .before .before .before .before .before .before .before .before .before .before .before .args in
+    let x = subject-chains (a .met .now) (a .links .now) (pairs (a .subject .now)) (pairs (a .cutter .now)) (c .before .before .before .before .before .before .before .before .before .before .before .before .before .before .before .before .before .before .before .pre .0) in
+    let y = cutter-chains (a .met .now) (a .links .now) (pairs (a .subject .now)) (pairs (a .cutter .now)) (c .before .before .before .before .before .before .before .before .before .before .before .before .before .before .before .before .before .before .before .pre .0) in
     let few = c .before .before .before .before .before .before .before .before .before .before .before .before .before .before .before .before .before .before .before .pre .1 in
     let put = c .before .before .before .before .before .before .before .before .before .insert-node in
     let one = c .before .before .before .before .collect in
@@ -73,7 +77,7 @@ collect-requires-2 c κs =
       omega arith,
       omega (arith, n, few, one .ensures .0, one .kept .1 .1 .1 .1 .1 .1 .1 .0, put .kept .1 .1 .1 .0),
       omega (arith, n, few, one .ensures .0, one .kept .1 .1 .1 .1 .1 .1 .1 .1 .0, put .kept .1 .1 .1 .1 .0),
-      cutter-chains (a .met .now) (a .links .now) (pairs (a .subject .now)) (pairs (a .cutter .now)) (c .before .before .before .before .before .before .before .before .before .before .before .before .before .before .before .before .before .before .before .pre .0),
+      search (x, y),
     )
 
 -- src/lib.rt:229:9

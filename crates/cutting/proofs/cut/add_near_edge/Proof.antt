@@ -1,5 +1,7 @@
 -- `cutting::cut::add_near_edge` meets its contract. Assumes nothing.
+use mathlib.Core.Path.{refl}
 use Rattle.cutting.proofs.Adds.{whole-full, whole-fits, near-full, near-fits}
+use Rattle.cutting.proofs.Fronts.{as-table}
 use borrow.Author.Needs.{needs}
 use Rattle.cutting.proofs.cut.add_near_edge.Statement.{statement}
 use Rattle.cutting.proofs.cut.add_near_edge.Tie as tie
@@ -8,7 +10,9 @@ add-r : tie.Need-add-r
 add-r c = search needs
 
 returns : tie.Need-returns
-returns c = whole-full _ _ _ _ _ _ _ _ _ (c .before .if1 .taken) (c .if2 .taken)
+returns c =
+    let s = c .before .before .before .before .before .before .before .before in
+    as-table _ _ _ _ _ _ _ _ _ _ _ (whole-full _ _ _ _ _ _ _ _ _ (c .before .if1 .taken) (c .if2 .taken)) refl refl refl (s .pre .1, s .pre .2, s .pre .3)
 
 key-requires : tie.Need-key-requires
 key-requires c κs = search needs
@@ -26,7 +30,10 @@ same-length-3 : tie.Need-same-length-3
 same-length-3 c = c .before .before .before .before .before .before .add-dart .kept .1 .1 .1 .1 .1 .1 .0
 
 returns-2 : tie.Need-returns-2
-returns-2 c = whole-fits _ _ _ _ _ _ _ _ _ (c .before .before .before .before .before .before .before .before .before .before .before .before .if1 .taken) _ _ _ _ _ (c .before .before .before .before .before .before .before .before .before .before .before .if2 .left) (c .before .before .before .before .before .before .before .before .before .before .key .ensures) (c .before .before .before .before .before .before .add-dart .ensures)
+returns-2 c =
+    let s = c .before .before .before .before .before .before .before .before .before .before .before .before .before .before .before .before .before .before .before in
+    let d = c .before .before .before .before .before .before .add-dart in
+    as-table _ _ _ _ _ _ _ _ _ _ _ (whole-fits _ _ _ _ _ _ _ _ _ (c .before .before .before .before .before .before .before .before .before .before .before .before .if1 .taken) _ _ _ _ _ (c .before .before .before .before .before .before .before .before .before .before .before .if2 .left) (c .before .before .before .before .before .before .before .before .before .before .key .ensures) (c .before .before .before .before .before .before .add-dart .ensures)) (d .kept .1 .1 .1 .1 .0) (d .kept .1 .1 .1 .1 .1 .0) (d .kept .1 .1 .1 .1 .1 .1 .0) (s .pre .1, s .pre .2, s .pre .3)
 
 count-new-requires : tie.Need-count-new-requires
 count-new-requires c κs = search needs
@@ -38,7 +45,9 @@ add-r-2 : tie.Need-add-r-2
 add-r-2 c = search needs
 
 returns-3 : tie.Need-returns-3
-returns-3 c = near-full _ _ _ _ _ _ _ _ _ (c .before .before .if1 .left) _ (c .before .count-new .ensures .1) (c .if3 .taken)
+returns-3 c =
+    let s = c .before .before .before .before .before .before .before .before .before in
+    as-table _ _ _ _ _ _ _ _ _ _ _ (near-full _ _ _ _ _ _ _ _ _ (c .before .before .if1 .left) _ (c .before .count-new .ensures .1) (c .if3 .taken)) refl refl refl (s .pre .1, s .pre .2, s .pre .3)
 
 add-new-requires : tie.Need-add-new-requires
 add-new-requires c κs = search needs
@@ -53,7 +62,10 @@ same-length-6 : tie.Need-same-length-6
 same-length-6 c = c .before .before .before .before .before .before .add-new .kept .1 .1 .1 .1 .1 .0
 
 returns-4 : tie.Need-returns-4
-returns-4 c = near-fits _ _ _ _ _ _ _ _ _ (c .before .before .before .before .before .before .before .before .before .before .before .before .if1 .left) _ (c .before .before .before .before .before .before .before .before .before .before .before .count-new .ensures .1) _ _ _ (c .before .before .before .before .before .before .before .before .before .before .if3 .left) (c .before .before .before .before .before .before .add-new .ensures)
+returns-4 c =
+    let s = c .before .before .before .before .before .before .before .before .before .before .before .before .before .before .before .before .before .before .before in
+    let d = c .before .before .before .before .before .before .add-new in
+    as-table _ _ _ _ _ _ _ _ _ _ _ (near-fits _ _ _ _ _ _ _ _ _ (c .before .before .before .before .before .before .before .before .before .before .before .before .if1 .left) _ (c .before .before .before .before .before .before .before .before .before .before .before .count-new .ensures .1) _ _ _ (c .before .before .before .before .before .before .before .before .before .before .if3 .left) (c .before .before .before .before .before .before .add-new .ensures)) (d .kept .1 .1 .1 .0) (d .kept .1 .1 .1 .1 .0) (d .kept .1 .1 .1 .1 .1 .0) (s .pre .1, s .pre .2, s .pre .3)
 
 pub add-near-edge-spec : {M : Type 1} → statement M
 add-near-edge-spec =

@@ -1,12 +1,12 @@
 -- `cutting::cut::walk_on` meets its contract. A turn of its loop is a step of the definition, and the invariant ties the lists to the definition's state (`Turns`). The measure: twice the unmarked slots and the heap. Assumes nothing.
-use mathlib.Core.Path.{refl}
+use mathlib.Core.Path.{refl, _∙_}
 use Prim.Native.Nat.{_+_, _*_, _-_, _<_}
 use native.Mathlib.Omega.{arith}
 use borrow.Author.Needs.{needs}
 use lib.ListN.{getD, length-set}
 use Rattle.cutting.specs.Walk.{walkFrom}
 use Rattle.cutting.specs.Lent.{stacked}
-use Rattle.cutting.proofs.Ends.{unmarked}
+use Rattle.cutting.proofs.Rounds.{unmarked}
 use Rattle.cutting.proofs.Turns.{Inv, at-first, on-slot, resting, missing, turn-skip, corner-fits, turn-open, at-close, lost, fewer, push-fits, stop-fits, turn-close, no-way, next-fits, turn-onward}
 use Rattle.cutting.proofs.cut.walk_on.Statement.{statement}
 use Rattle.cutting.proofs.cut.walk_on.Tie as tie
@@ -226,6 +226,9 @@ loop-again-2 c =
     let found = c .before .before .before .before .before .find-slot .ensures in
     turn-onward (s .pre) v h y _ refl found (c .before .before .before .before .if2 .left) (c .before .before .before .if3 .left) _ (c .before .next-open .ensures) (c .if4 .left)
 
+closed-requires : tie.Need-closed-requires Inv-loop μ-loop
+closed-requires c κs = search needs
+
 same-length-9 : tie.Need-same-length-9 Inv-loop μ-loop
 same-length-9 c = search needs
 
@@ -240,11 +243,12 @@ same-length-12 c = search needs
 
 returns-3 : tie.Need-returns-3 Inv-loop μ-loop
 returns-3 c =
-    let l = c .before .before in
+    let l = c .before .before .before in
     let s = l .before .before .before .before .before .before .before in
     let v = l .loop .inv in
-    let h = c .before .if1 .left in
-    at-close (s .pre) v h (c .if5 .taken)
+    let h = c .before .before .if1 .left in
+    let e = at-close (s .pre) v h (c .before .if5 .taken) in
+    (c .closed .ensures ∙ e .0, e .1)
 
 sub-sp : tie.Need-sub-sp Inv-loop μ-loop
 sub-sp c = search needs
@@ -400,6 +404,7 @@ walk-on-spec =
     add-m
     loop-less-2
     loop-again-2
+    closed-requires
     same-length-9
     same-length-10
     same-length-11
