@@ -1,9 +1,9 @@
 #!/bin/sh
-# run.sh [ORACLE]: times the geometry layer beside the published Rust in one run and writes docs/BENCHMARK-geometry.md. Not a test.
+# run.sh: times the geometry layer beside the published Rust in one run and writes docs/BENCHMARK-geometry.md. Not a test.
 set -eu
 root=$(cd "$(dirname "$0")/../.." && pwd)
 cd "$root"
-differential/geometry/oracle.sh target/oracle ${1:+"$1"}
+mkdir -p target
 rt staticlib geometry_c >target/staticlib.log 2>&1 || {
     cat target/staticlib.log >&2
     exit 1

@@ -1,9 +1,9 @@
 #!/usr/bin/env python3
 """The geometry layer against the published Rust, line by line and bit for bit. No network.
 
-    python3 differential/geometry/run.py [--lines N] [--seed S] [--oracle DIR] [--built DIR] [--program FILE] [--sample]
+    python3 differential/geometry/run.py [--lines N] [--seed S] [--built DIR] [--program FILE] [--sample]
 
-Builds the oracle (DIR: its folder, by default $ORACLE or ../shared/oracle) into target/oracle, or takes the one in --built;
+Builds the oracle (differential/oracle) into target/oracle, or takes the one in --built;
 proves and compiles geometry_lines (or takes --program), makes N lines (by default 120,000 and the named ones), asks both sides, and
 says for each difference which cause it has. The last line has the counts. --sample writes the program's stored sample instead."""
 import argparse
@@ -209,14 +209,13 @@ def main():
     p = argparse.ArgumentParser()
     p.add_argument('--lines', type=int, default=120000)
     p.add_argument('--seed', type=int, default=1)
-    p.add_argument('--oracle', default=os.environ.get('ORACLE', os.path.join(ROOT, '..', 'shared', 'oracle')))
     p.add_argument('--built')
     p.add_argument('--program')
     p.add_argument('--sample', action='store_true')
     a = p.parse_args()
     built = a.built or os.path.join(ROOT, 'target', 'oracle')
     if not a.built:
-        subprocess.run([os.path.join(HERE, 'oracle.sh'), built, a.oracle], check=True)
+        subprocess.run([os.path.join(ROOT, 'differential', 'oracle.sh'), built], check=True)
     program = a.program or os.path.join(ROOT, 'target', 'bin', 'geometry_lines')
     if not a.program:
         subprocess.run(['rt', 'check', 'geometry_lines'], cwd=ROOT, check=not a.sample, stdout=subprocess.DEVNULL)

@@ -1,0 +1,32 @@
+//! Cuts the square (0,0)-(2,2), family 7, by the square (1,-1)-(3,3), and prints the pieces.
+use daqwimay::{Kind, Mesh, Operation, Refusal, overlay};
+
+fn square(kind: Kind, family: u32, [x, y]: [f64; 2], [u, v]: [f64; 2]) -> Mesh {
+    let mut m = Mesh::default();
+    let corners = [[x, y], [u, y], [u, v], [x, v]].map(|[a, b]| m.add_node(a, b));
+    m.add_cell(kind, family, &corners);
+    m
+}
+
+fn main() -> Result<(), Refusal> {
+    let subject = square(Kind::Quad4, 7, [0.0, 0.0], [2.0, 2.0]);
+    let cutter = square(Kind::Pgon, 0, [1.0, -1.0], [3.0, 3.0]);
+    let answer = overlay(Operation::Imprint, &subject, &cutter)?;
+    for (i, piece) in answer.mesh.cells().enumerate() {
+        print!("piece {i} of family {}:", piece.family);
+        for [x, y] in piece.nodes.iter().filter_map(|n| answer.mesh.node(*n)) {
+            print!(" ({x}, {y})");
+        }
+        println!();
+    }
+    println!("{} pieces, {} new points, {} doubled cells", answer.mesh.ends.len(), answer.new_points, answer.doubled_cells);
+
+    // A line that ends inside the square leaves a piece open.
+    let mut line = Mesh::default();
+    let ends = [line.add_node(1.0, -1.0), line.add_node(1.0, 1.0)];
+    line.add_cell(Kind::Seg2, 0, &ends);
+    if let Err(r) = overlay(Operation::Lines, &subject, &line) {
+        println!("refused, {}: {r}", r.number());
+    }
+    Ok(())
+}

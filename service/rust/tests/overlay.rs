@@ -1,0 +1,111 @@
+//! What the wrapper adds to the proved call: sizes, refusals, lists used again.
+use daqwimay::{Kind, MOST_MEETINGS, Mesh, Operation, Overlayer, Refusal, overlay};
+
+fn rectangle(m: &mut Mesh, kind: Kind, family: u32, [x, y]: [f64; 2], [u, v]: [f64; 2]) {
+    let corners = [[x, y], [u, y], [u, v], [x, v]].map(|[a, b]| m.add_node(a, b));
+    m.add_cell(kind, family, &corners);
+}
+
+fn one(kind: Kind, family: u32, a: [f64; 2], b: [f64; 2]) -> Mesh {
+    let mut m = Mesh::default();
+    rectangle(&mut m, kind, family, a, b);
+    m
+}
+
+fn line(a: [f64; 2], b: [f64; 2]) -> Mesh {
+    let mut m = Mesh::default();
+    let ends = [m.add_node(a[0], a[1]), m.add_node(b[0], b[1])];
+    m.add_cell(Kind::Seg2, 0, &ends);
+    m
+}
+
+/// n strips side by side, with nodes in common, over a square of side n.
+fn strips(n: usize, upright: bool) -> Mesh {
+    let mut m = Mesh::default();
+    let far = n as f64 + 0.5;
+    for i in 0..=n {
+        let x = i as f64 + 0.25;
+        for y in [-0.5, far] {
+            if upright { m.add_node(x, y) } else { m.add_node(y, x) };
+        }
+    }
+    for i in 0..n as u32 {
+        let (a, b) = (2 * i, 2 * i + 2);
+        let corners = if upright { [a, b, b + 1, a + 1] } else { [a, a + 1, b + 1, b] };
+        m.add_cell(Kind::Quad4, i, &corners);
+    }
+    m
+}
+
+fn k1() -> (Mesh, Mesh) {
+    (one(Kind::Quad4, 7, [0.0, 0.0], [2.0, 2.0]), one(Kind::Pgon, 0, [1.0, -1.0], [3.0, 3.0]))
+}
+
+#[test]
+fn two_pieces() {
+    let (s, c) = k1();
+    let o = overlay(Operation::Imprint, &s, &c).unwrap();
+    let pieces: Vec<_> = o.mesh.cells().map(|p| (p.kind, p.family, p.nodes.to_vec())).collect();
+    assert_eq!(pieces, [(11, 7, vec![3, 0, 8, 9]), (11, 7, vec![9, 8, 1, 2])]);
+    assert_eq!((o.new_points, o.doubled_cells), (2, 0));
+    assert_eq!(o.mesh.node(8), Some([1.0, 0.0]));
+    assert_eq!(o.mesh.node(10), None);
+}
+
+#[test]
+fn lists_grow() {
+    // 324 pieces of four corners each: more than the first guess has room for
+    let (s, c) = (strips(18, true), strips(18, false));
+    let mut lists = Overlayer::default();
+    let first = lists.overlay(Operation::Intersection, MOST_MEETINGS, &s, &c).unwrap();
+    assert_eq!(first.mesh.ends.len(), 324);
+    assert_eq!(first.mesh.nodes.len(), 4 * 324);
+    // the same lists serve a smaller and a larger call
+    let (a, b) = k1();
+    assert_eq!(lists.overlay(Operation::Union, 9, &a, &b).unwrap(), overlay(Operation::Union, &a, &b).unwrap());
+    assert_eq!(lists.overlay(Operation::Intersection, MOST_MEETINGS, &s, &c).unwrap(), first);
+}
+
+#[test]
+fn empty_meshes() {
+    let none = Mesh::default();
+    let o = overlay(Operation::Union, &none, &none).unwrap();
+    assert_eq!(o.mesh, none);
+}
+
+#[test]
+fn refusals() {
+    let (s, c) = k1();
+    let refused = |op, s: &Mesh, c: &Mesh| overlay(op, s, c).unwrap_err();
+    let with = |f: &dyn Fn(&mut Mesh)| {
+        let mut m = s.clone();
+        f(&mut m);
+        refused(Operation::Imprint, &m, &c)
+    };
+    assert_eq!(Overlayer::default().overlay(Operation::Imprint, 0, &s, &c), Err(Refusal::BadOperation));
+    assert_eq!(Overlayer::default().overlay(Operation::Imprint, u32::MAX, &s, &c), Err(Refusal::BadOperation));
+    assert_eq!(with(&|m| m.ends[0] = 3), Refusal::BadShape);
+    assert_eq!(with(&|m| m.families.clear()), Refusal::BadShape);
+    assert_eq!(with(&|m| m.coords.truncate(7)), Refusal::BadShape);
+    assert_eq!(with(&|m| m.coords[3] = f64::NAN), Refusal::BadCoordinate);
+    assert_eq!(with(&|m| m.coords[0] = -0.0), Refusal::BadCoordinate);
+    assert_eq!(with(&|m| m.kinds[0] = 5), Refusal::BadKind);
+    assert_eq!(with(&|m| m.nodes[2] = 4), Refusal::BadNode);
+    assert_eq!(with(&|m| m.nodes[2] = 0), Refusal::RepeatedNode);
+    assert_eq!(Overlayer::default().overlay(Operation::Imprint, 1, &s, &c), Err(Refusal::ManyMeetings));
+    assert_eq!(refused(Operation::Lines, &s, &line([1.0, -1.0], [1.0, 1.0])), Refusal::OpenCell);
+    assert_eq!(refused(Operation::Intersection, &strips(60, true), &strips(60, false)), Refusal::CrowdedCell);
+    assert_eq!(Refusal::CrowdedCell.number(), 10);
+    assert!(Refusal::OpenCell.to_string().contains("don't close"));
+}
+
+#[test]
+fn many_threads() {
+    let (s, c) = (strips(8, true), strips(8, false));
+    let want = overlay(Operation::Imprint, &s, &c).unwrap();
+    std::thread::scope(|t| {
+        for _ in 0..4 {
+            t.spawn(|| assert_eq!(overlay(Operation::Imprint, &s, &c).unwrap(), want));
+        }
+    });
+}
