@@ -22,7 +22,7 @@ use Rattle.rules.specs.Refusals.{Event, point, stop, ofMeeting, ofCell, course,
 use Rattle.meetings.specs.Booked.{booked, netOn}
 use Rattle.meetings.proofs.Reading.{by-edges}
 use Rattle.finding.specs.declared.numbering.Regions.{Regions}
-use Rattle.finding.specs.Nets.{copiedAt, subjectAt, cutterAt, metAt, regionsOf, netted}
+use Rattle.finding.specs.Nets.{copiedAt, subjectAt, cutterAt, metAt, chainRoom, regionsOf, netted}
 use Rattle.finding.specs.Found.{foundEvents, chains, foundAs}
 use Rattle.finding.proofs.Passed.{bare}
 use Rattle.finding.proofs.Events.{Early, early-append, early-points, early-met, early-nine, passes}
@@ -58,8 +58,8 @@ module _ (lines : Bool) (s c : Mesh) where
   unfolding netted
   netted-bare w =
       let filled : List ℕ → List Edge → List Edge → List ℕ =
-      λ ws es fs. put (put (put (put (front w (ws ++ zeros (nodeCount s))) (nodeCount c) (map (λ n. getD ws n 0) (c .nodes))) (copiedAt s c) (s .nodes)) (subjectAt s c) (ends es)) (cutterAt s c)
-      (cond lines [] (ends fs)) in
+      λ ws es fs. put (put (put (put (put (front w (ws ++ zeros (nodeCount s))) (nodeCount c) (map (λ n. getD ws n 0) (c .nodes))) (copiedAt s c) (s .nodes)) (subjectAt s c) (ends es)) (cutterAt s c)
+      (cond lines [] (ends fs))) (metAt s c) (zeros (chainRoom s c)) in
       ap (λ (ws : List ℕ). filled ws (subjectNet (bare s) .edges) (cutterNet lines (bare s) (bare c) .edges)) weld-bare ∙ ap₂ (filled (weld s c)) subjects-bare cutters-bare
 
 module _ (op : ℕ) (s c : Mesh) where

@@ -7,7 +7,7 @@ use native.Mathlib.Omega.{arith}
 use lib.ListN.{length, getD, length-append, length-map, length-replicate}
 use lib.Ieee.{Float}
 use Rattle.lists.specs.Regions.{run, front, put, copied, zeros}
-use Rattle.lists.proofs.Regions.{length-front, put-none, copied-fits}
+use Rattle.lists.proofs.Regions.{length-front, length-put, put-put, put-none, run-before, copied-fits}
 use Rattle.cutting.specs.Edges.{Edge}
 use Rattle.cutting.specs.Lent.{ends, pairs}
 use Rattle.entry.specs.Mesh.{Mesh, mesh, nodeCount}
@@ -18,8 +18,9 @@ use Rattle.spatial_index.proofs.Candidates.{length-pairs, length-ends}
 use Rattle.snap.proofs.Welds.{weld-lists, length-weld}
 use Rattle.neighbours.specs.Cells.{Rising}
 use Rattle.neighbours.proofs.Edges.{ends-pairs}
+use Rattle.neighbours.proofs.Threads.{put-swap}
 use Rattle.finding.specs.declared.numbering.Regions.{Regions}
-use Rattle.finding.specs.Nets.{Fit, Room, cutterEntries, copiedAt, subjectAt, cutterAt, metAt, regionsOf, netted}
+use Rattle.finding.specs.Nets.{Fit, Room, cutterEntries, copiedAt, subjectAt, cutterAt, metAt, chainRoom, regionsOf, netted}
 use Rattle.finding.proofs.Cells.{cellsIn, cells-lists, cells-renumbered, few-edges, prior-two, line-pairs}
 use Rattle.finding.proofs.Layers as layers
 use Rattle.finding.proofs.Welded.{numbers-read}
@@ -131,10 +132,20 @@ module _ (lines : Bool) (sc cc : List Float) (sn se cn ce : List ℕ) where
       abbrev three : List ℕ
       three = layers.three numbers entries sn (ends subjects) behind (nodeCount c) (copiedAt s c) (subjectAt s c) (cutterAt s c)
 
+      -- where the edges had their chains
+      abbrev clear : List ℕ
+      clear = zeros (chainRoom s c)
+
+      length-clear : length clear ≡ chainRoom s c
+      length-clear = length-replicate {A = ℕ} (chainRoom s c) 0
+
+      length-three : length three ≡ length w₀
+      length-three = layers.length-three numbers entries sn (ends subjects) behind (nodeCount c) (copiedAt s c) (subjectAt s c) (cutterAt s c) h₁ (omega arith) h₃ (h₄ behind few-behind) ∙ length-numbers
+
       module _ (w₁ w₂ w₃ w₄ : List ℕ) (k : ℕ) (d₁ : w₁ ≡ front w₀ (weld (mesh sc sn [] [] []) (mesh cc cn [] [] []) ++ zeros (length sc / 2)))
           (d₂ : w₂ ≡ put w₁ (nodeCount c) (map (λ n. getD w₁ n 0) cn)) (d₃ : w₃ ≡ copied w₂ (copiedAt s c) sn)
           (d₄ : (k ≡ length (computeDescending (cellsOf (mesh [] (run w₃ (copiedAt s c) (length sn)) se [] []))))
-          × (w₄ ≡ put w₃ (subjectAt s c) (ends (computeDescending (cellsOf (mesh [] (run w₃ (copiedAt s c) (length sn)) se [] [])))))) where
+          × (w₄ ≡ put (put w₃ (subjectAt s c) (ends (computeDescending (cellsOf (mesh [] (run w₃ (copiedAt s c) (length sn)) se [] []))))) (metAt s c) (zeros (chainRoom s c)))) where
         one-is : w₁ ≡ numbers
         one-is = d₁ ∙ ap (λ (l : List ℕ). front w₀ (l ++ zeros (nodeCount s))) (sym (weld-lists sc cc sn cn se ce [] [] [] []))
 
@@ -159,8 +170,8 @@ module _ (lines : Bool) (sc cc : List Float) (sn se cn ce : List ℕ) where
         k-is : k ≡ length subjects
         k-is = d₄ .0 ∙ ap length found-are
 
-        four-is : w₄ ≡ three
-        four-is = d₄ .1 ∙ ap₂ (λ (w : List ℕ) (es : List Edge). put w (subjectAt s c) (ends es)) three-is found-are
+        four-is : w₄ ≡ put three (metAt s c) clear
+        four-is = d₄ .1 ∙ ap₂ (λ (w : List ℕ) (es : List Edge). put (put w (subjectAt s c) (ends es)) (metAt s c) clear) three-is found-are
 
         regions-are : (a l : ℕ) → a ≡ cond lines (nodeCount c) (cutterAt s c) → l ≡ length cutters
             → regionsWith (nodeCount c) (subjectAt s c) k a l (metAt s c) ≡ regionsOf lines s c
@@ -169,6 +180,14 @@ module _ (lines : Bool) (sc cc : List Float) (sn se cn ce : List ℕ) where
             ap (λ (i : ℕ). regionsWith (nodeCount c) (subjectAt s c) i a l (metAt s c)) k-is
             ∙ ap₂ (λ (i j : ℕ). regionsWith (nodeCount c) (subjectAt s c) (length subjects) i j (metAt s c)) p q
 
+        -- the zeros again
+        again : put (put (put three (metAt s c) clear) (cutterAt s c) (ends cutters)) (metAt s c) clear ≡ put (put three (cutterAt s c) (ends cutters)) (metAt s c) clear
+        again =
+            let few : cutterAt s c + length (ends cutters) ≤ metAt s c = omega (arith, length-ends cutters, few-cutters) in
+            let long : length (put three (cutterAt s c) (ends cutters)) ≡ length w₀ = length-put three (cutterAt s c) (omega (arith, room, length-three)) (ends cutters) (omega (arith, few, room, length-three)) ∙ length-three in
+            ap (λ (w : List ℕ). put w (metAt s c) clear) (put-swap three (cutterAt s c) (metAt s c) (ends cutters) clear few (omega (arith, room, length-three, length-clear)))
+            ∙ put-put (put three (cutterAt s c) (ends cutters)) (metAt s c) (omega (arith, room, long)) clear clear (omega arith)
+
         -- of lines
         pub lines-end : lines ≡ true
             → (regionsWith (nodeCount c) (subjectAt s c) k (nodeCount c) (length cn / 2) (metAt s c) ≡ regionsOf lines s c) × (w₄ ≡ netted lines s c w₀)
@@ -176,24 +195,25 @@ module _ (lines : Bool) (sc cc : List Float) (sn se cn ce : List ℕ) where
         lines-end e = (
           regions-are (nodeCount c) (length cn / 2) (sym (ap (λ (t : Bool). cond t (nodeCount c) (cutterAt s c)) e))
               (omega (arith, ap length (cutters-lines e), length-pairs entries, length-entries)),
-          four-is ∙ sym (put-none three (cutterAt s c)) ∙ ap (λ (t : Bool). put three (cutterAt s c) (cond t [] (ends cutters))) (sym e),
+          four-is ∙ ap (λ (w : List ℕ). put w (metAt s c) clear) (sym (put-none three (cutterAt s c)) ∙ ap (λ (t : Bool). put three (cutterAt s c) (cond t [] (ends cutters))) (sym e)),
         )
 
         -- of cells
         pub cells-end : lines ≡ false → (w₅ : List ℕ) (l : ℕ)
             → (l ≡ length (computeDescending (cellsOf (mesh [] (run w₄ (nodeCount c) (length cn)) ce [] []))))
-            × (w₅ ≡ put w₄ (cutterAt s c) (ends (computeDescending (cellsOf (mesh [] (run w₄ (nodeCount c) (length cn)) ce [] [])))))
+            × (w₅ ≡ put (put w₄ (cutterAt s c) (ends (computeDescending (cellsOf (mesh [] (run w₄ (nodeCount c) (length cn)) ce [] []))))) (metAt s c) (zeros (chainRoom s c)))
             → (regionsWith (nodeCount c) (subjectAt s c) k (cutterAt s c) l (metAt s c) ≡ regionsOf lines s c) × (w₅ ≡ netted lines s c w₀)
         unfolding netted
         cells-end e w₅ l d₅ =
             let read : run w₄ (nodeCount c) (length cn) ≡ entries =
             ap₂ (λ (w : List ℕ) (n : ℕ). run w (nodeCount c) n) four-is (sym length-entries)
+            ∙ run-before three (metAt s c) (omega (arith, room, length-three)) clear (nodeCount c) (length entries) (omega (arith, length-entries))
             ∙ layers.first-three numbers entries sn (ends subjects) behind (nodeCount c) (copiedAt s c) (subjectAt s c) (cutterAt s c) h₁ (omega arith) h₃ (h₄ behind few-behind) in
             let are : computeDescending (cellsOf (mesh [] (run w₄ (nodeCount c) (length cn)) ce [] [])) ≡ cutters =
             ap (λ (ns : List ℕ). computeDescending (cellsIn ns ce)) read ∙ sym (cutters-cells e) in (
               regions-are (cutterAt s c) l (sym (ap (λ (t : Bool). cond t (nodeCount c) (cutterAt s c)) e)) (d₅ .0 ∙ ap length are),
-              d₅ .1 ∙ ap₂ (λ (w : List ℕ) (es : List Edge). put w (cutterAt s c) (ends es)) four-is are
-                  ∙ ap (λ (t : Bool). put three (cutterAt s c) (cond t [] (ends cutters))) (sym e),
+              d₅ .1 ∙ ap₂ (λ (w : List ℕ) (es : List Edge). put (put w (cutterAt s c) (ends es)) (metAt s c) clear) four-is are ∙ again
+                  ∙ ap (λ (t : Bool). put (put three (cutterAt s c) (cond t [] (ends cutters))) (metAt s c) clear) (sym e),
             )
 
       -- ---- what the regions hold
@@ -201,27 +221,34 @@ module _ (lines : Bool) (sc cc : List Float) (sn se cn ce : List ℕ) where
       abbrev held : List ℕ
       held = netted lines s c w₀
 
+      -- without the zeros
+      abbrev four : List ℕ
+      four = layers.four numbers entries sn (ends subjects) behind (nodeCount c) (copiedAt s c) (subjectAt s c) (cutterAt s c)
+
+      length-four : length four ≡ length w₀
+      length-four = layers.length-four numbers entries sn (ends subjects) behind (nodeCount c) (copiedAt s c) (subjectAt s c) (cutterAt s c) h₁ (omega arith) h₃ (h₄ behind few-behind) ∙ length-numbers
+
       pub length-held : length held ≡ length w₀
       unfolding netted
-      length-held =
-          layers.length-four numbers entries sn (ends subjects) behind (nodeCount c) (copiedAt s c) (subjectAt s c) (cutterAt s c) h₁ (omega arith) h₃ (h₄ behind few-behind) ∙ length-numbers
+      length-held = length-put four (metAt s c) (omega (arith, room, length-four)) clear (omega (arith, room, length-four, length-clear)) ∙ length-four
+
+      before : (a n : ℕ) → a + n ≤ metAt s c → run held a n ≡ run four a n
+      unfolding netted
+      before a n h = run-before four (metAt s c) (omega (arith, room, length-four)) clear a n h
 
       entries-whole : run held (nodeCount c) (length entries) ≡ entries
-      unfolding netted
-      entries-whole = layers.first-four numbers entries sn (ends subjects) behind (nodeCount c) (copiedAt s c) (subjectAt s c) (cutterAt s c) h₁ (omega arith) h₃ (h₄ behind few-behind)
+      entries-whole = before (nodeCount c) (length entries) (omega (arith, length-entries)) ∙ layers.first-four numbers entries sn (ends subjects) behind (nodeCount c) (copiedAt s c) (subjectAt s c) (cutterAt s c) h₁ (omega arith) h₃ (h₄ behind few-behind)
 
       pub entries-held : run held (nodeCount c) (length cn) ≡ entries
       entries-held = ap (run held (nodeCount c)) (sym length-entries) ∙ entries-whole
 
       pub subjects-held : run held (subjectAt s c) (2 * length subjects) ≡ ends subjects
-      unfolding netted
       subjects-held =
-          ap (run held (subjectAt s c)) (sym (length-ends subjects))
+          ap (run held (subjectAt s c)) (sym (length-ends subjects)) ∙ before (subjectAt s c) (length (ends subjects)) (omega (arith, length-ends subjects, few-subjects))
           ∙ layers.third-four numbers entries sn (ends subjects) behind (nodeCount c) (copiedAt s c) (subjectAt s c) (cutterAt s c) h₁ (omega arith) h₃ (h₄ behind few-behind)
 
       behind-held : run held (cutterAt s c) (length behind) ≡ behind
-      unfolding netted
-      behind-held = layers.fourth-four numbers entries sn (ends subjects) behind (nodeCount c) (copiedAt s c) (subjectAt s c) (cutterAt s c) h₁ (omega arith) h₃ (h₄ behind few-behind)
+      behind-held = before (cutterAt s c) (length behind) (omega (arith, few-behind)) ∙ layers.fourth-four numbers entries sn (ends subjects) behind (nodeCount c) (copiedAt s c) (subjectAt s c) (cutterAt s c) h₁ (omega arith) h₃ (h₄ behind few-behind)
 
       pub cutters-held : run held (cond lines (nodeCount c) (cutterAt s c)) (2 * length cutters) ≡ ends cutters
       cutters-held = go lines refl

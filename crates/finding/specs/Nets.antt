@@ -29,9 +29,9 @@ pub record Fit (lines : Bool) (m : Mesh) : Type 0 where
   pub number : (i : ℕ) → i < length (m .nodes) → getD (m .nodes) i 0 < nodeCount m
   pub two : lines ≡ true → (i : ℕ) → i < length (m .ends) → cellSize (m .ends) i ≡ 2
 
--- a working list of w numbers, for m meetings and their links
+-- a working list of w numbers, for the edges on chains, and for m meetings and their links
 abbrev pub Room : ℕ → Mesh → Mesh → ℕ → Type 0
-Room m s c w = 3 * (nodeCount s + nodeCount c) + 3 * (length (s .nodes) + length (c .nodes)) + 7 * m + 2 ≤ w
+Room m s c w = 3 * (nodeCount s + nodeCount c) + 4 * (length (s .nodes) + length (c .nodes)) + 7 * m + 2 ≤ w
 
 -- ---- the regions
 
@@ -53,6 +53,10 @@ module _ (s c : Mesh) where
   abbrev pub metAt : ℕ
   metAt = cutterAt + 2 * length (c .nodes)
 
+  -- what edges on chains take there before the meetings: a chain for each node and one, and a number for each entry
+  abbrev pub chainRoom : ℕ
+  chainRoom = nodeCount s + nodeCount c + 1 + (length (s .nodes) + length (c .nodes))
+
 -- where they begin, and how many edges there are; the edges of lines are the cutter's entries
 unfoldable pub regionsOf : Bool → Mesh → Mesh → Regions
 regionsOf lines s c =
@@ -65,9 +69,10 @@ regionsOf lines s c =
       base = metAt s c;
     }
 
--- the working list w then: the numbers of the cutter's nodes (zeros behind them, which the entries overwrite), both meshes' entries, and the edges
+-- the working list w then: the numbers of the cutter's nodes (zeros behind them, which the entries overwrite), both meshes' entries, the edges, and zeros
 unfoldable pub netted : Bool → Mesh → Mesh → List ℕ → List ℕ
 netted lines s c w =
     let numbers = front w (weld s c ++ zeros (nodeCount s)) in
     let entries = put (put numbers (nodeCount c) (cutterEntries s c)) (copiedAt s c) (s .nodes) in
-    put (put entries (subjectAt s c) (ends (subjectNet s .edges))) (cutterAt s c) (cond lines [] (ends (cutterNet lines s c .edges)))
+    let edges = put (put entries (subjectAt s c) (ends (subjectNet s .edges))) (cutterAt s c) (cond lines [] (ends (cutterNet lines s c .edges))) in
+    put edges (metAt s c) (zeros (chainRoom s c))

@@ -1,6 +1,6 @@
 // Both meshes under one numbering, in the working list (document 01, modules 4 and 5). Regions, one behind the other: the numbers of the cutter's
 // nodes; the cutter's node entries under those numbers; the subject's node entries; the subject's edges, with room for two numbers an entry; the
-// cutter's edges, likewise. Lines are edges as they are: theirs are the cutter's entries.
+// cutter's edges, likewise; zeros, where the edges had their chains. Lines are edges as they are: theirs are the cutter's entries.
 ghost use mathlib.Core.Path.{_≡_};
 ghost use mathlib.Core.Bool.{false};
 ghost use mathlib.Core.List.{map};
@@ -57,10 +57,13 @@ pub(crate) fn nets(
     let from = copied + sn.len();
     let at = from + 2 * sn.len();
     let base = at + 2 * cn.len();
+    // The edges are on h chains while they are written, where the meetings will stand.
+    let h = sc.len() / 2 + entries + 1;
+    let n = sn.len() + cn.len();
     duplicates_from(sc, sn, cc, cn, w);
     renumber(cn, w, entries);
     copy_u32(w, copied, sn);
-    let subject = compute_descending(w, se, copied, sn.len(), from);
+    let subject = compute_descending(w, se, copied, sn.len(), from, base, h, n);
     if lines {
         return Regions {
             entries,
@@ -71,7 +74,7 @@ pub(crate) fn nets(
             base,
         };
     }
-    let cutter = compute_descending(w, ce, entries, cn.len(), at);
+    let cutter = compute_descending(w, ce, entries, cn.len(), at, base, h, n);
     Regions {
         entries,
         from,

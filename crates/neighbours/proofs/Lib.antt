@@ -1,2 +1,4 @@
 pub mod Edges
+pub mod Chains
+pub mod Threads
 pub mod Loops

@@ -1,5 +1,6 @@
 use Prim.Native.Nat.{_-_}
-use Rattle.neighbours.proofs.Loops.{Filled, cell-start, cell-turn, cell-end}
+use native.Mathlib.Omega.{arith}
+use Rattle.neighbours.proofs.Loops.{Filled, cell-start, cell-ready, cell-turn, cell-end}
 use borrow.Author.Needs.{needs}
 use Rattle.neighbours.proofs.cell_edges.Statement.{statement}
 use Rattle.neighbours.proofs.cell_edges.Tie as tie
@@ -9,88 +10,78 @@ use Rattle.neighbours.proofs.add_edge.Reads as add-edge-reads
 use Rattle.neighbours.proofs.next.Reads as next-reads
 
 abbrev Inv-loop : tie.InvT-loop
-Inv-loop w₀ at n base k m₀ i₀ w m i = Filled w₀ at n base k w m i
+Inv-loop w₀ at m base k scratch h n r₀ i₀ w r i = Filled w₀ at m base k scratch h n w r i
 
 abbrev μ-loop : tie.MeasureT-loop
-μ-loop w₀ at n base k m₀ i₀ w m i = n - i
+μ-loop w₀ at m base k scratch h n r₀ i₀ w r i = m - i
 
--- src/lib.rt:84:5
+-- src/lib.rt:117:5
 loop-holds : tie.Need-loop-holds Inv-loop μ-loop
-loop-holds c = let p = c .before .args in
-    cell-start (p .w .now) (p .at) (p .n) (p .base) (p .k) (c .before .pre .0) (c .before .pre .1)
+loop-holds c =
+    let p = c .before in
+    cell-start (p .args .w .now) (p .args .at) (p .args .m) (p .args .base) (p .args .k) (p .args .scratch) (p .args .h) (p .args .n) (p .pre .0) (p .pre .1) (p .pre .2) (p .pre .6)
 
--- src/lib.rt:85:13
+-- src/lib.rt:118:13
 next-requires : tie.Need-next-requires Inv-loop μ-loop
 next-requires c κs = search needs
 
--- src/lib.rt:86:19
+-- src/lib.rt:119:19
 add-a : tie.Need-add-a Inv-loop μ-loop
 add-a c = search needs
 
--- src/lib.rt:86:17
+-- src/lib.rt:119:17
 mul-a : tie.Need-mul-a Inv-loop μ-loop
 mul-a c = search needs
 
--- src/lib.rt:86:17
+-- src/lib.rt:119:17
 slice-read-a : tie.Need-slice-read-a Inv-loop μ-loop
 slice-read-a c = search needs
 
--- src/lib.rt:87:19
+-- src/lib.rt:120:19
 add-b : tie.Need-add-b Inv-loop μ-loop
 add-b c = search needs
 
--- src/lib.rt:87:17
+-- src/lib.rt:120:17
 mul-b : tie.Need-mul-b Inv-loop μ-loop
 mul-b c = search needs
 
--- src/lib.rt:87:17
+-- src/lib.rt:120:17
 slice-read-b : tie.Need-slice-read-b Inv-loop μ-loop
 slice-read-b c = search needs
 
--- src/lib.rt:88:22
-mul-add-edge : tie.Need-mul-add-edge Inv-loop μ-loop
-mul-add-edge c = search needs
-
--- src/lib.rt:88:22
-sub-add-edge : tie.Need-sub-add-edge Inv-loop μ-loop
-sub-add-edge c = search needs
-
--- src/lib.rt:88:22
-part-add-edge-start : tie.Need-part-add-edge-start Inv-loop μ-loop
-part-add-edge-start c = search needs
-
--- src/lib.rt:88:22
-part-add-edge-end : tie.Need-part-add-edge-end Inv-loop μ-loop
-part-add-edge-end c = search needs
-
--- src/lib.rt:88:9
+-- src/lib.rt:121:9
 add-edge-requires : tie.Need-add-edge-requires Inv-loop μ-loop
-add-edge-requires c κs = search needs
+add-edge-requires c κs =
+    let p = c .before .before .before .before .before .before .before in
+    let l = c .before .before .before .before .before .loop in
+    (omega arith, omega arith, omega arith, omega arith, omega arith, cell-ready (p .args .w .now) (p .args .at) (p .args .m) (p .args .base) (p .args .k) (p .args .scratch) (p .args .h) (p .args .n) (p .pre .0) (p .pre .1) (p .pre .2) (p .pre .6) (l .w) (l .r) (l .i) (l .inv))
 
--- src/lib.rt:89:9
+-- src/lib.rt:122:9
 add-i : tie.Need-add-i Inv-loop μ-loop
 add-i c = search needs
 
--- src/lib.rt:84:5
+-- src/lib.rt:117:5
 loop-less : tie.Need-loop-less Inv-loop μ-loop
 loop-less c = search needs
 
--- src/lib.rt:84:5
+-- src/lib.rt:117:5
 loop-again : tie.Need-loop-again Inv-loop μ-loop
-loop-again c = let p = c .before .before .before .before .before .before .before .before .before .before .args in
+loop-again c =
+    let p = c .before .before .before .before .before .before .before .before .before .before in
     let l = c .before .before .before .before .before .before .before .before .loop in
-    cell-turn (p .w .now) (p .at) (p .n) (p .base) (p .k) (c .before .before .before .before .before .before .before .before .before .before .pre .0) (c .before .before .before .before .before .before .before .before .before .before .pre .1) (l .w) (l .m) (l .i) (c .before .before .before .before .before .before .next .result) (c .before .before .add-edge .result) (c .before .before .add-edge .last .0)
-    (l .inv) (c .before .before .before .before .before .before .before .loop-test .taken) (c .before .before .before .before .before .before .next .ensures) (c .before .before .add-edge .ensures)
+    let add = c .before .before .add-edge in
+    cell-turn (p .args .w .now) (p .args .at) (p .args .m) (p .args .base) (p .args .k) (p .args .scratch) (p .args .h) (p .args .n) (p .pre .0) (p .pre .1) (p .pre .2) (p .pre .6) (l .w) (l .r) (l .i) (l .inv) (c .before .before .before .before .before .before .next .result) (add .result) (add .last .0) (c .before .before .before .before .before .before .before .loop-test .taken) (c .before .before .before .before .before .before .next .ensures) (add .kept .0) (add .ensures)
 
--- src/lib.rt:77:1
+-- src/lib.rt:100:1
 same-length : tie.Need-same-length Inv-loop μ-loop
 same-length c = search needs
 
--- src/lib.rt:77:1
+-- src/lib.rt:100:1
 returns : tie.Need-returns Inv-loop μ-loop
-returns c = let p = c .before .before .before .args in
+returns c =
+    let p = c .before .before .before in
     let l = c .before .loop in
-    cell-end (p .w .now) (p .at) (p .n) (p .base) (p .k) (c .before .before .before .pre .0) (c .before .before .before .pre .1) (l .w) (l .m) (l .i) (l .inv) (c .loop-test .left)
+    cell-end (p .args .w .now) (p .args .at) (p .args .m) (p .args .base) (p .args .k) (p .args .scratch) (p .args .h) (p .args .n) (p .pre .0) (p .pre .1) (p .pre .2) (p .pre .6) (l .w) (l .r) (l .i) (l .inv) (c .loop-test .left)
 
 pub cell-edges-spec : {M : Type 1} → statement M
 cell-edges-spec =
@@ -106,10 +97,6 @@ cell-edges-spec =
     add-b
     mul-b
     slice-read-b
-    mul-add-edge
-    sub-add-edge
-    part-add-edge-start
-    part-add-edge-end
     add-edge-requires
     add-i
     loop-less

@@ -1,90 +1,97 @@
-use Prim.Native.Nat.{_-_}
 use native.Mathlib.Omega.{arith}
-use lib.ListN.{length}
-use Rattle.neighbours.proofs.Loops.{Written, start₀, turn, end}
+use Rattle.neighbours.proofs.Loops.{length-first, clear-first, whole-end}
 use borrow.Author.Needs.{needs}
 use Rattle.neighbours.proofs.compute_descending.Statement.{statement}
 use Rattle.neighbours.proofs.compute_descending.Tie as tie
 use Rattle.neighbours.proofs.compute_descending.Reads as reads
 use Rattle.neighbours.proofs.compute_descending.Lts as lts
-use Rattle.neighbours.proofs.cell_edges.Reads as cell-edges-reads
+use Rattle.lists.proofs.zero_u32.Reads as zero-u32-reads
+use Rattle.neighbours.proofs.all_edges.Reads as all-edges-reads
 
-abbrev Inv-loop : tie.InvT-loop
-Inv-loop w₀ cells at total base k₀ s₀ i₀ i-end w k start i = Written w₀ cells at total base w k start i
+-- src/lib.rt:169:24
+add-t : tie.Need-add-t
+add-t c = search needs
 
-abbrev μ-loop : tie.MeasureT-loop
-μ-loop w₀ cells at total base k₀ s₀ i₀ i-end w k start i = length cells - i
+-- src/lib.rt:169:13
+add-t-2 : tie.Need-add-t-2
+add-t-2 c = search needs
 
--- src/lib.rt:107:5
-loop-holds : tie.Need-loop-holds Inv-loop μ-loop
-loop-holds c = let p = c .before .before .args in
-    start₀ (p .w .now) (p .cells .now) (p .at) (p .total) (p .base) (c .before .before .pre .0) (c .before .before .pre .1) (c .before .before .pre .2)
+-- src/lib.rt:170:14
+mul-zero-u32 : tie.Need-mul-zero-u32
+mul-zero-u32 c = search needs
 
--- src/lib.rt:108:17
-mul-e : tie.Need-mul-e Inv-loop μ-loop
-mul-e c = search needs
+-- src/lib.rt:170:14
+sub-zero-u32 : tie.Need-sub-zero-u32
+sub-zero-u32 c = search needs
 
--- src/lib.rt:108:17
-shared-slice-read-e : tie.Need-shared-slice-read-e Inv-loop μ-loop
-shared-slice-read-e c = search needs
+-- src/lib.rt:170:14
+part-zero-u32-start : tie.Need-part-zero-u32-start
+part-zero-u32-start c = search needs
 
--- src/lib.rt:108:17
-cast-e : tie.Need-cast-e Inv-loop μ-loop
-cast-e c = omega (arith, c .shared-slice-known2 .given (c .before .before .loop .i))
+-- src/lib.rt:170:14
+part-zero-u32-end : tie.Need-part-zero-u32-end
+part-zero-u32-end c = search needs
 
--- src/lib.rt:109:27
-add-cell-edges : tie.Need-add-cell-edges Inv-loop μ-loop
-add-cell-edges c = search needs
+-- src/lib.rt:170:5
+zero-u32-requires : tie.Need-zero-u32-requires
+zero-u32-requires c κs = search needs
 
--- src/lib.rt:109:39
-sub-cell-edges : tie.Need-sub-cell-edges Inv-loop μ-loop
-sub-cell-edges c = omega (arith, c .before .before .before .before .before .before .pre .2 (c .before .before .before .loop .i) (c .before .before .loop-test .taken), c .before .before .before .loop .inv .1)
+-- src/lib.rt:171:9
+all-edges-requires : tie.Need-all-edges-requires
+all-edges-requires c κs =
+    let p = c .before .before .before .before .before .before .before in
+    let z = c .before .before .before .zero-u32 in
+    (p .pre .0, p .pre .1, omega (arith, p .pre .2, length-first (p .args .w .now) (p .args .cells .now) (p .args .at) (p .args .total) (p .args .base) (p .args .scratch) (p .args .h) (p .args .n) (p .pre .0) (p .pre .1) (p .pre .2) (z .last .0) (z .ensures)), p .pre .3, p .pre .4, p .pre .5, p .pre .6, clear-first (p .args .w .now) (p .args .cells .now) (p .args .at) (p .args .total) (p .args .base) (p .args .scratch) (p .args .h) (p .args .n) (p .pre .0) (p .pre .1) (p .pre .2) (z .last .0) (z .ensures))
 
--- src/lib.rt:109:9
-cell-edges-requires : tie.Need-cell-edges-requires Inv-loop μ-loop
-cell-edges-requires c κs =
-    omega (arith, c .before .before .before .before .before .before .pre .2 (c .before .before .before .loop .i) (c .before .before .loop-test .taken), c .before .before .before .loop .inv .1)
+-- src/lib.rt:172:14
+mul-zero-u32-2 : tie.Need-mul-zero-u32-2
+mul-zero-u32-2 c = search needs
 
--- src/lib.rt:107:9
-add-i : tie.Need-add-i Inv-loop μ-loop
-add-i c = search needs
+-- src/lib.rt:172:14
+sub-zero-u32-2 : tie.Need-sub-zero-u32-2
+sub-zero-u32-2 c = search needs
 
--- src/lib.rt:107:5
-loop-less : tie.Need-loop-less Inv-loop μ-loop
-loop-less c = search needs
+-- src/lib.rt:172:14
+part-zero-u32-start-2 : tie.Need-part-zero-u32-start-2
+part-zero-u32-start-2 c = search needs
 
--- src/lib.rt:107:5
-loop-again : tie.Need-loop-again Inv-loop μ-loop
-loop-again c = let p = c .before .before .before .before .before .before .before .before .before .args in
-    let l = c .before .before .before .before .before .before .loop in
-    turn (p .w .now) (p .cells .now) (p .at) (p .total) (p .base) (c .before .before .before .before .before .before .before .before .before .pre .0) (c .before .before .before .before .before .before .before .before .before .pre .1) (c .before .before .before .before .before .before .before .before .before .pre .2) (l .w) (l .k) (l .start) (l .i) (c .before .before .cell-edges .result) (c .before .before .cell-edges .last .0)
-    (l .inv) (c .before .before .before .before .before .loop-test .taken) (c .before .before .cell-edges .ensures)
+-- src/lib.rt:172:14
+part-zero-u32-end-2 : tie.Need-part-zero-u32-end-2
+part-zero-u32-end-2 c = search needs
 
--- src/lib.rt:100:1
-same-length : tie.Need-same-length Inv-loop μ-loop
+-- src/lib.rt:172:5
+zero-u32-requires-2 : tie.Need-zero-u32-requires-2
+zero-u32-requires-2 c κs = search needs
+
+-- src/lib.rt:155:1
+same-length : tie.Need-same-length
 same-length c = search needs
 
--- src/lib.rt:100:1
-returns : tie.Need-returns Inv-loop μ-loop
-returns c = let p = c .before .before .before .before .args in
-    let l = c .before .loop in
-    end (p .w .now) (p .cells .now) (p .at) (p .total) (p .base) (c .before .before .before .before .pre .0) (c .before .before .before .before .pre .1) (c .before .before .before .before .pre .2) (l .w) (l .k) (l .start) (l .i) (l .inv) (c .loop-test .left)
+-- src/lib.rt:155:1
+returns : tie.Need-returns
+returns c =
+    let p = c .before .before .before .before .before .before .before .before .before .before .before .before .before .before in
+    let z = c .before .before .before .before .before .before .before .before .before .before .zero-u32 in
+    let e = c .before .before .before .before .before .before .all-edges in
+    let y = c .before .before .zero-u322 in
+    whole-end (p .args .w .now) (p .args .cells .now) (p .args .at) (p .args .total) (p .args .base) (p .args .scratch) (p .args .h) (p .args .n) (p .pre .0) (p .pre .1) (p .pre .2) (z .last .0) (z .ensures) (e .last .0) (e .kept .0) (y .last .0) (y .ensures) (e .result) (e .ensures)
 
 pub compute-descending-spec : {M : Type 1} → statement M
 compute-descending-spec =
     tie.close
     (tie.spec
-    Inv-loop
-    μ-loop
-    loop-holds
-    mul-e
-    shared-slice-read-e
-    cast-e
-    add-cell-edges
-    sub-cell-edges
-    cell-edges-requires
-    add-i
-    loop-less
-    loop-again
+    add-t
+    add-t-2
+    mul-zero-u32
+    sub-zero-u32
+    part-zero-u32-start
+    part-zero-u32-end
+    zero-u32-requires
+    all-edges-requires
+    mul-zero-u32-2
+    sub-zero-u32-2
+    part-zero-u32-start-2
+    part-zero-u32-end-2
+    zero-u32-requires-2
     same-length
     returns)

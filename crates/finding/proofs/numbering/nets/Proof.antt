@@ -11,7 +11,7 @@ compute-descending-requires c κs =
     let renumber = copy .before .before .before .before in
     let weld = renumber .before .before .before .before in
     let p = weld .before .before .before .before .before .before .before .before .before in
-    (omega arith, omega (arith, p .pre .2, weld .duplicates-from .kept .1 .1 .1 .1 .0, renumber .renumber .kept .1 .0, copy .copy-u32 .kept .0), rising _ _ (p .pre .0))
+    (omega arith, omega arith, omega (arith, p .pre .2, weld .duplicates-from .kept .1 .1 .1 .1 .0, renumber .renumber .kept .1 .0, copy .copy-u32 .kept .0), omega arith, p .pre .0 .mostEntries, omega arith, rising _ _ (p .pre .0))
 
 returns : tie.Need-returns
 returns c =
@@ -31,7 +31,7 @@ compute-descending-requires-2 c κs =
     let renumber = copy .before .before .before .before in
     let weld = renumber .before .before .before .before in
     let p = weld .before .before .before .before .before .before .before .before .before in
-    (omega arith, omega (arith, p .pre .2, weld .duplicates-from .kept .1 .1 .1 .1 .0, renumber .renumber .kept .1 .0, copy .copy-u32 .kept .0, edges .compute-descending .kept .0), rising _ _ (p .pre .1))
+    (omega arith, omega arith, omega (arith, p .pre .2, weld .duplicates-from .kept .1 .1 .1 .1 .0, renumber .renumber .kept .1 .0, copy .copy-u32 .kept .0, edges .compute-descending .kept .0), omega arith, p .pre .1 .mostEntries, omega arith, rising _ _ (p .pre .1))
 
 returns-2 : tie.Need-returns-2
 returns-2 c =
@@ -50,6 +50,9 @@ pub nets-spec : {M : Type 1} → statement M
 nets-spec =
     tie.close
     (tie.spec
+    (λ c. search needs)
+    (λ c. search needs)
+    (λ c. search needs)
     (λ c. search needs)
     (λ c. search needs)
     (λ c. search needs)

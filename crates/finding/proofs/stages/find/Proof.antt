@@ -39,16 +39,6 @@ returns-2 c =
     (met .compute-intersections .result .code) (met .compute-intersections .ensures .0) (c .before .if2 .taken) (c .refused2 .result) (met .compute-intersections .last .0)
     (met .compute-intersections .last .1 .0) (c .refused2 .ensures)
 
-add-h : tie.Need-add-h
-add-h c =
-    let p = c .before .before .before .before .before .before .before .before .before .before .before .before .before .before .before .before .before .before .before .before .before .before .before .before .before in
-    omega (arith, p .pre .1 .even, p .pre .1 .mostNodes, p .pre .2 .even, p .pre .2 .mostNodes)
-
-add-h-2 : tie.Need-add-h-2
-add-h-2 c =
-    let p = c .before .before .before .before .before .before .before .before .before .before .before .before .before .before .before .before .before .before .before .before .before .before .before .before .before in
-    omega (arith, p .pre .1 .even, p .pre .1 .mostNodes, p .pre .2 .even, p .pre .2 .mostNodes)
-
 link-meetings-requires : tie.Need-link-meetings-requires
 link-meetings-requires c κs =
     let met = c .before .before .before .before .before .before .before .before in
@@ -62,6 +52,16 @@ link-meetings-requires c κs =
     (met .compute-intersections .result .code) (met .compute-intersections .result .met) (met .compute-intersections .result .next) (met .compute-intersections .last .0)
     (met .compute-intersections .last .1 .0) (met .compute-intersections .ensures) (c .before .before .before .if2 .left) ((length (p .args .sc .now) + length (p .args .cc .now)) / 2 + 1) refl in
     (a .0, a .1, a .2, omega (arith, a .3, met .compute-intersections .kept .1 .0), a .4, a .5)
+
+add-h : tie.Need-add-h
+add-h c =
+    let p = c .before .before .before .before .before .before .before .before .before .before .before .before .before .before .before .before .before .before .before .before .before .before .before .before .before in
+    omega (arith, p .pre .1 .even, p .pre .1 .mostNodes, p .pre .2 .even, p .pre .2 .mostNodes)
+
+add-h-2 : tie.Need-add-h-2
+add-h-2 c =
+    let p = c .before .before .before .before .before .before .before .before .before .before .before .before .before .before .before .before .before .before .before .before .before .before .before .before .before in
+    omega (arith, p .pre .1 .even, p .pre .1 .mostNodes, p .pre .2 .even, p .pre .2 .mostNodes)
 
 mul-link-meetings : tie.Need-mul-link-meetings
 mul-link-meetings c =
