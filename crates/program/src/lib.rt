@@ -29,20 +29,20 @@ fn told(nodes: u32, a: overlay::Answer) -> Answer
 }
 
 // the answer for two meshes as read, of `nodes` nodes
-fn cut(
+fn cut<'a, 'b>(
     op: u32,
     m: u32,
     nodes: u32,
-    sc: &[f64],
-    sn: &[u32],
-    se: &[u32],
-    sk: &[u8],
-    sf: &[u32],
-    cc: &[f64],
-    cn: &[u32],
-    ce: &[u32],
-    ck: &[u8],
-    cf: &[u32],
+    sc: &'a [f64],
+    sn: &'a [u32],
+    se: &'a [u32],
+    sk: &'a [u8],
+    sf: &'a [u32],
+    cc: &'b [f64],
+    cn: &'b [u32],
+    ce: &'b [u32],
+    ck: &'b [u8],
+    cf: &'b [u32],
     out: &mut [u8],
 ) -> Put
     requires { ⌜ nodes ≤ 1024 ⌝ }
@@ -54,7 +54,7 @@ fn cut(
     let mut ok = [0u8; 2048];
     let mut of = [0u32; 2048];
     let mut work = [0u32; 16384];
-    let a = overlay::overlay(
+    let a = mesh_view::overlay_lists(
         op,
         m,
         sc,

@@ -1,0 +1,4 @@
+pub mod Slices
+pub mod Shares
+pub mod Taken
+pub mod Held
