@@ -1,7 +1,7 @@
 //! Times of the overlay beside the published Rust, on the same inputs in one run. Answers are compared first.
 //!
-//!     bench-overlay [n]...        the table, for n x n cells each (by default 10 20 50 100 127)
-//!     bench-overlay alone n k     k calls of the library alone, for a profiler
+//!     bench-overlay [n]...            the table for n x n cells each (by default 10 20 50 100 127), and one of all operations
+//!     bench-overlay alone op n k      k calls of the library alone, for a profiler
 use mefikit::mesh::{ElementType, UMesh};
 use mefikit::tools::{OverlayOperation, Overlayable, spatial_index};
 
@@ -84,11 +84,11 @@ fn lists(s: &Mesh, c: &Mesh) -> Lists {
 }
 
 #[rustfmt::skip]
-fn ours(s: &Mesh, c: &Mesh, l: &mut Lists) -> u32 {
+fn ours(op: u32, s: &Mesh, c: &Mesh, l: &mut Lists) -> u32 {
     let o = &mut l.out;
     unsafe {
         daqwimay_overlay(
-            0, M,
+            op, M,
             s.coords.as_ptr(), s.coords.len(), s.nodes.as_ptr(), s.nodes.len(), s.ends.as_ptr(), s.ends.len(),
             s.kinds.as_ptr(), s.kinds.len(), s.families.as_ptr(), s.families.len(),
             c.coords.as_ptr(), c.coords.len(), c.nodes.as_ptr(), c.nodes.len(), c.ends.as_ptr(), c.ends.len(),
@@ -200,31 +200,34 @@ fn milliseconds(t: f64) -> String {
     if ms < 10.0 { format!("{ms:.2}") } else if ms < 100.0 { format!("{ms:.1}") } else { format!("{ms:.0}") }
 }
 
-fn row(n: usize) {
+/// Both sides compared and timed: the first column, then the counts, times, ratios and the stack.
+fn row(first: &str, op: u32, n: usize) {
+    use OverlayOperation::*;
+    let operation = [Imprint, Union, Intersection, Difference, SymmetricDifference][op as usize];
     let (s, c) = meshes(n);
     let given = (s.coords.len() + c.coords.len()) / 2;
     let mut l = lists(&s, &c);
     let (subject, cutter) = (umesh(&s), umesh(&c));
     let mut code = 0;
-    let stack = stack_of(|| code = ours(&s, &c, &mut l));
+    let stack = stack_of(|| code = ours(op, &s, &c, &mut l));
     assert_eq!(code, 0, "refused");
     let (pieces, points) = (l.counts[0], l.counts[1]);
     spatial_index::use_grid(false);
-    let rust = answer_of_rust(&subject.overlay(cutter.clone(), OverlayOperation::Imprint));
+    let rust = answer_of_rust(&subject.overlay(cutter.clone(), operation));
     assert!(answer_of(given, &l) == rust, "the answers differ");
     let by_rust = |grid: bool| {
         spatial_index::use_grid(grid);
-        std::hint::black_box(subject.overlay(cutter.clone(), OverlayOperation::Imprint));
+        std::hint::black_box(subject.overlay(cutter.clone(), operation));
     };
     let t = timed(&mut [
         &mut || {
-            std::hint::black_box(ours(&s, &c, &mut l));
+            std::hint::black_box(ours(op, &s, &c, &mut l));
         },
         &mut || by_rust(false),
         &mut || by_rust(true),
     ]);
     println!(
-        "| {n} | {} | {pieces} | {points} | {} | {} | {} | {:.2} | {:.2} | {} |",
+        "| {first} | {} | {pieces} | {points} | {} | {} | {} | {:.2} | {:.2} | {} |",
         n * n,
         milliseconds(t[0]),
         milliseconds(t[1]),
@@ -235,14 +238,20 @@ fn row(n: usize) {
     );
 }
 
+fn table(first: &str) {
+    println!("| {first} | cells, each mesh | pieces | new points | Rattle ms | Rust ms | Rust ms, grid index | to Rust | to Rust, grid index | stack bytes |");
+    println!("|---|---|---|---|---|---|---|---|---|---|");
+}
+
 fn main() {
     let args: Vec<String> = std::env::args().skip(1).collect();
     if args.first().is_some_and(|a| a == "alone") {
-        let (s, c) = meshes(args[1].parse().unwrap());
+        let op = args[1].parse().unwrap();
+        let (s, c) = meshes(args[2].parse().unwrap());
         let mut l = lists(&s, &c);
-        for _ in 0..args[2].parse().unwrap() {
+        for _ in 0..args[3].parse().unwrap() {
             let t = now();
-            assert_eq!(ours(&s, &c, &mut l), 0);
+            assert_eq!(ours(op, &s, &c, &mut l), 0);
             println!("{}", now() - t);
         }
         return;
@@ -252,9 +261,13 @@ fn main() {
     } else {
         args.iter().map(|a| a.parse().unwrap()).collect()
     };
-    println!("| n | cells, each mesh | pieces | new points | Rattle ms | Rust ms | Rust ms, grid index | to Rust | to Rust, grid index | stack bytes |");
-    println!("|---|---|---|---|---|---|---|---|---|---|");
+    table("n");
     for n in sizes {
-        row(n);
+        row(&n.to_string(), 0, n);
+    }
+    println!("\nAll operations that cut cells by cells, n = 50.\n");
+    table("operation");
+    for (op, name) in ["Imprint", "Union", "Intersection", "Difference", "symmetric difference"].iter().enumerate() {
+        row(name, op as u32, 50);
     }
 }
