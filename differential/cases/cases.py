@@ -1,18 +1,25 @@
 #!/usr/bin/env python3
-"""cases.py OUT LAW STORED SMALLEST: writes the inputs that crates/overlay_cases replays, and their right answers.
+"""cases.py OUT [LAW]: writes the inputs that crates/overlay_cases replays, and their right answers. No network.
 
 OUT/data/NAME.in are the inputs, OUT/args their names in order, OUT/stdout each name and its answer. No answer comes from the
-program under test. Those of overlays are what LAW lists (`oracle-law`, as oracle.sh builds it), with the cells that it tells to be
-doubled, which must be as many as stand here; where its walk finds no next dart the answer is refusal 11. Other refusals, and text
-that can't be read, stand here, from document 01. STORED is a folder of inputs with right answers, NAME.in and NAME.out; SMALLEST is the
-oracle's cases/: islands, unmerged neighbours, and the smallest inputs on which the Rust and document 01's orders differ.
+program under test. Those of overlays are what LAW lists (`oracle-law`, as differential/oracle-counts.sh builds it, by default into
+target/oracle-counts), with the cells that it tells to be doubled, which must be as many as stand here; where its walk finds no next
+dart the answer is refusal 11. Other refusals, and text that can't be read, stand here, from document 01. The stored inputs and right
+answers are taken over from crates/overlay_cases, where LAW must list each accepted one alike and stop at each refusal 11. The smallest
+are the oracle's cases/: islands, unmerged neighbours, and the smallest inputs on which the Rust and document 01's orders differ.
 Prints a table of what is made: name, answer, where it comes from.
 """
 import math
 import os
+import re
 import struct
 import subprocess
 import sys
+
+HERE = os.path.dirname(os.path.abspath(__file__))
+ROOT = os.path.dirname(os.path.dirname(HERE))
+REPLAYED = os.path.join(ROOT, 'crates', 'overlay_cases')
+SMALLEST = os.path.join(ROOT, 'differential', 'oracle', 'cases')
 
 
 def bits(x):
@@ -226,18 +233,49 @@ def made():
     yield 'rare-not-welded', overlay(0, 20, SQUARE, box(2. ** -39, 2. ** -39, 1., 1.)), Listed(), oracle
 
 
-def listed(law, name, text, doubled):
-    """What the oracle lists, with the doubled cells. It groups pieces by kind, which here are made with kinds rising."""
+def told(law, name, text):
+    """What the oracle lists, with the count of doubled cells, or refusal 11; and that count."""
     run = subprocess.run([law, 'count'], input=text, capture_output=True, text=True, check=True)
-    got, told = run.stdout, run.stderr.count('doubled\n')
+    got, doubled = run.stdout, run.stderr.count(' doubled\n')
     lines = got.splitlines(keepends=True)
     if got == '(panic no next dart)\n':
-        return refused(11)
+        return refused(11), 0
     if len(lines) < 2 or not lines[-2].startswith('(count '):
         sys.exit(f'{name}: the oracle says {got.strip()[:200]}')
-    if told != doubled:
-        sys.exit(f'{name}: the oracle tells {told} doubled cells, not {doubled}')
-    return ''.join(lines[:-2]) + lines[-2].replace(')', f' {doubled})') + lines[-1]
+    return ''.join(lines[:-2]) + lines[-2].replace(')', f' {doubled})') + lines[-1], doubled
+
+
+def listed(law, name, text, doubled):
+    """What the oracle lists. It groups pieces by kind, which here are made with kinds rising."""
+    answer, n = told(law, name, text)
+    if answer != refused(11) and n != doubled:
+        sys.exit(f'{name}: the oracle tells {n} doubled cells, not {doubled}')
+    return answer
+
+
+def grouped(answer):
+    """An answer with its pieces grouped by kind."""
+    lines = answer.splitlines(keepends=True)
+    cells = [line for line in lines if line.startswith('(cell ')]
+    if not cells:
+        return answer
+    at = lines.index(cells[0])
+    lines[at:at + len(cells)] = sorted(cells, key=lambda c: int(c.split()[1]))
+    return ''.join(lines)
+
+
+def stored(law):
+    """(name, text, answer) of the stored ones, 001-... to 355-..."""
+    names = read(f'{REPLAYED}/args').decode().split()
+    answers = re.split('^(' + '|'.join(map(re.escape, names)) + ')\n', read(f'{REPLAYED}/stdout').decode(), flags=re.M)[1:]
+    assert answers[::2] == names
+    for name, answer in zip(names, answers[1::2]):
+        if re.match(r'\d{3}-', name):
+            text = read(f'{REPLAYED}/data/{name}')
+            if answer.startswith('(overlay') or answer == refused(11):
+                if told(law, name, text.decode())[0] != grouped(answer):
+                    sys.exit(f'{name}: the oracle lists something else')
+            yield name, text, answer.encode()
 
 
 def read(path):
@@ -249,15 +287,14 @@ def read(path):
 DOUBLED = {'map-order-panic-op5.in': 1, 'rounded-angles-op5.in': 1}
 
 
-def answers(law, stored, smallest):
+def answers(law):
     """(name, text, answer, where the answer comes from)"""
-    for f in sorted(os.listdir(stored)):
-        if f.endswith('.in'):
-            yield f, read(f'{stored}/{f}'), read(f'{stored}/{f[:-3]}.out'), None
-    for f in sorted(os.listdir(smallest)):
-        text = read(f'{smallest}/{f}')
+    for name, text, answer in stored(law):
+        yield name, text, answer, None
+    for f in sorted(os.listdir(SMALLEST)):
+        text = read(f'{SMALLEST}/{f}')
         yield f, text, listed(law, f, text.decode(), DOUBLED.get(f, 0)).encode(), 'the published Rust'
-    text = read(os.path.join(os.path.dirname(os.path.abspath(__file__)), '../../examples/soil.in'))
+    text = read(f'{ROOT}/examples/soil.in')
     yield 'soil.in', text, listed(law, 'soil.in', text.decode(), 0).encode(), 'the published Rust'
     for name, text, answer, source in made():
         if isinstance(answer, Listed):
@@ -266,10 +303,16 @@ def answers(law, stored, smallest):
 
 
 def main():
-    out, law, stored, smallest = sys.argv[1:]
+    out = sys.argv[1]
+    if len(sys.argv) > 2:
+        law = sys.argv[2]
+    else:
+        built = f'{ROOT}/target/oracle-counts'
+        subprocess.run(['sh', f'{ROOT}/differential/oracle-counts.sh', built], check=True)
+        law = f'{built}/release/oracle-law'
     os.makedirs(f'{out}/data', exist_ok=True)
     with open(f'{out}/args', 'w') as args, open(f'{out}/stdout', 'wb') as stdout:
-        for name, text, answer, source in answers(law, stored, smallest):
+        for name, text, answer, source in answers(law):
             with open(f'{out}/data/{name}', 'wb') as f:
                 f.write(text)
             args.write(name + '\n')

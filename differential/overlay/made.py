@@ -53,7 +53,7 @@ class Made:
             (self.grids, 12), (self.turned_grids, 10), (self.lattice, 14), (self.near_nodes, 14), (self.t_junctions, 8), (self.colinear, 8),
             (self.concave, 7), (self.touching, 6), (self.twice, 6), (self.collapsing, 5), (self.islands, 4), (self.unmerged, 8),
             (self.lines, 16), (self.repeated_lines, 6), (self.fans, 5), (self.mixed, 5), (self.empty, 1),
-            (self.large, 1)]
+            (self.large, 1), (self.crowded, 1)]
 
     # ---- parts
 
@@ -410,8 +410,36 @@ class Made:
         c = Mesh()
         for _ in range(self.r.randint(1, 3)):
             c.polygon(self.star(self.r.randint(20, 60), (self.r.uniform(0, n), self.r.uniform(0, n)), n / 6, n / 2), PGON)
-        # only the subject is cut: an outline cut by the whole grid may have over 1,024 slots
-        return self.r.choice([0, 2, 3]), s, c
+        # an outline cut by the whole grid may have over 1,024 slots
+        return None, s, c
+
+    def crowded(self):
+        """About as many slots in a table, or nodes under a key, as are allowed."""
+        s, c, way = Mesh(), Mesh(), self.r.randint(0, 2)
+        if way == 0:
+            # a star over a whole grid, both cut
+            n = self.r.randint(10, 15)
+            c.polygon(self.star(self.r.randint(8, 40), (n / 2 + 0.1, n / 2), n / 4, n / 1.5), PGON)
+            return self.r.choice([1, 4]), self.grid(n, n, kinds=(QUAD, PGON)), c
+        s.polygon([(0.0, 0.0), (1024.0, 0.0), (1024.0, 1024.0), (0.0, 1024.0)], self.kind(4))
+        if way == 1:
+            # lines from side to side
+            n = self.r.randint(98, 105)
+            ends = [[self.r.uniform(0, 1024) for _ in range(n)] for _ in range(2)]
+            if self.r.random() < 0.7:
+                ends = list(map(sorted, ends))
+            for a, b in zip(*ends):
+                c.cell(LINE, [c.node(a, -1.0), c.node(b, 1025.0)])
+        else:
+            # lines that end on one node of a side, and some that cross it
+            at = c.node(512.0, 0.0)
+            for i in range(self.r.randint(250, 262)):
+                x = 3.5 * i + 10.0
+                if self.r.random() < 0.01:
+                    c.cell(LINE, [c.node(x, -100.0), c.node(x, 1025.0)])
+                else:
+                    c.cell(LINE, [at, c.node(x, -100.0)])
+        return 5, s, c
 
     def empty(self):
         op, s, c = self.r.choice([self.grids, self.lattice, self.lines])()
@@ -447,8 +475,8 @@ class Made:
         dx = dy = 0.0
         k = self.r.random()
         if k < 0.04:
-            # up only where nothing reaches 2^40: what is cut off there would fall on one line
-            sy, name = scale * self.r.choice([1e-6, 2.0 ** -20, 1e3 if scale <= 1e6 else 1e-3]), name + ', stretched'
+            # what reaches beyond 2^40 is cut off and falls on one line, so tables may be crowded
+            sy, name = scale * self.r.choice([1e-6, 2.0 ** -20, 1e3]), name + ', stretched'
         elif k < 0.08 and name == 'unit':
             dx, dy, name = self.r.choice([1e3, 1e6, 12345.678]), self.r.choice([0.0, -1e6, 1e3]), 'moved'
         if (sx, sy, dx, dy) != (1.0, 1.0, 0.0, 0.0):

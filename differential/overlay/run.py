@@ -1,11 +1,12 @@
 #!/usr/bin/env python3
 """The whole overlay against the published Rust, bit for bit. No network.
 
-    python3 differential/overlay/run.py [--overlays N] [--seed S] [--replay DIR]... [--show K] [--built DIR] [--driver FILE]
+    python3 differential/overlay/run.py [--overlays N] [--seed S] [--replay DIR]... [--show K] [--built DIR] [--counts DIR] [--driver FILE]
 
-Builds the oracle (differential/oracle) into target/oracle and the driver over the proved library into target/overlays (or takes those
-given), asks both sides N made overlays (by default 120,000), the known refusals and the named inputs (DIR/*.in; differential/oracle/cases
-always), and says for each difference which cause it has. The last line has the counts; the exit status is 1 where one is unexplained."""
+Builds the oracle (differential/oracle) into target/oracle, its copy that counts into target/oracle-counts and the driver over the proved
+library into target/overlays (or takes those given), asks both sides N made overlays (by default 120,000), the known refusals and the
+named inputs (DIR/*.in; differential/oracle/cases always), and says for each difference which cause it has. The last line has the
+counts; the exit status is 1 where one is unexplained."""
 import argparse
 import collections
 import glob
@@ -30,17 +31,22 @@ STOPPED = '(panic no next dart)\n'
 ORDER, ANGLES, BOTH = 'map order at equal projections', 'rounded angles', 'map order and rounded angles'
 CAUSES = [ORDER, ANGLES, BOTH]
 MOST = 65536
+# What the copy of the Rust that counts writes of an overlay, and of each of its cells.
+OVERLAY = re.compile(r'collected (\d+)\n((?:(?:copied )?cell \d+(?: doubled)?\n)*)')
+CELL = re.compile(r'(copied )?cell (\d+)( doubled)?\n')
+REFUSED = {9: "refused 9: over 256 nodes under a key of the Rust's", 10: "refused 10: over 1,024 slots in the Rust's own table"}
+HIGHER = 'refused 8, explained at a higher limit'
 
 
 class Sides:
     """The programs, each started once for a batch of forms."""
 
-    def __init__(self, driver, built):
+    def __init__(self, driver, built, counts):
         self.commands = {'ours': [driver]}
         for n in ('oracle', 'oracle-law', 'oracle-seq', 'oracle-angle'):
             self.commands[n] = [os.path.join(built, 'release', n), 'count']
-        self.seconds = collections.Counter()
-        self.doubled = 0
+        self.commands['counts'] = [os.path.join(counts, 'release', 'oracle-law'), 'count']
+        self.compared = collections.Counter()
 
     def start(self, side, forms):
         into, out, err = tempfile.TemporaryFile('w+'), tempfile.TemporaryFile('w+'), tempfile.TemporaryFile('w+')
@@ -57,13 +63,18 @@ class Sides:
         if status or len(got) != n:
             err.seek(0)
             sys.exit('%s stopped: status %d, %d answers to %d forms\n%s' % (side, status, len(got), n, err.read()))
-        if side == 'ours':
-            err.seek(0)
-            self.doubled += int(err.read())
-        return got
+        err.seek(0)
+        return got, err.read()
 
     def ask(self, side, forms):
-        return self.take(self.start(side, forms)) if forms else []
+        return self.take(self.start(side, forms))[0] if forms else []
+
+    def counts(self, forms):
+        """For each form the most nodes collected under one key, and its cells in order: (copied, slots, doubled)."""
+        told = OVERLAY.findall(self.take(self.start('counts', forms))[1])
+        if len(told) != len(forms):
+            sys.exit('counts of %d overlays for %d forms' % (len(told), len(forms)))
+        return [(int(n), [(bool(c), int(s), bool(d)) for c, s, d in CELL.findall(cells)]) for n, cells in told]
 
 
 def same(ours, rust):
@@ -92,36 +103,67 @@ def explained(sides, forms, ours):
     return [cause(*row) for row in zip(ours, law, seq, angle)]
 
 
+def code(answer):
+    """The number of a refusal; 0 where there is none."""
+    return int(answer[9:-2]) if answer.startswith('(refused') else 0
+
+
+def counted(sides, forms, ours, doubled):
+    """For each form what the Rust's own tables say of our answer: a refusal 9 or 10 explained, that it is unexplained, or nothing.
+
+    The Rust goes on where we refuse, so 9, looked at before any cell is cut, comes before 10; and it stops where we refuse 11, so a
+    table that it tells of was made before that."""
+    out = []
+    for a, n, (collected, cells) in zip(ours, doubled, sides.counts(forms)):
+        crowded = max((s for _, s, _ in cells), default=0) > 1024
+        want = 9 if collected > 256 else 10 if crowded else None
+        got = code(a)
+        sides.compared['overlays'] += 1
+        if got in (9, 10) or want and got != 8:
+            out.append(REFUSED[want] if want == got else 'unexplained')
+            continue
+        if not got:
+            told = [c for c in cells if c[2]]
+            sides.compared['accepted'] += 1
+            sides.compared['cells'] += len(cells)
+            sides.compared['doubled, cut'] += sum(not c[0] for c in told)
+            sides.compared['doubled, copied'] += sum(c[0] for c in told)
+            if len(told) != n:
+                out.append('unexplained')
+                continue
+        out.append(None)
+    return out
+
+
 def compared(sides, forms):
     """Each form's verdict: equal, stops alike, a cause, a refusal with its explanation, or unexplained."""
     jobs = sides.start('oracle', forms), sides.start('ours', forms)
-    rust, ours = map(sides.take, jobs)
-    verdict = [None] * len(forms)
+    (rust, _), (ours, told) = map(sides.take, jobs)
+    doubled = list(map(int, told.split()))
+    verdict = counted(sides, forms, ours, doubled)
     left = []
     for i, (a, b) in enumerate(zip(ours, rust)):
+        if verdict[i]:
+            continue
         if a == b:
             verdict[i] = 'equal'
         elif same(a, b):
             verdict[i] = 'stops alike (11)'
         else:
             left.append(i)
-    # beyond the limit of meetings: with a higher limit the answer must be the Rust's, or differ from it by one of the causes
-    over = [i for i in left if ours[i] == '(refused 8)\n']
-    again = sides.ask('ours', [raised(forms[i]) for i in over])
-    for i, a in zip(over, again):
-        if same(a, rust[i]):
-            verdict[i] = 'refused 8, equal at a higher limit'
-    over = [(i, a) for i, a in zip(over, again) if verdict[i] is None]
-    for (i, a), why in zip(over, explained(sides, [forms[i] for i, _ in over], [a for _, a in over])):
-        verdict[i] = 'refused 8, equal at a higher limit' if why else 'unexplained'
+    # beyond the limit of meetings: with the largest limit the answer must be the Rust's, or differ from it by one of the causes
+    over = [i for i in left if code(ours[i]) == 8]
+    if over:
+        for i, row in zip(over, compared(sides, [raised(forms[i]) for i in over])):
+            verdict[i] = 'unexplained' if row[3] in ('unexplained', HIGHER) else HIGHER
     left = [i for i in left if verdict[i] is None]
     for i, why in zip(left, explained(sides, [forms[i] for i in left], [ours[i] for i in left])):
         verdict[i] = why or 'unexplained'
-    return list(zip(forms, ours, rust, verdict))
+    return list(zip(forms, ours, rust, verdict, doubled))
 
 
 def show(title, row, sides):
-    form, ours, rust, why = row
+    form, ours, rust, why, _ = row
     print('---- %s: %s\n%sours: %srust: %slaw: %s' % (title, why, form, ours, rust, sides.ask('oracle-law', [form])[0]))
 
 
@@ -144,7 +186,7 @@ def made_overlays(a, sides, shown):
         forms = [text(*row[2:]) for row in rows]
         done += len(rows)
         for (family, scale, op, _, s, c), row in zip(rows, compared(sides, forms)):
-            form, ours, rust, why = row
+            _, ours, _, why, doubled = row
             counts[family][why] += 1
             scales[scale] += 1
             ops['operation %d' % op][why] += 1
@@ -152,6 +194,7 @@ def made_overlays(a, sides, shown):
                 pieces, points = map(int, re.search(r'\(count (\d+) (\d+)\)', ours).groups())
                 reached['pieces'] += pieces
                 reached['new points'] += points
+                reached['doubled cells'] += doubled
                 reached['overlays with a new point'] += points > 0
                 reached['overlays without a piece'] += pieces == 0
             if why == 'unexplained' and len(shown) < a.show:
@@ -160,18 +203,17 @@ def made_overlays(a, sides, shown):
 
 
 def known_refusals(sides, shown):
-    """Where 0 is known the Rust's answer is ours; the Rust isn't asked what is refused: it may stop as a whole there."""
+    """The Rust isn't asked what is refused because of the input: it may stop as a whole there."""
     rows = list(known())
-    ours = sides.ask('ours', [form for _, form, _ in rows])
-    codes = [int(re.match(r'\(refused (\d+)\)', o).group(1)) if o.startswith('(refused') else 0 for o in ours]
-    passed = [form for (_, form, want) in rows if want == 0]
+    codes = list(map(code, sides.ask('ours', [form for _, form, _ in rows])))
     bad = 0
-    for (name, form, want), o, code in zip(rows, ours, codes):
-        if code != want:
+    for (name, _, want), got in zip(rows, codes):
+        if got != want:
             bad += 1
-            print('known refusal: %s: %d in the place of %d' % (name, code, want))
-    for row in compared(sides, passed):
-        if row[3] != 'equal':
+            print('known refusal: %s: %d in the place of %d' % (name, got, want))
+    asked = [(form, want) for _, form, want in rows if want in (0, 9, 10)]
+    for (_, want), row in zip(asked, compared(sides, [form for form, _ in asked])):
+        if row[3] != REFUSED.get(want, 'equal'):
             bad += 1
             shown.append(('limit', row))
     return collections.Counter(codes), bad
@@ -187,26 +229,26 @@ def replayed(sides, folders, shown):
                 counts['refused because of the input, or unread'] += 1
                 continue
             row = compared(sides, [form])[0]
-            why = row[3]
-            if why == 'unexplained' and re.match(r'\(refused (9|10)\)', ours):
-                why = 'refused 9 or 10'
-            counts[why] += 1
-            if why == 'unexplained':
+            counts[row[3]] += 1
+            if row[3] == 'unexplained':
                 shown.append((os.path.basename(f), row))
     return counts
 
 
 def build(a):
-    built, driver = a.built, a.driver
+    built, counts, driver = a.built, a.counts, a.driver
     if not built:
         built = os.path.join(ROOT, 'target', 'oracle')
-        subprocess.run([os.path.join(ROOT, 'differential', 'oracle.sh'), built], check=True)
+        subprocess.run(['sh', os.path.join(ROOT, 'differential', 'oracle.sh'), built], check=True)
+    if not counts:
+        counts = os.path.join(ROOT, 'target', 'oracle-counts')
+        subprocess.run(['sh', os.path.join(ROOT, 'differential', 'oracle-counts.sh'), counts], check=True)
     if not driver:
         subprocess.run(['rt', 'staticlib', 'overlay_c'], cwd=ROOT, check=True, stdout=subprocess.DEVNULL)
         out = os.path.join(ROOT, 'target', 'overlays')
         subprocess.run(['cargo', 'build', '--release', '--offline', '--quiet', '--target-dir', out], cwd=os.path.join(HERE, 'driver'), check=True)
         driver = os.path.join(out, 'release', 'overlays')
-    return Sides(driver, built)
+    return Sides(driver, built, counts)
 
 
 def main():
@@ -216,6 +258,7 @@ def main():
     p.add_argument('--replay', action='append', default=[])
     p.add_argument('--show', type=int, default=3)
     p.add_argument('--built')
+    p.add_argument('--counts')
     p.add_argument('--driver')
     a = p.parse_args()
     sides = build(a)
@@ -229,7 +272,8 @@ def main():
     for i, v in enumerate(verdicts):
         print('%d: %s' % (i + 1, v))
     print('scales: ' + ', '.join('%s %d' % s for s in scales.most_common()))
-    print('reached: ' + ', '.join('%s %d' % s for s in sorted(reached.items())) + ', doubled cells %d' % sides.doubled)
+    print('reached: ' + ', '.join('%s %d' % s for s in sorted(reached.items())))
+    print('counted in the Rust: ' + ', '.join('%s %d' % s for s in sides.compared.items()))
     codes, bad = known_refusals(sides, shown)
     print('known refusals: ' + ', '.join('%d: %d' % c for c in sorted(codes.items())) + '; %d not as known' % bad)
     named = replayed(sides, [os.path.join(ROOT, 'differential', 'oracle', 'cases')] + a.replay, shown)
@@ -240,9 +284,10 @@ def main():
     for c in counts.values():
         n += c
     left = n['unexplained'] + bad + named['unexplained']
-    print('%d made overlays in %.0f s, %d equal, %d stop alike (11), %s, %d refused 8, %d known refusals and limits, %d named inputs, %d unexplained' % (
-        a.overlays, seconds, n['equal'], n['stops alike (11)'], ', '.join('%d %s' % (n[c], c) for c in CAUSES),
-        sum(k for v, k in n.items() if v.startswith('refused 8')), sum(codes.values()), sum(named.values()), left))
+    print('%d made overlays in %.0f s, %d equal, %d stop alike (11), %s, ' % (
+        a.overlays, seconds, n['equal'], n['stops alike (11)'], ', '.join('%d %s' % (n[c], c) for c in CAUSES)), end='')
+    print('%d refused 8, %d refused 9, %d refused 10, %d known refusals and limits, %d named inputs, %d unexplained' % (
+        n[HIGHER], n[REFUSED[9]], n[REFUSED[10]], sum(codes.values()), sum(named.values()), left))
     return 1 if left else 0
 
 

@@ -1,5 +1,5 @@
 //! Reads the program's forms from standard input, one after another, overlays each by the proved library and prints what `oracle count`
-//! prints: pieces regrouped by kind, `(count pieces newpoints)`; or `(refused N)`. Doubled cells are counted on standard error.
+//! prints: pieces regrouped by kind, `(count pieces newpoints)`; or `(refused N)`. Standard error has each form's count of doubled cells.
 use daqwimay::{Mesh, Operation, Overlay, Overlayer};
 use std::fmt::Write as _;
 use std::io::{Read, Write as _};
@@ -79,7 +79,7 @@ fn main() {
     let text = text.replace('(', "( ").replace(')', " )");
     let mut words = Words(text.split_ascii_whitespace().peekable());
     let mut lists = Overlayer::default();
-    let (mut out, mut doubled) = (String::new(), 0u64);
+    let (mut out, mut doubled) = (String::new(), String::new());
     while words.0.peek().is_some() {
         let Some((op, limit, subject, cutter)) = words.form() else {
             out.push_str("(unread)\n");
@@ -87,14 +87,15 @@ fn main() {
         };
         match lists.overlay(op, limit, &subject, &cutter) {
             Ok(o) => {
-                doubled += o.doubled_cells as u64;
+                let _ = writeln!(doubled, "{}", o.doubled_cells);
                 listing(&mut out, &o);
             }
             Err(r) => {
+                doubled.push_str("0\n");
                 let _ = writeln!(out, "(refused {})", r.number());
             }
         }
     }
     std::io::stdout().write_all(out.as_bytes()).unwrap();
-    eprintln!("{doubled}");
+    eprint!("{doubled}");
 }
