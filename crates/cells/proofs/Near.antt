@@ -11,9 +11,10 @@ use Rattle.cutting.specs.Edges.{Edge, edgeAt}
 use Rattle.cutting.specs.Cell.{Laid, nearDarts, cellTable}
 use Rattle.cutting.specs.Lent.{slotsOf, pairs, Added}
 use Rattle.cutting.proofs.Joins.{near-turn, near-full}
+use Rattle.cutting.proofs.Adds.{pairs-length, pairs-at}
 use Rattle.rules.specs.declared.Bounds.{Bounds}
 use Rattle.spatial_index.specs.Candidates.{meets}
-use Rattle.spatial_index.proofs.Candidates.{places-next, places-end, length-pairs, pairs-at}
+use Rattle.spatial_index.proofs.Candidates.{places-next, places-end}
 use Rattle.edge_nodes.specs.Lent.{collectedIn}
 use Rattle.cells.specs.Cells.{laidIn, nearIn, candidatesFrom, Uncrowded, Held}
 
@@ -80,7 +81,7 @@ module _ (coords : List Float) (subject cutter : List Edge) (met near : List ℕ
       at-j = pairs-at near j h
 
       below : j < length (pairs near)
-      below = omega (arith, length-pairs near)
+      below = omega (arith, pairs-length near)
 
       pub near-few : (links : List ℕ) → Uncrowded subject cutter met links (pairs near) → length (collectedIn subject cutter met e) ≤ 256
       near-few links u = omega (arith, u .few j below, ap (λ (f : Edge). length (collectedIn subject cutter met f)) at-j)
@@ -115,7 +116,7 @@ module _ (coords : List Float) (subject cutter : List Edge) (met near : List ℕ
     pub near-end : length near / 2 ≤ j → Held (cellTable coords outline (nearBy (from-on first₀))) m src dst marks
     unfolding nearIn
     near-end past =
-        let none : from-on (v .from) ≡ [] = places-end (meets coords (pairs near) b) (v .from) (length (pairs near)) (omega (arith, past, length-pairs near, v .at)) in
+        let none : from-on (v .from) ≡ [] = places-end (meets coords (pairs near) b) (v .from) (length (pairs near)) (omega (arith, past, pairs-length near, v .at)) in
         let all : v .done ≡ nearBy (from-on first₀) = sym (append-nil (v .done)) ∙ ap (λ (js : List ℕ). v .done ++ nearBy js) (sym none) ∙ v .left in
         record {
           fits = λ few. v .held ∙ ap (cellTable coords outline) all;

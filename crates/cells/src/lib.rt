@@ -47,7 +47,7 @@ fn refused(code: u32) -> CutCell
 }
 
 // The corner after corner i; after the last comes the first.
-fn next_corner(cell: &[u32], i: usize) -> u32
+pub fn next_corner(cell: &[u32], i: usize) -> u32
     requires { ⌜ i < length (now cell) ⌝ }
     ensures { λ r. ⌜ r ≡ nextCorner (now (cell .entry)) i ⌝ }
 {

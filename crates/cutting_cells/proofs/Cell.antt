@@ -18,6 +18,8 @@ use Rattle.cutting.specs.Walk.{Next, more, closed, stuck, broken, walk}
 use Rattle.cutting.specs.Outcome as Outcome
 use Rattle.cutting.specs.Outcome.{Outcome, refusal, pieces, ofWalk, tooMany, closesUp, afterWalk, cutOutcome, copiedOutcome}
 use Rattle.cutting.specs.Lent.{pairs}
+use Rattle.cutting.proofs.Adds.{pairs-length}
+use Rattle.entry.specs.Mesh.{Rising}
 use Rattle.rules.specs.declared.Bounds.{Bounds}
 use Rattle.rules.specs.Mesh.{Side, other}
 use Rattle.rules.specs.SpatialIndex.{boxOf, candidates}
@@ -26,13 +28,12 @@ use Rattle.rules.specs.Cell.{cellOf, nearOf, outlineOf, tableOf, outcomeBy, out
 use Rattle.rules.specs.Operations.{Piece, outcomePieces, kept}
 use Rattle.rules.specs.Refusals.{ofCell, firstRefusal}
 use Rattle.spatial_index.specs.Candidates.{meets}
-use Rattle.spatial_index.proofs.Candidates.{length-pairs}
 use Rattle.edge_nodes.proofs.Scene.{Stored, sorted-is}
 use Rattle.cells.specs.declared.CutCell.{CutCell}
 use Rattle.cells.specs.Cells.{outlineIn, tableIn, candidatesFrom, cutAs, cutBy, cutCell}
 use Rattle.cells.proofs.Scene.{cut-is, copied-is, from-first, none-near, Read, read-pieces, read-refusal}
 use Rattle.pieces.specs.declared.Placed.{Placed}
-use Rattle.pieces.specs.Pieces.{sideOf, Rising, runsOf, isKept, room, events, PlacedBehind}
+use Rattle.pieces.specs.Pieces.{sideOf, runsOf, isKept, room, events, PlacedBehind}
 use Rattle.pieces.proofs.Runs.{length-runs, read-back, stops-rise, kept-within}
 use Rattle.pieces.proofs.Behind.{fit}
 use Rattle.pieces.proofs.Listing.{kept-nodes, kept-kinds, kept-families, events-nodes}
@@ -231,7 +232,7 @@ module _ (op : ℕ) (cutter : Bool) (coords : List Float) (subject cut met near 
 
         own-is : own ≡ kindOf sc w i
         own-is =
-            eo ∙ ap (λ (n : ℕ). cond (ltb k n) 11 kind) (sym (length-pairs near) ∙ ap length (sym (scene .nearEdges)))
+            eo ∙ ap (λ (n : ℕ). cond (ltb k n) 11 kind) (sym (pairs-length near) ∙ ap length (sym (scene .nearEdges)))
             ∙ kind-at sc w i k first-at kind (this .kindIs)
 
         code-is : (m s : ℕ) → q .code ≡ firstRefusal m s (room oe ok of - p .count) (length on - p .entries) (cellEvents op sc w i)

@@ -24,8 +24,8 @@ use Rattle.cutting.specs.Lent.{slotAt, slotsOf, ends, pairs}
 use Rattle.cutting.proofs.Steps.{take-push}
 use Rattle.cutting.proofs.Joins.{ends-append}
 use Rattle.cutting.proofs.Tabled.{slots-take}
+use Rattle.cutting.proofs.Adds.{pairs-length}
 use Rattle.rules.specs.declared.Bounds.{Bounds}
-use Rattle.spatial_index.proofs.Candidates.{length-pairs}
 use Rattle.cells.specs.declared.CutCell.{CutCell}
 use Rattle.cells.specs.Cells.{nextCorner, cutAs, cutCell}
 use Rattle.cutting_cells.specs.Listed.{cutIn}
@@ -173,11 +173,11 @@ copied-as cell nodes t small e =
 module _ (coords : List Float) (subject cutter : List Edge) (met near cell : List ℕ) (b : Bounds) (k : ℕ) (r : CutCell) where
   pub out-copied : length near / 2 ≤ k → r ≡ cutAs (copiedOutcome cell) (doubled (copiedTable cell)) → r ≡ cutIn coords subject cutter met (pairs near) cell b k
   unfolding cutIn
-  out-copied h e = rw (le-ltb k (length (pairs near)) (omega (arith, h, length-pairs near))) e
+  out-copied h e = rw (le-ltb k (length (pairs near)) (omega (arith, h, pairs-length near))) e
 
   pub out-cut : k < length near / 2 → r ≡ cutCell coords subject cutter met (pairs near) cell b k → r ≡ cutIn coords subject cutter met (pairs near) cell b k
   unfolding cutIn
-  out-cut h e = rw (lt-ltb k (length (pairs near)) (omega (arith, h, length-pairs near))) e
+  out-cut h e = rw (lt-ltb k (length (pairs near)) (omega (arith, h, pairs-length near))) e
 
 pub kind-cut : (k n kind : ℕ) → k < n → 11 ≡ cond (ltb k n) 11 kind
 kind-cut k n kind h = rw (lt-ltb k n h)

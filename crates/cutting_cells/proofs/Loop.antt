@@ -10,14 +10,14 @@ use lib.Ieee.{Float}
 use Rattle.lists.specs.Gather.{gathered}
 use Rattle.lists.proofs.Gather.{gathered-more}
 use Rattle.cutting.specs.Edges.{Edge, ring}
-use Rattle.entry.specs.Mesh.{prior, cellSize}
+use Rattle.entry.specs.Mesh.{prior, cellSize, Rising}
 use Rattle.entry.proofs.Ends.{prior-more}
 use Rattle.rules.specs.Mesh.{Side}
 use Rattle.rules.specs.Meetings.{Scene}
 use Rattle.rules.specs.Operations.{Piece, kept}
 use Rattle.rules.specs.Refusals.{Event}
 use Rattle.cells.specs.Cells.{Uncrowded}
-use Rattle.pieces.specs.Pieces.{sideOf, Rising, runsOf, room}
+use Rattle.pieces.specs.Pieces.{sideOf, runsOf, room}
 use Rattle.pieces.proofs.Runs.{run-at, part-is, length-cell}
 use Rattle.cutting_cells.specs.declared.Listed.{Listed}
 use Rattle.cutting_cells.specs.Listed.{SceneIn, CellIn, MeshIn, cellEvents, twice, ListedBehind, Fits}

@@ -1,6 +1,7 @@
 // The cells of one mesh (document 01, module 7): each is copied or cut, and those of its pieces that the operation keeps are placed behind the others.
 use cells::CutCell;
 use cells::cut_cell;
+use cells::next_corner;
 use cutting::cut::is_doubled;
 use lists::copy_u32;
 use pieces::place_pieces;
@@ -19,12 +20,13 @@ ghost use Rattle.cutting.specs.Edges.{ring};
 ghost use Rattle.cutting.specs.Cell.{copiedTable, doubled};
 ghost use Rattle.cutting.specs.Outcome.{copiedOutcome};
 ghost use Rattle.cutting.specs.Lent.{pairs};
+ghost use Rattle.entry.specs.Mesh.{Rising};
 ghost use Rattle.rules.specs.Mesh.{theCutter};
 ghost use Rattle.rules.specs.Meetings.{Scene};
 ghost use Rattle.rules.specs.Operations.{cuts, kept};
 ghost use Rattle.spatial_index.specs.Blocks.{Covered};
-ghost use Rattle.cells.specs.Cells.{cutAs, nextCorner, Uncrowded};
-ghost use Rattle.pieces.specs.Pieces.{sideOf, Rising, room};
+ghost use Rattle.cells.specs.Cells.{cutAs, Uncrowded};
+ghost use Rattle.pieces.specs.Pieces.{sideOf, room};
 ghost use Rattle.cutting_cells.specs.Listed.{cutIn, SceneIn, CellIn, MeshIn, cellEvents, twice, ListedBehind, Fits, CellsReady, MeshesIn, overBoth, noneYet};
 
 // The refusal or 0, and how many pieces, corners and doubled cells there are then.
@@ -47,17 +49,6 @@ fn refused(code: u32) -> Listed
 }
 
 // ---- A cell that is copied
-
-fn next_corner(cell: &[u32], i: usize) -> u32
-    requires { ⌜ i < length (now cell) ⌝ }
-    ensures { λ r. ⌜ r ≡ nextCorner (now (cell .entry)) i ⌝ }
-{
-    let j = i + 1;
-    if j < cell.len() {
-        return cell[j];
-    }
-    cell[0]
-}
 
 // Whether the table of the cell's own edges, each with a slot at both its ends, names a neighbour twice at some node.
 fn copy_doubled(cell: &[u32]) -> bool

@@ -1,7 +1,7 @@
 -- The links as they are made: heads filled, one meeting after the other from the last on, both kinds of edges. Assumes nothing.
 use mathlib.Core.Path.{_≡_, refl, sym, ap, ap₂, _∙_}
 use mathlib.Core.List.{List}
-use Prim.Native.Nat.{ℕ, _+_, _*_, _-_, _/_, _≤_, _<_, min}
+use Prim.Native.Nat.{ℕ, _+_, _*_, _-_, _/_, _≤_, _<_}
 use native.Mathlib.Nat.{le-antisymm}
 use native.Mathlib.Decide.{decLt, ℕ-discrete}
 use native.Mathlib.Omega.{arith}
@@ -16,7 +16,8 @@ use Rattle.lists.proofs.Gather.{each-more, length-each, getD-each}
 use Rattle.lists.proofs.Regions.{length-run, getD-run, put-none, put-store, length-put, put-before, put-in, put-behind}
 use Rattle.cutting.specs.Edges.{Edge, edgeAt}
 use Rattle.cutting.specs.Lent.{pairs}
-use Rattle.edge_nodes.specs.Links.{chainOf, chainAt, onChain, headAt, nextAt, linksOf}
+use Rattle.neighbours.specs.Chains.{edgeChain}
+use Rattle.edge_nodes.specs.Links.{chainAt, onChain, headAt, nextAt, linksOf}
 use Rattle.edge_nodes.specs.Chained.{headed, Chained}
 use Rattle.edge_nodes.proofs.Linked.{length-links}
 use Rattle.edge_nodes.proofs.LinksAt.{subject-head, cutter-head, subject-next, cutter-next}
@@ -57,10 +58,10 @@ same-run w w′ b c n l same h k =
 -- ---- one meeting
 
 -- the chain of meeting q, from what was read
-pub chain-is : (h : ℕ) (es : List Edge) (met : List ℕ) (which q x y v r : ℕ) → x ≡ edgeAt es (getD met (5 * q + which) 0) .0 → y ≡ edgeAt es (getD met (5 * q + which) 0) .1
-    → v ≡ min x y → r ≡ chainOf h v → r ≡ chainAt h es met which q
+pub chain-is : (h : ℕ) (es : List Edge) (met : List ℕ) (which q x y r : ℕ) → x ≡ edgeAt es (getD met (5 * q + which) 0) .0 → y ≡ edgeAt es (getD met (5 * q + which) 0) .1
+    → r ≡ edgeChain h (x, y) → r ≡ chainAt h es met which q
 unfolding chainAt
-chain-is h es met which q x y v r a b e f = f ∙ ap (chainOf h) (e ∙ ap₂ min a b)
+chain-is h es met which q x y r a b f = f ∙ ap₂ (λ (i j : ℕ). edgeChain h (i, j)) a b
 
 chain-low : (h : ℕ) (es : List Edge) (met : List ℕ) (which q : ℕ) → 0 < h → chainAt h es met which q < h
 unfolding chainAt

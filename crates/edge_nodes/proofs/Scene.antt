@@ -14,10 +14,10 @@ use Rattle.lists.proofs.Search.{first-ext, has-none, and-true}
 use Rattle.lists.proofs.Gather.{gathered-ext, joined-is}
 use Rattle.cutting.specs.Edges.{Edge, edgeAt, key, sameKey}
 use Rattle.cutting.specs.Lent.{pairs}
+use Rattle.cutting.proofs.Adds.{pairs-length}
 use Rattle.rules.specs.Meetings.{Met, Scene}
 use Rattle.rules.specs.Nodes as Nodes
 use Rattle.rules.specs.Nodes.{collected, overfull, sortedNodes, alongEdge}
-use Rattle.spatial_index.proofs.Candidates.{length-pairs}
 use Rattle.edge_nodes.specs.Lent.{metNodes, underAt, under, collectedIn, unlessNone, sortedIn, crowdedAt}
 
 -- ---- what is collected goes by the key alone
@@ -112,7 +112,7 @@ module _ (sc : Scene) (met : List ℕ) (stored : Stored (sc .met) met) where
   -- the answer of `overfull`
   pub overfull-is : (edges : List ℕ) → has (crowdedAt (pairs edges) (sc .subject .edges) (sc .cutter .edges) met) (length edges / 2) ≡ overfull sc (pairs edges)
   overfull-is edges =
-      ap (has (crowdedAt (pairs edges) (sc .subject .edges) (sc .cutter .edges) met)) (sym (length-pairs edges))
+      ap (has (crowdedAt (pairs edges) (sc .subject .edges) (sc .cutter .edges) met)) (sym (pairs-length edges))
       ∙ ap (λ (k : ℕ). ltb k (length (pairs edges)))
       (first-ext (crowdedAt (pairs edges) (sc .subject .edges) (sc .cutter .edges) met) (λ i. ltb 256 (length (collected sc (edgeAt (pairs edges) i)))) (length (pairs edges))
       (λ i h. ap (λ (l : List ℕ). ltb 256 (length l)) (collected-is (edgeAt (pairs edges) i))))

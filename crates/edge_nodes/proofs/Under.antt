@@ -12,8 +12,8 @@ use Rattle.lists.proofs.Gather.{gathered-more}
 use Rattle.lists.proofs.Sort.{sortOnto-append}
 use Rattle.cutting.specs.Edges.{Edge, edgeAt, sameKey}
 use Rattle.cutting.specs.Lent.{pairs}
+use Rattle.cutting.proofs.Adds.{pairs-length, pairs-at}
 use Rattle.rules.specs.Nodes.{Projected, byProjection}
-use Rattle.spatial_index.proofs.Candidates.{length-pairs, pairs-at}
 use Rattle.edge_nodes.specs.Lent.{metNodes, underAt, under}
 
 -- ---- edges read from a flat list
@@ -22,7 +22,7 @@ pub edge-there : (s : List ℕ) (e : ℕ) → e < length s / 2 → (getD s (2 * 
 edge-there s e h = (ap (λ (x : Edge). x .0) (sym (pairs-at s e h)), ap (λ (x : Edge). x .1) (sym (pairs-at s e h)))
 
 none-there : (s : List ℕ) (e : ℕ) → length s / 2 ≤ e → edgeAt (pairs s) e ≡ (0, 0)
-none-there s e h = List·getD-eq-default (pairs s) (0, 0) (omega (arith, length-pairs s))
+none-there s e h = List·getD-eq-default (pairs s) (0, 0) (omega (arith, pairs-length s))
 
 pub no-edge : (s : List ℕ) (e : ℕ) → length s / 2 ≤ e → (0 ≡ edgeAt (pairs s) e .0) × (0 ≡ edgeAt (pairs s) e .1)
 no-edge s e h = (ap (λ (x : Edge). x .0) (sym (none-there s e h)), ap (λ (x : Edge). x .1) (sym (none-there s e h)))

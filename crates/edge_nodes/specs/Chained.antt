@@ -5,7 +5,8 @@ use Prim.Native.Nat.{ℕ, zero, suc, _+_, _*_, _-_, _/_, _≤_, _<_}
 use lib.ListN.{length, getD, set}
 use Rattle.lists.specs.Search.{first}
 use Rattle.cutting.specs.Edges.{Edge}
-use Rattle.edge_nodes.specs.Links.{chainOf, onChain, headAt, nextAt}
+use Rattle.neighbours.specs.Chains.{chainOf}
+use Rattle.edge_nodes.specs.Links.{onChain, headAt, nextAt}
 
 -- meeting q becomes the head of chain c, with the former head behind it
 unfoldable pub headed : List ℕ → ℕ → ℕ → ℕ → ℕ → List ℕ

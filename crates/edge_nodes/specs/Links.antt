@@ -2,21 +2,18 @@
 use mathlib.Core.Path.{_≡_}
 use mathlib.Core.Bool.{Bool}
 use mathlib.Core.List.{List, _++_}
-use Prim.Native.Nat.{ℕ, _+_, _*_, _-_, _/_, _<_, min}
+use Prim.Native.Nat.{ℕ, _+_, _*_, _-_, _/_, _<_}
 use lib.Dec.{eqb}
 use lib.ListN.{length, getD}
 use Rattle.lists.specs.Search.{first}
 use Rattle.lists.specs.Gather.{each}
-use Rattle.cutting.specs.Edges.{Edge, edgeAt, key}
-
--- the chain of node v, of h chains: nodes from h - 1 on share the last
-abbrev pub chainOf : ℕ → ℕ → ℕ
-chainOf h v = min v (h - 1)
+use Rattle.cutting.specs.Edges.{Edge, edgeAt}
+use Rattle.neighbours.specs.Chains.{edgeChain}
 
 module _ (h : ℕ) (es : List Edge) (met : List ℕ) (which : ℕ) where
   -- the chain of meeting q's edge among es: `which` is 0 for its subject edge and 1 for its cutter edge
   unfoldable pub chainAt : ℕ → ℕ
-  chainAt q = chainOf h (key (edgeAt es (getD met (5 * q + which) 0)) .0)
+  chainAt q = edgeChain h (edgeAt es (getD met (5 * q + which) 0))
 
   abbrev pub onChain : ℕ → ℕ → Bool
   onChain c q = eqb (chainAt q) c

@@ -1,27 +1,16 @@
 // The meetings chained by the smaller node of their edges' keys, so that those under one key are found without a scan of all.
 use crate::first_of;
-use crate::lower;
 use crate::second_of;
+use neighbours::chain_of;
+use neighbours::edge_chain;
 ghost use mathlib.Core.Path.{_≡_};
 ghost use Prim.Native.Nat.{_+_, _*_, _/_, _≤_, _<_};
 ghost use lib.ListN.{length};
 ghost use Rattle.lists.specs.Gather.{each};
 ghost use Rattle.lists.specs.Regions.{run, put};
 ghost use Rattle.cutting.specs.Lent.{pairs};
-ghost use Rattle.edge_nodes.specs.Links.{chainOf, chainAt, linksOf};
+ghost use Rattle.edge_nodes.specs.Links.{chainAt, linksOf};
 ghost use Rattle.edge_nodes.specs.Chained.{headed, Chained, headIn, nextIn};
-
-// The chain of node v, of h chains.
-pub fn chain_of(v: u32, h: usize) -> usize
-    requires { ⌜ 0 < h ⌝ }
-    ensures { λ r. ⌜ (r ≡ chainOf h v) × (r < h) ⌝ }
-{
-    let c = v as usize;
-    if c < h {
-        return c;
-    }
-    h - 1
-}
 
 // The chain of meeting q.
 fn chain_at(edges: &[u32], met: &[u32], which: usize, h: usize, q: usize) -> usize
@@ -31,8 +20,7 @@ fn chain_at(edges: &[u32], met: &[u32], which: usize, h: usize, q: usize) -> usi
     let e = met[5 * q + which] as usize;
     let x = first_of(edges, e);
     let y = second_of(edges, e);
-    let v = lower(x, y);
-    chain_of(v, h)
+    edge_chain(h, x, y)
 }
 
 // The n numbers from b on become v.

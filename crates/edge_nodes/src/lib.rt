@@ -5,6 +5,7 @@ mod chains;
 use chains::head_of;
 pub use chains::link_meetings;
 use chains::next_of;
+use cutting::utils::same_key;
 use geometry::polygon::point_at;
 use lists::insert_at_f64;
 use lists::insert_at_u32;
@@ -41,17 +42,6 @@ fn upper(a: u32, b: u32) -> u32
     ensures { λ r. ⌜ r ≡ max a b ⌝ }
 {
     if a <= b { b } else { a }
-}
-
-// Whether the edges x, y and a, b have one key.
-fn same_key(x: u32, y: u32, a: u32, b: u32) -> bool
-    ensures { λ r. ⌜ r ≡ sameKey (x, y) (a, b) ⌝ }
-{
-    let lo = lower(x, y);
-    let hi = upper(x, y);
-    let least = lower(a, b);
-    let most = upper(a, b);
-    (lo == least) & (hi == most)
 }
 
 fn is_negative(x: f64) -> bool

@@ -1,5 +1,5 @@
 -- "A mesh as read is a view over the caller's lists". Assumes nothing.
-use Prim.Native.Nat.{ℕ, zero, suc, _-_, _/_}
+use Prim.Native.Nat.{ℕ, zero, suc, _-_, _/_, _≤_, _<_}
 use mathlib.Core.List.{List}
 use lib.ListN.{length, getD}
 use lib.Ieee.{Float}
@@ -26,3 +26,7 @@ prior l (suc i) = getD l i 0
 -- how many node entries cell i has
 abbrev pub cellSize : List ℕ → ℕ → ℕ
 cellSize ends i = getD ends i 0 - prior ends i
+
+-- the ends rise, and stay within the count of entries
+abbrev pub Rising : List ℕ → ℕ → Type 0
+Rising ends total = (i : ℕ) → i < length ends → (prior ends i ≤ getD ends i 0) × (getD ends i 0 ≤ total)

@@ -11,11 +11,10 @@ use Rattle.lists.proofs.Gather.{each-ext, length-each, getD-each, each-getD}
 use Rattle.lists.proofs.Regions.{length-run, getD-run}
 use Rattle.cutting.specs.Edges.{edgeAt, ring}
 use Rattle.cutting.specs.Lent.{pairs}
-use Rattle.entry.specs.Mesh.{mesh, prior, cellSize}
+use Rattle.cutting.proofs.Adds.{pairs-length, pairs-at}
+use Rattle.entry.specs.Mesh.{mesh, prior, cellSize, Rising}
 use Rattle.rules.specs.Mesh.{cellAt, cellsOf}
 use Rattle.rules.specs.Neighbours.{descendingTo, computeDescending, lineEdges}
-use Rattle.spatial_index.proofs.Candidates.{length-pairs, pairs-at}
-use Rattle.neighbours.specs.Cells.{Rising}
 use Rattle.neighbours.proofs.Edges.{side, ring-each, length-addedAll}
 
 abbrev pub cellsIn : List ℕ → List ℕ → List (List ℕ)
@@ -87,7 +86,7 @@ module _ (xs ends : List ℕ) (rises : (i : ℕ) → i < length ends → prior e
   pub line-pairs : length xs ≡ 2 * length ends → lineEdges (cellsIn xs ends) ≡ pairs xs
   unfolding cellsOf cellAt
   line-pairs len =
-      let half : length (pairs xs) ≡ length ends = omega (arith, length-pairs xs, len) in
+      let half : length (pairs xs) ≡ length ends = omega (arith, pairs-length xs, len) in
       map-each (λ l. (getD l 0 0, getD l 1 0)) (length ends) (cellAt (mesh [] xs ends [] []))
       ∙ each-ext (length ends) _ _ (λ i h. pair-at i h) ∙ ap (λ (n : ℕ). each n (edgeAt (pairs xs))) (sym half) ∙ each-getD (pairs xs) (0, 0)
     where

@@ -14,13 +14,13 @@ use Rattle.lists.specs.Regions.{run, front, put, copied}
 use Rattle.lists.proofs.Regions.{length-front, take-front-of, front-put, copied-fits, length-copied, length-run, put-append}
 use Rattle.cutting.specs.Edges.{Edge}
 use Rattle.cutting.specs.Lent.{ends, pairs}
+use Rattle.cutting.proofs.Joins.{pairs-ends}
 use Rattle.entry.specs.Mesh.{Mesh, mesh}
 use Rattle.rules.specs.Neighbours.{subjectNet, cutterNet}
 use Rattle.rules.specs.Meetings.{Met, addedBy, meetings, Scene, sceneOf}
 use Rattle.rules.specs.Nodes.{overfull, crowded}
 use Rattle.rules.specs.Operations.{sceneFor}
 use Rattle.rules.specs.Refusals.{ofMeeting, firstRefusal}
-use Rattle.spatial_index.proofs.Candidates.{pairs-ends}
 use Rattle.snap.proofs.Places.{put-front}
 use Rattle.meetings.specs.Booked.{booked, netOn, meetingsAt}
 use Rattle.meetings.proofs.Reading.{length-booked, booked-at, meetings-fit, by-edges}

@@ -10,13 +10,13 @@ use Rattle.lists.specs.Regions.{run, front, put, copied, zeros}
 use Rattle.lists.proofs.Regions.{length-front, length-put, put-put, put-none, run-before, copied-fits}
 use Rattle.cutting.specs.Edges.{Edge}
 use Rattle.cutting.specs.Lent.{ends, pairs}
-use Rattle.entry.specs.Mesh.{Mesh, mesh, nodeCount}
+use Rattle.cutting.proofs.Adds.{pairs-length}
+use Rattle.cutting.proofs.Grow.{ends-length}
+use Rattle.entry.specs.Mesh.{Mesh, mesh, nodeCount, Rising}
 use Rattle.rules.specs.Mesh.{cellsOf}
 use Rattle.rules.specs.Snap.{weld}
 use Rattle.rules.specs.Neighbours.{computeDescending, lineEdges, subjectNet, cutterNet}
-use Rattle.spatial_index.proofs.Candidates.{length-pairs, length-ends}
 use Rattle.snap.proofs.Welds.{weld-lists, length-weld}
-use Rattle.neighbours.specs.Cells.{Rising}
 use Rattle.neighbours.proofs.Edges.{ends-pairs}
 use Rattle.neighbours.proofs.Threads.{put-swap}
 use Rattle.finding.specs.declared.numbering.Regions.{Regions}
@@ -92,7 +92,7 @@ module _ (lines : Bool) (sc cc : List Float) (sn se cn ce : List ℕ) where
         up i h = (omega (arith, fc .rises i h), omega (arith, fc .within i h, length-entries))
 
         go : (t : Bool) → lines ≡ t → length cutters ≤ length cn
-        go true e = omega (arith, ap length (cutters-lines e), length-pairs entries, length-entries)
+        go true e = omega (arith, ap length (cutters-lines e), pairs-length entries, length-entries)
         go false e = omega (arith, ap length (cutters-cells e), few-edges entries ce up (omega (arith, fc .last, length-entries)), length-entries)
 
     -- ---- from call to call
@@ -115,13 +115,13 @@ module _ (lines : Bool) (sc cc : List Float) (sn se cn ce : List ℕ) where
         where
           go : (t : Bool) → length (cond t [] (ends cutters)) ≤ 2 * length cn
           go true = omega arith
-          go false = omega (arith, length-ends cutters, few-cutters)
+          go false = omega (arith, ends-length cutters, few-cutters)
 
       h₁ : nodeCount c + length entries ≤ copiedAt s c
       h₁ = omega (arith, length-entries)
 
       h₃ : subjectAt s c + length (ends subjects) ≤ cutterAt s c
-      h₃ = omega (arith, length-ends subjects, few-subjects)
+      h₃ = omega (arith, ends-length subjects, few-subjects)
 
       h₄ : (xs : List ℕ) → length xs ≤ 2 * length cn → cutterAt s c + length xs ≤ length numbers
       h₄ xs h = omega (arith, h, room, length-numbers)
@@ -183,7 +183,7 @@ module _ (lines : Bool) (sc cc : List Float) (sn se cn ce : List ℕ) where
         -- the zeros again
         again : put (put (put three (metAt s c) clear) (cutterAt s c) (ends cutters)) (metAt s c) clear ≡ put (put three (cutterAt s c) (ends cutters)) (metAt s c) clear
         again =
-            let few : cutterAt s c + length (ends cutters) ≤ metAt s c = omega (arith, length-ends cutters, few-cutters) in
+            let few : cutterAt s c + length (ends cutters) ≤ metAt s c = omega (arith, ends-length cutters, few-cutters) in
             let long : length (put three (cutterAt s c) (ends cutters)) ≡ length w₀ = length-put three (cutterAt s c) (omega (arith, room, length-three)) (ends cutters) (omega (arith, few, room, length-three)) ∙ length-three in
             ap (λ (w : List ℕ). put w (metAt s c) clear) (put-swap three (cutterAt s c) (metAt s c) (ends cutters) clear few (omega (arith, room, length-three, length-clear)))
             ∙ put-put (put three (cutterAt s c) (ends cutters)) (metAt s c) (omega (arith, room, long)) clear clear (omega arith)
@@ -194,7 +194,7 @@ module _ (lines : Bool) (sc cc : List Float) (sn se cn ce : List ℕ) where
         unfolding netted
         lines-end e = (
           regions-are (nodeCount c) (length cn / 2) (sym (ap (λ (t : Bool). cond t (nodeCount c) (cutterAt s c)) e))
-              (omega (arith, ap length (cutters-lines e), length-pairs entries, length-entries)),
+              (omega (arith, ap length (cutters-lines e), pairs-length entries, length-entries)),
           four-is ∙ ap (λ (w : List ℕ). put w (metAt s c) clear) (sym (put-none three (cutterAt s c)) ∙ ap (λ (t : Bool). put three (cutterAt s c) (cond t [] (ends cutters))) (sym e)),
         )
 
@@ -244,7 +244,7 @@ module _ (lines : Bool) (sc cc : List Float) (sn se cn ce : List ℕ) where
 
       pub subjects-held : run held (subjectAt s c) (2 * length subjects) ≡ ends subjects
       subjects-held =
-          ap (run held (subjectAt s c)) (sym (length-ends subjects)) ∙ before (subjectAt s c) (length (ends subjects)) (omega (arith, length-ends subjects, few-subjects))
+          ap (run held (subjectAt s c)) (sym (ends-length subjects)) ∙ before (subjectAt s c) (length (ends subjects)) (omega (arith, ends-length subjects, few-subjects))
           ∙ layers.third-four numbers entries sn (ends subjects) behind (nodeCount c) (copiedAt s c) (subjectAt s c) (cutterAt s c) h₁ (omega arith) h₃ (h₄ behind few-behind)
 
       behind-held : run held (cutterAt s c) (length behind) ≡ behind
@@ -256,11 +256,11 @@ module _ (lines : Bool) (sc cc : List Float) (sn se cn ce : List ℕ) where
           go : (t : Bool) → lines ≡ t → run held (cond t (nodeCount c) (cutterAt s c)) (2 * length cutters) ≡ ends cutters
           go true e =
               let as-pairs : ends cutters ≡ entries = ap ends (cutters-lines e) ∙ ends-pairs entries (length ce) (line-count e) in
-              let n : 2 * length cutters ≡ length entries = omega (arith, length-ends cutters, ap length as-pairs) in
+              let n : 2 * length cutters ≡ length entries = omega (arith, ends-length cutters, ap length as-pairs) in
               ap (run held (nodeCount c)) n ∙ entries-whole ∙ sym as-pairs
           go false e =
               let is : behind ≡ ends cutters = ap (λ (t : Bool). cond t [] (ends cutters)) e in
-              let n : 2 * length cutters ≡ length behind = omega (arith, length-ends cutters, ap length is) in
+              let n : 2 * length cutters ≡ length behind = omega (arith, ends-length cutters, ap length is) in
               ap (run held (cutterAt s c)) n ∙ behind-held ∙ is
 
       pub subjects-before : (subjectAt s c + 2 * length subjects ≤ metAt s c) × (length subjects ≤ 65536)

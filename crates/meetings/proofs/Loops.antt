@@ -18,6 +18,7 @@ use Rattle.geometry.specs.declared.segment.Meeting.{Meeting}
 use Rattle.geometry.specs.declared.segment.Meeting.the-variants.{Apart, Existing, New, Overlap}
 use Rattle.cutting.specs.Edges.{Edge, edgeAt}
 use Rattle.cutting.specs.Lent.{pairs}
+use Rattle.cutting.proofs.Adds.{pairs-length, pairs-at}
 use Rattle.rules.specs.declared.Bounds.{Bounds}
 use Rattle.rules.specs.SpatialIndex.{edgeBox, boxesMeet, candidates}
 use Rattle.rules.specs.Neighbours.{Net}
@@ -27,7 +28,7 @@ use Rattle.rules.proofs.Course.{edges-behind}
 use Rattle.spatial_index.specs.Candidates.{placesFrom, meets}
 use Rattle.spatial_index.specs.Blocks.{blockBoxes, Covered}
 use Rattle.spatial_index.proofs.Covered.{covered}
-use Rattle.spatial_index.proofs.Candidates.{places-next, places-end, candidates-from, length-pairs, pairs-at}
+use Rattle.spatial_index.proofs.Candidates.{places-next, places-end, candidates-from}
 use Rattle.meetings.specs.declared.Found.{Found}
 use Rattle.meetings.specs.Booked.{booked, netOn, edgesIn, meetingsAt}
 use Rattle.meetings.specs.Steps.{edgeIn, metOf, metFrom, metWith, Ready, Grown, Answered}
@@ -69,7 +70,7 @@ edge-at w at n j h l =
     ∙ ap₂ (λ (a b : ℕ). (a, b)) (getD-run w at (2 * n) (2 * j) 0 (omega arith)) (getD-run w at (2 * n) (2 * j + 1) 0 (omega arith) ∙ ap (λ (k : ℕ). getD w k 0) next)
 
 pub count-in : (w : List ℕ) (at n : ℕ) → at + 2 * n ≤ length w → length (edgesIn w at n) ≡ n
-count-in w at n h = omega (arith, length-pairs (run w at (2 * n)), length-run w at (2 * n) h)
+count-in w at n h = omega (arith, pairs-length (run w at (2 * n)), length-run w at (2 * n) h)
 
 module _ (oc : List Float) (w : List ℕ) (placed base m met next : ℕ) (ready : Ready oc w placed base m met next) where
   enough : (base + 5 * m ≤ length w) × (met ≤ m) × (2 * next ≤ length oc)

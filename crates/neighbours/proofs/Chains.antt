@@ -14,8 +14,8 @@ use Rattle.lists.specs.Search.{seek, first, has}
 use Rattle.lists.proofs.Search.{has-at, has-some, and-true}
 use Rattle.cutting.specs.Edges.{Edge, edgeAt, key, sameKey}
 use Rattle.cutting.specs.Lent.{pairs}
-use Rattle.spatial_index.proofs.Candidates.{length-pairs, pairs-at}
-use Rattle.neighbours.specs.Chains.{lastBelow, chainOf, onChain, Chained, linked}
+use Rattle.cutting.proofs.Adds.{pairs-length, pairs-at}
+use Rattle.neighbours.specs.Chains.{lastBelow, edgeChain, onChain, Chained, linked}
 
 -- ---- the last index that passes
 
@@ -110,7 +110,7 @@ module _ (h : ℕ) (es : List Edge) (links : List ℕ) (f : Edge) (some : 0 < h)
   k = length es
 
   abbrev c : ℕ
-  c = chainOf h f
+  c = edgeChain h f
 
   abbrev ls : List ℕ
   ls = set links (h + k) (getD links c 0)
@@ -129,29 +129,29 @@ module _ (h : ℕ) (es : List Edge) (links : List ℕ) (f : Edge) (some : 0 < h)
 
   -- the others are on a chain as before
   same : (d n : ℕ) → n ≤ k → lastBelow (onChain h es d) n ≡ lastBelow (onChain h gs d) n
-  same d n l = last-ext (onChain h es d) (onChain h gs d) n (λ i b. ap (λ (e : Edge). eqb (chainOf h e) d) (sym (snoc-before es f i (omega arith))))
+  same d n l = last-ext (onChain h es d) (onChain h gs d) n (λ i b. ap (λ (e : Edge). eqb (edgeChain h e) d) (sym (snoc-before es f i (omega arith))))
 
-  at-last : chainOf h (edgeAt gs k) ≡ c
-  at-last = ap (chainOf h) (snoc-last es f)
+  at-last : edgeChain h (edgeAt gs k) ≡ c
+  at-last = ap (edgeChain h) (snoc-last es f)
 
   head-more : (d : ℕ) → d < h → Dec (d ≡ c) → getD ms d 0 ≡ lastBelow (onChain h gs d) (k + 1)
   head-more d b (yes e) =
       ap (λ (j : ℕ). getD ms j 0) e ∙ getD-set-same ls c (k + 1) 0 (omega (arith, length-set links (h + k) (getD links c 0), low))
-      ∙ sym (last-here (onChain h gs d) k (eq-eqb (chainOf h (edgeAt gs k)) d (at-last ∙ sym e)))
+      ∙ sym (last-here (onChain h gs d) k (eq-eqb (edgeChain h (edgeAt gs k)) d (at-last ∙ sym e)))
   head-more d b (no e) =
       other d (λ z. omega (arith, z)) e ∙ is .head d b ∙ same d k (omega arith)
-      ∙ sym (last-before (onChain h gs d) k (ne-eqb (chainOf h (edgeAt gs k)) d (λ z. e (sym z ∙ at-last))))
+      ∙ sym (last-before (onChain h gs d) k (ne-eqb (edgeChain h (edgeAt gs k)) d (λ z. e (sym z ∙ at-last))))
 
-  previous-more : (e : ℕ) → e < k + 1 → Dec (e ≡ k) → getD ms (h + e) 0 ≡ lastBelow (onChain h gs (chainOf h (edgeAt gs e))) e
+  previous-more : (e : ℕ) → e < k + 1 → Dec (e ≡ k) → getD ms (h + e) 0 ≡ lastBelow (onChain h gs (edgeChain h (edgeAt gs e))) e
   previous-more e b (yes z) =
       ap (λ (j : ℕ). getD ms (h + j) 0) z ∙ getD-set-other ls c (h + k) (k + 1) 0 (λ y. omega (arith, y, low)) ∙ getD-set-same links (h + k) (getD links c 0) 0 fits
-      ∙ is .head c low ∙ same c k (omega arith) ∙ ap₂ (λ (d j : ℕ). lastBelow (onChain h gs d) j) (sym at-last ∙ ap (λ (j : ℕ). chainOf h (edgeAt gs j)) (sym z)) (sym z)
+      ∙ is .head c low ∙ same c k (omega arith) ∙ ap₂ (λ (d j : ℕ). lastBelow (onChain h gs d) j) (sym at-last ∙ ap (λ (j : ℕ). edgeChain h (edgeAt gs j)) (sym z)) (sym z)
   previous-more e b (no z) =
       let l : e < k = omega (arith, z) in
-      other (h + e) (λ y. z (omega (arith, y))) (λ y. omega (arith, y, low)) ∙ is .previous e l ∙ same (chainOf h (edgeAt es e)) e (omega arith)
-      ∙ ap (λ (g : Edge). lastBelow (onChain h gs (chainOf h g)) e) (sym (snoc-before es f e l))
+      other (h + e) (λ y. z (omega (arith, y))) (λ y. omega (arith, y, low)) ∙ is .previous e l ∙ same (edgeChain h (edgeAt es e)) e (omega arith)
+      ∙ ap (λ (g : Edge). lastBelow (onChain h gs (edgeChain h g)) e) (sym (snoc-before es f e l))
 
-  pub chained-more : Chained h (es ++ f ∷ []) (linked h links (length es) (chainOf h f))
+  pub chained-more : Chained h (es ++ f ∷ []) (linked h links (length es) (edgeChain h f))
   unfolding linked
   chained-more =
       record {
@@ -172,14 +172,14 @@ key-is s a b i h = ap (λ (e : Edge). sameKey e (a, b)) (pairs-at s i h)
 -- those from e on have not the key; the one before is on its chain
 abbrev pub Passed : ℕ → List ℕ → ℕ → ℕ → ℕ → Type 0
 Passed h s a b e =
-    (e ≤ length s / 2) × (has (keyAt s a b) e ≡ has (keyAt s a b) (length (pairs s))) × ((i : ℕ) → e ≡ i + 1 → chainOf h (edgeAt (pairs s) i) ≡ chainOf h (a, b))
+    (e ≤ length s / 2) × (has (keyAt s a b) e ≡ has (keyAt s a b) (length (pairs s))) × ((i : ℕ) → e ≡ i + 1 → edgeChain h (edgeAt (pairs s) i) ≡ edgeChain h (a, b))
 
 module _ (h : ℕ) (s links : List ℕ) (a b : ℕ) (is : Chained h (pairs s) links) where
   abbrev p : ℕ → Bool
-  p = onChain h (pairs s) (chainOf h (a, b))
+  p = onChain h (pairs s) (edgeChain h (a, b))
 
   count : length (pairs s) ≡ length s / 2
-  count = length-pairs s
+  count = pairs-length s
 
   -- one with the key is on the chain
   with-key : (i : ℕ) → p i ≡ false → keyAt s a b i ≡ false
@@ -189,17 +189,17 @@ module _ (h : ℕ) (s links : List ℕ) (a b : ℕ) (is : Chained h (pairs s) li
       go false e = e
       go true e =
           let k : key (edgeAt (pairs s) i) .0 ≡ key (a, b) .0 = eqb-true _ _ (and-true _ _ e .0) in
-          absurd (true≢false (sym (eq-eqb (chainOf h (edgeAt (pairs s) i)) (chainOf h (a, b)) (omega (arith, k))) ∙ f))
+          absurd (true≢false (sym (eq-eqb (edgeChain h (edgeAt (pairs s) i)) (edgeChain h (a, b)) (omega (arith, k))) ∙ f))
 
   -- the search goes on at the last one below n that is on the chain
   step : (n : ℕ) → n ≤ length s / 2 → has (keyAt s a b) n ≡ has (keyAt s a b) (length (pairs s)) → (e : ℕ) → e ≡ lastBelow p n → Passed h s a b e
   step n l so e z = (
     omega (arith, z, last-le p n),
     ap (has (keyAt s a b)) z ∙ fewer (keyAt s a b) (lastBelow p n) n (last-le p n) (λ i u v. with-key i (last-none p n i u v)) ∙ so,
-    λ i y. eqb-true (chainOf h (edgeAt (pairs s) i)) (chainOf h (a, b)) (last-hit p n i (sym z ∙ y)),
+    λ i y. eqb-true (edgeChain h (edgeAt (pairs s) i)) (edgeChain h (a, b)) (last-hit p n i (sym z ∙ y)),
   )
 
-  pub search-start : (c : ℕ) → (c ≡ chainOf h (a, b)) × (c < h) → Passed h s a b (getD links c 0)
+  pub search-start : (c : ℕ) → (c ≡ edgeChain h (a, b)) × (c < h) → Passed h s a b (getD links c 0)
   search-start c z =
       step (length (pairs s)) (omega (arith, count)) refl (getD links c 0)
       (is .head c (z .1) ∙ ap (λ (d : ℕ). lastBelow (onChain h (pairs s) d) (length (pairs s))) (z .0))
@@ -217,7 +217,7 @@ module _ (h : ℕ) (s links : List ℕ) (a b : ℕ) (is : Chained h (pairs s) li
 
     -- it comes to an earlier edge
     pub falls : getD links (h + i) 0 < e
-    falls = omega (arith, is .previous i (omega (arith, inv .0, count)), last-le (onChain h (pairs s) (chainOf h (edgeAt (pairs s) i))) i)
+    falls = omega (arith, is .previous i (omega (arith, inv .0, count)), last-le (onChain h (pairs s) (edgeChain h (edgeAt (pairs s) i))) i)
 
   pub none : (e : ℕ) → e ≤ 0 → Passed h s a b e → false ≡ has (keyAt s a b) (length (pairs s))
   unfolding first seek

@@ -14,12 +14,13 @@ use Rattle.lists.proofs.Gather.{length-each, getD-each}
 use Rattle.lists.proofs.Regions.{put-store, length-put, put-run, length-run, getD-run, run-run, run-put, run-before, run-behind}
 use Rattle.cutting.specs.Edges.{Edge, ring}
 use Rattle.cutting.specs.Lent.{pairs, ends}
-use Rattle.entry.specs.Mesh.{mesh, prior}
+use Rattle.cutting.proofs.Adds.{pairs-length}
+use Rattle.cutting.proofs.Grow.{ends-length}
+use Rattle.entry.specs.Mesh.{mesh, prior, Rising}
 use Rattle.rules.specs.Mesh.{cellAt, cellsOf}
 use Rattle.rules.specs.Neighbours.{added, addedAll, descendingTo, computeDescending}
-use Rattle.spatial_index.proofs.Candidates.{length-pairs, length-ends}
-use Rattle.neighbours.specs.Cells.{next, Rising}
-use Rattle.neighbours.specs.Chains.{chainOf, Chained, linked, Threaded}
+use Rattle.neighbours.specs.Cells.{next}
+use Rattle.neighbours.specs.Chains.{edgeChain, Chained, linked, Threaded}
 use Rattle.neighbours.proofs.Edges.{side, addedTo, addedTo-more, addedTo-end, length-added, length-addedAll, ends-snoc, ends-pairs, ring-each}
 use Rattle.neighbours.proofs.Chains.{keyAt, length-linked, chained-more}
 use Rattle.neighbours.proofs.Threads.{part-is, part-put, threaded-none, read-before, read-one, read-edges, ready, threaded-on, zeroed, cleared-around}
@@ -57,7 +58,7 @@ module _ (w : List ℕ) (base k a b scratch h n : ℕ) (below : base + 2 * k + 2
   held-links = length-run w scratch (h + n) fits
 
   count-es : length es ≡ k
-  count-es = omega (arith, length-pairs xs, held)
+  count-es = omega (arith, pairs-length xs, held)
 
   pub key-ready : (0 < h) × (h + length edges / 2 ≤ length links) × Chained h (pairs edges) links
   key-ready = (some, omega (arith, ap length edges-are, ap length links-are, held, held-links), rw (edges-are, links-are) is)
@@ -98,26 +99,26 @@ module _ (w : List ℕ) (base k a b scratch h n : ℕ) (below : base + 2 * k + 2
   links-v : take (scratch + (h + n) - scratch) (drop scratch v) ≡ ls
   links-v =
       part-is v scratch (h + n) ∙ ap (λ (u : List ℕ). run u scratch (h + n)) v-is
-      ∙ run-behind w base (omega arith) (ends (es ++ (a, b) ∷ [])) scratch (h + n) (omega (arith, length-ends (es ++ (a, b) ∷ []), length-append es ((a, b) ∷ []), count-es))
+      ∙ run-behind w base (omega arith) (ends (es ++ (a, b) ∷ [])) scratch (h + n) (omega (arith, ends-length (es ++ (a, b) ∷ []), length-append es ((a, b) ∷ []), count-es))
 
   -- u is w with the edge, and comes back with other links
-  as-long : (u ms : List ℕ) → length u ≡ length w → ms ≡ linked h (take (scratch + (h + n) - scratch) (drop scratch u)) k (chainOf h (a, b)) → length ms ≡ h + n
+  as-long : (u ms : List ℕ) → length u ≡ length w → ms ≡ linked h (take (scratch + (h + n) - scratch) (drop scratch u)) k (edgeChain h (a, b)) → length ms ≡ h + n
   as-long u ms l got =
-      ap length got ∙ length-linked h (take (scratch + (h + n) - scratch) (drop scratch u)) k (chainOf h (a, b)) ∙ ap length (part-is u scratch (h + n))
+      ap length got ∙ length-linked h (take (scratch + (h + n) - scratch) (drop scratch u)) k (edgeChain h (a, b)) ∙ ap length (part-is u scratch (h + n))
       ∙ length-run u scratch (h + n) (omega (arith, l))
 
-  pub length-back : (u ms : List ℕ) → length u ≡ length w → ms ≡ linked h (take (scratch + (h + n) - scratch) (drop scratch u)) k (chainOf h (a, b))
+  pub length-back : (u ms : List ℕ) → length u ≡ length w → ms ≡ linked h (take (scratch + (h + n) - scratch) (drop scratch u)) k (edgeChain h (a, b))
       → length (take scratch u ++ (ms ++ drop (scratch + (h + n) - scratch) (drop scratch u))) ≡ length w
   length-back u ms l got =
       let long : length ms ≡ h + n = as-long u ms l got in
       ap length (part-put u ms scratch (h + n) long) ∙ length-put u scratch (omega (arith, l)) ms (omega (arith, long, l)) ∙ l
 
-  pub miss : has (keyAt edges a b) (length (pairs edges)) ≡ false → (ms : List ℕ) → ms ≡ linked h (take (scratch + (h + n) - scratch) (drop scratch v)) k (chainOf h (a, b))
+  pub miss : has (keyAt edges a b) (length (pairs edges)) ≡ false → (ms : List ℕ) → ms ≡ linked h (take (scratch + (h + n) - scratch) (drop scratch v)) k (edgeChain h (a, b))
       → (k + 1 ≡ length (added es (a, b))) × Threaded h n base scratch w (added es (a, b)) (take scratch v ++ (ms ++ drop (scratch + (h + n) - scratch) (drop scratch v)))
   unfolding added
   miss e ms got =
       let gs : List Edge = es ++ (a, b) ∷ [] in
-      let are : ms ≡ linked h ls (length es) (chainOf h (a, b)) = got ∙ ap₂ (λ (l : List ℕ) (i : ℕ). linked h l i (chainOf h (a, b))) links-v (sym count-es) in
+      let are : ms ≡ linked h ls (length es) (edgeChain h (a, b)) = got ∙ ap₂ (λ (l : List ℕ) (i : ℕ). linked h l i (edgeChain h (a, b))) links-v (sym count-es) in
       let long : length ms ≡ h + n = as-long v ms length-v got in
       let now-is : take scratch v ++ (ms ++ drop (scratch + (h + n) - scratch) (drop scratch v)) ≡ put v scratch ms = part-put v ms scratch (h + n) long in
       let back-are : run (put v scratch ms) scratch (h + n) ≡ ms = run-put v scratch (omega (arith, length-v)) ms (h + n) long in
@@ -152,7 +153,7 @@ module _ (w₀ : List ℕ) (at m base k scratch h n : ℕ) (h₁ : at + m ≤ ba
         omega arith,
         omega arith,
         refl,
-        omega (arith, length-pairs (run w₀ base (2 * k)), held₀),
+        omega (arith, pairs-length (run w₀ base (2 * k)), held₀),
         record { whole = sym (ap (λ (u : List ℕ). put u scratch (run w₀ scratch (h + n))) same ∙ put-run w₀ scratch (omega arith) (h + n) h₃); chained = is },
       )
 

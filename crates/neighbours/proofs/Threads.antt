@@ -12,7 +12,8 @@ use Rattle.lists.specs.Regions.{run, put, zeros}
 use Rattle.lists.proofs.Regions.{length-put, put-before, put-in, put-behind, put-run, put-put, put-none, length-run, run-put, run-before, part-back}
 use Rattle.cutting.specs.Edges.{Edge}
 use Rattle.cutting.specs.Lent.{pairs, ends}
-use Rattle.spatial_index.proofs.Candidates.{pairs-ends, length-ends}
+use Rattle.cutting.proofs.Grow.{ends-length}
+use Rattle.cutting.proofs.Joins.{pairs-ends}
 use Rattle.neighbours.specs.Chains.{Chained, Threaded}
 use Rattle.neighbours.proofs.Chains.{chained-none}
 
@@ -79,7 +80,7 @@ module _ (h n base scratch : ℕ) (w₀ : List ℕ) (fits : scratch + (h + n) �
     ls = run w scratch (h + n)
 
     flat : length (ends es) ≡ 2 * length es
-    flat = length-ends es
+    flat = ends-length es
 
     with : length (put w₀ base (ends es)) ≡ length w₀
     with = length-put w₀ base (omega arith) (ends es) (omega (arith, flat))
@@ -117,7 +118,7 @@ module _ (h n base scratch : ℕ) (w₀ : List ℕ) (fits : scratch + (h + n) �
         let ys : List ℕ = ends gs in
         let ms : List ℕ = run w′ scratch (h + n) in
         let v : List ℕ = put w₀ base xs in
-        let ly : length ys ≡ 2 * length gs = length-ends gs in
+        let ly : length ys ≡ 2 * length gs = ends-length gs in
         let lm : length ms ≡ h + n = length-run w′ scratch (h + n) (omega (arith, long, threaded-length)) in
         let lv : length (put v base ys) ≡ length w₀ = length-put v base (omega (arith, with)) ys (omega (arith, with, ly)) ∙ with in
         record {
@@ -150,7 +151,7 @@ module _ (h n scratch : ℕ) (w₀ : List ℕ) (fits : scratch + (h + n) ≤ len
       → put w₂ scratch (zeros (h + n)) ≡ put (put w₀ base (ends es)) scratch (zeros (h + n))
   cleared-around base w₁ w₂ es e t room =
       let xs : List ℕ = ends es in
-      let lx : length xs ≡ 2 * length es = length-ends es in
+      let lx : length xs ≡ 2 * length es = ends-length es in
       let l₁ : length w₁ ≡ length w₀ = ap length e ∙ length-put w₀ scratch (omega arith) zs (omega (arith, lz)) in
       let lx₁ : length (put w₁ base xs) ≡ length w₁ = length-put w₁ base (omega (arith, l₁)) xs (omega (arith, l₁, lx)) in
       let lx₀ : length (put w₀ base xs) ≡ length w₀ = length-put w₀ base (omega arith) xs (omega (arith, lx)) in

@@ -14,17 +14,21 @@ unfoldable pub lastBelow : (ℕ → Bool) → ℕ → ℕ
 lastBelow p zero = 0
 lastBelow p (suc n) = elim (p n) [ true ↦ suc n | false ↦ lastBelow p n ]
 
--- the chain of an edge, of h chains: nodes from h - 1 on share the last
-abbrev pub chainOf : ℕ → Edge → ℕ
-chainOf h e = min (key e .0) (h - 1)
+-- the chain of node v, of h chains: nodes from h - 1 on share the last
+abbrev pub chainOf : ℕ → ℕ → ℕ
+chainOf h v = min v (h - 1)
+
+-- the chain of an edge
+abbrev pub edgeChain : ℕ → Edge → ℕ
+edgeChain h e = chainOf h (key e .0)
 
 abbrev pub onChain : ℕ → List Edge → ℕ → ℕ → Bool
-onChain h es c i = eqb (chainOf h (edgeAt es i)) c
+onChain h es c i = eqb (edgeChain h (edgeAt es i)) c
 
 -- a list holds the chains of edges: for each of the h chains 1 + its last edge, then for each edge 1 + the one before it on its chain; 0 for none
 pub record Chained (h : ℕ) (es : List Edge) (links : List ℕ) : Type 0 where
   pub head : (c : ℕ) → c < h → getD links c 0 ≡ lastBelow (onChain h es c) (length es)
-  pub previous : (e : ℕ) → e < length es → getD links (h + e) 0 ≡ lastBelow (onChain h es (chainOf h (edgeAt es e))) e
+  pub previous : (e : ℕ) → e < length es → getD links (h + e) 0 ≡ lastBelow (onChain h es (edgeChain h (edgeAt es e))) e
 
 -- edge k becomes the last on chain c
 unfoldable pub linked : ℕ → List ℕ → ℕ → ℕ → List ℕ

@@ -11,23 +11,31 @@ ghost use Rattle.lists.specs.Search.{has};
 ghost use Rattle.lists.specs.Regions.{run, put, zeros};
 ghost use Rattle.cutting.specs.Edges.{edgeAt, sameKey, ring};
 ghost use Rattle.cutting.specs.Lent.{pairs, ends};
-ghost use Rattle.entry.specs.Mesh.{mesh};
+ghost use Rattle.entry.specs.Mesh.{mesh, Rising};
 ghost use Rattle.rules.specs.Mesh.{cellsOf};
 ghost use Rattle.rules.specs.Neighbours.{added, addedAll, computeDescending};
-ghost use Rattle.neighbours.specs.Cells.{next, Rising};
-ghost use Rattle.neighbours.specs.Chains.{chainOf, Chained, linked, Threaded};
+ghost use Rattle.neighbours.specs.Cells.{next};
+ghost use Rattle.neighbours.specs.Chains.{chainOf, edgeChain, Chained, linked, Threaded};
 
-// The chain of the edge a, b, of h chains.
-fn chain_of(h: usize, a: u32, b: u32) -> usize
+// The chain of node v, of h chains.
+pub fn chain_of(v: u32, h: usize) -> usize
     requires { ⌜ 0 < h ⌝ }
-    ensures { λ r. ⌜ (r ≡ chainOf h (a, b)) × (r < h) ⌝ }
+    ensures { λ r. ⌜ (r ≡ chainOf h v) × (r < h) ⌝ }
 {
-    let k = key(a, b);
-    let v = k.first as usize;
-    if v < h {
-        return v;
+    let c = v as usize;
+    if c < h {
+        return c;
     }
     h - 1
+}
+
+// The chain of the edge a, b.
+pub fn edge_chain(h: usize, a: u32, b: u32) -> usize
+    requires { ⌜ 0 < h ⌝ }
+    ensures { λ r. ⌜ (r ≡ edgeChain h (a, b)) × (r < h) ⌝ }
+{
+    let k = key(a, b);
+    chain_of(k.first, h)
 }
 
 // Whether some pair has the key of the edge a, b: those on its chain are looked at, from the last to the first.
@@ -35,7 +43,7 @@ fn has_key(edges: &[u32], links: &[u32], h: usize, a: u32, b: u32) -> bool
     requires { ⌜ (0 < h) × (h + length (now edges) / 2 ≤ length (now links)) × Chained h (pairs (now edges)) (now links) ⌝ }
     ensures { λ r. ⌜ r ≡ has (λ i. sameKey (edgeAt (pairs (now (edges .entry))) i) (a, b)) (length (pairs (now (edges .entry)))) ⌝ }
 {
-    let c = chain_of(h, a, b);
+    let c = edge_chain(h, a, b);
     let mut e = links[c] as usize;
     while 0 < e {
         let i = e - 1;
@@ -50,9 +58,9 @@ fn has_key(edges: &[u32], links: &[u32], h: usize, a: u32, b: u32) -> bool
 // Edge k, from a to b, becomes the last on its chain.
 fn link_edge(links: &mut [u32], h: usize, k: usize, a: u32, b: u32)
     requires { ⌜ (0 < h) × (h + k < length (now links)) × (k < 65536) ⌝ }
-    ensures { λ _. ⌜ now (links .exit) ≡ linked h (now (links .entry)) k (chainOf h (a, b)) ⌝ }
+    ensures { λ _. ⌜ now (links .exit) ≡ linked h (now (links .entry)) k (edgeChain h (a, b)) ⌝ }
 {
-    let c = chain_of(h, a, b);
+    let c = edge_chain(h, a, b);
     let last = links[c];
     links[h + k] = last;
     links[c] = (k + 1) as u32;

@@ -5,10 +5,10 @@ use mathlib.Core.List.{List}
 use Prim.Native.Nat.{ℕ, _-_, _≤_}
 use lib.ListN.{length, take, drop}
 use Rattle.cutting.specs.Lent.{pairs}
+use Rattle.entry.specs.Mesh.{Rising}
 use Rattle.rules.specs.Mesh.{theCutter}
 use Rattle.rules.specs.Operations.{cuts}
 use Rattle.cells.specs.Cells.{Uncrowded}
-use Rattle.pieces.specs.Pieces.{Rising}
 use Rattle.cutting_cells.specs.Listed.{CellsReady}
 
 -- a list from a up to b

@@ -11,13 +11,13 @@ use Rattle.lists.proofs.Search.{and-true, first-on, first-here, first-end, has-
 use Rattle.geometry.specs.Inside.{inside}
 use Rattle.geometry.specs.declared.segment.Point.{Point}
 use Rattle.geometry.specs.declared.polygon.Inner.the-variants.{Inside}
-use Rattle.entry.specs.Mesh.{prior}
+use Rattle.entry.specs.Mesh.{prior, Rising}
 use Rattle.entry.proofs.Ends.{prior-more}
 use Rattle.rules.specs.Mesh.{Side}
 use Rattle.rules.specs.SpatialIndex.{boxOf, boxHolds}
 use Rattle.rules.specs.Inside.{someHolds}
 use Rattle.rules.specs.Operations.{keeps, keptByUnion}
-use Rattle.pieces.specs.Pieces.{Rising, runsOf, sideOf}
+use Rattle.pieces.specs.Pieces.{runsOf, sideOf}
 use Rattle.pieces.proofs.Runs.{length-runs, run-at, part-is}
 
 -- ---- `some_holds`

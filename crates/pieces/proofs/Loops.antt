@@ -7,10 +7,10 @@ use native.Mathlib.Nat.{le-antisymm}
 use native.Mathlib.Omega.{arith}
 use lib.ListN.{length, getD, take, drop}
 use Rattle.lists.specs.Gather.{gathered, passing}
-use Rattle.entry.specs.Mesh.{prior}
+use Rattle.entry.specs.Mesh.{prior, Rising}
 use Rattle.entry.proofs.Ends.{prior-more}
 use Rattle.rules.specs.Mesh.{cellsOf}
-use Rattle.pieces.specs.Pieces.{Rising, runsOf, room, PlacedBehind}
+use Rattle.pieces.specs.Pieces.{runsOf, room, PlacedBehind}
 use Rattle.pieces.specs.declared.Placed.{Placed}
 use Rattle.pieces.proofs.Runs.{part-is, keptTo, kept-more, kept-behind, length-cell, kept-short}
 use Rattle.pieces.proofs.Behind.{placed-none, placed-refused, fit, same-on, same-oe, same-ok, same-of, placed-more}

@@ -14,10 +14,10 @@ use Rattle.lists.proofs.Gather.{each-more, length-each, getD-each, passing-appe
 use Rattle.lists.proofs.Regions.{length-run}
 use Rattle.cutting.specs.Outcome.{flat, stops}
 use Rattle.cutting.proofs.Steps.{stops-length}
-use Rattle.entry.specs.Mesh.{mesh, prior}
+use Rattle.entry.specs.Mesh.{mesh, prior, Rising}
 use Rattle.entry.proofs.Ends.{prior-more}
 use Rattle.rules.specs.Mesh.{cellAt, cellsOf}
-use Rattle.pieces.specs.Pieces.{Rising, runsOf}
+use Rattle.pieces.specs.Pieces.{runsOf}
 use Rattle.pieces.proofs.Room.{flat-append}
 
 pub length-runs : (nodes ends : List ℕ) → length (runsOf nodes ends) ≡ length ends

@@ -2,12 +2,12 @@
 use mathlib.Core.Path.{_≡_}
 use mathlib.Core.Bool.{Bool, true, false}
 use mathlib.Core.List.{List, [], map}
-use Prim.Native.Nat.{ℕ, _+_, _-_, _≤_, _<_, min}
-use lib.ListN.{length, getD, replicate}
+use Prim.Native.Nat.{ℕ, _+_, _-_, min}
+use lib.ListN.{length, replicate}
 use lib.Ieee.{Float}
 use Rattle.lists.specs.Regions.{put}
 use Rattle.cutting.specs.Outcome.{flat, stops}
-use Rattle.entry.specs.Mesh.{mesh, prior}
+use Rattle.entry.specs.Mesh.{mesh}
 use Rattle.rules.specs.Mesh.{cellsOf, Side, theSubject, theCutter}
 use Rattle.rules.specs.Inside.{pointInside}
 use Rattle.rules.specs.Operations.{keeps}
@@ -15,10 +15,6 @@ use Rattle.rules.specs.Refusals.{Event, piece, firstRefusal}
 use Rattle.pieces.specs.declared.Placed.{Placed}
 
 -- ---- runs of node numbers in a flat list, by their ends
-
--- the ends rise, and stay within the count of entries
-abbrev pub Rising : List ℕ → ℕ → Type 0
-Rising ends total = (i : ℕ) → i < length ends → (prior ends i ≤ getD ends i 0) × (getD ends i 0 ≤ total)
 
 abbrev pub runsOf : List ℕ → List ℕ → List (List ℕ)
 runsOf nodes ends = cellsOf (mesh [] nodes ends [] [])

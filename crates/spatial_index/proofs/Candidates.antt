@@ -1,18 +1,17 @@
--- The candidates as a search that is repeated, and edges read from a flat list. Assumes nothing.
+-- The candidates as a search that is repeated. Assumes nothing.
 use mathlib.Core.Path.{_≡_, refl, sym, ap, ap₂, _∙_}
 use mathlib.Core.Bool.{Bool, true, false, cond}
 use mathlib.Core.List.{List, [], _∷_, _++_}
-use Prim.Native.Nat.{ℕ, zero, suc, _+_, _-_, _*_, _/_, _≤_, _<_}
+use Prim.Native.Nat.{ℕ, zero, suc, _+_, _-_, _≤_, _<_}
 use native.Mathlib.Nat.{zero-add}
 use native.Mathlib.Omega.{arith}
-use lib.ListN.{length, getD}
+use lib.ListN.{length}
 use lib.Ieee.{Float}
 use Rattle.lists.specs.Search.{seek, first}
-use Rattle.lists.specs.Gather.{gathered, places, joined}
+use Rattle.lists.specs.Gather.{gathered, places}
 use Rattle.lists.proofs.Search.{seek-range}
 use Rattle.lists.proofs.Gather.{gathered-ext, gathered-head}
-use Rattle.cutting.specs.Edges.{Edge, edgeAt}
-use Rattle.cutting.specs.Lent.{ends, pairs}
+use Rattle.cutting.specs.Edges.{Edge}
 use Rattle.rules.specs.declared.Bounds.{Bounds}
 use Rattle.rules.specs.SpatialIndex.{candidates}
 use Rattle.spatial_index.specs.Candidates.{placesAmong, placesFrom, meets}
@@ -72,34 +71,6 @@ among-none p k (suc m) h = go (p k) (λ l. among-none p (suc k) m l) h
 pub places-end : (p : ℕ → Bool) (k n : ℕ) → n ≤ first p k n → placesFrom p k n ≡ []
 unfolding first
 places-end p k n h = among-none p k (n - k) (omega (arith, seek-range p k (n - k)))
-
--- ---- edges read from a flat list
-
-pub length-pairs : (xs : List ℕ) → length (pairs xs) ≡ length xs / 2
-unfolding pairs
-length-pairs [] = refl
-length-pairs (a ∷ []) = refl
-length-pairs (a ∷ b ∷ xs) = omega (arith, length-pairs xs)
-
-pub pairs-at : (xs : List ℕ) (j : ℕ) → j < length xs / 2 → edgeAt (pairs xs) j ≡ (getD xs (2 * j) 0, getD xs (2 * j + 1) 0)
-unfolding pairs
-pairs-at [] j h = absurd (omega arith)
-pairs-at (a ∷ []) j h = absurd (omega arith)
-pairs-at (a ∷ b ∷ xs) zero h = refl
-pairs-at (a ∷ b ∷ xs) (suc j) h =
-    let low : suc (suc (2 * j)) ≡ 2 * suc j = omega arith in
-    let high : suc (suc (2 * j + 1)) ≡ 2 * suc j + 1 = omega arith in
-    pairs-at xs j (omega arith) ∙ ap₂ (λ (i k : ℕ). (getD (a ∷ b ∷ xs) i 0, getD (a ∷ b ∷ xs) k 0)) low high
-
-pub pairs-ends : (es : List Edge) → pairs (ends es) ≡ es
-unfolding pairs ends joined
-pairs-ends [] = refl
-pairs-ends (e ∷ es) = ap (λ (fs : List Edge). e ∷ fs) (pairs-ends es)
-
-pub length-ends : (es : List Edge) → length (ends es) ≡ 2 * length es
-unfolding ends joined
-length-ends [] = refl
-length-ends (e ∷ es) = omega (arith, length-ends es)
 
 -- ---- the candidates of a box
 

@@ -12,10 +12,10 @@ use Rattle.lists.specs.Regions.{run, front}
 use Rattle.lists.proofs.Regions.{length-front, front-in, length-run, getD-run}
 use Rattle.cutting.specs.Edges.{Edge, edgeAt}
 use Rattle.cutting.specs.Lent.{pairs}
+use Rattle.cutting.proofs.Adds.{pairs-length, pairs-at}
 use Rattle.rules.specs.declared.Bounds.{Bounds}
 use Rattle.rules.specs.SpatialIndex.{edgeBox, boxesMeet}
 use Rattle.spatial_index.specs.Blocks.{fourOf, boxAt, blockBox, blockBoxes, Covered}
-use Rattle.spatial_index.proofs.Candidates.{length-pairs, pairs-at}
 use Rattle.spatial_index.proofs.Blocks.{length-fours, length-blocks}
 use Rattle.spatial_index.proofs.Wider.{wider-meets, box-wider}
 
@@ -67,7 +67,7 @@ module _ (coords : List Float) (xs : List ℕ) where
       let made = length-blocks coords xs (length w / 4) in
       let same : length boxes ≡ length w = ap length e ∙ length-front w (blockBoxes coords xs (length w / 4)) (omega (arith, made)) in
       let box : boxAt boxes k ≡ blockBox coords xs k = ap (λ (l : List Float). boxAt l k) e ∙ box-made w (length w / 4) k (omega (arith, same)) in
-      let within : j < length xs / 2 = omega (arith, length-pairs xs) in
+      let within : j < length xs / 2 = omega (arith, pairs-length xs) in
       let low : 128 * k + i ≡ 2 * j = omega arith in
       let high : 128 * k + suc i ≡ 2 * j + 1 = omega arith in
       let near : getD ns i 0 ≡ getD xs (2 * j) 0 = getD-run xs (128 * k) 128 i 0 (omega arith) ∙ ap (λ (m : ℕ). getD xs m 0) low in

@@ -15,11 +15,11 @@ use Rattle.geometry.specs.Plane.{pointAt}
 use Rattle.geometry.specs.declared.segment.Point.{Point}
 use Rattle.cutting.specs.Edges.{Edge}
 use Rattle.cutting.specs.Lent.{pairs}
+use Rattle.cutting.proofs.Adds.{pairs-length, pairs-at}
 use Rattle.rules.specs.declared.Bounds.{Bounds}
 use Rattle.rules.specs.SpatialIndex.{stretched, boxTo, boxOf, edgeBox, boxesMeet}
 use Rattle.spatial_index.specs.Candidates.{meets}
 use Rattle.spatial_index.specs.Blocks.{boxAt, Covered, Apart}
-use Rattle.spatial_index.proofs.Candidates.{length-pairs, pairs-at}
 
 module _ (coords : List Float) (ns : List ℕ) where
   pub box-turn : (b c : Bounds) (p : Point) (i : ℕ) → b ≡ boxTo i coords ns → p ≡ pointAt coords (getD ns i 0) → c ≡ stretched b p → c ≡ boxTo (i + 1) coords ns
@@ -53,7 +53,7 @@ module _ (coords : List Float) (xs : List ℕ) (b : Bounds) (from : ℕ) where
   module _ (j : ℕ) (e : Bounds) (t : Bool) (inv : Sought j) (h : j < length xs / 2) (ee : e ≡ edgeBox coords (getD xs (2 * j) 0, getD xs (2 * j + 1) 0))
       (te : t ≡ boxesMeet e b) where
     within : j < length (pairs xs)
-    within = omega (arith, length-pairs xs)
+    within = omega (arith, pairs-length xs)
 
     tested : meets coords (pairs xs) b j ≡ t
     tested = ap (λ (f : Edge). boxesMeet (edgeBox coords f) b) (pairs-at xs j h) ∙ ap (λ (g : Bounds). boxesMeet g b) (sym ee) ∙ sym te
@@ -65,7 +65,7 @@ module _ (coords : List Float) (xs : List ℕ) (b : Bounds) (from : ℕ) where
     sought-here f = sym (first-here (meets coords (pairs xs) b) j (length (pairs xs)) within (tested ∙ f)) ∙ inv
 
   pub sought-end : (j : ℕ) → Sought j → length xs / 2 ≤ j → j ≡ first (meets coords (pairs xs) b) from (length (pairs xs))
-  sought-end j inv h = sym (first-end (meets coords (pairs xs) b) j (length (pairs xs)) (omega (arith, length-pairs xs))) ∙ inv
+  sought-end j inv h = sym (first-end (meets coords (pairs xs) b) j (length (pairs xs)) (omega (arith, pairs-length xs))) ∙ inv
 
   -- at edge j begins a block that is apart from b: it is passed over
   module _ (boxes : List Float) (cover : Covered coords (pairs xs) boxes) (j : ℕ) (apart : Apart boxes b j) where
@@ -76,11 +76,11 @@ module _ (coords : List Float) (xs : List ℕ) (b : Bounds) (from : ℕ) where
         go false e = e
         go true e =
             let block : j / 64 ≡ (j + i) / 64 = omega (arith, apart .0) in
-            let met = cover (j + i) (omega (arith, length-pairs xs)) (omega (arith, block, apart .1)) b e in
+            let met = cover (j + i) (omega (arith, pairs-length xs)) (omega (arith, block, apart .1)) b e in
             absurd (true≢false (sym met ∙ ap (λ (k : ℕ). boxesMeet (boxAt boxes k) b) (sym block) ∙ apart .2))
 
     pub sought-over : (to : ℕ) → Sought j → j ≤ to → to ≤ length xs / 2 → to ≤ j + 64 → Sought to
     sought-over to inv h l m =
         let past : to ≡ j + (to - j) = omega arith in
         ap (λ (i : ℕ). first (meets coords (pairs xs) b) i (length (pairs xs))) past
-        ∙ first-over (meets coords (pairs xs) b) j (to - j) (length (pairs xs)) (omega (arith, length-pairs xs)) (λ i k. fails i (omega arith) (omega arith)) ∙ inv
+        ∙ first-over (meets coords (pairs xs) b) j (to - j) (length (pairs xs)) (omega (arith, pairs-length xs)) (λ i k. fails i (omega arith) (omega arith)) ∙ inv

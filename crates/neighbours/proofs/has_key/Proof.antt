@@ -8,7 +8,7 @@ use Rattle.neighbours.proofs.has_key.Tie as tie
 use Rattle.neighbours.proofs.has_key.Reads as reads
 use Rattle.neighbours.proofs.has_key.Lts as lts
 use Rattle.cutting.proofs.utils.same_key.Reads as same-key-reads
-use Rattle.neighbours.proofs.chain_of.Reads as chain-of-reads
+use Rattle.neighbours.proofs.edge_chain.Reads as edge-chain-reads
 
 abbrev Inv-loop : tie.InvT-loop
 Inv-loop edges links h a b c e₀ e = Passed h edges a b e
@@ -17,8 +17,8 @@ abbrev μ-loop : tie.MeasureT-loop
 μ-loop edges links h a b c e₀ e = e
 
 -- src/lib.rt:38:9
-chain-of-requires : tie.Need-chain-of-requires Inv-loop μ-loop
-chain-of-requires c κs = search needs
+edge-chain-requires : tie.Need-edge-chain-requires Inv-loop μ-loop
+edge-chain-requires c κs = search needs
 
 -- src/lib.rt:39:17
 mul-e : tie.Need-mul-e Inv-loop μ-loop
@@ -30,13 +30,13 @@ shared-slice-read-e c = search needs
 
 -- src/lib.rt:39:17
 cast-e : tie.Need-cast-e Inv-loop μ-loop
-cast-e c = omega (arith, c .shared-slice-known3 .given (c .before .chain-of .result))
+cast-e c = omega (arith, c .shared-slice-known3 .given (c .before .edge-chain .result))
 
 -- src/lib.rt:40:5
 loop-holds : tie.Need-loop-holds Inv-loop μ-loop
 loop-holds c =
     let s = c .before .before .before .before in
-    search-start (s .args .h) (s .args .edges .now) (s .args .links .now) (s .args .a) (s .args .b) (s .pre .2) (c .before .chain-of .result) (c .before .chain-of .ensures)
+    search-start (s .args .h) (s .args .edges .now) (s .args .links .now) (s .args .a) (s .args .b) (s .pre .2) (c .before .edge-chain .result) (c .before .edge-chain .ensures)
 
 -- src/lib.rt:41:17
 sub-i : tie.Need-sub-i Inv-loop μ-loop
@@ -125,7 +125,7 @@ has-key-spec =
     (tie.spec
     Inv-loop
     μ-loop
-    chain-of-requires
+    edge-chain-requires
     mul-e
     shared-slice-read-e
     cast-e

@@ -7,11 +7,11 @@ use Rattle.neighbours.proofs.link_edge.Statement.{statement}
 use Rattle.neighbours.proofs.link_edge.Tie as tie
 use Rattle.neighbours.proofs.link_edge.Reads as reads
 use Rattle.neighbours.proofs.link_edge.Lts as lts
-use Rattle.neighbours.proofs.chain_of.Reads as chain-of-reads
+use Rattle.neighbours.proofs.edge_chain.Reads as edge-chain-reads
 
 -- src/lib.rt:55:9
-chain-of-requires : tie.Need-chain-of-requires
-chain-of-requires c κs = search needs
+edge-chain-requires : tie.Need-edge-chain-requires
+edge-chain-requires c κs = search needs
 
 -- src/lib.rt:56:16
 mul-last : tie.Need-mul-last
@@ -58,13 +58,13 @@ returns : tie.Need-returns
 unfolding linked
 returns c =
     let a = c .before .before .before .args in
-    ap (linked (a .h) (a .links .now) (a .k)) (c .before .chain-of .ensures .0)
+    ap (linked (a .h) (a .links .now) (a .k)) (c .before .edge-chain .ensures .0)
 
 pub link-edge-spec : {M : Type 1} → statement M
 link-edge-spec =
     tie.close
     (tie.spec
-    chain-of-requires
+    edge-chain-requires
     mul-last
     slice-read-last
     add-links

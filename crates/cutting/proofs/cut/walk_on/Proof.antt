@@ -44,16 +44,18 @@ find-slot-requires : tie.Need-find-slot-requires Inv-loop μ-loop
 find-slot-requires c κs = search needs
 
 same-length : tie.Need-same-length Inv-loop μ-loop
-same-length c = search needs
+same-length c =
+    let l = c .before .before .before .before .before .loop in
+    length-set (l .marks) (l .at) 1 ∙ l .inv .same-marks
 
 same-length-2 : tie.Need-same-length-2 Inv-loop μ-loop
-same-length-2 c = search needs
+same-length-2 c = c .before .before .before .before .before .loop .inv .same-heap
 
 same-length-3 : tie.Need-same-length-3 Inv-loop μ-loop
-same-length-3 c = search needs
+same-length-3 c = c .before .before .before .before .before .loop .inv .same-nodes
 
 same-length-4 : tie.Need-same-length-4 Inv-loop μ-loop
-same-length-4 c = search needs
+same-length-4 c = c .before .before .before .before .before .loop .inv .same-ends
 
 returns : tie.Need-returns Inv-loop μ-loop
 returns c =
@@ -90,9 +92,7 @@ cast-stops c =
     let s = l .before .before .before .before .before .before .before in
     let v = l .loop .inv in
     let h = c .before .before .before .before .before .if1 .taken in
-    let y = getD (s .args .dst .now) (l .loop .at) 0 in
-    let found = c .before .before .find-slot .ensures in
-    omega (arith, on-slot (s .pre) v h, s .pre)
+    omega (arith, on-slot (s .pre) v h .low, on-slot (s .pre) v h .few, s .pre .small)
 
 mul-stops : tie.Need-mul-stops Inv-loop μ-loop
 mul-stops c =
@@ -100,9 +100,7 @@ mul-stops c =
     let s = l .before .before .before .before .before .before .before in
     let v = l .loop .inv in
     let h = c .before .before .before .before .before .if1 .taken in
-    let y = getD (s .args .dst .now) (l .loop .at) 0 in
-    let found = c .before .before .find-slot .ensures in
-    omega (arith, on-slot (s .pre) v h, s .pre)
+    omega (arith, on-slot (s .pre) v h .low, on-slot (s .pre) v h .few, s .pre .small)
 
 slice-write-stops : tie.Need-slice-write-stops Inv-loop μ-loop
 slice-write-stops c =
@@ -120,9 +118,7 @@ add-k c =
     let s = l .before .before .before .before .before .before .before in
     let v = l .loop .inv in
     let h = c .before .before .before .before .before .if1 .taken in
-    let y = getD (s .args .dst .now) (l .loop .at) 0 in
-    let found = c .before .before .find-slot .ensures in
-    omega (arith, on-slot (s .pre) v h, s .pre)
+    omega (arith, on-slot (s .pre) v h .low, on-slot (s .pre) v h .few, s .pre .small)
 
 loop-less : tie.Need-loop-less Inv-loop μ-loop
 loop-less c =
@@ -149,22 +145,23 @@ next-open-requires c κs =
     let l = c .before .before .before .before .before .before .before in
     let s = l .before .before .before .before .before .before .before in
     let v = l .loop .inv in
-    let h = c .before .before .before .before .before .before .if1 .taken in
-    let y = getD (s .args .dst .now) (l .loop .at) 0 in
-    let found = c .before .before .before .find-slot .ensures in
-    omega (arith, length-set (l .loop .marks) (l .loop .at) 1, v .same-marks, s .pre, c .before .before .if2 .left)
+    omega (arith, length-set (l .loop .marks) (l .loop .at) 1, v .same-marks, s .pre .small, s .pre .srcs, s .pre .marked, c .before .before .if2 .left)
 
 same-length-5 : tie.Need-same-length-5 Inv-loop μ-loop
-same-length-5 c = search needs
+same-length-5 c =
+    let l = c .before .before .before .before .before .before .before .before .before .loop in
+    length-set (l .marks) (l .at) 1 ∙ l .inv .same-marks
 
 same-length-6 : tie.Need-same-length-6 Inv-loop μ-loop
-same-length-6 c = search needs
+same-length-6 c =
+    let l = c .before .before .before .before .before .before .before .before .before .loop in
+    length-set (l .heap) (l .sp) (c .before .before .before .before .before .find-slot .result) ∙ l .inv .same-heap
 
 same-length-7 : tie.Need-same-length-7 Inv-loop μ-loop
-same-length-7 c = search needs
+same-length-7 c = c .before .before .before .before .before .before .before .before .before .loop .inv .same-nodes
 
 same-length-8 : tie.Need-same-length-8 Inv-loop μ-loop
-same-length-8 c = search needs
+same-length-8 c = c .before .before .before .before .before .before .before .before .before .loop .inv .same-ends
 
 returns-2 : tie.Need-returns-2 Inv-loop μ-loop
 returns-2 c =
@@ -182,9 +179,7 @@ mul-nodes c =
     let s = l .before .before .before .before .before .before .before in
     let v = l .loop .inv in
     let h = c .before .before .before .before .before .before .before .before .if1 .taken in
-    let y = getD (s .args .dst .now) (l .loop .at) 0 in
-    let found = c .before .before .before .before .before .find-slot .ensures in
-    omega (arith, on-slot (s .pre) v h, s .pre)
+    omega (arith, on-slot (s .pre) v h .low, on-slot (s .pre) v h .few, s .pre .small)
 
 slice-write-nodes : tie.Need-slice-write-nodes Inv-loop μ-loop
 slice-write-nodes c =
@@ -202,9 +197,7 @@ add-m c =
     let s = l .before .before .before .before .before .before .before in
     let v = l .loop .inv in
     let h = c .before .before .before .before .before .before .before .before .if1 .taken in
-    let y = getD (s .args .dst .now) (l .loop .at) 0 in
-    let found = c .before .before .before .before .before .find-slot .ensures in
-    omega (arith, on-slot (s .pre) v h, s .pre)
+    omega (arith, on-slot (s .pre) v h .low, on-slot (s .pre) v h .few, s .pre .small)
 
 loop-less-2 : tie.Need-loop-less-2 Inv-loop μ-loop
 loop-less-2 c =
@@ -227,19 +220,19 @@ loop-again-2 c =
     turn-onward (s .pre) v h y _ refl found (c .before .before .before .before .if2 .left) (c .before .before .before .if3 .left) _ (c .before .next-open .ensures) (c .if4 .left)
 
 closed-requires : tie.Need-closed-requires Inv-loop μ-loop
-closed-requires c κs = search needs
+closed-requires c κs = tt
 
 same-length-9 : tie.Need-same-length-9 Inv-loop μ-loop
-same-length-9 c = search needs
+same-length-9 c = c .before .before .before .loop .inv .same-marks
 
 same-length-10 : tie.Need-same-length-10 Inv-loop μ-loop
-same-length-10 c = search needs
+same-length-10 c = c .before .before .before .loop .inv .same-heap
 
 same-length-11 : tie.Need-same-length-11 Inv-loop μ-loop
-same-length-11 c = search needs
+same-length-11 c = c .before .before .before .loop .inv .same-nodes
 
 same-length-12 : tie.Need-same-length-12 Inv-loop μ-loop
-same-length-12 c = search needs
+same-length-12 c = c .before .before .before .loop .inv .same-ends
 
 returns-3 : tie.Need-returns-3 Inv-loop μ-loop
 returns-3 c =
@@ -260,19 +253,19 @@ slice-read-wide : tie.Need-slice-read-wide Inv-loop μ-loop
 slice-read-wide c = search needs
 
 wide-requires : tie.Need-wide-requires Inv-loop μ-loop
-wide-requires c κs = search needs
+wide-requires c κs = tt
 
 same-length-13 : tie.Need-same-length-13 Inv-loop μ-loop
-same-length-13 c = search needs
+same-length-13 c = c .before .before .before .before .before .loop .inv .same-marks
 
 same-length-14 : tie.Need-same-length-14 Inv-loop μ-loop
-same-length-14 c = search needs
+same-length-14 c = c .before .before .before .before .before .loop .inv .same-heap
 
 same-length-15 : tie.Need-same-length-15 Inv-loop μ-loop
-same-length-15 c = search needs
+same-length-15 c = c .before .before .before .before .before .loop .inv .same-nodes
 
 same-length-16 : tie.Need-same-length-16 Inv-loop μ-loop
-same-length-16 c = search needs
+same-length-16 c = c .before .before .before .before .before .loop .inv .same-ends
 
 returns-4 : tie.Need-returns-4 Inv-loop μ-loop
 returns-4 c =
@@ -287,33 +280,26 @@ mul-if7 : tie.Need-mul-if7 Inv-loop μ-loop
 mul-if7 c =
     let l = c .before .before .before .before .before in
     let s = l .before .before .before .before .before .before .before in
-    let v = l .loop .inv in
-    let h = c .before .before .before .before .if1 .left in
-    omega (arith, c .if6 .left, s .pre)
+    omega (arith, c .if6 .left, s .pre .small)
 
 slice-read-if7 : tie.Need-slice-read-if7 Inv-loop μ-loop
 slice-read-if7 c =
     let l = c .before .before .before .before .before .before in
     let s = l .before .before .before .before .before .before .before in
     let v = l .loop .inv in
-    let h = c .before .before .before .before .before .if1 .left in
-    omega (arith, c .before .if6 .left, s .pre, v .same-marks)
+    omega (arith, c .before .if6 .left, s .pre .marked, v .same-marks)
 
 mul-start : tie.Need-mul-start Inv-loop μ-loop
 mul-start c =
     let l = c .before .before .before .before .before .before .before in
     let s = l .before .before .before .before .before .before .before in
-    let v = l .loop .inv in
-    let h = c .before .before .before .before .before .before .if1 .left in
-    omega (arith, c .before .before .if6 .left, s .pre)
+    omega (arith, c .before .before .if6 .left, s .pre .small)
 
 shared-slice-read-start : tie.Need-shared-slice-read-start Inv-loop μ-loop
 shared-slice-read-start c =
     let l = c .before .before .before .before .before .before .before .before in
     let s = l .before .before .before .before .before .before .before in
-    let v = l .loop .inv in
-    let h = c .before .before .before .before .before .before .before .if1 .left in
-    omega (arith, c .before .before .before .if6 .left, s .pre)
+    omega (arith, c .before .before .before .if6 .left, s .pre .srcs)
 
 mul-nodes-2 : tie.Need-mul-nodes-2 Inv-loop μ-loop
 mul-nodes-2 c =
@@ -321,7 +307,7 @@ mul-nodes-2 c =
     let s = l .before .before .before .before .before .before .before in
     let v = l .loop .inv in
     let h = c .before .before .before .before .before .before .before .if1 .left in
-    omega (arith, resting (s .pre) v h, s .pre)
+    omega (arith, resting (s .pre) v h .low, s .pre .small)
 
 slice-write-nodes-2 : tie.Need-slice-write-nodes-2 Inv-loop μ-loop
 slice-write-nodes-2 c =
@@ -338,7 +324,7 @@ add-m-2 c =
     let s = l .before .before .before .before .before .before .before in
     let v = l .loop .inv in
     let h = c .before .before .before .before .before .before .before .if1 .left in
-    omega (arith, resting (s .pre) v h, s .pre)
+    omega (arith, resting (s .pre) v h .low, s .pre .small)
 
 loop-less-3 : tie.Need-loop-less-3 Inv-loop μ-loop
 loop-less-3 c = search needs

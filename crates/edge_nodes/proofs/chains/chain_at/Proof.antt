@@ -29,17 +29,13 @@ first-of-requires c κs = search needs
 second-of-requires : tie.Need-second-of-requires
 second-of-requires c κs = search needs
 
-lower-requires : tie.Need-lower-requires
-lower-requires c κs = search needs
-
-chain-of-requires : tie.Need-chain-of-requires
-chain-of-requires c κs = search needs
+edge-chain-requires : tie.Need-edge-chain-requires
+edge-chain-requires c κs = search needs
 
 returns : tie.Need-returns
 returns c =
-    let a = c .before .before .before .before .before .before .before .args in
-    let v = c .before .lower in
-    (chain-is (a .h) (pairs (a .edges .now)) (a .met .now) (a .which) (a .q) (c .before .before .before .first-of .result) (c .before .before .second-of .result) (v .result) (c .chain-of .result) (c .before .before .before .first-of .ensures) (c .before .before .second-of .ensures) (v .ensures) (c .chain-of .ensures .0), c .chain-of .ensures .1)
+    let a = c .before .before .before .before .before .before .args in
+    (chain-is (a .h) (pairs (a .edges .now)) (a .met .now) (a .which) (a .q) (c .before .before .first-of .result) (c .before .second-of .result) (c .edge-chain .result) (c .before .before .first-of .ensures) (c .before .second-of .ensures) (c .edge-chain .ensures .0), c .edge-chain .ensures .1)
 
 pub chain-at-spec : {M : Type 1} → statement M
 chain-at-spec =
@@ -52,6 +48,5 @@ chain-at-spec =
     cast-e
     first-of-requires
     second-of-requires
-    lower-requires
-    chain-of-requires
+    edge-chain-requires
     returns)

@@ -7,7 +7,7 @@ use Rattle.edge_nodes.proofs.chains.head_of.Statement.{statement}
 use Rattle.edge_nodes.proofs.chains.head_of.Tie as tie
 use Rattle.edge_nodes.proofs.chains.head_of.Reads as reads
 use Rattle.edge_nodes.proofs.chains.head_of.Lts as lts
-use Rattle.edge_nodes.proofs.chains.chain_of.Reads as chain-of-reads
+use Rattle.neighbours.proofs.chain_of.Reads as chain-of-reads
 
 -- src/chains.rt:126:13
 sub-h : tie.Need-sub-h
