@@ -4,7 +4,7 @@ use mathlib.Core.List.{List, [], _++_, append-nil}
 use Prim.Native.Nat.{ℕ, _-_, _*_, _≤_}
 use native.Mathlib.Nat.{le-refl}
 use native.Mathlib.Omega.{arith}
-use lib.ListN.{length, take, drop, replicate, length-drop, drop-of-length-le}
+use lib.ListN.{length, take, drop, replicate, length-drop, length-append, length-replicate, drop-of-length-le}
 use lib.Seq.{length-take-le, take-at, drop-at, take-all}
 use lib.Ieee.{Float}
 use Rattle.lists.specs.Regions.{zeros, fzeros}
@@ -18,6 +18,11 @@ module _ {A : Type 0} (v : A) (w : List A) (b : ℕ) (h : b ≤ length w) where
   came-back ys e =
       let l : length (drop b w) ≤ length w - b = simp length-drop (le-refl (length w - b)) in
       rw (e, take-all (length w - b) (drop b w) l, drop-of-length-le (drop b w) l, length-drop, append-nil)
+
+  pub as-many : (ys : List A) → ys ≡ replicate (length (take (length w - b) (drop b w))) v → length (take b w ++ (ys ++ drop (length w - b) (drop b w))) ≡ length w
+  as-many ys e =
+      ap length (came-back ys e)
+      ∙ omega (arith, h, length-append (take b w) (replicate (length w - b) v), length-take-le b w h, length-replicate (length w - b) v)
 
 module _ {A : Type 0} (w : List A) (b : ℕ) (h : b ≤ length w) where
   pub take-front : (z : List A) → take b (take b w ++ z) ≡ take b w

@@ -1,6 +1,6 @@
 -- `reading::clear_rest` meets its contract. Assumes nothing.
 use Prim.Native.Nat.{_*_}
-use Rattle.reading.proofs.Rest.{came-back}
+use Rattle.reading.proofs.Rest.{came-back, as-many}
 use borrow.Author.Needs.{needs}
 use Rattle.reading.proofs.clear_rest.Statement.{statement}
 use Rattle.reading.proofs.clear_rest.Tie as tie
@@ -81,19 +81,49 @@ zero-u32-requires-3 : tie.Need-zero-u32-requires-3
 zero-u32-requires-3 c κs = search needs
 
 same-length : tie.Need-same-length
-same-length c = search needs
+same-length c =
+    let at-zero-u8 = c .before .before .before .before .before .before in
+    let at-zero-u322 = at-zero-u8 .before .before .before .before in
+    let at-zero-u32 = at-zero-u322 .before .before .before .before in
+    let at-zero-f64 = at-zero-u32 .before .before .before .before in
+    let at-start = at-zero-f64 .before .before .before .before .before .before .before in
+    as-many _ (at-start .args .coords .now) (2 * at-start .args .points) (at-start .pre .0) _ (at-zero-f64 .zero-f64 .ensures)
 
 same-length-2 : tie.Need-same-length-2
-same-length-2 c = search needs
+same-length-2 c =
+    let at-zero-u8 = c .before .before .before .before .before .before in
+    let at-zero-u322 = at-zero-u8 .before .before .before .before in
+    let at-zero-u32 = at-zero-u322 .before .before .before .before in
+    let at-zero-f64 = at-zero-u32 .before .before .before .before in
+    let at-start = at-zero-f64 .before .before .before .before .before .before .before in
+    as-many _ (at-start .args .nodes .now) (at-start .args .entries) (at-start .pre .1) _ (at-zero-u32 .zero-u32 .ensures)
 
 same-length-3 : tie.Need-same-length-3
-same-length-3 c = search needs
+same-length-3 c =
+    let at-zero-u8 = c .before .before .before .before .before .before in
+    let at-zero-u322 = at-zero-u8 .before .before .before .before in
+    let at-zero-u32 = at-zero-u322 .before .before .before .before in
+    let at-zero-f64 = at-zero-u32 .before .before .before .before in
+    let at-start = at-zero-f64 .before .before .before .before .before .before .before in
+    as-many _ (at-start .args .ends .now) (at-start .args .cells) (at-start .pre .2) _ (at-zero-u322 .zero-u322 .ensures)
 
 same-length-4 : tie.Need-same-length-4
-same-length-4 c = search needs
+same-length-4 c =
+    let at-zero-u8 = c .before .before .before .before .before .before in
+    let at-zero-u322 = at-zero-u8 .before .before .before .before in
+    let at-zero-u32 = at-zero-u322 .before .before .before .before in
+    let at-zero-f64 = at-zero-u32 .before .before .before .before in
+    let at-start = at-zero-f64 .before .before .before .before .before .before .before in
+    as-many _ (at-start .args .kinds .now) (at-start .args .cells) (at-start .pre .3) _ (at-zero-u8 .zero-u8 .ensures)
 
 same-length-5 : tie.Need-same-length-5
-same-length-5 c = search needs
+same-length-5 c =
+    let at-zero-u8 = c .before .before .before .before .before .before in
+    let at-zero-u322 = at-zero-u8 .before .before .before .before in
+    let at-zero-u32 = at-zero-u322 .before .before .before .before in
+    let at-zero-f64 = at-zero-u32 .before .before .before .before in
+    let at-start = at-zero-f64 .before .before .before .before .before .before .before in
+    as-many _ (at-start .args .families .now) (at-start .args .cells) (at-start .pre .4) _ (c .before .before .zero-u323 .ensures)
 
 returns : tie.Need-returns
 returns c =
