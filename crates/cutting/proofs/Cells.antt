@@ -17,8 +17,8 @@ use Rattle.lists.specs.Regions.{front}
 use Rattle.lists.proofs.Gather.{tally-append}
 use Rattle.cutting.specs.Edges.{Edge, ring, rings, times}
 use Rattle.cutting.specs.Cell.{Laid, inner, edgeSlots, reverseMark, table, cellTable, copiedTable, names, doubled}
-use Rattle.cutting.specs.Walk.{Next, more, closed, stuck, broken, walk}
-use Rattle.cutting.specs.Outcome.{Outcome, refusal, pieces, ofWalk, walked, closesUp, afterWalk, tooMany, cutOutcome, flat, stops}
+use Rattle.cutting.specs.Walk.{Next, more, closed, stuck, broken, walkWith}
+use Rattle.cutting.specs.Outcome.{Outcome, refusal, pieces, ofWalk, walked, closesUp, afterWalk, tooMany, cutOutcomeWith, flat, stops}
 use Rattle.cutting.specs.Areas.{term, doubledArea, doubledAreas, Closes, ClosesUp}
 use Rattle.cutting.specs.Lent.{answer, cornersIn, endsIn, piecesIn}
 use Rattle.cutting.specs.declared.cut.Walked.the-variants.{Closed}
@@ -99,45 +99,45 @@ pieces-read from ps nodes stops₀ = pieces-behind from ps (drop (length (flat p
 
 -- ---- a cell that is cut
 
-module _ (coords : List Float) (outline : List Edge) (near : List Laid) where
-  pub walk-ends : ((ps : List (List ℕ)) × (walk outline (cellTable coords outline near) ≡ closed ps)) ⊎ (walk outline (cellTable coords outline near) ≡ stuck)
-  walk-ends = pick (walk outline (cellTable coords outline near)) refl (ends outline (inner outline near) (cellTable coords outline near) (sorted-table coords outline near))
+module _ (turning : Bool) (coords : List Float) (outline : List Edge) (near : List Laid) where
+  pub walk-ends : ((ps : List (List ℕ)) × (walkWith turning outline (cellTable coords outline near) ≡ closed ps)) ⊎ (walkWith turning outline (cellTable coords outline near) ≡ stuck)
+  walk-ends = pick (walkWith turning outline (cellTable coords outline near)) refl (ends turning outline (inner outline near) (cellTable coords outline near) (sorted-table coords outline near))
     where
-      pick : (r : Next) → walk outline (cellTable coords outline near) ≡ r → Ended r → ((ps : List (List ℕ)) × (walk outline (cellTable coords outline near) ≡ closed ps)) ⊎ (walk outline (cellTable coords outline near) ≡ stuck)
+      pick : (r : Next) → walkWith turning outline (cellTable coords outline near) ≡ r → Ended r → ((ps : List (List ℕ)) × (walkWith turning outline (cellTable coords outline near) ≡ closed ps)) ⊎ (walkWith turning outline (cellTable coords outline near) ≡ stuck)
       pick (more s) e h = absurd h
       pick (closed ps) e h = inl (ps, e)
       pick stuck e h = inr e
       pick broken e h = absurd h
 
   module _ (clean : doubled (cellTable coords outline near) ≡ false) (ps : List (List ℕ)) where
-    pub closes-up : walk outline (cellTable coords outline near) ≡ closed ps → ClosesUp coords outline ps
+    pub closes-up : walkWith turning outline (cellTable coords outline near) ≡ closed ps → ClosesUp coords outline ps
     closes-up e = record {
-      edges = closes outline (inner outline near) (cellTable coords outline near) (sorted-table coords outline near) clean ps e;
-      areas = areas coords outline ps (λ a b. even outline (inner outline near) (cellTable coords outline near) (sorted-table coords outline near) clean ps e a b .1);
+      edges = closes outline (inner outline near) (cellTable coords outline near) (sorted-table coords outline near) turning clean ps e;
+      areas = areas coords outline ps (λ a b. even outline (inner outline near) (cellTable coords outline near) (sorted-table coords outline near) turning clean ps e a b .1);
     }
 
-    pub test-passes : walk outline (cellTable coords outline near) ≡ closed ps → closesUp outline (rings ps) ≡ true
+    pub test-passes : walkWith turning outline (cellTable coords outline near) ≡ closed ps → closesUp outline (rings ps) ≡ true
     test-passes e = closes-test outline ps (closes-up e .edges)
 
   -- the outcome without the test is the same
-  pub without-test : cutOutcome outline (cellTable coords outline near) ≡ cond (tooMany (length (cellTable coords outline near))) (refusal 10) (ofWalk (walk outline (cellTable coords outline near)))
-  unfolding cutOutcome
-  without-test = ap (λ (x : Outcome). cond (tooMany (length (cellTable coords outline near))) (refusal 10) x) (go (walk outline (cellTable coords outline near)) refl)
+  pub without-test : cutOutcomeWith turning outline (cellTable coords outline near) ≡ cond (tooMany (length (cellTable coords outline near))) (refusal 10) (ofWalk (walkWith turning outline (cellTable coords outline near)))
+  unfolding cutOutcomeWith
+  without-test = ap (λ (x : Outcome). cond (tooMany (length (cellTable coords outline near))) (refusal 10) x) (go (walkWith turning outline (cellTable coords outline near)) refl)
     where
-      done : (ps : List (List ℕ)) → walk outline (cellTable coords outline near) ≡ closed ps → (b : Bool) → doubled (cellTable coords outline near) ≡ b → cond (b || closesUp outline (rings ps)) (pieces ps) (refusal 11) ≡ pieces ps
+      done : (ps : List (List ℕ)) → walkWith turning outline (cellTable coords outline near) ≡ closed ps → (b : Bool) → doubled (cellTable coords outline near) ≡ b → cond (b || closesUp outline (rings ps)) (pieces ps) (refusal 11) ≡ pieces ps
       done ps e true f = refl
       done ps e false f = ap (λ (x : Bool). cond x (pieces ps) (refusal 11)) (test-passes f ps e)
 
-      go : (x : Next) → walk outline (cellTable coords outline near) ≡ x → afterWalk outline (doubled (cellTable coords outline near)) (ofWalk x) ≡ ofWalk x
+      go : (x : Next) → walkWith turning outline (cellTable coords outline near) ≡ x → afterWalk outline (doubled (cellTable coords outline near)) (ofWalk x) ≡ ofWalk x
       go (closed ps) e = done ps e (doubled (cellTable coords outline near)) refl
       go stuck e = refl
       go broken e = refl
       go (more s) e = refl
 
-  pub accepted-closes-up : doubled (cellTable coords outline near) ≡ false → (ps : List (List ℕ)) → cutOutcome outline (cellTable coords outline near) ≡ pieces ps → ClosesUp coords outline ps
-  accepted-closes-up clean ps e = closes-up clean ps (of-walk (walk outline (cellTable coords outline near)) (made (tooMany (length (cellTable coords outline near))) (sym without-test ∙ e)))
+  pub accepted-closes-up : doubled (cellTable coords outline near) ≡ false → (ps : List (List ℕ)) → cutOutcomeWith turning outline (cellTable coords outline near) ≡ pieces ps → ClosesUp coords outline ps
+  accepted-closes-up clean ps e = closes-up clean ps (of-walk (walkWith turning outline (cellTable coords outline near)) (made (tooMany (length (cellTable coords outline near))) (sym without-test ∙ e)))
     where
-      made : (b : Bool) → cond b (refusal 10) (ofWalk (walk outline (cellTable coords outline near))) ≡ pieces ps → ofWalk (walk outline (cellTable coords outline near)) ≡ pieces ps
+      made : (b : Bool) → cond b (refusal 10) (ofWalk (walkWith turning outline (cellTable coords outline near))) ≡ pieces ps → ofWalk (walkWith turning outline (cellTable coords outline near)) ≡ pieces ps
       made true q = let z : _≡_ {A = ℕ} 0 1 = cc in absurd (omega arith)
       made false q = q
 
@@ -149,11 +149,11 @@ module _ (coords : List Float) (outline : List Edge) (near : List Laid) where
 
   -- the pieces as they are read from the answer and the lists
   pub read-closes-up : doubled (cellTable coords outline near) ≡ false → (nodes stops₀ : List ℕ) (k m : ℕ)
-      → let o : Outcome = ofWalk (walk outline (cellTable coords outline near)) in answer o ≡ Closed k m → ClosesUp coords outline (piecesIn 0 k (cornersIn o nodes) (endsIn o stops₀))
+      → let o : Outcome = ofWalk (walkWith turning outline (cellTable coords outline near)) in answer o ≡ Closed k m → ClosesUp coords outline (piecesIn 0 k (cornersIn o nodes) (endsIn o stops₀))
   unfolding cornersIn endsIn
-  read-closes-up clean nodes stops₀ k m = go (walk outline (cellTable coords outline near)) refl
+  read-closes-up clean nodes stops₀ k m = go (walkWith turning outline (cellTable coords outline near)) refl
     where
-      go : (x : Next) → walk outline (cellTable coords outline near) ≡ x → answer (ofWalk x) ≡ Closed k m → ClosesUp coords outline (piecesIn 0 k (cornersIn (ofWalk x) nodes) (endsIn (ofWalk x) stops₀))
+      go : (x : Next) → walkWith turning outline (cellTable coords outline near) ≡ x → answer (ofWalk x) ≡ Closed k m → ClosesUp coords outline (piecesIn 0 k (cornersIn (ofWalk x) nodes) (endsIn (ofWalk x) stops₀))
       go (closed ps) e q =
           let count : k ≡ length ps = cc in
           subst (ClosesUp coords outline) (sym (ap (λ (j : ℕ). piecesIn 0 j (front nodes (flat ps)) (front stops₀ (stops 0 ps))) count ∙ pieces-read 0 ps nodes stops₀)) (closes-up clean ps e)

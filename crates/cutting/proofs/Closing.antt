@@ -19,29 +19,29 @@ use Rattle.cutting.proofs.Cells as cells
 module _ (coords : List Float) (outline : List Edge) (near : List Laid) where
   -- The walk of a cell ends: with pieces, or with refusal 11.
   pub walk-ends : ((ps : List (List ℕ)) × (walk outline (cellTable coords outline near) ≡ closed ps)) ⊎ (walk outline (cellTable coords outline near) ≡ stuck)
-  walk-ends = cells.walk-ends coords outline near
+  walk-ends = cells.walk-ends true coords outline near
 
   -- In a cell that isn't doubled and whose walk closes pieces, these use each outline dart exactly once, its reverse never, and any other edge
   -- exactly once each way or not at all; and their exact doubled signed areas add up to that of the outline.
   pub closes-up : doubled (cellTable coords outline near) ≡ false → (ps : List (List ℕ)) → walk outline (cellTable coords outline near) ≡ closed ps → ClosesUp coords outline ps
-  closes-up = cells.closes-up coords outline near
+  closes-up = cells.closes-up true coords outline near
 
   -- The same of the pieces of a cell that gives no refusal.
   pub accepted-closes-up : doubled (cellTable coords outline near) ≡ false → (ps : List (List ℕ)) → cutOutcome outline (cellTable coords outline near) ≡ pieces ps → ClosesUp coords outline ps
-  accepted-closes-up = cells.accepted-closes-up coords outline near
+  accepted-closes-up = cells.accepted-closes-up true coords outline near
 
   -- And of the pieces as they are read from the answer and the two lists of `walk_dart_map`.
   pub read-closes-up : doubled (cellTable coords outline near) ≡ false → (nodes stops : List ℕ) (k m : ℕ)
       → let o : Outcome = ofWalk (walk outline (cellTable coords outline near)) in answer o ≡ Closed k m → ClosesUp coords outline (piecesIn 0 k (cornersIn o nodes) (endsIn o stops))
-  read-closes-up = cells.read-closes-up coords outline near
+  read-closes-up = cells.read-closes-up true coords outline near
 
   -- So the part of refusal 11 after the walk never fires.
   pub test-passes : doubled (cellTable coords outline near) ≡ false → (ps : List (List ℕ)) → walk outline (cellTable coords outline near) ≡ closed ps → closesUp outline (rings ps) ≡ true
-  test-passes = cells.test-passes coords outline near
+  test-passes = cells.test-passes true coords outline near
 
   -- A cut cell's outcome is the same without it.
   pub without-test : cutOutcome outline (cellTable coords outline near) ≡ cond (tooMany (length (cellTable coords outline near))) (refusal 10) (ofWalk (walk outline (cellTable coords outline near)))
-  without-test = cells.without-test coords outline near
+  without-test = cells.without-test true coords outline near
 
 -- A copied cell that isn't doubled is its own one piece, and closes up to its own edges.
 pub copy-closes-up : (coords : List Float) (cell : List ℕ) → doubled (copiedTable cell) ≡ false → ClosesUp coords (ring cell) (cell ∷ [])

@@ -12,7 +12,7 @@ use borrow.Author.Tests.{ltb-true, eqb-true}
 use Rattle.lists.specs.Search.{bit, many}
 use Rattle.lists.proofs.Search.{many-change, many-le, many-less, first-hit}
 use Rattle.cutting.specs.Edges.{Edge, hops, ring, rings, hit, times}
-use Rattle.cutting.proofs.Rounds.{after-hit}
+use Rattle.cutting.proofs.Rounds.{after-open, after-at}
 use Rattle.cutting.proofs.EdgeLaws.{end, both, hit-back, end-snoc, times-snoc, rings-snoc}
 use Rattle.cutting.specs.Walk.{State, Phase, between, along, Next, more, closed, stuck, broken, run, step, go, rest, taken, popped, cross, arrive, onward, after, slot, leads}
 
@@ -111,8 +111,8 @@ module _ (n : ℕ) (src dst : List ℕ) where
     Fine stuck = Unit {0}
     Fine broken = Unit {0}
 
-    module _ (one : f + o′ ≤ 1) (same : f + o′ ≡ f′ + o) (single : named a b ≤ 1) (single′ : named b a ≤ 1) where
-      popped-fine : (marks heap : List ℕ) (done : List (List ℕ)) (i : ℕ) → i < n → (t : Bool) → eqb (getD marks i 0) 0 ≡ t → Kept marks (i ∷ heap) done between → Fine (popped n src dst marks heap done i t)
+    module _ (turning : Bool) (one : f + o′ ≤ 1) (same : f + o′ ≡ f′ + o) (single : named a b ≤ 1) (single′ : named b a ≤ 1) where
+      popped-fine : (marks heap : List ℕ) (done : List (List ℕ)) (i : ℕ) → i < n → (t : Bool) → eqb (getD marks i 0) 0 ≡ t → Kept marks (i ∷ heap) done between → Fine (popped turning n src dst marks heap done i t)
       unfolding popped on times hops end
       popped-fine marks heap done i i< true e k = record {
         long = k .long;
@@ -131,19 +131,19 @@ module _ (n : ℕ) (src dst : List ℕ) where
         left′ = omega (arith, free-marked b a marks i i< e);
       }
 
-      taken-fine : (marks heap : List ℕ) (done : List (List ℕ)) (i : ℕ) (t : Bool) → ltb i n ≡ t → Kept marks (i ∷ heap) done between → Fine (taken n src dst marks heap done i t)
+      taken-fine : (marks heap : List ℕ) (done : List (List ℕ)) (i : ℕ) (t : Bool) → ltb i n ≡ t → Kept marks (i ∷ heap) done between → Fine (taken turning n src dst marks heap done i t)
       unfolding taken
       taken-fine marks heap done i true l k = popped-fine marks heap done i (ltb-true i n l) (eqb (getD marks i 0) 0) refl k
       taken-fine marks heap done i false l k = tt
 
-      rest-fine : (marks heap : List ℕ) (done : List (List ℕ)) → Kept marks heap done between → Fine (rest n src dst marks heap done)
+      rest-fine : (marks heap : List ℕ) (done : List (List ℕ)) → Kept marks heap done between → Fine (rest turning n src dst marks heap done)
       unfolding rest on
       rest-fine marks [] done k = record { once = omega arith; once′ = omega arith; even = omega arith }
       rest-fine marks (i ∷ heap) done k = taken-fine marks heap done i (ltb i n) refl k
 
       module _ (marks heap : List ℕ) (done : List (List ℕ)) (start : ℕ) (mid : List ℕ) (i r : ℕ) (r< : r < n) (e : getD src r 0 ≡ getD dst i 0) (e′ : getD dst r 0 ≡ getD src i 0) (k : Kept marks heap done (along start mid i)) where
         -- the dart i is walked, and the piece goes on at the slot j
-        onward-fine : (j : ℕ) → (t : Bool) → ltb j n ≡ t → (j < n → (getD src j 0 ≡ getD dst i 0) × (getD (set marks i 1) j 0 ≡ 0)) → Fine (onward n src dst (set marks i 1) (r ∷ heap) done start (mid ++ getD dst i 0 ∷ []) j t)
+        onward-fine : (j : ℕ) → (t : Bool) → ltb j n ≡ t → (j < n → (getD src j 0 ≡ getD dst i 0) × (getD (set marks i 1) j 0 ≡ 0)) → Fine (onward turning n src dst (set marks i 1) (r ∷ heap) done start (mid ++ getD dst i 0 ∷ []) j t)
         unfolding onward on
         onward-fine j true l found =
             let j< = ltb-true j n l in
@@ -166,7 +166,7 @@ module _ (n : ℕ) (src dst : List ℕ) where
             }
         onward-fine j false l found = tt
 
-        arrive-fine : (t : Bool) → eqb (getD dst i 0) start ≡ t → Fine (arrive n src dst (set marks i 1) (r ∷ heap) done start mid (getD dst i 0) r t)
+        arrive-fine : (t : Bool) → eqb (getD dst i 0) start ≡ t → Fine (arrive turning n src dst (set marks i 1) (r ∷ heap) done start mid (getD dst i 0) r t)
         unfolding arrive on ring
         arrive-fine true t =
             let len = length-set marks i 1 in
@@ -187,10 +187,10 @@ module _ (n : ℕ) (src dst : List ℕ) where
               left′ = omega (arith, k .left′);
             }
         arrive-fine false t =
-            let j = after n src (set marks i 1) (getD dst i 0) r in
-            onward-fine j (ltb j n) refl (λ l. after-hit n src (set marks i 1) (getD dst i 0) r r< l)
+            let j = after turning n src (set marks i 1) (getD dst i 0) r in
+            onward-fine j (ltb j n) refl (λ l. (after-at turning n src (set marks i 1) (getD dst i 0) r e l, after-open turning n src (set marks i 1) (getD dst i 0) r l))
 
-      cross-fine : (marks heap : List ℕ) (done : List (List ℕ)) (start : ℕ) (mid : List ℕ) (i : ℕ) → Kept marks heap done (along start mid i) → (t : Bool) → ltb (slot n src dst (getD dst i 0) (getD src i 0)) n ≡ t → Fine (cross n src dst (set marks i 1) heap done start mid (getD dst i 0) (slot n src dst (getD dst i 0) (getD src i 0)) t)
+      cross-fine : (marks heap : List ℕ) (done : List (List ℕ)) (start : ℕ) (mid : List ℕ) (i : ℕ) → Kept marks heap done (along start mid i) → (t : Bool) → ltb (slot n src dst (getD dst i 0) (getD src i 0)) n ≡ t → Fine (cross turning n src dst (set marks i 1) heap done start mid (getD dst i 0) (slot n src dst (getD dst i 0) (getD src i 0)) t)
       unfolding cross
       cross-fine marks heap done start mid i k true l =
           let r = slot n src dst (getD dst i 0) (getD src i 0) in
@@ -199,30 +199,30 @@ module _ (n : ℕ) (src dst : List ℕ) where
           arrive-fine marks heap done start mid i r r< (at .0) (at .1) k (eqb (getD dst i 0) start) refl
       cross-fine marks heap done start mid i k false l = tt
 
-      go-fine : (phase : Phase) (marks heap : List ℕ) (done : List (List ℕ)) → Kept marks heap done phase → Fine (go n src dst phase marks heap done)
+      go-fine : (phase : Phase) (marks heap : List ℕ) (done : List (List ℕ)) → Kept marks heap done phase → Fine (go turning n src dst phase marks heap done)
       unfolding go
       go-fine between marks heap done k = rest-fine marks heap done k
       go-fine (along start mid i) marks heap done k = cross-fine marks heap done start mid i k (ltb (slot n src dst (getD dst i 0) (getD src i 0)) n) refl
 
-      step-fine : (s : State) → Fine (more s) → Fine (step n src dst s)
+      step-fine : (s : State) → Fine (more s) → Fine (step turning n src dst s)
       unfolding step
       step-fine s k = go-fine (s .phase) (s .marks) (s .heap) (s .done) k
 
-      on-next : (m : ℕ) → ((u : State) → Fine (more u) → Fine (run n src dst m u)) → (t : Next) → Fine t → Fine (elim t [ more u ↦ run n src dst m u | closed ps ↦ closed ps | stuck ↦ stuck | broken ↦ broken ])
+      on-next : (m : ℕ) → ((u : State) → Fine (more u) → Fine (run turning n src dst m u)) → (t : Next) → Fine t → Fine (elim t [ more u ↦ run turning n src dst m u | closed ps ↦ closed ps | stuck ↦ stuck | broken ↦ broken ])
       on-next m again (more u) h = again u h
       on-next m again (closed ps) h = h
       on-next m again stuck h = tt
       on-next m again broken h = tt
 
-      run-fine : (m : ℕ) (s : State) → Fine (more s) → Fine (run n src dst m s)
+      run-fine : (m : ℕ) (s : State) → Fine (more s) → Fine (run turning n src dst m s)
       unfolding run
       run-fine zero s k = tt
-      run-fine (suc m) s k = on-next m (λ u h. run-fine m u h) (step n src dst s) (step-fine s k)
+      run-fine (suc m) s k = on-next m (λ u h. run-fine m u h) (step turning n src dst s) (step-fine s k)
 
   -- the theorem for any table: marks stand at the reverses of the outline's edges alone, the heap has a slot for each edge of the outline, and no neighbour is named twice
-  pub close : (marks heap : List ℕ) (outline : List Edge) → n ≤ length marks → ((a b : ℕ) → named a b ≤ 1) → ((a b : ℕ) → free a b marks + times b a outline ≡ named a b) → ((a b : ℕ) → named a b ≡ named b a) → ((a b : ℕ) → on a b heap ≡ times a b outline) → (m : ℕ) (ps : List (List ℕ)) → run n src dst m (record { marks = marks; heap = heap; done = []; phase = between }) ≡ closed ps → (a b : ℕ) → (times a b (rings ps) ≤ 1) × (times a b (rings ps) + times b a outline ≡ times b a (rings ps) + times a b outline)
+  pub close : (turning : Bool) (marks heap : List ℕ) (outline : List Edge) → n ≤ length marks → ((a b : ℕ) → named a b ≤ 1) → ((a b : ℕ) → free a b marks + times b a outline ≡ named a b) → ((a b : ℕ) → named a b ≡ named b a) → ((a b : ℕ) → on a b heap ≡ times a b outline) → (m : ℕ) (ps : List (List ℕ)) → run turning n src dst m (record { marks = marks; heap = heap; done = []; phase = between }) ≡ closed ps → (a b : ℕ) → (times a b (rings ps) ≤ 1) × (times a b (rings ps) + times b a outline ≡ times b a (rings ps) + times a b outline)
   unfolding times rings
-  close marks heap outline long single marked sym-named starts m ps e a b =
+  close turning marks heap outline long single marked sym-named starts m ps e a b =
       let fab = free a b marks in
       let fba = free b a marks in
       let o = times a b outline in
@@ -235,5 +235,5 @@ module _ (n : ℕ) (src dst : List ℕ) where
         left = omega (arith, starts a b, marked a b, single a b);
         left′ = omega (arith, starts b a, marked b a, single b a);
       } in
-      let fine : Balanced a b fab fba o o′ ps = subst (Fine a b fab fba o o′) e (run-fine a b fab fba o o′ (omega (arith, marked a b, single a b)) (omega (arith, marked a b, marked b a, sym-named a b)) (single a b) (single b a) m (record { marks = marks; heap = heap; done = []; phase = between }) start) in
+      let fine : Balanced a b fab fba o o′ ps = subst (Fine a b fab fba o o′) e (run-fine a b fab fba o o′ turning (omega (arith, marked a b, single a b)) (omega (arith, marked a b, marked b a, sym-named a b)) (single a b) (single b a) m (record { marks = marks; heap = heap; done = []; phase = between }) start) in
       (fine .once, fine .even)

@@ -1,46 +1,70 @@
 -- The unmarked slots: the next one of a node, and how many there are. Assumes nothing.
-use mathlib.Core.Path.{_≡_, refl, sym, ap}
-use mathlib.Core.Bool.{Bool, true, false}
+use mathlib.Core.Path.{_≡_, refl, sym, ap, ap₂, _∙_}
+use mathlib.Core.Bool.{Bool, true, false, _&&_, and-false}
 use mathlib.Core.List.{List}
 use Prim.Native.Nat.{ℕ, _+_, _≤_, _<_}
 use native.Mathlib.Omega.{arith}
 use lib.Dec.{eqb, ltb}
 use lib.ListN.{length, getD, set}
 use lib.Seq.{getD-set-same, getD-set-other}
-use borrow.Author.Tests.{ltb-true, lt-ltb, le-ltb}
+use borrow.Author.Tests.{ltb-true, lt-ltb, le-ltb, eqb-true, eq-eqb, ne-eqb}
 use Rattle.lists.specs.Search.{bit, many, first}
 use Rattle.lists.proofs.Search.{many-change, first-hit}
 use Rattle.cutting.specs.Walk.{openAt, orElse, after}
 use Rattle.cutting.proofs.EdgeLaws.{both}
 
-module _ (n : ℕ) (src marks : List ℕ) (a r : ℕ) where
-  pub after-late : (j : ℕ) → j ≡ first (openAt src marks a) (r + 1) n → j < n → j ≡ after n src marks a r
+and-right : (s t : Bool) → s && t ≡ true → t ≡ true
+and-right true t e = e
+and-right false true e = refl
+and-right false false e = e
+
+module _ (turning : Bool) (n : ℕ) (src marks : List ℕ) (a r : ℕ) where
+  pub after-late : (j : ℕ) → j ≡ first (openAt src marks a) (r + 1) n → j < n → j ≡ after turning n src marks a r
   unfolding after
   after-late j e h = rw (← e, lt-ltb j n h)
 
   module _ (j : ℕ) (e : j ≡ first (openAt src marks a) (r + 1) n) (h : n ≤ j) (k : ℕ) (f : k ≡ first (openAt src marks a) 0 r) where
-    pub after-early : k < r → k ≡ after n src marks a r
+    pub after-early : k < r → k ≡ after turning n src marks a r
     unfolding after
     after-early l = rw (← e, ← f, le-ltb j n h, lt-ltb k r l)
 
-    pub after-none : r ≤ k → n ≡ after n src marks a r
+    -- nothing but r is left
+    after-last : r ≤ k → (t : Bool) → turning && eqb (getD marks r 0) 0 ≡ t → orElse t r n ≡ after turning n src marks a r
     unfolding after
-    after-none l = rw (← e, ← f, le-ltb j n h, le-ltb k r l)
+    after-last l t q = rw (← e, ← f, le-ltb j n h, le-ltb k r l, q)
 
-  pub after-hit : r < n → after n src marks a r < n → (getD src (after n src marks a r) 0 ≡ a) × (getD marks (after n src marks a r) 0 ≡ 0)
+    pub after-back : r ≤ k → turning ≡ true → getD marks r 0 ≡ 0 → r ≡ after turning n src marks a r
+    after-back l t m = after-last l true (ap₂ (λ (x y : Bool). x && y) t (eq-eqb (getD marks r 0) 0 m))
+
+    pub after-none : r ≤ k → (getD marks r 0 ≡ 0 → ⊥) → n ≡ after turning n src marks a r
+    after-none l m = after-last l false (ap (λ (x : Bool). turning && x) (ne-eqb (getD marks r 0) 0 m) ∙ and-false turning)
+
+  -- what holds of each unmarked slot of the node, and of r where that is unmarked, holds of the slot found
+  found : (P : ℕ → Type 0) → ((j : ℕ) → openAt src marks a j ≡ true → P j) → (getD marks r 0 ≡ 0 → P r) → after turning n src marks a r < n → P (after turning n src marks a r)
   unfolding after
-  after-hit h l = both _ a _ 0 (late (ltb (first test (r + 1) n) n) refl l)
+  found P hit last l = late (ltb (first test (r + 1) n) n) refl l
     where
       test : ℕ → Bool
       test = openAt src marks a
 
-      early : (t : Bool) → ltb (first test 0 r) r ≡ t → orElse t (first test 0 r) n < n → test (orElse t (first test 0 r) n) ≡ true
-      early true e l = first-hit test 0 r (ltb-true (first test 0 r) r e)
-      early false e l = absurd (omega arith)
+      back : (t : Bool) → turning && eqb (getD marks r 0) 0 ≡ t → orElse t r n < n → P (orElse t r n)
+      back true e l = last (eqb-true (getD marks r 0) 0 (and-right turning (eqb (getD marks r 0) 0) e))
+      back false e l = absurd (omega arith)
 
-      late : (t : Bool) → ltb (first test (r + 1) n) n ≡ t → let j : ℕ = orElse t (first test (r + 1) n) (orElse (ltb (first test 0 r) r) (first test 0 r) n) in j < n → test j ≡ true
-      late true e l = first-hit test (r + 1) n l
+      early : (t : Bool) → ltb (first test 0 r) r ≡ t → let j : ℕ = orElse t (first test 0 r) (orElse (turning && eqb (getD marks r 0) 0) r n) in j < n → P j
+      early true e l = hit (first test 0 r) (first-hit test 0 r (ltb-true (first test 0 r) r e))
+      early false e l = back (turning && eqb (getD marks r 0) 0) refl l
+
+      late : (t : Bool) → ltb (first test (r + 1) n) n ≡ t → let j : ℕ = orElse t (first test (r + 1) n) (orElse (ltb (first test 0 r) r) (first test 0 r) (orElse (turning && eqb (getD marks r 0) 0) r n)) in j < n → P j
+      late true e l = hit (first test (r + 1) n) (first-hit test (r + 1) n l)
       late false e l = early (ltb (first test 0 r) r) refl l
+
+  -- it is unmarked, and at the node where r is
+  pub after-open : after turning n src marks a r < n → getD marks (after turning n src marks a r) 0 ≡ 0
+  after-open = found (λ j. getD marks j 0 ≡ 0) (λ j e. both (getD src j 0) a (getD marks j 0) 0 e .1) (λ e. e)
+
+  pub after-at : getD src r 0 ≡ a → after turning n src marks a r < n → getD src (after turning n src marks a r) 0 ≡ a
+  after-at at = found (λ j. getD src j 0 ≡ a) (λ j e. both (getD src j 0) a (getD marks j 0) 0 e .0) (λ e. at)
 
 unfoldable pub unmarked : ℕ → List ℕ → ℕ
 unmarked n marks = many (λ i. eqb (getD marks i 0) 0) n

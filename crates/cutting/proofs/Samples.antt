@@ -12,8 +12,8 @@ use Rattle.exact.specs.Exact.{coord, mag, sign, ordered}
 use Rattle.geometry.specs.Plane.{between, pointAt}
 use Rattle.cutting.specs.Edges.{Edge, hops, ring, rings, times}
 use Rattle.cutting.specs.Cell.{Laid, dartsAlong, ownDarts, outlineDarts, isNew, fresh, nearDarts, inner, edgeSlots, table, stands, cellTable, doubled}
-use Rattle.cutting.specs.Walk.{slot, after, onward, arrive, cross, popped, taken, rest, go, step, run, starts, walkFrom, walk}
-use Rattle.cutting.specs.Outcome.{Outcome, refusal, pieces, closesUp, tooMany, cutOutcome}
+use Rattle.cutting.specs.Walk.{slot, after, onward, arrive, cross, popped, taken, rest, go, step, run, starts, walkFrom, walkWith}
+use Rattle.cutting.specs.Outcome.{Outcome, refusal, pieces, closesUp, tooMany, cutOutcomeWith, cutOutcome}
 
 abbrev laid : ℕ → ℕ → List ℕ → Laid
 laid a b nodes = record { edge = (a, b); nodes = nodes }
@@ -47,7 +47,7 @@ whole = laid 0 1 [] ∷ laid 1 2 [] ∷ laid 2 3 [] ∷ laid 3 0 [] ∷ []
 
 -- what a cell comes to, and whether it is doubled
 unfoldable cut : List Float → List Laid → List Laid → Outcome × Bool
-unfolding outlineDarts ownDarts dartsAlong joined hops isNew fresh passing first seek nearDarts inner edgeSlots table stands cellTable insert sortOnto angles coord mag sign ordered between pointAt sub ofBits tally doubled slot after onward arrive cross popped taken rest go step run starts walkFrom walk all times ring rings closesUp cutOutcome
+unfolding outlineDarts ownDarts dartsAlong joined hops isNew fresh passing first seek nearDarts inner edgeSlots table stands cellTable insert sortOnto angles coord mag sign ordered between pointAt sub ofBits tally doubled slot after onward arrive cross popped taken rest go step run starts walkFrom walkWith all times ring rings closesUp cutOutcomeWith
 cut coords own near =
     let outline = outlineDarts own in
     let t = cellTable coords outline near in
@@ -59,7 +59,7 @@ samples :
     ∷ cut k1 whole (laid 0 1 [] ∷ [])
     ∷ []
     ≡ (pieces ((3 ∷ 0 ∷ 8 ∷ 9 ∷ []) ∷ (9 ∷ 8 ∷ 1 ∷ 2 ∷ []) ∷ []), false)
-    ∷ (refusal 11, false)
+    ∷ (pieces ((3 ∷ 0 ∷ 6 ∷ 5 ∷ 6 ∷ 1 ∷ 2 ∷ []) ∷ []), false)
     ∷ (pieces ((3 ∷ 0 ∷ 1 ∷ 0 ∷ 1 ∷ 2 ∷ []) ∷ []), true)
     ∷ []
 unfolding cut

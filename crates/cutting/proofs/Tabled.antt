@@ -1,5 +1,6 @@
 -- A table in three lists, walked. Assumes nothing.
 use mathlib.Core.Path.{_≡_, refl, sym, ap, ap₂, _∙_, subst}
+use mathlib.Core.Bool.{true}
 use mathlib.Core.List.{List, [], _∷_, map}
 use Prim.Native.Nat.{ℕ, zero, suc, _+_, _-_, _≤_}
 use native.Mathlib.Omega.{arith}
@@ -10,7 +11,7 @@ use Rattle.lists.specs.Regions.{copied, zeros}
 use Rattle.lists.proofs.Gather.{each-ext, each-head, each-getD, length-each}
 use Rattle.lists.proofs.Regions.{copied-fits, front-put, take-front-of}
 use Rattle.cutting.specs.Cell.{Slot}
-use Rattle.cutting.specs.Walk.{Next, starts, walkFrom, walk, srcs, dsts, marksOf}
+use Rattle.cutting.specs.Walk.{Next, starts, walkFrom, walkWith, walk, srcs, dsts, marksOf}
 use Rattle.cutting.specs.Outcome.{Outcome, refusal, pieces, ofWalk, stops}
 use Rattle.cutting.specs.Lent.{slotAt, slotsOf, pairs, stacked, answer, cornersIn, endsIn, Written}
 use Rattle.cutting.specs.declared.cut.Walked.{Walked}
@@ -54,14 +55,14 @@ module _ (src dst marks : List ℕ) (n : ℕ) where
         ap (take n) (e ∙ copied-fits (replicate 1024 0) 0 marks fits ∙ front-put (replicate 1024 0) marks) ∙ take-front-of (replicate 1024 0) marks n lm
 
     pub walk-is : (outline own heap : List ℕ) (top : ℕ) → take n own ≡ marks → stacked heap top ≡ starts n src dst (pairs outline) []
-        → walkFrom n src dst (take n own) (stacked heap top) ≡ walk (pairs outline) (slotsOf src dst marks n)
-    unfolding walk
+        → walkFrom true n src dst (take n own) (stacked heap top) ≡ walk (pairs outline) (slotsOf src dst marks n)
+    unfolding walkWith
     walk-is outline own heap top eo eh =
         let es : srcs (slotsOf src dst marks n) ≡ src = slots-srcs (omega arith) ∙ take-all n src (omega arith) in
         let ed : dsts (slotsOf src dst marks n) ≡ dst = slots-dsts (omega arith) ∙ take-all n dst (omega arith) in
         let em : marksOf (slotsOf src dst marks n) ≡ marks = slots-marks (omega arith) ∙ take-all n marks (omega arith) in
-        ap₂ (λ (m h : List ℕ). walkFrom n src dst m h) eo eh
-        ∙ sym (λ t. walkFrom (slots-length t) (es t) (ed t) (em t) (starts (slots-length t) (es t) (ed t) (pairs outline) []))
+        ap₂ (λ (m h : List ℕ). walkFrom true n src dst m h) eo eh
+        ∙ sym (λ t. walkFrom true (slots-length t) (es t) (ed t) (em t) (starts (slots-length t) (es t) (ed t) (pairs outline) []))
 
 pub walked-as : (r s : Next) (w : Walked) (nodes₀ stops₀ nodes stops′ : List ℕ) → r ≡ s → (w ≡ answer (ofWalk r)) × Written (ofWalk r) nodes₀ stops₀ nodes stops′ → (w ≡ answer (ofWalk s)) × Written (ofWalk s) nodes₀ stops₀ nodes stops′
 walked-as r s w nodes₀ stops₀ nodes stops′ e h = subst (λ (t : Next). (w ≡ answer (ofWalk t)) × Written (ofWalk t) nodes₀ stops₀ nodes stops′) e h

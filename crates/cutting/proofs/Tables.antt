@@ -11,7 +11,7 @@ use Rattle.lists.specs.Search.{bit, many}
 use Rattle.lists.specs.Gather.{tally}
 use Rattle.cutting.specs.Edges.{Edge, rings, hit, times}
 use Rattle.cutting.specs.Cell.{Slot, edgeSlots, reverseMark, table, names, doubled}
-use Rattle.cutting.specs.Walk.{closed, slot, leads, starts, walkFrom, srcs, dsts, marksOf, walk}
+use Rattle.cutting.specs.Walk.{closed, slot, leads, starts, walkFrom, srcs, dsts, marksOf, walkWith}
 use Rattle.cutting.specs.Areas.{Closes}
 use Rattle.lists.proofs.Gather.{tally-append}
 use Rattle.lists.proofs.Search.{many-some, first-some}
@@ -93,11 +93,11 @@ module _ (outline inner : List Edge) (t : List Slot) (sorted : (p : Slot → Boo
   pub found : (a b : ℕ) → 0 < times a b outline → slot (length t) (srcs t) (dsts t) a b < length t
   found a b h = slot-found (length t) (srcs t) (dsts t) a b (omega (arith, named-table a b))
 
-  module _ (clean : doubled t ≡ false) (ps : List (List ℕ)) (ends : walk outline t ≡ closed ps) where
+  module _ (turning : Bool) (clean : doubled t ≡ false) (ps : List (List ℕ)) (ends : walkWith turning outline t ≡ closed ps) where
     pub even : (a b : ℕ) → (times a b (rings ps) ≤ 1) × (times a b (rings ps) + times b a outline ≡ times b a (rings ps) + times a b outline)
-    unfolding walk walkFrom on
+    unfolding walkWith walkFrom on
     even =
-        close (length t) (srcs t) (dsts t) (marksOf t) (starts (length t) (srcs t) (dsts t) outline []) outline (omega (arith, length-map t (λ s. s .mark))) (λ a b. omega (arith, named-tally a b t, single t clean a b)) (λ a b. omega (arith, named-table a b, free-table a b)) (λ a b. omega (arith, named-table a b, named-table b a)) (λ a b. omega (arith, starts-on (length t) (srcs t) (dsts t) outline [] found a b)) (2 * length t + length (starts (length t) (srcs t) (dsts t) outline []) + 1) ps ends
+        close (length t) (srcs t) (dsts t) turning (marksOf t) (starts (length t) (srcs t) (dsts t) outline []) outline (omega (arith, length-map t (λ s. s .mark))) (λ a b. omega (arith, named-tally a b t, single t clean a b)) (λ a b. omega (arith, named-table a b, free-table a b)) (λ a b. omega (arith, named-table a b, named-table b a)) (λ a b. omega (arith, starts-on (length t) (srcs t) (dsts t) outline [] found a b)) (2 * length t + length (starts (length t) (srcs t) (dsts t) outline []) + 1) ps ends
 
     -- each edge of the outline exactly once, its reverse never, and any other edge exactly once each way or not at all
     pub closes : (a b : ℕ) → Closes outline ps a b

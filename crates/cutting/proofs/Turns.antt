@@ -1,5 +1,6 @@
 -- The invariant of the walk's loop, and each way of a turn. Assumes nothing.
 use mathlib.Core.Path.{_≡_, refl, sym, ap, ap₂, _∙_, subst}
+use mathlib.Core.Bool.{true}
 use mathlib.Core.List.{List, [], _∷_, _++_, append-assoc}
 use Prim.Native.Nat.{ℕ, _+_, _*_, _-_, _≤_, _<_}
 use native.Mathlib.Omega.{arith}
@@ -10,7 +11,7 @@ use Rattle.cutting.specs.declared.cut.Walked.the-variants.{Refused}
 use borrow.Author.Tests.{eq-eqb, ne-eqb, lt-ltb, le-ltb}
 use Rattle.lists.specs.Regions.{front}
 use Rattle.lists.proofs.Search.{many-has, many-bound}
-use Rattle.cutting.proofs.Rounds.{after-hit, unmarked, unmarked-mark}
+use Rattle.cutting.proofs.Rounds.{after-open, unmarked, unmarked-mark}
 use Rattle.cutting.specs.Walk.{Phase, between, along, Next, run, after, slot, walkFrom}
 use Rattle.cutting.specs.Outcome.{ofWalk, flat, stops}
 use Rattle.cutting.specs.Lent.{stacked, Room, closedWith, answer, Written}
@@ -36,14 +37,14 @@ pub record Inv (n top : ℕ) (src dst : List ℕ) (r : Next) (marks₀ heap₀ n
   pub counted : length done ≡ k
   pub ended : take k ends ≡ stops 0 done
   pub shape : Shape n marks nodes at start m k done phase
-  pub still : run n src dst fuel (record { marks = marks; heap = stacked heap sp; done = done; phase = phase }) ≡ r
+  pub still : run true n src dst fuel (record { marks = marks; heap = stacked heap sp; done = done; phase = phase }) ≡ r
 
 some-unmarked : (n : ℕ) (marks : List ℕ) (i : ℕ) → i < n → getD marks i 0 ≡ 0 → 0 < unmarked n marks
 unfolding unmarked
 some-unmarked n marks i h e = many-has (λ k. eqb (getD marks k 0) 0) n i h (eq-eqb (getD marks i 0) 0 e)
 
 module _ {n top : ℕ} {src dst marks₀ heap₀ nodes₀ ends₀ : List ℕ} (room : Room n top src dst marks₀ heap₀ nodes₀ ends₀) where
-  pub at-first : Inv n top src dst (walkFrom n src dst marks₀ (stacked heap₀ top)) marks₀ heap₀ nodes₀ ends₀ marks₀ heap₀ nodes₀ ends₀ top n 0 0 0
+  pub at-first : Inv n top src dst (walkFrom true n src dst marks₀ (stacked heap₀ top)) marks₀ heap₀ nodes₀ ends₀ marks₀ heap₀ nodes₀ ends₀ top n 0 0 0
   unfolding walkFrom flat stops unmarked
   at-first =
       let most = many-bound (λ i. eqb (getD marks₀ i 0) 0) n in
@@ -99,11 +100,11 @@ module _ {n top : ℕ} {src dst marks₀ heap₀ nodes₀ ends₀ : List ℕ} (r
     Again marks′ heap′ nodes′ ends′ sp′ at′ start′ m′ k′ = Inv n top src dst r marks₀ heap₀ nodes₀ ends₀ marks′ heap′ nodes′ ends′ sp′ at′ start′ m′ k′
 
     abbrev Runs : Phase → Type 0
-    Runs p = run n src dst (v .fuel) (record { marks = marks; heap = stacked heap sp; done = v .done; phase = p }) ≡ r
+    Runs p = run true n src dst (v .fuel) (record { marks = marks; heap = stacked heap sp; done = v .done; phase = p }) ≡ r
 
     -- the slot i comes off the heap
     module _ (h : n ≤ at) (some : 0 < sp) (i : ℕ) (ei : i ≡ getD heap (sp - 1) 0) where
-      off : Runs between → run n src dst (v .fuel) (record { marks = marks; heap = i ∷ stacked heap (sp - 1); done = v .done; phase = between }) ≡ r
+      off : Runs between → run true n src dst (v .fuel) (record { marks = marks; heap = i ∷ stacked heap (sp - 1); done = v .done; phase = between }) ≡ r
       off st = rw (ei, ← (stacked-pop heap sp some)) st
 
       pub missing : n ≤ i → (Refused 11 ≡ answer (ofWalk r)) × Written (ofWalk r) nodes₀ ends₀ nodes ends
@@ -112,7 +113,7 @@ module _ {n top : ℕ} {src dst marks₀ heap₀ nodes₀ ends₀ : List ℕ} (r
           from : (p : Phase) → Shape n marks nodes at start m k (v .done) p → Runs p → (Refused 11 ≡ answer (ofWalk r)) × Written (ofWalk r) nodes₀ ends₀ nodes ends
           from (along first mid j) sh st = absurd (omega arith)
           from between sh st =
-              let e = run-broken n src dst r (v .fuel) _ (omega (arith, v .enough)) (off st) (step-missing n src dst marks (stacked heap (sp - 1)) (v .done) i (le-ltb i n out)) in
+              let e = run-broken true n src dst r (v .fuel) _ (omega (arith, v .enough)) (off st) (step-missing true n src dst marks (stacked heap (sp - 1)) (v .done) i (le-ltb i n out)) in
               (ap (λ (t : Next). answer (ofWalk t)) e, subst (λ (t : Next). Written (ofWalk t) nodes₀ ends₀ nodes ends) e tt)
 
       pub turn-skip : i < n → (getD marks i 0 ≡ 0 → ⊥) → Again marks heap nodes ends (sp - 1) at start m k
@@ -135,7 +136,7 @@ module _ {n top : ℕ} {src dst marks₀ heap₀ nodes₀ ends₀ : List ℕ} (r
             counted = v .counted;
             ended = v .ended;
             shape = sh;
-            still = run-more n src dst r (v .fuel) _ (omega (arith, v .enough)) (off st) _ (step-skip n src dst marks (stacked heap (sp - 1)) (v .done) i (lt-ltb i n i<) (ne-eqb (getD marks i 0) 0 marked));
+            still = run-more true n src dst r (v .fuel) _ (omega (arith, v .enough)) (off st) _ (step-skip true n src dst marks (stacked heap (sp - 1)) (v .done) i (lt-ltb i n i<) (ne-eqb (getD marks i 0) 0 marked));
           }
 
       module _ (i< : i < n) (openAt-i : getD marks i 0 ≡ 0) where
@@ -162,7 +163,7 @@ module _ {n top : ℕ} {src dst marks₀ heap₀ nodes₀ ends₀ : List ℕ} (r
               counted = v .counted;
               ended = v .ended;
               shape = (refl, i<, openAt-i, refl, take-push nodes m (getD src i 0) corner-fits ∙ ap (λ (l : List ℕ). l ++ getD src i 0 ∷ []) (sh .1), omega arith, omega arith);
-              still = run-more n src dst r (v .fuel) _ (omega (arith, v .enough)) (off st) _ (step-open n src dst marks (stacked heap (sp - 1)) (v .done) i (lt-ltb i n i<) (eq-eqb (getD marks i 0) 0 openAt-i));
+              still = run-more true n src dst r (v .fuel) _ (omega (arith, v .enough)) (off st) _ (step-open true n src dst marks (stacked heap (sp - 1)) (v .done) i (lt-ltb i n i<) (eq-eqb (getD marks i 0) 0 openAt-i));
             }
 
     -- the heap is empty
@@ -173,8 +174,8 @@ module _ {n top : ℕ} {src dst marks₀ heap₀ nodes₀ ends₀ : List ℕ} (r
         from : (p : Phase) → Shape n marks nodes at start m k (v .done) p → Runs p → (closedWith k m ≡ answer (ofWalk r)) × Written (ofWalk r) nodes₀ ends₀ nodes ends
         from (along first mid j) sh st = absurd (omega arith)
         from between sh st =
-            let bare : run n src dst (v .fuel) (record { marks = marks; heap = []; done = v .done; phase = between }) ≡ r = unfold stacked in (rw empty at st) in
-            let e = run-closed n src dst r (v .fuel) _ (omega (arith, v .enough)) bare (v .done) (step-closed n src dst marks [] (v .done)) in
+            let bare : run true n src dst (v .fuel) (record { marks = marks; heap = []; done = v .done; phase = between }) ≡ r = unfold stacked in (rw empty at st) in
+            let e = run-closed true n src dst r (v .fuel) _ (omega (arith, v .enough)) bare (v .done) (step-closed true n src dst marks [] (v .done)) in
             let len : length (flat (v .done)) ≡ m = sym (ap length (sh .1)) ∙ length-take-le m nodes (omega (arith, room .corners, v .same-nodes)) in
             (ap₂ closedWith (sym (v .counted)) (sym len) ∙ ap (λ (t : Next). answer (ofWalk t)) e, subst (λ (t : Next). Written (ofWalk t) nodes₀ ends₀ nodes ends) e (sym (take-append-drop m nodes) ∙ ap₂ (λ (a b : List ℕ). a ++ b) (sh .1) (v .rest-nodes ∙ ap (λ (x : ℕ). drop x nodes₀) (sym len)), sym (take-append-drop k ends) ∙ ap₂ (λ (a b : List ℕ). a ++ b) (v .ended) (v .rest-ends ∙ ap (λ (x : ℕ). drop x ends₀) (sym (stops-length 0 (v .done) ∙ v .counted)))))
 
@@ -189,7 +190,7 @@ module _ {n top : ℕ} {src dst marks₀ heap₀ nodes₀ ends₀ : List ℕ} (r
           from : (p : Phase) → Shape n marks nodes at start m k (v .done) p → Runs p → (Refused 11 ≡ answer (ofWalk r)) × Written (ofWalk r) nodes₀ ends₀ nodes ends
           from between sh st = absurd (omega arith)
           from (along first mid i) sh st =
-              let e = run-broken n src dst r (v .fuel) _ (omega (arith, v .enough)) (on first mid i (sh .0) (sh .3) st) (step-lost n src dst marks (stacked heap sp) (v .done) start mid at y q ey eq (le-ltb q n out)) in
+              let e = run-broken true n src dst r (v .fuel) _ (omega (arith, v .enough)) (on first mid i (sh .0) (sh .3) st) (step-lost true n src dst marks (stacked heap sp) (v .done) start mid at y q ey eq (le-ltb q n out)) in
               (ap (λ (t : Next). answer (ofWalk t)) e, subst (λ (t : Next). Written (ofWalk t) nodes₀ ends₀ nodes ends) e tt)
 
       module _ (q< : q < n) where
@@ -225,22 +226,22 @@ module _ {n top : ℕ} {src dst marks₀ heap₀ nodes₀ ends₀ : List ℕ} (r
                   counted = omega (arith, length-append (v .done) ((start ∷ mid) ∷ []), v .counted);
                   ended = take-push ends k m stop-fits ∙ ap₂ (λ (l : List ℕ) (x : ℕ). l ++ x ∷ []) (v .ended) (omega (arith, len)) ∙ sym (stops-snoc 0 (v .done) (start ∷ mid));
                   shape = (refl, corners ∙ sym (flat-snoc (v .done) (start ∷ mid)), omega (arith, sh .5, fewer), omega (arith, sh .6));
-                  still = rw (stacked-push heap sp q push-fits) (run-more n src dst r (v .fuel) _ (omega (arith, v .enough)) (on first mid i (sh .0) (sh .3) st) _ (step-close n src dst marks (stacked heap sp) (v .done) start mid at y q ey eq (lt-ltb q n q<) (eq-eqb y start back)));
+                  still = rw (stacked-push heap sp q push-fits) (run-more true n src dst r (v .fuel) _ (omega (arith, v .enough)) (on first mid i (sh .0) (sh .3) st) _ (step-close true n src dst marks (stacked heap sp) (v .done) start mid at y q ey eq (lt-ltb q n q<) (eq-eqb y start back)));
                 }
 
-        module _ (apart : y ≡ start → ⊥) (j : ℕ) (ej : j ≡ after n src (set marks at 1) y q) where
+        module _ (apart : y ≡ start → ⊥) (j : ℕ) (ej : j ≡ after true n src (set marks at 1) y q) where
           pub no-way : n ≤ j → (Refused 11 ≡ answer (ofWalk r)) × Written (ofWalk r) nodes₀ ends₀ nodes ends
           no-way out = from (v .phase) (v .shape) (v .still)
             where
               from : (p : Phase) → Shape n marks nodes at start m k (v .done) p → Runs p → (Refused 11 ≡ answer (ofWalk r)) × Written (ofWalk r) nodes₀ ends₀ nodes ends
               from between sh st = absurd (omega arith)
               from (along first mid i) sh st =
-                  let e = run-stuck n src dst r (v .fuel) _ (omega (arith, v .enough)) (on first mid i (sh .0) (sh .3) st) (step-stuck n src dst marks (stacked heap sp) (v .done) start mid at y q ey eq (lt-ltb q n q<) (ne-eqb y start apart) j ej (le-ltb j n out)) in
+                  let e = run-stuck true n src dst r (v .fuel) _ (omega (arith, v .enough)) (on first mid i (sh .0) (sh .3) st) (step-stuck true n src dst marks (stacked heap sp) (v .done) start mid at y q ey eq (lt-ltb q n q<) (ne-eqb y start apart) j ej (le-ltb j n out)) in
                   (ap (λ (t : Next). answer (ofWalk t)) e, subst (λ (t : Next). Written (ofWalk t) nodes₀ ends₀ nodes ends) e tt)
 
           module _ (j< : j < n) where
             open-there : getD (set marks at 1) j 0 ≡ 0
-            open-there = rw ej (after-hit n src (set marks at 1) y q q< (rw (← ej) j<) .1)
+            open-there = rw ej (after-open true n src (set marks at 1) y q (rw (← ej) j<))
 
             pub next-fits : m < length nodes
             next-fits = omega (arith, (on-slot h) .low, fewer, some-unmarked n (set marks at 1) j j< open-there, room .corners, v .same-nodes)
@@ -265,5 +266,5 @@ module _ {n top : ℕ} {src dst marks₀ heap₀ nodes₀ ends₀ : List ℕ} (r
                   counted = v .counted;
                   ended = v .ended;
                   shape = (refl, j<, open-there, refl, take-push nodes m y next-fits ∙ ap (λ (l : List ℕ). l ++ y ∷ []) (sh .4 ∙ ap (λ (x : ℕ). flat (v .done) ++ x ∷ mid) (sym (sh .3))) ∙ append-assoc (flat (v .done)) (start ∷ mid) (y ∷ []), omega (arith, sh .5, fewer), omega (arith, sh .6));
-                  still = rw (stacked-push heap sp q push-fits) (run-more n src dst r (v .fuel) _ (omega (arith, v .enough)) (on first mid i (sh .0) (sh .3) st) _ (step-onward n src dst marks (stacked heap sp) (v .done) start mid at y q ey eq (lt-ltb q n q<) (ne-eqb y start apart) j ej (lt-ltb j n j<)));
+                  still = rw (stacked-push heap sp q push-fits) (run-more true n src dst r (v .fuel) _ (omega (arith, v .enough)) (on first mid i (sh .0) (sh .3) st) _ (step-onward true n src dst marks (stacked heap sp) (v .done) start mid at y q ey eq (lt-ltb q n q<) (ne-eqb y start apart) j ej (lt-ltb j n j<)));
                 }

@@ -1,5 +1,5 @@
 -- A cell's pieces before any are dropped, or the number of a refusal. Assumes nothing.
-use mathlib.Core.Bool.{Bool, cond, not, _&&_, _||_}
+use mathlib.Core.Bool.{Bool, true, cond, not, _&&_, _||_}
 use mathlib.Core.List.{List, [], _∷_, _++_}
 use Prim.Native.Nat.{ℕ, _+_}
 use lib.Dec.{ltb}
@@ -7,7 +7,7 @@ use lib.ListN.{length}
 use Rattle.lists.specs.Gather.{all}
 use Rattle.cutting.specs.Edges.{Edge, rings, times}
 use Rattle.cutting.specs.Cell.{Slot, doubled}
-use Rattle.cutting.specs.Walk.{Next, more, closed, stuck, broken, walk}
+use Rattle.cutting.specs.Walk.{Next, more, closed, stuck, broken, walkWith}
 
 pub data Outcome : Type 0 where
   refusal : ℕ → Outcome
@@ -39,8 +39,12 @@ afterWalk outline twice (pieces ps) = cond (twice || closesUp outline (rings ps)
 abbrev pub tooMany : ℕ → Bool
 tooMany n = ltb 1024 n
 
-unfoldable pub cutOutcome : List Edge → List Slot → Outcome
-cutOutcome outline t = cond (tooMany (length t)) (refusal 10) (afterWalk outline (doubled t) (ofWalk (walk outline t)))
+-- by whether the walk may turn back
+unfoldable pub cutOutcomeWith : Bool → List Edge → List Slot → Outcome
+cutOutcomeWith turning outline t = cond (tooMany (length t)) (refusal 10) (afterWalk outline (doubled t) (ofWalk (walkWith turning outline t)))
+
+abbrev pub cutOutcome : List Edge → List Slot → Outcome
+cutOutcome outline t = cutOutcomeWith true outline t
 
 -- a copied cell is its one piece
 abbrev pub copiedOutcome : List ℕ → Outcome

@@ -43,15 +43,15 @@ openAt src marks a i = eqb (getD src i 0) a && eqb (getD marks i 0) 0
 unfoldable pub slot : ℕ → List ℕ → List ℕ → ℕ → ℕ → ℕ
 slot n src dst a b = first (leads src dst a b) 0 n
 
--- the first unmarked slot of the node a after its slot r, going round, r itself not tried; n where there is none
-unfoldable pub after : ℕ → List ℕ → List ℕ → ℕ → ℕ → ℕ
-after n src marks a r =
+-- the first unmarked slot of the node a after its slot r, going round; r itself last, where the walk may turn back; n where there is none
+unfoldable pub after : Bool → ℕ → List ℕ → List ℕ → ℕ → ℕ → ℕ
+after turning n src marks a r =
     let late = first (openAt src marks a) (r + 1) n in
     let early = first (openAt src marks a) 0 r in
-    orElse (ltb late n) late (orElse (ltb early r) early n)
+    orElse (ltb late n) late (orElse (ltb early r) early (orElse (turning && eqb (getD marks r 0) 0) r n))
 
--- a table of n slots: slot i leads from the node src i to the node dst i
-module _ (n : ℕ) (src dst : List ℕ) where
+-- whether the walk may turn back along the reverse of the dart it came by; a table of n slots: slot i leads from the node src i to the node dst i
+module _ (turning : Bool) (n : ℕ) (src dst : List ℕ) where
   -- onto the slot j
   unfoldable pub onward : List ℕ → List ℕ → List (List ℕ) → ℕ → List ℕ → ℕ → Bool → Next
   onward marks heap done start mid j true = more (record { marks = marks; heap = heap; done = done; phase = along start mid j })
@@ -60,7 +60,7 @@ module _ (n : ℕ) (src dst : List ℕ) where
   -- at the node y, reached by a slot whose reverse is r: a piece closes when its first node returns
   unfoldable pub arrive : List ℕ → List ℕ → List (List ℕ) → ℕ → List ℕ → ℕ → ℕ → Bool → Next
   arrive marks heap done start mid y r true = more (record { marks = marks; heap = heap; done = done ++ (start ∷ mid) ∷ []; phase = between })
-  arrive marks heap done start mid y r false = let j = after n src marks y r in onward marks heap done start (mid ++ y ∷ []) j (ltb j n)
+  arrive marks heap done start mid y r false = let j = after turning n src marks y r in onward marks heap done start (mid ++ y ∷ []) j (ltb j n)
 
   -- the reverse goes onto the heap, unmarked as it is
   unfoldable pub cross : List ℕ → List ℕ → List (List ℕ) → ℕ → List ℕ → ℕ → ℕ → Bool → Next
@@ -95,14 +95,14 @@ module _ (n : ℕ) (src dst : List ℕ) where
   run zero s = broken
   run (suc k) s = elim (step s) [ more t ↦ run k t | closed ps ↦ closed ps | stuck ↦ stuck | broken ↦ broken ]
 
-  -- the first slots of the outline darts, the last dart's first
-  unfoldable pub starts : List Edge → List ℕ → List ℕ
-  starts [] heap = heap
-  starts (e ∷ es) heap = starts es (slot n src dst (e .0) (e .1) ∷ heap)
+-- the first slots of the outline darts, the last dart's first
+unfoldable pub starts : ℕ → List ℕ → List ℕ → List Edge → List ℕ → List ℕ
+starts n src dst [] heap = heap
+starts n src dst (e ∷ es) heap = starts n src dst es (slot n src dst (e .0) (e .1) ∷ heap)
 
 -- a step marks a slot or takes one off the heap, and puts one on it only where it marks: so many steps do
-unfoldable pub walkFrom : ℕ → List ℕ → List ℕ → List ℕ → List ℕ → Next
-walkFrom n src dst marks heap = run n src dst (2 * n + length heap + 1) (record { marks = marks; heap = heap; done = []; phase = between })
+unfoldable pub walkFrom : Bool → ℕ → List ℕ → List ℕ → List ℕ → List ℕ → Next
+walkFrom turning n src dst marks heap = run turning n src dst (2 * n + length heap + 1) (record { marks = marks; heap = heap; done = []; phase = between })
 
 abbrev pub srcs : List Slot → List ℕ
 srcs t = map (λ s. s .src) t
@@ -113,6 +113,10 @@ dsts t = map (λ s. s .dst) t
 abbrev pub marksOf : List Slot → List ℕ
 marksOf t = map (λ s. s .mark) t
 
--- the walk of a table from the outline's darts
-unfoldable pub walk : List Edge → List Slot → Next
-walk outline t = walkFrom (length t) (srcs t) (dsts t) (marksOf t) (starts (length t) (srcs t) (dsts t) outline [])
+-- the walk of a table from the outline's darts, by whether it may turn back
+unfoldable pub walkWith : Bool → List Edge → List Slot → Next
+walkWith turning outline t = walkFrom turning (length t) (srcs t) (dsts t) (marksOf t) (starts (length t) (srcs t) (dsts t) outline [])
+
+-- it may: "when no other slot is free, the walk shall turn back along the reverse of the dart it came by, if that slot is unmarked"
+abbrev pub walk : List Edge → List Slot → Next
+walk outline t = walkWith true outline t

@@ -3,7 +3,7 @@
 use crate::utils;
 use exact::Order;
 ghost use mathlib.Core.Path.{_≡_};
-ghost use mathlib.Core.Bool.{cond};
+ghost use mathlib.Core.Bool.{true, cond};
 ghost use mathlib.Core.List.{List, [], _∷_, map};
 ghost use Prim.Native.Nat.{ℕ, _+_, _*_, _≤_, _<_};
 ghost use lib.ListN.{length, getD};
@@ -323,10 +323,10 @@ fn first_open(src: &[u32], marks: &[u32], a: u32, k: usize, n: usize) -> usize
     i
 }
 
-// The first unmarked slot of the node a after its slot r, going round, r itself not tried; n where there is none.
+// The first unmarked slot of the node a after its slot r, going round, r itself last; n where there is none.
 fn next_open(src: &[u32], marks: &[u32], n: usize, a: u32, r: usize) -> usize
     requires { ⌜ (n ≤ length (now src)) × (n ≤ length (now marks)) × (r < n) ⌝ }
-    ensures { λ j. ⌜ j ≡ after n (now (src .entry)) (now (marks .entry)) a r ⌝ }
+    ensures { λ j. ⌜ j ≡ after true n (now (src .entry)) (now (marks .entry)) a r ⌝ }
 {
     let late = first_open(src, marks, a, r + 1, n);
     if late < n {
@@ -335,6 +335,9 @@ fn next_open(src: &[u32], marks: &[u32], n: usize, a: u32, r: usize) -> usize
     let early = first_open(src, marks, a, 0, r);
     if early < r {
         return early;
+    }
+    if marks[r] == 0 {
+        return r;
     }
     n
 }
@@ -382,7 +385,7 @@ fn walk_on(
     stops: &mut [u32],
 ) -> Walked
     requires { ⌜ Room n top (now src) (now dst) (now marks) (now heap) (now nodes) (now stops) ⌝ }
-    ensures { λ r. ⌜ (r ≡ answer (ofWalk (walkFrom n (now (src .entry)) (now (dst .entry)) (now (marks .entry)) (stacked (now (heap .entry)) top)))) × Written (ofWalk (walkFrom n (now (src .entry)) (now (dst .entry)) (now (marks .entry)) (stacked (now (heap .entry)) top))) (now (nodes .entry)) (now (stops .entry)) (now (nodes .exit)) (now (stops .exit)) ⌝ }
+    ensures { λ r. ⌜ (r ≡ answer (ofWalk (walkFrom true n (now (src .entry)) (now (dst .entry)) (now (marks .entry)) (stacked (now (heap .entry)) top)))) × Written (ofWalk (walkFrom true n (now (src .entry)) (now (dst .entry)) (now (marks .entry)) (stacked (now (heap .entry)) top))) (now (nodes .entry)) (now (stops .entry)) (now (nodes .exit)) (now (stops .exit)) ⌝ }
 {
     let mut sp = top;
     let mut at = n;

@@ -1,5 +1,6 @@
 -- `cutting::cut::walk_on` meets its contract. A turn of its loop is a step of the definition, and the invariant ties the lists to the definition's state (`Turns`). The measure: twice the unmarked slots and the heap. Assumes nothing.
 use mathlib.Core.Path.{refl, _∙_}
+use mathlib.Core.Bool.{true}
 use Prim.Native.Nat.{_+_, _*_, _-_, _<_}
 use native.Mathlib.Omega.{arith}
 use borrow.Author.Needs.{needs}
@@ -13,7 +14,7 @@ use Rattle.cutting.proofs.cut.walk_on.Tie as tie
 
 abbrev Inv-loop : tie.InvT-loop
 Inv-loop src dst n top marks₀ heap₀ nodes₀ ends₀ sp₀ at₀ start₀ m₀ k₀ marks heap nodes ends sp at start m k =
-    Inv n top src dst (walkFrom n src dst marks₀ (stacked heap₀ top)) marks₀ heap₀ nodes₀ ends₀ marks heap nodes ends sp at start m k
+    Inv n top src dst (walkFrom true n src dst marks₀ (stacked heap₀ top)) marks₀ heap₀ nodes₀ ends₀ marks heap nodes ends sp at start m k
 
 abbrev μ-loop : tie.MeasureT-loop
 μ-loop src dst n top marks₀ heap₀ nodes₀ ends₀ sp₀ at₀ start₀ m₀ k₀ marks heap nodes ends sp at start m k =
