@@ -16,6 +16,7 @@ pub mod Slots
 pub mod Steps
 pub mod Sums
 pub mod Tables
+pub mod Turning
 pub mod Turns
 pub mod Tabled
 pub mod Joins
