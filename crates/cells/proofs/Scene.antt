@@ -20,7 +20,7 @@ use Rattle.rules.specs.Mesh.{Side, other}
 use Rattle.rules.specs.SpatialIndex.{boxOf, candidates}
 use Rattle.rules.specs.Meetings.{Scene, netOf}
 use Rattle.rules.specs.Nodes.{sortedNodes}
-use Rattle.rules.specs.Cell.{laid, dartsOf, outlineBy, tableBy, outcomeBy, cellOf, nearOf, outlineOf, tableOf, outcomeOf}
+use Rattle.rules.specs.Cell.{laid, dartsOf, outlineBy, tableBy, outcomeBy, cellOf, nearOf, outlineOf, tableOf, outcomeOf, outcomeWith}
 use Rattle.spatial_index.specs.Candidates.{meets}
 use Rattle.spatial_index.proofs.Candidates.{places-next, places-end, candidates-from}
 use Rattle.edge_nodes.specs.Lent.{collectedIn, sortedIn, crowdedAt}
@@ -90,21 +90,21 @@ module _ (sc : Scene) (w : Side) (i k : ℕ) (at : k ≡ first (meets (sc .coord
   -- a cell with candidates comes to what the rules say of it, and is doubled where they say so
   pub cut-is : (subject cutter : List Edge) (met : List ℕ) → ((e : Edge) → sortedIn (sc .coords) subject cutter met e ≡ sortedNodes sc e) → k < length es
       → cutCell (sc .coords) subject cutter met es (cellOf sc w i) box k ≡ cutAs (outcomeOf sc w i) (doubled (tableOf sc w i))
-  unfolding cutCell cutBy nearOf outlineOf tableOf outcomeOf
+  unfolding cutCell cutBy nearOf outlineOf tableOf outcomeWith
   cut-is subject cutter met same h =
       let cell = cellOf sc w i in
       let near = from-first (sc .coords) es box k at h in
       ap (λ (js : List ℕ). cutBy (outlineIn (sc .coords) subject cutter met cell) (tableIn (sc .coords) subject cutter met es js cell)) (near .0)
       ∙ ap₂ (λ (o : List Edge) (t : List Slot). cutAs (cutOutcome o t) (doubled t)) (outline-is sc subject cutter met same cell) (table-is sc subject cutter met same es cell k rest)
-      ∙ ap (λ (js : List ℕ). cutAs (outcomeBy (outlineBy sc cell js) (tableBy sc es cell js) cell js) (doubled (tableBy sc es cell js))) (sym (near .1))
+      ∙ ap (λ (js : List ℕ). cutAs (outcomeBy true (outlineBy sc cell js) (tableBy sc es cell js) cell js) (doubled (tableBy sc es cell js))) (sym (near .1))
 
   -- one without is copied
   pub copied-is : length es ≤ k → (outcomeOf sc w i ≡ copiedOutcome (cellOf sc w i)) × (tableOf sc w i ≡ copiedTable (cellOf sc w i))
-  unfolding nearOf outlineOf tableOf outcomeOf
+  unfolding nearOf outlineOf tableOf outcomeWith
   copied-is h =
       let cell = cellOf sc w i in
       let none = none-near (sc .coords) es box k at h in
-      (ap (λ (js : List ℕ). outcomeBy (outlineBy sc cell js) (tableBy sc es cell js) cell js) none, ap (tableBy sc es cell) none)
+      (ap (λ (js : List ℕ). outcomeBy true (outlineBy sc cell js) (tableBy sc es cell js) cell js) none, ap (tableBy sc es cell) none)
 
 -- ---- the answer read
 

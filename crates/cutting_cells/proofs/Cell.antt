@@ -16,7 +16,7 @@ use Rattle.cutting.specs.Edges.{Edge, rings}
 use Rattle.cutting.specs.Cell.{Slot, copiedTable, doubled}
 use Rattle.cutting.specs.Walk.{Next, more, closed, stuck, broken, walk}
 use Rattle.cutting.specs.Outcome as Outcome
-use Rattle.cutting.specs.Outcome.{Outcome, refusal, pieces, ofWalk, tooMany, closesUp, afterWalk, cutOutcome, copiedOutcome}
+use Rattle.cutting.specs.Outcome.{Outcome, refusal, pieces, ofWalk, tooMany, closesUp, afterWalk, cutOutcome, cutOutcomeWith, copiedOutcome}
 use Rattle.cutting.specs.Lent.{pairs}
 use Rattle.cutting.proofs.Adds.{pairs-length}
 use Rattle.entry.specs.Mesh.{Rising}
@@ -24,7 +24,7 @@ use Rattle.rules.specs.declared.Bounds.{Bounds}
 use Rattle.rules.specs.Mesh.{Side, other}
 use Rattle.rules.specs.SpatialIndex.{boxOf, candidates}
 use Rattle.rules.specs.Meetings.{Scene, netOf}
-use Rattle.rules.specs.Cell.{cellOf, nearOf, outlineOf, tableOf, outcomeBy, outcomeOf, kindBy, kindOf}
+use Rattle.rules.specs.Cell.{cellOf, nearOf, outlineOf, tableOf, outcomeBy, outcomeOf, outcomeWith, kindBy, kindOf}
 use Rattle.rules.specs.Operations.{Piece, outcomePieces, kept}
 use Rattle.rules.specs.Refusals.{ofCell, firstRefusal}
 use Rattle.spatial_index.specs.Candidates.{meets}
@@ -50,7 +50,7 @@ never : {A : Type 0} (n : ℕ) → suc n ≡ 0 → A
 never n e = absurd (omega (arith, e))
 
 sound-cut : (outline : List Edge) (t : List Slot) → Sound (cutOutcome outline t)
-unfolding cutOutcome
+unfolding cutOutcomeWith
 sound-cut outline t = go (tooMany (length t)) (walk outline t)
   where
     done : (ps : List (List ℕ)) (b : Bool) → Sound (cond b (pieces ps) (refusal 11))
@@ -65,10 +65,10 @@ sound-cut outline t = go (tooMany (length t)) (walk outline t)
     go false (more s) = never 10
 
 sound : (sc : Scene) (w : Side) (i : ℕ) → Sound (outcomeOf sc w i)
-unfolding outcomeOf
+unfolding outcomeWith
 sound sc w i = go (nearOf sc w i)
   where
-    go : (js : List ℕ) → Sound (outcomeBy (outlineOf sc w i) (tableOf sc w i) (cellOf sc w i) js)
+    go : (js : List ℕ) → Sound (outcomeBy true (outlineOf sc w i) (tableOf sc w i) (cellOf sc w i) js)
     go [] = tt
     go (j ∷ js) = sound-cut (outlineOf sc w i) (tableOf sc w i)
 

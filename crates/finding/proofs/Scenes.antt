@@ -18,7 +18,7 @@ use Rattle.rules.specs.Meetings.{Met, addedBy, meetings, Scene, sceneOf}
 use Rattle.rules.specs.Nodes.{collected, crowded}
 use Rattle.rules.specs.Cell.{outcomeOf}
 use Rattle.rules.specs.Operations.{sceneFor, kept, overCells}
-use Rattle.rules.specs.Refusals.{Event, point, stop, ofMeeting, ofCell, course, firstRefusal}
+use Rattle.rules.specs.Refusals.{Event, point, stop, ofMeeting, ofCell, course, courseWith, firstRefusal}
 use Rattle.meetings.specs.Booked.{booked, netOn}
 use Rattle.meetings.proofs.Reading.{by-edges}
 use Rattle.finding.specs.declared.numbering.Regions.{Regions}
@@ -98,7 +98,7 @@ module _ (op : ℕ) (s c : Mesh) where
   pub course-is : let sc : Scene = sceneFor op s c in
       let cut : Side → ℕ → List Event = λ w i. ofCell (outcomeOf sc w i) (kept sc w op i) in
       course op s c ≡ foundEvents op s c ++ (overCells op sc theSubject (cut theSubject) ++ overCells op sc theCutter (cut theCutter))
-  unfolding course foundEvents
+  unfolding courseWith foundEvents
   course-is = refl
 
   -- where that isn't refused, the cells' pieces and node entries have their whole room

@@ -16,9 +16,9 @@ use Rattle.rules.specs.Mesh.{theSubject, theCutter, cellAt, cellsOf}
 use Rattle.rules.specs.Snap.{weld}
 use Rattle.rules.specs.Neighbours.{renumbered, subjectNet, cutterNet}
 use Rattle.rules.specs.Meetings.{Scene, addedBy, sceneOf}
-use Rattle.rules.specs.Operations.{sceneFor, kept, listing, doubledCells}
+use Rattle.rules.specs.Operations.{sceneFor, kept, listingWith, doubledCells}
 use Rattle.rules.specs.Refusals.{Event, course, firstRefusal}
-use Rattle.rules.specs.Overlay.{Lists, lentLists, result, written, stateOf, answered}
+use Rattle.rules.specs.Overlay.{Lists, lentLists, result, written, stateOf, stateWith, answered, answeredWith}
 use Rattle.edge_nodes.proofs.Scene.{Stored}
 use Rattle.pieces.specs.Pieces.{runsOf, room}
 use Rattle.pieces.proofs.Room.{refused}
@@ -75,7 +75,7 @@ module _ (op m : ℕ) (s c : Mesh) (oc : List Float) (on oe ok of w : List ℕ) 
 
   -- refused before the cells
   pub found-refused : (code : ℕ) → (code ≡ 0 → ⊥) → ((q n : ℕ) → code ≡ firstRefusal m (length oc / 2) q n found) → code ≡ stateOf op m s c l
-  unfolding stateOf
+  unfolding stateWith
   found-refused code n e =
       refused code found (overBoth op sc₀ (cellEvents op sc₀)) m (length oc / 2) (room oe ok of) (length on) n (e (room oe ok of) (length on))
       ∙ ap (firstRefusal m (length oc / 2) (room oe ok of) (length on)) (sym course-is)
@@ -84,7 +84,7 @@ module _ (op m : ℕ) (s c : Mesh) (oc : List Float) (on oe ok of w : List ℕ) 
       (r : Listed) (on′ oe′ ok′ of′ : List ℕ)
       (got : ListedBehind (overBoth op sc₀ (cellEvents op sc₀)) (overBoth op sc₀ (λ v. kept sc₀ v op)) (overBoth op sc₀ (twice sc₀)) noneYet on oe ok of r on′ oe′ ok′ of′) where
     pub cells-state : r .code ≡ stateOf op m s c l
-    unfolding stateOf
+    unfolding stateWith
     cells-state =
         let a : room oe ok of - 0 ≡ room oe ok of = sub-none (room oe ok of) in
         let b : length on - 0 ≡ length on = sub-none (length on) in
@@ -96,7 +96,7 @@ module _ (op m : ℕ) (s c : Mesh) (oc : List Float) (on oe ok of w : List ℕ) 
 
     pub cells-answered : r .code ≡ 0 → (oc′ : List Float) → oc′ ≡ front oc (sc₀ .coords) → (points : ℕ) → points ≡ length (addedBy (sc₀ .met)) / 2
         → result 0 (r .count) points (r .doubled) (lentLists oc′ on′ oe′ ok′ of′ (zeros (length w))) ≡ answered op s c l
-    unfolding answered written listing doubledCells
+    unfolding answeredWith written listingWith doubledCells
     cells-answered z oc′ ec points ep =
         let ps = overBoth op sc₀ (λ v. kept sc₀ v op) in
         let count : r .count ≡ length ps = got .counted z ∙ zero-add (length ps) in

@@ -64,12 +64,12 @@ module _ (op m : ℕ) (s c : Mesh) where
       omega (arith, coords-added, fits)
 
   points-few : overlayOf op m s c lists .points ≤ 2048
-  points-few = go (ending op m s c lists)
+  points-few = go (ending true op m s c lists)
     where
-      go : Ending op m s c lists → overlayOf op m s c lists .points ≤ 2048
-      go (input n) = rw (input-refused op m s c lists n) (omega arith)
-      go (state-met e n) = rw (state-refused op m s c lists e n) (omega arith)
-      go (success e f) = let same = succeeds op m s c lists e f in rw same (success-few same)
+      go : Ending true op m s c lists → overlayOf op m s c lists .points ≤ 2048
+      go (input n) = rw (input-refused true op m s c lists n) (omega arith)
+      go (state-met e n) = rw (state-refused true op m s c lists e n) (omega arith)
+      go (success e f) = let same = succeeds true op m s c lists e f in rw same (success-few same)
 
   module _ (n code p q d : ℕ) (cs : List Float) (ns es ks fs ws : List ℕ)
       (same : result code p q d (lentLists cs ns es ks fs ws) ≡ overlayOf op m s c (lentLists (fzeros 4096) (zeros 8192) (zeros 2048) (zeros 2048) (zeros 2048) (zeros 16384))) where

@@ -10,38 +10,38 @@ use lib.ListN.{length, replicate}
 use Rattle.lists.specs.Gather.{gathered, joined}
 use Rattle.cutting.specs.Edges.{Edge, rings}
 use Rattle.cutting.specs.Cell.{Slot, doubled}
-use Rattle.cutting.specs.Walk.{Next, more, closed, stuck, broken, walk}
-use Rattle.cutting.specs.Outcome.{Outcome, refusal, pieces, ofWalk, tooMany, closesUp, afterWalk, cutOutcome}
+use Rattle.cutting.specs.Walk.{Next, more, closed, stuck, broken, walkWith}
+use Rattle.cutting.specs.Outcome.{Outcome, refusal, pieces, ofWalk, tooMany, closesUp, afterWalk, cutOutcomeWith}
 use Rattle.entry.specs.Mesh.{Mesh}
 use Rattle.entry.specs.Refused.{entryOf}
 use Rattle.rules.specs.Mesh.{Side, theSubject, theCutter}
 use Rattle.rules.specs.Meetings.{Met, Scene, netOf}
 use Rattle.rules.specs.Nodes.{crowded}
-use Rattle.rules.specs.Cell.{nearOf, outcomeBy, outcomeOf, outlineOf, tableOf, cellOf}
-use Rattle.rules.specs.Operations.{cuts, sceneFor, kept, overCells, Piece, outcomePieces}
-use Rattle.rules.specs.Refusals.{Event, meeting, point, piece, stop, ofMeeting, ofCell, course, firstRefusal}
-use Rattle.rules.specs.Overlay.{Lists, Result, answered, stateOf, overlayOf}
-use Rattle.rules.specs.Demand3.{Accepted}
+use Rattle.rules.specs.Cell.{nearOf, outcomeBy, outcomeWith, outlineOf, tableOf, cellOf}
+use Rattle.rules.specs.Operations.{cuts, sceneFor, keptWith, overCells, Piece, outcomePieces}
+use Rattle.rules.specs.Refusals.{Event, meeting, point, piece, stop, ofMeeting, ofCell, courseWith, firstRefusal}
+use Rattle.rules.specs.Overlay.{Lists, Result, answeredWith, stateWith, overlayWith}
+use Rattle.rules.specs.Demand3.{AcceptedWith}
 use Rattle.rules.proofs.Endings.{Ending, input, state-met, success, ending, input-refused, state-refused, succeeds}
 
 -- ---- an accepted overlay gives the answer, and its state no refusal
 
-pub record Taken (op m : ℕ) (s c : Mesh) (l : Lists) : Type 0 where
+pub record Taken (turning : Bool) (op m : ℕ) (s c : Mesh) (l : Lists) : Type 0 where
   pub entry : entryOf op m s c (length (l .work)) ≡ 0
-  pub answer : overlayOf op m s c l ≡ answered op s c l
-  pub state : stateOf op m s c l ≡ 0
+  pub answer : overlayWith turning op m s c l ≡ answeredWith turning op s c l
+  pub state : stateWith turning op m s c l ≡ 0
 
-pub accepted : (op m : ℕ) (s c : Mesh) (l : Lists) → Accepted op m s c l → Taken op m s c l
-accepted op m s c l h = go (ending op m s c l)
+pub accepted : (turning : Bool) (op m : ℕ) (s c : Mesh) (l : Lists) → AcceptedWith turning op m s c l → Taken turning op m s c l
+accepted turning op m s c l h = go (ending turning op m s c l)
   where
     -- the code of what an overlay comes to
-    code : (r : Result) → overlayOf op m s c l ≡ r → r .code ≡ 0
+    code : (r : Result) → overlayWith turning op m s c l ≡ r → r .code ≡ 0
     code r e = ap (λ (x : Result). x .code) (sym e) ∙ h
 
-    go : Ending op m s c l → Taken op m s c l
-    go (input n) = absurd (n (code _ (input-refused op m s c l n)))
-    go (state-met e n) = absurd (n (code _ (state-refused op m s c l e n)))
-    go (success e f) = record { entry = e; answer = succeeds op m s c l e f; state = f }
+    go : Ending turning op m s c l → Taken turning op m s c l
+    go (input n) = absurd (n (code _ (input-refused turning op m s c l n)))
+    go (state-met e n) = absurd (n (code _ (state-refused turning op m s c l e n)))
+    go (success e f) = record { entry = e; answer = succeeds turning op m s c l e f; state = f }
 
 -- ---- no refusal among events
 
@@ -143,9 +143,9 @@ abbrev pub Made : Outcome → Type 0
 Made (refusal r) = ⊥
 Made (pieces ps) = Unit {0}
 
-sound-cut : (outline : List Edge) (t : List Slot) → Sound (cutOutcome outline t)
-unfolding cutOutcome
-sound-cut outline t = go (tooMany (length t)) (walk outline t)
+sound-cut : (turning : Bool) (outline : List Edge) (t : List Slot) → Sound (cutOutcomeWith turning outline t)
+unfolding cutOutcomeWith
+sound-cut turning outline t = go (tooMany (length t)) (walkWith turning outline t)
   where
     done : (ps : List (List ℕ)) (b : Bool) → Sound (cond b (pieces ps) (refusal 11))
     done ps true = tt
@@ -158,13 +158,13 @@ sound-cut outline t = go (tooMany (length t)) (walk outline t)
     go false broken = never 10
     go false (more s) = never 10
 
-sound : (sc : Scene) (w : Side) (i : ℕ) → Sound (outcomeOf sc w i)
-unfolding outcomeOf
-sound sc w i = go (nearOf sc w i)
+sound : (turning : Bool) (sc : Scene) (w : Side) (i : ℕ) → Sound (outcomeWith turning sc w i)
+unfolding outcomeWith
+sound turning sc w i = go (nearOf sc w i)
   where
-    go : (js : List ℕ) → Sound (outcomeBy (outlineOf sc w i) (tableOf sc w i) (cellOf sc w i) js)
+    go : (js : List ℕ) → Sound (outcomeBy turning (outlineOf sc w i) (tableOf sc w i) (cellOf sc w i) js)
     go [] = tt
-    go (j ∷ js) = sound-cut (outlineOf sc w i) (tableOf sc w i)
+    go (j ∷ js) = sound-cut turning (outlineOf sc w i) (tableOf sc w i)
 
 -- where there is no refusal the outcome is its pieces
 pub made-is : (x : Outcome) → Made x → x ≡ pieces (outcomePieces x)
@@ -181,19 +181,19 @@ made-cell : (x : Outcome) (ps : List Piece) → Calm (ofCell x ps) → Made x
 made-cell (refusal r) ps h = h
 made-cell (pieces qs) ps h = tt
 
-module _ (op : ℕ) (s c : Mesh) where
+module _ (turning : Bool) (op : ℕ) (s c : Mesh) where
   abbrev sc : Scene
   sc = sceneFor op s c
 
   abbrev cut : Side → ℕ → List Event
-  cut w i = ofCell (outcomeOf sc w i) (kept sc w op i)
+  cut w i = ofCell (outcomeWith turning sc w i) (keptWith turning sc w op i)
 
   sane-over : (w : Side) (t : Bool) → Sane (cond t (gathered (length (netOf sc w .cells)) (cut w)) [])
-  sane-over w true = sane-gathered (length (netOf sc w .cells)) (cut w) (λ i. sane-cell (outcomeOf sc w i) (kept sc w op i) (sound sc w i))
+  sane-over w true = sane-gathered (length (netOf sc w .cells)) (cut w) (λ i. sane-cell (outcomeWith turning sc w i) (keptWith turning sc w op i) (sound turning sc w i))
   sane-over w false = tt
 
-  sane-course : Sane (course op s c)
-  unfolding course
+  sane-course : Sane (courseWith turning op s c)
+  unfolding courseWith
   sane-course =
       sane-append (replicate (length (s .coords ++ c .coords) / 2) point ++ joined ofMeeting (sc .met) ++ cond (crowded sc) (stop 9 ∷ []) []) _
       (sane-append (replicate (length (s .coords ++ c .coords) / 2) point ++ joined ofMeeting (sc .met)) _
@@ -209,13 +209,13 @@ module _ (op : ℕ) (s c : Mesh) where
       bool-number true = 1
       bool-number false = 0
 
-  pub calm-course : (m : ℕ) (l : Lists) → Accepted op m s c l → Calm (course op s c)
-  unfolding stateOf
-  calm-course m l h = calm (course op s c) m _ _ _ sane-course (accepted op m s c l h .state)
+  pub calm-course : (m : ℕ) (l : Lists) → AcceptedWith turning op m s c l → Calm (courseWith turning op s c)
+  unfolding stateWith
+  calm-course m l h = calm (courseWith turning op s c) m _ _ _ sane-course (accepted turning op m s c l h .state)
 
-  pub all-made : (m : ℕ) (l : Lists) → Accepted op m s c l → (w : Side) → cuts op w ≡ true → (i : ℕ) → i < length (netOf sc w .cells) → Made (outcomeOf sc w i)
-  unfolding course
-  all-made m l h w e i k = made-cell (outcomeOf sc w i) (kept sc w op i) (go w e k)
+  pub all-made : (m : ℕ) (l : Lists) → AcceptedWith turning op m s c l → (w : Side) → cuts op w ≡ true → (i : ℕ) → i < length (netOf sc w .cells) → Made (outcomeWith turning sc w i)
+  unfolding courseWith
+  all-made m l h w e i k = made-cell (outcomeWith turning sc w i) (keptWith turning sc w op i) (go w e k)
     where
       cells : Calm (overCells op sc theSubject (cut theSubject) ++ overCells op sc theCutter (cut theCutter))
       cells = calm-right (replicate (length (s .coords ++ c .coords) / 2) point ++ joined ofMeeting (sc .met) ++ cond (crowded sc) (stop 9 ∷ []) []) (overCells op sc theSubject (cut theSubject) ++ overCells op sc theCutter (cut theCutter)) (calm-course m l h)

@@ -80,18 +80,23 @@ strip = lent (i ∷ -i ∷ iii ∷ -i ∷ iii ∷ iii ∷ i ∷ iii ∷ []) (0 �
 abbrev line : Mesh
 line = lent (i ∷ -i ∷ i ∷ i ∷ []) (0 ∷ 1 ∷ []) (2 ∷ []) (1 ∷ []) (0 ∷ [])
 
--- two squares side by side, and a line like K10's into the second; a triangle away from the square; a line through the square, twice
+-- two squares side by side; a triangle away from the square; a line through the square, twice
 abbrev squares : Mesh
 squares = lent (o ∷ o ∷ ii ∷ o ∷ iv ∷ o ∷ iv ∷ ii ∷ ii ∷ ii ∷ o ∷ ii ∷ []) (0 ∷ 1 ∷ 4 ∷ 5 ∷ 1 ∷ 2 ∷ 3 ∷ 4 ∷ []) (4 ∷ 8 ∷ []) (8 ∷ 8 ∷ []) (7 ∷ 9 ∷ [])
-
-abbrev line-on : Mesh
-line-on = lent (iii ∷ -i ∷ iii ∷ i ∷ []) (0 ∷ 1 ∷ []) (2 ∷ []) (1 ∷ []) (0 ∷ [])
 
 abbrev away : Mesh
 away = lent (iii ∷ iii ∷ iv ∷ iii ∷ iv ∷ iv ∷ []) (0 ∷ 1 ∷ 2 ∷ []) (3 ∷ []) (5 ∷ []) (3 ∷ [])
 
 abbrev twice : Mesh
 twice = lent (i ∷ -i ∷ i ∷ iii ∷ []) (0 ∷ 1 ∷ 0 ∷ 1 ∷ []) (2 ∷ 4 ∷ []) (1 ∷ 1 ∷ []) (0 ∷ 0 ∷ [])
+
+-- A triangle with a node 2^-27 before the first of another, on whose third edge it is collected: there it stands before that edge's first node, so
+-- the other's outline as cut doesn't close.
+abbrev corner : Mesh
+corner = lent (0xbe40_0000_0000_0000 ∷ o ∷ i ∷ o ∷ o ∷ i ∷ []) (0 ∷ 1 ∷ 2 ∷ []) (3 ∷ []) (5 ∷ []) (7 ∷ [])
+
+abbrev wedge : Mesh
+wedge = lent (o ∷ o ∷ ii ∷ o ∷ ii ∷ ii ∷ []) (0 ∷ 1 ∷ 2 ∷ []) (3 ∷ []) (5 ∷ []) (3 ∷ [])
 
 -- nodes at 1e-12 and 5e-13 from the square's first
 abbrev nearby : Mesh
@@ -141,8 +146,8 @@ rows =
     ∷ order-of (o ∷ o ∷ -i ∷ o ∷ o ∷ i ∷ i ∷ o ∷ o ∷ -i ∷ []) (4 ∷ 3 ∷ 2 ∷ 1 ∷ []) (1 ∷ 2 ∷ 3 ∷ 4 ∷ [])
     -- K9
     ∷ inner-of (o ∷ ii ∷ o ∷ o ∷ i ∷ o ∷ i ∷ ii ∷ []) (0 ∷ 1 ∷ 2 ∷ 3 ∷ []) (1 ∷ half ∷ i ∷ [])
-    -- K10
-    ∷ overlay (case 5 9 square line (fives 21 9 3 3 3 500) (refused 11 (noughts 21 9 3 3 3 500)))
+    -- K10: the walk turns back at the line's end
+    ∷ overlay (case 5 9 square line (fives 15 8 2 2 2 500) (result 0 1 1 0 (onLists (o ∷ o ∷ ii ∷ o ∷ ii ∷ ii ∷ o ∷ ii ∷ i ∷ -i ∷ i ∷ i ∷ i ∷ o ∷ ii ∷ []) (3 ∷ 0 ∷ 6 ∷ 5 ∷ 6 ∷ 1 ∷ 2 ∷ 5 ∷ []) (7 ∷ 5 ∷ []) (11 ∷ 5 ∷ []) (7 ∷ 5 ∷ []) (replicate 500 0))))
     -- 256 nodes on an edge pass, so that the next thing is that the first triangle has no place; 257 give 9
     ∷ overlay (case 5 130 triangles (lines 4) (fives 28 0 0 0 0 3872) (refused 12 (noughts 28 0 0 0 0 3872)))
     ∷ overlay (case 5 131 triangles (lines 5) (fives 30 0 0 0 0 3920) (refused 9 (noughts 30 0 0 0 0 3920)))
@@ -174,8 +179,8 @@ rows =
     -- the order of refusals: a meeting beyond M comes before its point that has no place; a piece of the first cell before what the second cell's walk
     -- comes to, and that before a place for another piece
     ∷ overlay (case 0 1 square strip (fives 18 0 0 0 0 352) (refused 8 (noughts 18 0 0 0 0 352)))
-    ∷ overlay (case 5 9 squares line-on (fives 21 4 0 0 0 500) (refused 12 (noughts 21 4 0 0 0 500)))
-    ∷ overlay (case 5 9 squares line-on (fives 21 4 1 1 1 500) (refused 11 (noughts 21 4 1 1 1 500)))
+    ∷ overlay (case 1 9 corner wedge (fives 14 7 1 1 1 500) (refused 12 (noughts 14 7 1 1 1 500)))
+    ∷ overlay (case 1 9 corner wedge (fives 14 7 2 2 2 500) (refused 11 (noughts 14 7 2 2 2 500)))
     -- K1's meshes under Union, Intersection, Difference and SymmetricDifference
     ∷ overlay (case 1 9 square strip (fives 20 16 3 3 3 500) (result 0 3 2 0 (onLists cut-coords (3 ∷ 0 ∷ 8 ∷ 9 ∷ 9 ∷ 8 ∷ 1 ∷ 2 ∷ 7 ∷ 9 ∷ 2 ∷ 1 ∷ 8 ∷ 4 ∷ 5 ∷ 6 ∷ []) (4 ∷ 8 ∷ 16 ∷ []) (11 ∷ 11 ∷ 11 ∷ []) (7 ∷ 7 ∷ 0 ∷ []) (replicate 500 0))))
     ∷ overlay (case 2 9 square strip (fives 20 4 1 1 1 500) (result 0 1 2 0 (onLists cut-coords (9 ∷ 8 ∷ 1 ∷ 2 ∷ []) (4 ∷ []) (11 ∷ []) (7 ∷ []) (replicate 500 0))))

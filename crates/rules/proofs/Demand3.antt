@@ -37,7 +37,7 @@ listed-once op s c p q k k′ a b e = one-place op s c p q k k′ a b e
 -- an accepted overlay's answer has as many pieces as the listing, and holds piece k of the listing at k, whatever the meeting limit and the lists lent.
 pub as-listed : (op m : ℕ) (s c : Mesh) (l : Lists) → Accepted op m s c l
     → (overlayOf op m s c l .pieces ≡ length (listing op s c)) × ((k : ℕ) (p : Piece) → ListedAt p k op s c → WrittenAt (overlayOf op m s c l) k p)
-as-listed op m s c l h = (ap (λ (r : Result). r .pieces) (accepted op m s c l h .answer) ∙ count, at)
+as-listed op m s c l h = (ap (λ (r : Result). r .pieces) (accepted true op m s c l h .answer) ∙ count, at)
   where
     count : answered op s c l .pieces ≡ length (listing op s c)
     count = answered-pieces op s c l

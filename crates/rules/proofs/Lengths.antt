@@ -19,9 +19,9 @@ use Rattle.rules.specs.Neighbours.{Net, subjectNet, cutterNet}
 use Rattle.rules.specs.Meetings.{Met, Scene, netOf, segmentOf, addedBy, recorded, metPair, metAll, meetingsTo, meetings, sceneOf}
 use Rattle.rules.specs.Nodes.{crowded}
 use Rattle.rules.specs.Cell.{outcomeOf}
-use Rattle.rules.specs.Operations.{cuts, sceneFor, Piece, kept, overCells, listing}
-use Rattle.rules.specs.Refusals.{Event, point, piece, stop, ofMeeting, ofCell, course, firstRefusal}
-use Rattle.rules.specs.Overlay.{Lists, Result, cleared, written, answered, stateOf, overlayOf}
+use Rattle.rules.specs.Operations.{cuts, sceneFor, Piece, kept, overCells, listing, listingWith}
+use Rattle.rules.specs.Refusals.{Event, point, piece, stop, ofMeeting, ofCell, course, courseWith, firstRefusal}
+use Rattle.rules.specs.Overlay.{Lists, Result, cleared, written, answered, answeredWith, stateWith, overlayOf}
 use Rattle.rules.specs.Demand3.{Accepted}
 use Rattle.lists.proofs.Regions.{length-front}
 use Rattle.entry.proofs.Passed.{passed}
@@ -211,7 +211,7 @@ module _ (op : ℕ) (s c : Mesh) where
       (nine-takes (crowded sc))
 
   course-takes : Calm (course op s c) → Takes (course op s c) (listing op s c)
-  unfolding course listing
+  unfolding courseWith listingWith
   course-takes h =
       let rest = calm-right before cells h in
       takes-append before cells [] (overCells op sc theSubject (kept sc theSubject op) ++ overCells op sc theCutter (kept sc theCutter op)) before-takes
@@ -220,7 +220,7 @@ module _ (op : ℕ) (s c : Mesh) where
       (over-takes theCutter (cuts op theCutter) (calm-right (overCells op sc theSubject (cut theSubject)) (overCells op sc theCutter (cut theCutter)) rest)))
 
   course-points : length (s .coords ++ c .coords) / 2 + total aPoint (joined ofMeeting (sc .met)) ≤ total aPoint (course op s c)
-  unfolding course
+  unfolding courseWith
   course-points =
       omega (
         arith,
@@ -270,10 +270,10 @@ whole-points : (a b t p n : ℕ) → a ≡ 2 * (a / 2) → b ≡ 2 * (b / 2) →
 whole-points a b t p n e f h k = omega (arith, e, f, h, k)
 
 pub accepted-fits : (op m : ℕ) (s c : Mesh) (l : Lists) → Accepted op m s c l → Fits op s c l
-unfolding stateOf
+unfolding stateWith
 accepted-fits op m s c l h =
-    let t = accepted op m s c l h in
-    let calm = calm-course op s c m l h in
+    let t = accepted true op m s c l h in
+    let calm = calm-course true op s c m l h in
     let entry = passed op m s c (length (l .work)) (t .entry) in
     let q = min (length (l .ends)) (min (length (l .kinds)) (length (l .families))) in
     let r = room (course op s c) m (length (l .coords) / 2) q (length (l .nodes)) calm (t .state) in
@@ -298,7 +298,7 @@ accepted-fits op m s c l h =
     }
 
 answered-lengths : (op : ℕ) (s c : Mesh) (l : Lists) → Fits op s c l → SameLengths (answered op s c l .lists) l
-unfolding answered written
+unfolding answeredWith written
 answered-lengths op s c l f =
     let runs = map (λ (p : Piece). p .nodes) (listing op s c) in
     let many = length-map (listing op s c) (λ (p : Piece). p .nodes) in
@@ -312,7 +312,7 @@ answered-lengths op s c l f =
     }
 
 no-refusal : (op : ℕ) (s c : Mesh) (l : Lists) → answered op s c l .code ≡ 0
-unfolding answered
+unfolding answeredWith
 no-refusal op s c l = refl
 
 same-lengths : (l : Lists) → SameLengths l l
@@ -320,11 +320,11 @@ same-lengths l = record { coords = refl; nodes = refl; ends = refl; kinds = refl
 
 -- For every operation, meeting limit, meshes and lists, accepted or refused.
 pub lengths-kept : (op m : ℕ) (s c : Mesh) (l : Lists) → SameLengths (overlayOf op m s c l .lists) l
-lengths-kept op m s c l = go (ending op m s c l)
+lengths-kept op m s c l = go (ending true op m s c l)
   where
-    go : Ending op m s c l → SameLengths (overlayOf op m s c l .lists) l
-    go (input n) = rw (input-refused op m s c l n) (same-lengths l)
-    go (state-met e n) = rw (state-refused op m s c l e n) (cleared-lengths l)
+    go : Ending true op m s c l → SameLengths (overlayOf op m s c l .lists) l
+    go (input n) = rw (input-refused true op m s c l n) (same-lengths l)
+    go (state-met e n) = rw (state-refused true op m s c l e n) (cleared-lengths l)
     go (success e f) =
-        let same = succeeds op m s c l e f in
+        let same = succeeds true op m s c l e f in
         rw same (answered-lengths op s c l (accepted-fits op m s c l (ap (λ (r : Result). r .code) same ∙ no-refusal op s c l)))

@@ -8,5 +8,6 @@ pub mod Lengths
 pub mod ReadBack
 pub mod Closing
 pub mod Demand3
+pub mod Kept
 pub mod Tables
 pub mod Cases

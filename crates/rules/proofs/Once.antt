@@ -10,7 +10,7 @@ use Rattle.lists.specs.Gather.{gathered, each, passing}
 use Rattle.entry.specs.Mesh.{Mesh}
 use Rattle.rules.specs.Mesh.{Side, theSubject, theCutter}
 use Rattle.rules.specs.Meetings.{Scene, netOf}
-use Rattle.rules.specs.Operations.{cuts, keeps, sceneFor, Piece, piecesOf, pieceAt, inside, kept, overCells, listing}
+use Rattle.rules.specs.Operations.{cuts, keeps, sceneFor, Piece, piecesOf, pieceAt, pieceWith, inside, kept, keptWith, overCells, listing, listingWith}
 use Rattle.rules.specs.Demand3.{ListedAt, SamePiece}
 use Rattle.lists.proofs.Gather.{gathered-at, each-at, passing-at}
 use Rattle.lists.proofs.Gather.{in-list}
@@ -61,14 +61,14 @@ once-at (x ∷ xs) h (suc k) (suc k′) b b′ d s = ap suc (once-at xs (h .1) k
 
 module _ (sc : Scene) (op : ℕ) (w : Side) where
   known : (i j : ℕ) → (pieceAt sc w i j .mesh ≡ w) × (pieceAt sc w i j .cell ≡ i) × (pieceAt sc w i j .place ≡ j)
-  unfolding pieceAt
+  unfolding pieceWith
   known i j = (refl, refl, refl)
 
   of-each : (i n : ℕ) (p : Piece) → List·Memᴰ p (each n (pieceAt sc w i)) → (j : ℕ) × (p ≡ pieceAt sc w i j)
   of-each i n p m = let r = each-at n (pieceAt sc w i) p m in (r .0, r .2)
 
   of-kept : (i : ℕ) (p : Piece) → List·Memᴰ p (kept sc w op i) → (p .mesh ≡ w) × (p .cell ≡ i)
-  unfolding kept
+  unfolding keptWith
   of-kept i p m =
       let r = of-each i (length (piecesOf sc w i)) p (passing-at (λ q. keeps op w (inside sc w q)) (each (length (piecesOf sc w i)) (pieceAt sc w i)) p m .0) in
       (ap (λ (q : Piece). q .mesh) (r .1) ∙ known i (r .0) .0, ap (λ (q : Piece). q .cell) (r .1) ∙ known i (r .0) .1)
@@ -86,7 +86,7 @@ module _ (sc : Scene) (op : ℕ) (w : Side) where
           omega (arith, h, z)
 
   once-kept : (i : ℕ) → Once (kept sc w op i)
-  unfolding kept
+  unfolding keptWith
   once-kept i = once-passing (λ q. keeps op w (inside sc w q)) (each (length (piecesOf sc w i)) (pieceAt sc w i)) (once-each i (length (piecesOf sc w i)))
 
   once-over : (t : Bool) → Once (cond t (gathered (length (netOf sc w .cells)) (kept sc w op)) [])
@@ -110,7 +110,7 @@ module _ (op : ℕ) (s c : Mesh) where
   sc = sceneFor op s c
 
   once-listing : Once (listing op s c)
-  unfolding listing
+  unfolding listingWith
   once-listing =
       once-append (overCells op sc theSubject (kept sc theSubject op)) (overCells op sc theCutter (kept sc theCutter op))
       (once-over sc op theSubject (cuts op theSubject)) (once-over sc op theCutter (cuts op theCutter))

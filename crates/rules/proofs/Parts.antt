@@ -9,7 +9,7 @@ use Rattle.lists.specs.Gather.{gathered, each}
 use Rattle.entry.specs.Mesh.{Mesh}
 use Rattle.rules.specs.Mesh.{Side, theSubject, theCutter}
 use Rattle.rules.specs.Meetings.{Scene, netOf, sceneOf}
-use Rattle.rules.specs.Operations.{cuts, keeps, sceneFor, Piece, piecesOf, pieceAt, inside, kept, overCells, listing}
+use Rattle.rules.specs.Operations.{cuts, keeps, sceneFor, Piece, piecesOf, pieceAt, pieceWith, inside, kept, keptWith, overCells, listing, listingWith}
 use Rattle.rules.specs.Demand3.{Kept, Listed, SamePiece, Unlisted}
 use Rattle.lists.proofs.Gather.{gathered-at, in-gathered, each-at, in-each, passing-at, in-passing, mem-at}
 use Rattle.lists.proofs.Gather.{in-list}
@@ -18,11 +18,11 @@ use Rattle.lists.proofs.Gather.{in-list}
 
 module _ (sc : Scene) (op : ℕ) (w : Side) where
   pieceAt-kept : (i j : ℕ) → cuts op w ≡ true → i < length (netOf sc w .cells) → j < length (piecesOf sc w i) → keeps op w (inside sc w (pieceAt sc w i j)) ≡ true → Kept sc op (pieceAt sc w i j)
-  unfolding pieceAt
+  unfolding pieceWith
   pieceAt-kept i j c h k e = record { cut = c; cell = h; place = k; same = refl; passes = e }
 
   over-kept : (t : Bool) → cuts op w ≡ t → (p : Piece) → List·Memᴰ p (cond t (gathered (length (netOf sc w .cells)) (kept sc w op)) []) → Kept sc op p
-  unfolding kept
+  unfolding keptWith
   over-kept false c p h = absurd (List·Memᴰ·not-nil h)
   over-kept true c p h =
       let at = gathered-at (length (netOf sc w .cells)) (kept sc w op) p h in
@@ -32,7 +32,7 @@ module _ (sc : Scene) (op : ℕ) (w : Side) where
       rw (e .2) (pieceAt-kept i (e .0) c (at .1) (e .1) (ap (λ (q : Piece). keeps op w (inside sc w q)) (sym (e .2)) ∙ pass .1))
 
   kept-over : (t : Bool) → t ≡ true → (i j : ℕ) → i < length (netOf sc w .cells) → j < length (piecesOf sc w i) → keeps op w (inside sc w (pieceAt sc w i j)) ≡ true → List·Memᴰ (pieceAt sc w i j) (cond t (gathered (length (netOf sc w .cells)) (kept sc w op)) [])
-  unfolding kept
+  unfolding keptWith
   kept-over false c i j h k e = absurd (false≢true c)
   kept-over true c i j h k e =
       in-gathered (length (netOf sc w .cells)) (kept sc w op) (pieceAt sc w i j) i h
@@ -54,7 +54,7 @@ module _ (op : ℕ) (s c : Mesh) where
   listed p h = let r = mem-at (listing op s c) p h in (r .0, record { below = r .1; is = r .2 })
 
   among-kept : (p : Piece) → Among p → Kept sc op p
-  unfolding listing
+  unfolding listingWith
   among-kept p h = go (List·Memᴰ·append-cases (overCells op sc theSubject (kept sc theSubject op)) h)
     where
       go : List·Memᴰ p (overCells op sc theSubject (kept sc theSubject op)) ⊎ List·Memᴰ p (overCells op sc theCutter (kept sc theCutter op)) → Kept sc op p
@@ -62,7 +62,7 @@ module _ (op : ℕ) (s c : Mesh) where
       go (inr k) = over-kept sc op theCutter (cuts op theCutter) refl p k
 
   kept-among : (p : Piece) → Kept sc op p → Among p
-  unfolding listing
+  unfolding listingWith
   kept-among p k = Memᴰ·cast (k .same) (go (p .mesh) (k .cut) (kept-over sc op (p .mesh) (cuts op (p .mesh)) (k .cut) (p .cell) (p .place) (k .cell) (k .place) (ap (λ (q : Piece). keeps op (p .mesh) (inside sc (p .mesh) q)) (sym (k .same)) ∙ k .passes)))
     where
       go : (w : Side) → cuts op w ≡ true → List·Memᴰ (pieceAt sc (p .mesh) (p .cell) (p .place)) (overCells op sc w (kept sc w op)) → List·Memᴰ (pieceAt sc (p .mesh) (p .cell) (p .place)) (overCells op sc theSubject (kept sc theSubject op) ++ overCells op sc theCutter (kept sc theCutter op))

@@ -1,5 +1,6 @@
 -- An answer's pieces can be read back from its lists, as a mesh's cells are. Assumes nothing.
 use mathlib.Core.Path.{_≡_, refl, ap, ap₂, _∙_}
+use mathlib.Core.Bool.{true}
 use mathlib.Core.List.{List, [], _∷_, _++_, map, append-assoc}
 use Prim.Native.Nat.{ℕ, zero, suc, _+_, _-_, _≤_, _<_}
 use native.Mathlib.Omega.{arith}
@@ -10,7 +11,7 @@ use Rattle.cutting.specs.Outcome.{flat, stops}
 use Rattle.entry.specs.Mesh.{Mesh, prior}
 use Rattle.rules.specs.Mesh.{cellAt}
 use Rattle.rules.specs.Operations.{Piece, listing}
-use Rattle.rules.specs.Overlay.{Lists, overlayOf, answered, written}
+use Rattle.rules.specs.Overlay.{Lists, overlayOf, answered, answeredWith, written}
 use Rattle.rules.specs.Demand3.{Accepted, WrittenAt}
 use Rattle.lists.proofs.Regions.{front-in}
 use Rattle.lists.proofs.Gather.{getD-any}
@@ -66,7 +67,7 @@ prior-start es (suc j) = refl
 -- the answer at k is the listing's piece k
 module _ (op : ℕ) (s c : Mesh) (l : Lists) where
   answer-at : (k : ℕ) → k < length (listing op s c) → (d : Piece) → WrittenAt (answered op s c l) k (getD (listing op s c) k d)
-  unfolding answered written cellAt run front
+  unfolding answeredWith written cellAt run front
   answer-at k h d = record {
     below = h;
     kind = field-back (λ p. p .kind) ps (l .kinds) k d 0 h;
@@ -98,8 +99,8 @@ module _ (op : ℕ) (s c : Mesh) (l : Lists) where
       zero-off = omega arith
 
   pub answered-pieces : answered op s c l .pieces ≡ length (listing op s c)
-  unfolding answered
+  unfolding answeredWith
   answered-pieces = refl
 
   pub read-back : (m : ℕ) → Accepted op m s c l → (k : ℕ) → k < length (listing op s c) → (d : Piece) → WrittenAt (overlayOf op m s c l) k (getD (listing op s c) k d)
-  read-back m h k b d = rw (accepted op m s c l h .answer) (answer-at k b d)
+  read-back m h k b d = rw (accepted true op m s c l h .answer) (answer-at k b d)

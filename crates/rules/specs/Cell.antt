@@ -1,11 +1,12 @@
 -- Document 01, modules 6 and 7 (cut.rs, `cut_with_intersections`): what each cell is cut by, and what it comes to. A cell's darts, its table, its walk
 -- and refusals 10 and 11 are the cutting layer's. Assumes nothing.
+use mathlib.Core.Bool.{Bool, true}
 use mathlib.Core.List.{List, [], _∷_, map}
 use Prim.Native.Nat.{ℕ}
 use lib.ListN.{getD}
 use Rattle.cutting.specs.Edges.{Edge, edgeAt, ring}
 use Rattle.cutting.specs.Cell.{Laid, outlineDarts, Slot, cellTable, copiedTable}
-use Rattle.cutting.specs.Outcome.{Outcome, cutOutcome, copiedOutcome}
+use Rattle.cutting.specs.Outcome.{Outcome, cutOutcomeWith, copiedOutcome}
 use Rattle.rules.specs.Mesh.{Side, other}
 use Rattle.rules.specs.SpatialIndex.{boxOf, candidates}
 use Rattle.rules.specs.Meetings.{Scene, netOf}
@@ -36,9 +37,10 @@ tableBy sc es cell [] = copiedTable cell
 tableBy sc es cell (j ∷ js) = cellTable (sc .coords) (dartsOf sc cell) (nearEdges sc es (j ∷ js))
 
 -- "A cell's pieces before any are dropped are all that its walk closes, in that order, or the cell itself where it is copied"; or 10 or 11
-abbrev pub outcomeBy : List Edge → List Slot → List ℕ → List ℕ → Outcome
-outcomeBy outline t cell [] = copiedOutcome cell
-outcomeBy outline t cell (j ∷ js) = cutOutcome outline t
+-- by whether the walk may turn back
+abbrev pub outcomeBy : Bool → List Edge → List Slot → List ℕ → List ℕ → Outcome
+outcomeBy turning outline t cell [] = copiedOutcome cell
+outcomeBy turning outline t cell (j ∷ js) = cutOutcomeWith turning outline t
 
 -- a copied cell keeps its kind, and what is cut out of a cell is a PGON
 abbrev pub kindBy : ℕ → List ℕ → ℕ
@@ -61,8 +63,12 @@ module _ (sc : Scene) (w : Side) (i : ℕ) where
   unfoldable pub tableOf : List Slot
   tableOf = tableBy sc (netOf sc (other w) .edges) cellOf nearOf
 
-  unfoldable pub outcomeOf : Outcome
-  outcomeOf = outcomeBy outlineOf tableOf cellOf nearOf
-
   unfoldable pub kindOf : ℕ
   kindOf = kindBy (getD (netOf sc w .kinds) i 0) nearOf
+
+-- what it comes to, by whether a walk may turn back
+unfoldable pub outcomeWith : Bool → Scene → Side → ℕ → Outcome
+outcomeWith turning sc w i = outcomeBy turning (outlineOf sc w i) (tableOf sc w i) (cellOf sc w i) (nearOf sc w i)
+
+abbrev pub outcomeOf : Scene → Side → ℕ → Outcome
+outcomeOf sc w i = outcomeWith true sc w i

@@ -10,7 +10,7 @@ use Rattle.cutting.specs.Outcome.{Outcome, refusal, pieces}
 use Rattle.entry.specs.Mesh.{Mesh}
 use Rattle.rules.specs.Mesh.{Side, theSubject, theCutter, other}
 use Rattle.rules.specs.Meetings.{Scene, netOf, sceneOf}
-use Rattle.rules.specs.Cell.{tableOf, outcomeOf, kindOf}
+use Rattle.rules.specs.Cell.{tableOf, outcomeWith, kindOf}
 use Rattle.rules.specs.Inside.{pointInside}
 
 -- ---- 0 Imprint, 1 Union, 2 Intersection, 3 Difference, 4 SymmetricDifference, 5 lines (the rule of 0)
@@ -53,33 +53,46 @@ abbrev pub outcomePieces : Outcome → List (List ℕ)
 outcomePieces (refusal r) = []
 outcomePieces (pieces ps) = ps
 
-module _ (sc : Scene) (w : Side) where
+-- inside the other mesh
+unfoldable pub inside : Scene → Side → Piece → Bool
+inside sc w p = pointInside (sc .coords) (netOf sc (other w) .cells) (p .nodes)
+
+-- by whether a walk may turn back
+module _ (turning : Bool) (sc : Scene) (w : Side) where
   -- cell i's pieces before any are dropped
-  abbrev pub piecesOf : ℕ → List (List ℕ)
-  piecesOf i = outcomePieces (outcomeOf sc w i)
+  abbrev pub piecesWith : ℕ → List (List ℕ)
+  piecesWith i = outcomePieces (outcomeWith turning sc w i)
 
   -- the one at place j
-  unfoldable pub pieceAt : ℕ → ℕ → Piece
-  pieceAt i j =
-      record { mesh = w; cell = i; place = j; kind = kindOf sc w i; family = getD (netOf sc w .families) i 0; nodes = getD (piecesOf i) j [] }
-
-  -- inside the other mesh
-  unfoldable pub inside : Piece → Bool
-  inside p = pointInside (sc .coords) (netOf sc (other w) .cells) (p .nodes)
+  unfoldable pub pieceWith : ℕ → ℕ → Piece
+  pieceWith i j =
+      record { mesh = w; cell = i; place = j; kind = kindOf sc w i; family = getD (netOf sc w .families) i 0; nodes = getD (piecesWith i) j [] }
 
   -- those of cell i that the operation keeps
-  unfoldable pub kept : ℕ → ℕ → List Piece
-  kept op i = passing (λ p. keeps op w (inside p)) (each (length (piecesOf i)) (pieceAt i))
+  unfoldable pub keptWith : ℕ → ℕ → List Piece
+  keptWith op i = passing (λ p. keeps op w (inside sc w p)) (each (length (piecesWith i)) (pieceWith i))
+
+abbrev pub piecesOf : Scene → Side → ℕ → List (List ℕ)
+piecesOf sc w i = piecesWith true sc w i
+
+abbrev pub pieceAt : Scene → Side → ℕ → ℕ → Piece
+pieceAt sc w i j = pieceWith true sc w i j
+
+abbrev pub kept : Scene → Side → ℕ → ℕ → List Piece
+kept sc w op i = keptWith true sc w op i
 
 -- f for each cell of a mesh, if the operation cuts it
 abbrev pub overCells : {A : Type 0} → ℕ → Scene → Side → (ℕ → List A) → List A
 overCells op sc w f = cond (cuts op w) (gathered (length (netOf sc w .cells)) f) []
 
 -- "Pieces are listed as made", the subject's first
-unfoldable pub listing : ℕ → Mesh → Mesh → List Piece
-listing op s c =
+unfoldable pub listingWith : Bool → ℕ → Mesh → Mesh → List Piece
+listingWith turning op s c =
     let sc = sceneFor op s c in
-    overCells op sc theSubject (kept sc theSubject op) ++ overCells op sc theCutter (kept sc theCutter op)
+    overCells op sc theSubject (keptWith turning sc theSubject op) ++ overCells op sc theCutter (keptWith turning sc theCutter op)
+
+abbrev pub listing : ℕ → Mesh → Mesh → List Piece
+listing op s c = listingWith true op s c
 
 -- "A doubled cell's table names a neighbour twice at some node": those of the cells that the operation cuts
 unfoldable pub doubledCells : ℕ → Mesh → Mesh → List ℕ

@@ -1,5 +1,5 @@
 -- Document 01, "Refused because of the state": what happens in an overlay, in the order of module 7, and the first refusal met. Assumes nothing.
-use mathlib.Core.Bool.{true, false, cond}
+use mathlib.Core.Bool.{Bool, true, false, cond}
 use mathlib.Core.List.{List, [], _∷_, _++_, map}
 use Prim.Native.Nat.{ℕ, zero, suc, _-_, _/_}
 use lib.Dec.{leb}
@@ -10,8 +10,8 @@ use Rattle.entry.specs.Mesh.{Mesh}
 use Rattle.rules.specs.Mesh.{Side, theSubject, theCutter}
 use Rattle.rules.specs.Meetings.{Met}
 use Rattle.rules.specs.Nodes.{crowded}
-use Rattle.rules.specs.Cell.{outcomeOf}
-use Rattle.rules.specs.Operations.{sceneFor, Piece, kept, overCells}
+use Rattle.rules.specs.Cell.{outcomeWith}
+use Rattle.rules.specs.Operations.{sceneFor, Piece, keptWith, overCells}
 
 pub data Event : Type 0 where
   meeting : Event  -- a meeting is found
@@ -29,14 +29,17 @@ ofCell (refusal r) ps = stop r ∷ []
 ofCell (pieces qs) ps = map (λ p. piece (length (p .nodes))) ps
 
 -- "first both meshes' coordinates are placed"; the meetings; 9, "looked at after the last meeting"; "then the cells"
-unfoldable pub course : ℕ → Mesh → Mesh → List Event
-course op s c =
+unfoldable pub courseWith : Bool → ℕ → Mesh → Mesh → List Event
+courseWith turning op s c =
     let sc = sceneFor op s c in
-    let cut : Side → ℕ → List Event = λ w i. ofCell (outcomeOf sc w i) (kept sc w op i) in
+    let cut : Side → ℕ → List Event = λ w i. ofCell (outcomeWith turning sc w i) (keptWith turning sc w op i) in
     replicate (length (s .coords ++ c .coords) / 2) point
     ++ joined ofMeeting (sc .met)
     ++ cond (crowded sc) (stop 9 ∷ []) []
     ++ (overCells op sc theSubject (cut theSubject) ++ overCells op sc theCutter (cut theCutter))
+
+abbrev pub course : ℕ → Mesh → Mesh → List Event
+course op s c = courseWith true op s c
 
 -- The first refusal met, or 0, with room for m more meetings, p points, q pieces and n node entries. 8: a meeting beyond M. 12: the next item has no
 -- place.
