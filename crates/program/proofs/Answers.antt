@@ -12,7 +12,7 @@ use borrow.Author.Tests.{eq-eqb, ne-eqb}
 use Rattle.lists.specs.Regions.{zeros, fzeros}
 use Rattle.entry.specs.Mesh.{Mesh}
 use Rattle.rules.specs.Meetings.{addedBy, sceneOf}
-use Rattle.rules.specs.Overlay.{Lists, Result, lentLists, result, answered as succeeded, overlayOf}
+use Rattle.rules.specs.Overlay.{Lists, Result, lentLists, result, answered as succeeded, answeredWith, overlayOf}
 use Rattle.rules.proofs.Endings.{Ending, input, state-met, success, ending, input-refused, state-refused, succeeds}
 use Rattle.rules.proofs.Lengths.{accepted-fits}
 use Rattle.text.specs.Text.{Answer, answerText}
@@ -58,7 +58,7 @@ module _ (op m : ℕ) (s c : Mesh) where
   coords-added = length-append (s .coords ++ c .coords) _
 
   success-few : overlayOf op m s c lists ≡ succeeded op s c lists → succeeded op s c lists .points ≤ 2048
-  unfolding succeeded
+  unfolding answeredWith
   success-few same =
       let fits = accepted-fits op m s c lists (ap (λ (r : Result). r .code) same) .coords in
       omega (arith, coords-added, fits)

@@ -17,7 +17,7 @@ use Rattle.cutting.specs.Outcome.{flat, stops}
 use Rattle.cutting.proofs.Steps.{stops-length}
 use Rattle.entry.specs.Mesh.{Mesh}
 use Rattle.rules.specs.Operations.{Piece, listing}
-use Rattle.rules.specs.Overlay.{Result, cleared, written, answered as succeeded, overlayOf}
+use Rattle.rules.specs.Overlay.{Result, cleared, written, answered as succeeded, answeredWith, overlayOf}
 use Rattle.rules.proofs.Endings.{Ending, input, state-met, success, ending, input-refused, state-refused, succeeds}
 use Rattle.rules.proofs.Lengths.{accepted-fits, lengths-kept}
 use Rattle.text.specs.Text.{unread, refused, overlay, answerText}
@@ -41,11 +41,11 @@ module _ (op m : ℕ) (s c : Mesh) where
   r = overlayOf op m s c blank
 
   ends-of : succeeded op s c blank .lists .ends ≡ front (blank .ends) (stops 0 (map (λ (p : Piece). p .nodes) (listing op s c)))
-  unfolding succeeded written
+  unfolding answeredWith written
   ends-of = refl
 
   pieces-of : succeeded op s c blank .pieces ≡ length (listing op s c)
-  unfolding succeeded
+  unfolding answeredWith
   pieces-of = refl
 
   success-rises : overlayOf op m s c blank ≡ succeeded op s c blank → r .code ≡ 0 → Rising 8192 0 (take (succeeded op s c blank .pieces) (succeeded op s c blank .lists .ends))
