@@ -17,9 +17,9 @@ use Rattle.lists.specs.Regions.{front}
 use Rattle.lists.proofs.Gather.{tally-append}
 use Rattle.cutting.specs.Edges.{Edge, ring, rings, times}
 use Rattle.cutting.specs.Cell.{Laid, inner, edgeSlots, reverseMark, table, cellTable, copiedTable, names, doubled}
-use Rattle.cutting.specs.Walk.{Next, more, closed, stuck, broken, walkWith}
+use Rattle.cutting.specs.Walk.{Next, more, closed, stuck, broken, srcs, dsts, walkWith}
 use Rattle.cutting.specs.Outcome.{Outcome, refusal, pieces, ofWalk, walked, closesUp, afterWalk, tooMany, cutOutcomeWith, flat, stops}
-use Rattle.cutting.specs.Areas.{term, doubledArea, doubledAreas, Closes, ClosesUp}
+use Rattle.cutting.specs.Areas.{term, doubledArea, doubledAreas, Closes, ClosesUp, Round}
 use Rattle.cutting.specs.Lent.{answer, cornersIn, endsIn, piecesIn}
 use Rattle.cutting.specs.declared.cut.Walked.the-variants.{Closed}
 use Rattle.cutting.proofs.EdgeLaws.{hit-self}
@@ -27,6 +27,7 @@ use Rattle.cutting.proofs.Tables.{names-edges, single, even, closes}
 use Rattle.cutting.proofs.Sums.{sum, sum-append, sum-even}
 use Rattle.cutting.proofs.CellLaws.{sorted-table}
 use Rattle.cutting.proofs.Ends.{Ended, ends}
+use Rattle.cutting.proofs.Onward.{Free, never-stuck}
 
 -- ---- areas
 
@@ -160,6 +161,17 @@ module _ (turning : Bool) (coords : List Float) (outline : List Edge) (near : Li
       go stuck e q = let z : _≡_ {A = ℕ} 0 1 = cc in absurd (omega arith)
       go broken e q = let z : _≡_ {A = ℕ} 0 1 = cc in absurd (omega arith)
       go (more s) e q = let z : _≡_ {A = ℕ} 0 1 = cc in absurd (omega arith)
+
+-- an outline with as many darts into each node as out of it: the walk, which may turn back, always has a way on
+pub round-closes : (coords : List Float) (outline : List Edge) (near : List Laid) → Round outline → (ps : List (List ℕ)) × (walkWith true outline (cellTable coords outline near) ≡ closed ps)
+round-closes coords outline near round =
+    pick (walkWith true outline (cellTable coords outline near)) refl (ends true outline (inner outline near) (cellTable coords outline near) (sorted-table coords outline near)) (never-stuck outline (inner outline near) (cellTable coords outline near) (sorted-table coords outline near) round)
+  where
+    pick : (r : Next) → walkWith true outline (cellTable coords outline near) ≡ r → Ended r → Free (length (cellTable coords outline near)) (srcs (cellTable coords outline near)) (dsts (cellTable coords outline near)) r → (ps : List (List ℕ)) × (walkWith true outline (cellTable coords outline near) ≡ closed ps)
+    pick (more s) e h f = absurd h
+    pick (closed ps) e h f = (ps, e)
+    pick stuck e h f = absurd f
+    pick broken e h f = absurd h
 
 -- ---- a cell that is copied
 

@@ -10,7 +10,7 @@ use Rattle.cutting.specs.Edges.{Edge, ring, rings}
 use Rattle.cutting.specs.Cell.{Laid, cellTable, copiedTable, doubled}
 use Rattle.cutting.specs.Walk.{closed, stuck, walk}
 use Rattle.cutting.specs.Outcome.{Outcome, pieces, refusal, ofWalk, closesUp, tooMany, cutOutcome}
-use Rattle.cutting.specs.Areas.{ClosesUp}
+use Rattle.cutting.specs.Areas.{ClosesUp, Round}
 use Rattle.cutting.specs.Lent.{answer, cornersIn, endsIn, piecesIn}
 use Rattle.cutting.specs.declared.cut.Walked.the-variants.{Closed}
 use Rattle.cutting.proofs.Cells as cells
@@ -20,6 +20,10 @@ module _ (coords : List Float) (outline : List Edge) (near : List Laid) where
   -- The walk of a cell ends: with pieces, or with refusal 11.
   pub walk-ends : ((ps : List (List ℕ)) × (walk outline (cellTable coords outline near) ≡ closed ps)) ⊎ (walk outline (cellTable coords outline near) ≡ stuck)
   walk-ends = cells.walk-ends true coords outline near
+
+  -- It ends with pieces wherever the outline has as many darts into each node as out of it: refusal 11 is left for an outline that doesn't close.
+  pub round-closes : Round outline → (ps : List (List ℕ)) × (walk outline (cellTable coords outline near) ≡ closed ps)
+  round-closes = cells.round-closes coords outline near
 
   -- In a cell that isn't doubled and whose walk closes pieces, these use each outline dart exactly once, its reverse never, and any other edge
   -- exactly once each way or not at all; and their exact doubled signed areas add up to that of the outline.

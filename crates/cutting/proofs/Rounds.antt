@@ -9,14 +9,9 @@ use lib.ListN.{length, getD, set}
 use lib.Seq.{getD-set-same, getD-set-other}
 use borrow.Author.Tests.{ltb-true, lt-ltb, le-ltb, eqb-true, eq-eqb, ne-eqb}
 use Rattle.lists.specs.Search.{bit, many, first}
-use Rattle.lists.proofs.Search.{many-change, first-hit}
+use Rattle.lists.proofs.Search.{many-change, first-hit, and-true}
 use Rattle.cutting.specs.Walk.{openAt, orElse, after}
 use Rattle.cutting.proofs.EdgeLaws.{both}
-
-and-right : (s t : Bool) → s && t ≡ true → t ≡ true
-and-right true t e = e
-and-right false true e = refl
-and-right false false e = e
 
 module _ (turning : Bool) (n : ℕ) (src marks : List ℕ) (a r : ℕ) where
   pub after-late : (j : ℕ) → j ≡ first (openAt src marks a) (r + 1) n → j < n → j ≡ after turning n src marks a r
@@ -48,7 +43,7 @@ module _ (turning : Bool) (n : ℕ) (src marks : List ℕ) (a r : ℕ) where
       test = openAt src marks a
 
       back : (t : Bool) → turning && eqb (getD marks r 0) 0 ≡ t → orElse t r n < n → P (orElse t r n)
-      back true e l = last (eqb-true (getD marks r 0) 0 (and-right turning (eqb (getD marks r 0) 0) e))
+      back true e l = last (eqb-true (getD marks r 0) 0 (and-true turning (eqb (getD marks r 0) 0) e .1))
       back false e l = absurd (omega arith)
 
       early : (t : Bool) → ltb (first test 0 r) r ≡ t → let j : ℕ = orElse t (first test 0 r) (orElse (turning && eqb (getD marks r 0) 0) r n) in j < n → P j
