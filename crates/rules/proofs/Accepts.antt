@@ -45,13 +45,13 @@ accepted turning op m s c l h = go (ending turning op m s c l)
 
 -- ---- no refusal among events
 
--- every stop has a number above 0
-abbrev Sane : List Event → Type 0
-Sane [] = Unit {0}
-Sane (meeting ∷ es) = Sane es
-Sane (point ∷ es) = Sane es
-Sane (piece k ∷ es) = Sane es
-Sane (stop r ∷ es) = (r ≡ 0 → ⊥) × Sane es
+-- no stop has the number k
+abbrev pub Without : ℕ → List Event → Type 0
+Without k [] = Unit {0}
+Without k (meeting ∷ es) = Without k es
+Without k (point ∷ es) = Without k es
+Without k (piece n ∷ es) = Without k es
+Without k (stop r ∷ es) = (r ≡ k → ⊥) × Without k es
 
 -- there is no stop
 abbrev pub Calm : List Event → Type 0
@@ -64,7 +64,7 @@ Calm (stop r ∷ es) = ⊥
 never : {A : Type 0} (n : ℕ) → suc n ≡ 0 → A
 never n e = absurd (omega (arith, e))
 
-calm : (es : List Event) (m p q n : ℕ) → Sane es → firstRefusal m p q n es ≡ 0 → Calm es
+calm : (es : List Event) (m p q n : ℕ) → Without 0 es → firstRefusal m p q n es ≡ 0 → Calm es
 unfolding firstRefusal
 calm [] m p q n h e = tt
 calm (meeting ∷ es) zero p q n h e = never 7 e
@@ -79,12 +79,12 @@ calm (piece k ∷ es) m p (suc q) n h e = go (leb k n) (λ f. calm es m p q (n -
     go false ih f = never 11 f
 calm (stop r ∷ es) m p q n h e = h .0 e
 
-sane-append : (es fs : List Event) → Sane es → Sane fs → Sane (es ++ fs)
-sane-append [] fs h k = k
-sane-append (meeting ∷ es) fs h k = sane-append es fs h k
-sane-append (point ∷ es) fs h k = sane-append es fs h k
-sane-append (piece n ∷ es) fs h k = sane-append es fs h k
-sane-append (stop r ∷ es) fs h k = (h .0, sane-append es fs (h .1) k)
+without-append : (k : ℕ) (es fs : List Event) → Without k es → Without k fs → Without k (es ++ fs)
+without-append k [] fs g h = h
+without-append k (meeting ∷ es) fs g h = without-append k es fs g h
+without-append k (point ∷ es) fs g h = without-append k es fs g h
+without-append k (piece n ∷ es) fs g h = without-append k es fs g h
+without-append k (stop r ∷ es) fs g h = (g .0, without-append k es fs (g .1) h)
 
 pub calm-left : (es fs : List Event) → Calm (es ++ fs) → Calm es
 calm-left [] fs h = tt
@@ -100,27 +100,27 @@ calm-right (point ∷ es) fs h = calm-right es fs h
 calm-right (piece n ∷ es) fs h = calm-right es fs h
 calm-right (stop r ∷ es) fs h = absurd h
 
-sane-places : (n : ℕ) → Sane (replicate n point)
-sane-places zero = tt
-sane-places (suc n) = sane-places n
+without-places : (k n : ℕ) → Without k (replicate n point)
+without-places k zero = tt
+without-places k (suc n) = without-places k n
 
-sane-met : (ms : List Met) → Sane (joined ofMeeting ms)
+without-met : (k : ℕ) (ms : List Met) → Without k (joined ofMeeting ms)
 unfolding joined
-sane-met [] = tt
-sane-met (m ∷ ms) = sane-append (replicate (length (m .point) / 2) point) (joined ofMeeting ms) (sane-places (length (m .point) / 2)) (sane-met ms)
+without-met k [] = tt
+without-met k (m ∷ ms) = without-append k (replicate (length (m .point) / 2) point) (joined ofMeeting ms) (without-places k (length (m .point) / 2)) (without-met k ms)
 
-sane-nine : (t : Bool) → Sane (cond t (stop 9 ∷ []) [])
-sane-nine true = (λ e. never 8 e, tt)
-sane-nine false = tt
+without-nine : (k : ℕ) (t : Bool) → (9 ≡ k → ⊥) → Without k (cond t (stop 9 ∷ []) [])
+without-nine k true h = (h, tt)
+without-nine k false h = tt
 
-sane-lists : (ps : List Piece) → Sane (map (λ p. piece (length (p .nodes))) ps)
-sane-lists [] = tt
-sane-lists (p ∷ ps) = sane-lists ps
+without-lists : (k : ℕ) (ps : List Piece) → Without k (map (λ p. piece (length (p .nodes))) ps)
+without-lists k [] = tt
+without-lists k (p ∷ ps) = without-lists k ps
 
-sane-gathered : (n : ℕ) (f : ℕ → List Event) → ((i : ℕ) → Sane (f i)) → Sane (gathered n f)
+without-gathered : (k n : ℕ) (f : ℕ → List Event) → ((i : ℕ) → i < n → Without k (f i)) → Without k (gathered n f)
 unfolding gathered
-sane-gathered zero f h = tt
-sane-gathered (suc n) f h = sane-append (gathered n f) (f n) (sane-gathered n f h) (h n)
+without-gathered k zero f h = tt
+without-gathered k (suc n) f h = without-append k (gathered n f) (f n) (without-gathered k n f (λ i l. h i (omega (arith, l)))) (h n (omega arith))
 
 pub calm-gathered : (n : ℕ) (f : ℕ → List Event) → Calm (gathered n f) → (i : ℕ) → i < n → Calm (f i)
 unfolding gathered
@@ -173,9 +173,13 @@ made-is (pieces ps) h = refl
 
 -- ---- every cell that an accepted overlay cuts has pieces
 
-sane-cell : (x : Outcome) (ps : List Piece) → Sound x → Sane (ofCell x ps)
-sane-cell (refusal r) ps h = (h, tt)
-sane-cell (pieces qs) ps h = sane-lists ps
+sound-not : (x : Outcome) → Sound x → x ≡ refusal 0 → ⊥
+sound-not (refusal r) h e = h cc
+sound-not (pieces ps) h e = let z : _≡_ {A = ℕ} 1 0 = cc in never 0 z
+
+without-cell : (k : ℕ) (x : Outcome) (ps : List Piece) → (x ≡ refusal k → ⊥) → Without k (ofCell x ps)
+without-cell k (refusal r) ps h = (λ e. h (ap refusal e), tt)
+without-cell k (pieces qs) ps h = without-lists k ps
 
 made-cell : (x : Outcome) (ps : List Piece) → Calm (ofCell x ps) → Made x
 made-cell (refusal r) ps h = h
@@ -188,18 +192,23 @@ module _ (turning : Bool) (op : ℕ) (s c : Mesh) where
   abbrev cut : Side → ℕ → List Event
   cut w i = ofCell (outcomeWith turning sc w i) (keptWith turning sc w op i)
 
-  sane-over : (w : Side) (t : Bool) → Sane (cond t (gathered (length (netOf sc w .cells)) (cut w)) [])
-  sane-over w true = sane-gathered (length (netOf sc w .cells)) (cut w) (λ i. sane-cell (outcomeWith turning sc w i) (keptWith turning sc w op i) (sound turning sc w i))
-  sane-over w false = tt
+  without-over : (k : ℕ) (w : Side) (t : Bool) → (t ≡ true → (i : ℕ) → i < length (netOf sc w .cells) → Without k (cut w i)) → Without k (cond t (gathered (length (netOf sc w .cells)) (cut w)) [])
+  without-over k w true h = without-gathered k (length (netOf sc w .cells)) (cut w) (h refl)
+  without-over k w false h = tt
 
-  sane-course : Sane (courseWith turning op s c)
+  -- where no cell that is cut is refused with the number k, other than 9, no stop has it
+  pub without-course : (k : ℕ) → (9 ≡ k → ⊥) → ((w : Side) → cuts op w ≡ true → (i : ℕ) → i < length (netOf sc w .cells) → outcomeWith turning sc w i ≡ refusal k → ⊥)
+      → Without k (courseWith turning op s c)
   unfolding courseWith
-  sane-course =
-      sane-append (replicate (length (s .coords ++ c .coords) / 2) point ++ joined ofMeeting (sc .met) ++ cond (crowded sc) (stop 9 ∷ []) []) _
-      (sane-append (replicate (length (s .coords ++ c .coords) / 2) point ++ joined ofMeeting (sc .met)) _
-      (sane-append (replicate (length (s .coords ++ c .coords) / 2) point) _ (sane-places (length (s .coords ++ c .coords) / 2)) (sane-met (sc .met)))
-      (sane-nine (crowded sc)))
-      (sane-append (overCells op sc theSubject (cut theSubject)) _ (sane-over theSubject (cuts op theSubject)) (sane-over theCutter (cuts op theCutter)))
+  without-course k nine h =
+      without-append k (replicate (length (s .coords ++ c .coords) / 2) point ++ joined ofMeeting (sc .met) ++ cond (crowded sc) (stop 9 ∷ []) []) _
+      (without-append k (replicate (length (s .coords ++ c .coords) / 2) point ++ joined ofMeeting (sc .met)) _
+      (without-append k (replicate (length (s .coords ++ c .coords) / 2) point) _ (without-places k (length (s .coords ++ c .coords) / 2)) (without-met k (sc .met)))
+      (without-nine k (crowded sc) nine))
+      (without-append k (overCells op sc theSubject (cut theSubject)) _ (over theSubject) (over theCutter))
+    where
+      over : (w : Side) → Without k (overCells op sc w (cut w))
+      over w = without-over k w (cuts op w) (λ e i l. without-cell k (outcomeWith turning sc w i) (keptWith turning sc w op i) (h w e i l))
 
   made-over : (w : Side) (t : Bool) → t ≡ true → Calm (cond t (gathered (length (netOf sc w .cells)) (cut w)) []) → (i : ℕ) → i < length (netOf sc w .cells) → Calm (cut w i)
   made-over w true e h i k = calm-gathered (length (netOf sc w .cells)) (cut w) h i k
@@ -211,7 +220,8 @@ module _ (turning : Bool) (op : ℕ) (s c : Mesh) where
 
   pub calm-course : (m : ℕ) (l : Lists) → AcceptedWith turning op m s c l → Calm (courseWith turning op s c)
   unfolding stateWith
-  calm-course m l h = calm (courseWith turning op s c) m _ _ _ sane-course (accepted turning op m s c l h .state)
+  calm-course m l h =
+      calm (courseWith turning op s c) m _ _ _ (without-course 0 (never 8) (λ w e i k. sound-not (outcomeWith turning sc w i) (sound turning sc w i))) (accepted turning op m s c l h .state)
 
   pub all-made : (m : ℕ) (l : Lists) → AcceptedWith turning op m s c l → (w : Side) → cuts op w ≡ true → (i : ℕ) → i < length (netOf sc w .cells) → Made (outcomeWith turning sc w i)
   unfolding courseWith

@@ -5,6 +5,7 @@ use Prim.Native.Nat.{ℕ, _+_, _*_}
 use lib.Dec.{T, eqb}
 use lib.ListN.{replicate}
 use lib.Ieee.{binary64, ofBits}
+use Rattle.lists.specs.Search.{bit}
 use Rattle.lists.specs.Gather.{each, joined}
 use Rattle.lists.specs.Sort.{sorted}
 use Rattle.geometry.specs.Meet.{meeting}
@@ -15,10 +16,13 @@ use Rattle.cutting.specs.Cell.{Laid, Slot, standsBefore, cellTable}
 use Rattle.cutting.specs.Outcome.{Outcome, refusal, pieces, cutOutcome, flat, stops}
 use Rattle.entry.specs.Mesh.{Mesh}
 use Rattle.entry.specs.Refused.{meshOf}
+use Rattle.rules.specs.Mesh.{Side, theSubject, theCutter}
 use Rattle.rules.specs.Snap.{weld}
 use Rattle.rules.specs.SpatialIndex.{edgeBox, candidates}
+use Rattle.rules.specs.Meetings.{sceneOf}
 use Rattle.rules.specs.Nodes.{alongEdge}
 use Rattle.rules.specs.Overlay.{Lists, Result, result}
+use Rattle.rules.specs.Forward.{forwardEdge, forwardCell}
 use Rattle.rules.proofs.Tables.{Case, case, lent, onLists, floats, both, same, right}
 use Rattle.geometry.specs.declared.segment.Point.{Point}
 use Rattle.geometry.specs.declared.segment.Segment.{Segment}
@@ -36,6 +40,7 @@ data Row : Type 0 where
   nodes-along : List ℕ → Edge → List ℕ → List ℕ → Row  -- coordinates, a key, the nodes collected: the sorted nodes
   weld-of : Mesh → Mesh → List ℕ → Row  -- two meshes: the numbers of the cutter's nodes
   near-box : List ℕ → Edge → Edge → List ℕ → Row  -- coordinates, an edge, another: it as a candidate
+  forward-of : Mesh → Mesh → Side → Bool → Row  -- two meshes and one of them: whether its first cell's edges are all forward
 
 -- ---- numbers, meshes and lists of the rows
 
@@ -181,6 +186,11 @@ rows =
     ∷ overlay (case 0 1 square strip (fives 18 0 0 0 0 352) (refused 8 (noughts 18 0 0 0 0 352)))
     ∷ overlay (case 1 9 corner wedge (fives 14 7 1 1 1 500) (refused 12 (noughts 14 7 1 1 1 500)))
     ∷ overlay (case 1 9 corner wedge (fives 14 7 2 2 2 500) (refused 11 (noughts 14 7 2 2 2 500)))
+    -- of these the wedge isn't forward; both meshes of K1 are
+    ∷ forward-of corner wedge theSubject true
+    ∷ forward-of corner wedge theCutter false
+    ∷ forward-of square strip theSubject true
+    ∷ forward-of square strip theCutter true
     -- K1's meshes under Union, Intersection, Difference and SymmetricDifference
     ∷ overlay (case 1 9 square strip (fives 20 16 3 3 3 500) (result 0 3 2 0 (onLists cut-coords (3 ∷ 0 ∷ 8 ∷ 9 ∷ 9 ∷ 8 ∷ 1 ∷ 2 ∷ 7 ∷ 9 ∷ 2 ∷ 1 ∷ 8 ∷ 4 ∷ 5 ∷ 6 ∷ []) (4 ∷ 8 ∷ 16 ∷ []) (11 ∷ 11 ∷ 11 ∷ []) (7 ∷ 7 ∷ 0 ∷ []) (replicate 500 0))))
     ∷ overlay (case 2 9 square strip (fives 20 4 1 1 1 500) (result 0 1 2 0 (onLists cut-coords (9 ∷ 8 ∷ 1 ∷ 2 ∷ []) (4 ∷ []) (11 ∷ []) (7 ∷ []) (replicate 500 0))))
@@ -219,7 +229,7 @@ abbrev no-edges : List Laid
 no-edges = []
 
 holds : Row → Bool
-unfolding right code innerCode
+unfolding right code innerCode forwardEdge forwardCell
 holds (overlay c) = right (c ∷ [])
 holds (meeting-of s t m) = same (code (meeting s t)) m
 holds (order-of coords ns order) = same (map (λ s. s .dst) (sorted (standsBefore (floats coords)) (map slot-to ns))) order
@@ -230,6 +240,7 @@ holds (corners n r) = eqb (meshOf false (pgon n)) r
 holds (nodes-along coords k ns ms) = same (alongEdge (floats coords) k ns) ms
 holds (weld-of s c ns) = same (weld s c) ns
 holds (near-box coords e f js) = same (candidates (floats coords) (f ∷ []) (edgeBox (floats coords) e)) js
+holds (forward-of s c w t) = eqb (bit (forwardCell (sceneOf false s c) w 0)) (bit t)
 
 all-hold : List Row → Bool
 unfolding both holds

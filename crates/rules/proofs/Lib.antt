@@ -9,5 +9,7 @@ pub mod ReadBack
 pub mod Closing
 pub mod Demand3
 pub mod Kept
+pub mod Rounds
+pub mod NeverEleven
 pub mod Tables
 pub mod Cases

@@ -10,3 +10,4 @@ pub mod Operations
 pub mod Refusals
 pub mod Overlay
 pub mod Demand3
+pub mod Forward
