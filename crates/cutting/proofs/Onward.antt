@@ -16,7 +16,8 @@ use Rattle.lists.proofs.Search.{many-change, many-some, first-some}
 use Rattle.lists.proofs.Gather.{tally-append}
 use Rattle.cutting.specs.Edges.{Edge}
 use Rattle.cutting.specs.Cell.{Slot, edgeSlots, reverseMark, table}
-use Rattle.cutting.specs.Walk.{State, Phase, between, along, Next, more, closed, stuck, broken, orElse, openAt, run, step, go, rest, taken, popped, cross, arrive, onward, after, slot, starts, walkFrom, srcs, dsts, marksOf, walkWith}
+use Rattle.cutting.specs.Walk.{State, Phase, between, along, Next, more, closed, stuck, broken, orElse, openAt, after, slot, srcs, dsts, marksOf, walkFrom, walkWith}
+use Rattle.cutting.specs.Walk.{run, step, go, rest, taken, popped, cross, arrive, onward}
 use Rattle.cutting.specs.Areas.{leaving, entering}
 use Rattle.cutting.proofs.EdgeLaws.{both}
 use Rattle.cutting.proofs.Rounds.{after-open, after-at}
@@ -63,9 +64,12 @@ module _ (n : ℕ) (src dst : List ℕ) where
   unfoldable pub into : ℕ → List ℕ → ℕ
   into a marks = many (openAt dst marks a) n
 
-  mark-one : (ns : List ℕ) (a : ℕ) (marks : List ℕ) (i : ℕ) → i < n → n ≤ length marks → getD marks i 0 ≡ 0 → many (openAt ns marks a) n ≡ bit (eqb (getD ns i 0) a) + many (openAt ns (set marks i 1) a) n
+  mark-one : (ns : List ℕ) (a : ℕ) (marks : List ℕ) (i : ℕ) → i < n → n ≤ length marks → getD marks i 0 ≡ 0
+      → many (openAt ns marks a) n ≡ bit (eqb (getD ns i 0) a) + many (openAt ns (set marks i 1) a) n
   mark-one ns a marks i h l e =
-      let gone = many-change (openAt ns marks a) (openAt ns (set marks i 1) a) i n h (λ k ne. ap (λ (v : ℕ). eqb (getD ns k 0) a && eqb v 0) (sym (getD-set-other marks i k 1 0 ne))) (ap (λ (v : ℕ). eqb (getD ns i 0) a && eqb v 0) (getD-set-same marks i 1 0 (omega arith)) ∙ and-false (eqb (getD ns i 0) a)) in
+      let gone = many-change (openAt ns marks a) (openAt ns (set marks i 1) a) i n h
+      (λ k ne. ap (λ (v : ℕ). eqb (getD ns k 0) a && eqb v 0) (sym (getD-set-other marks i k 1 0 ne)))
+      (ap (λ (v : ℕ). eqb (getD ns i 0) a && eqb v 0) (getD-set-same marks i 1 0 (omega arith)) ∙ and-false (eqb (getD ns i 0) a)) in
       omega (arith, ap (λ (v : ℕ). bit (eqb (getD ns i 0) a && eqb v 0)) e, ap bit (and-true (eqb (getD ns i 0) a)))
 
   out-mark : (a : ℕ) (marks : List ℕ) (i : ℕ) → i < n → n ≤ length marks → getD marks i 0 ≡ 0 → out a marks ≡ bit (eqb (getD src i 0) a) + out a (set marks i 1)
@@ -91,7 +95,8 @@ module _ (n : ℕ) (src dst : List ℕ) where
   Free stuck = ⊥
   Free broken = Unit {0}
 
-  popped-free : (marks heap : List ℕ) (done : List (List ℕ)) (i : ℕ) → i < n → (t : Bool) → eqb (getD marks i 0) 0 ≡ t → Going marks between → Free (popped true n src dst marks heap done i t)
+  popped-free : (marks heap : List ℕ) (done : List (List ℕ)) (i : ℕ) → i < n → (t : Bool) → eqb (getD marks i 0) 0 ≡ t → Going marks between
+      → Free (popped true n src dst marks heap done i t)
   unfolding popped
   popped-free marks heap done i i< true e k = record { long = k .long; even = (i<, eqb-true (getD marks i 0) 0 e, λ a. omega (arith, k .even a)) }
   popped-free marks heap done i i< false e k = record { long = k .long; even = k .even }
@@ -111,7 +116,8 @@ module _ (n : ℕ) (src dst : List ℕ) where
     moved : (a : ℕ) → out a (set marks i 1) + bit (eqb start a) ≡ into a (set marks i 1) + bit (eqb (getD dst i 0) a)
     moved a = omega (arith, k .even .2 a, out-mark a marks i (k .even .0) (k .long) (k .even .1), into-mark a marks i (k .even .0) (k .long) (k .even .1))
 
-    onward-free : (j : ℕ) → (t : Bool) → ltb j n ≡ t → j < n → getD src j 0 ≡ getD dst i 0 → getD (set marks i 1) j 0 ≡ 0 → Free (onward true n src dst (set marks i 1) (r ∷ heap) done start (mid ++ getD dst i 0 ∷ []) j t)
+    onward-free : (j : ℕ) → (t : Bool) → ltb j n ≡ t → j < n → getD src j 0 ≡ getD dst i 0 → getD (set marks i 1) j 0 ≡ 0
+        → Free (onward true n src dst (set marks i 1) (r ∷ heap) done start (mid ++ getD dst i 0 ∷ []) j t)
     unfolding onward
     onward-free j true l j< at at′ = record {
       long = omega (arith, k .long, length-set marks i 1);
@@ -134,7 +140,9 @@ module _ (n : ℕ) (src dst : List ℕ) where
         let j< = after-some n src (set marks i 1) y r r< some in
         onward-free j (ltb j n) refl j< (after-at true n src (set marks i 1) y r e j<) (after-open true n src (set marks i 1) y r j<)
 
-  cross-free : (marks heap : List ℕ) (done : List (List ℕ)) (start : ℕ) (mid : List ℕ) (i : ℕ) → Going marks (along start mid i) → (t : Bool) → ltb (slot n src dst (getD dst i 0) (getD src i 0)) n ≡ t → Free (cross true n src dst (set marks i 1) heap done start mid (getD dst i 0) (slot n src dst (getD dst i 0) (getD src i 0)) t)
+  cross-free : (marks heap : List ℕ) (done : List (List ℕ)) (start : ℕ) (mid : List ℕ) (i : ℕ) → Going marks (along start mid i) → (t : Bool)
+      → ltb (slot n src dst (getD dst i 0) (getD src i 0)) n ≡ t
+      → Free (cross true n src dst (set marks i 1) heap done start mid (getD dst i 0) (slot n src dst (getD dst i 0) (getD src i 0)) t)
   unfolding cross
   cross-free marks heap done start mid i k true l =
       let r = slot n src dst (getD dst i 0) (getD src i 0) in
@@ -147,7 +155,8 @@ module _ (n : ℕ) (src dst : List ℕ) where
   go-free between marks heap done k = rest-free marks heap done k
   go-free (along start mid i) marks heap done k = cross-free marks heap done start mid i k (ltb (slot n src dst (getD dst i 0) (getD src i 0)) n) refl
 
-  on-next : (m : ℕ) → ((u : State) → Free (more u) → Free (run true n src dst m u)) → (t : Next) → Free t → Free (elim t [ more u ↦ run true n src dst m u | closed ps ↦ closed ps | stuck ↦ stuck | broken ↦ broken ])
+  on-next : (m : ℕ) → ((u : State) → Free (more u) → Free (run true n src dst m u)) → (t : Next) → Free t
+      → Free (elim t [ more u ↦ run true n src dst m u | closed ps ↦ closed ps | stuck ↦ stuck | broken ↦ broken ])
   on-next m again (more u) h = again u h
   on-next m again (closed ps) h = tt
   on-next m again stuck h = h

@@ -50,7 +50,8 @@ module _ (turning : Bool) (n : ℕ) (src marks : List ℕ) (a r : ℕ) where
       early true e l = hit (first test 0 r) (first-hit test 0 r (ltb-true (first test 0 r) r e))
       early false e l = back (turning && eqb (getD marks r 0) 0) refl l
 
-      late : (t : Bool) → ltb (first test (r + 1) n) n ≡ t → let j : ℕ = orElse t (first test (r + 1) n) (orElse (ltb (first test 0 r) r) (first test 0 r) (orElse (turning && eqb (getD marks r 0) 0) r n)) in j < n → P j
+      late : (t : Bool) → ltb (first test (r + 1) n) n ≡ t
+          → let j : ℕ = orElse t (first test (r + 1) n) (orElse (ltb (first test 0 r) r) (first test 0 r) (orElse (turning && eqb (getD marks r 0) 0) r n)) in j < n → P j
       late true e l = hit (first test (r + 1) n) (first-hit test (r + 1) n l)
       late false e l = early (ltb (first test 0 r) r) refl l
 

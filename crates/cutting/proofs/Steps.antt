@@ -105,7 +105,8 @@ module _ (turning : Bool) (n : ℕ) (src dst marks heap : List ℕ) (done : List
     step-lost e = at-slot ∙ ap (cross turning n src dst (set marks i 1) heap done start mid y r) e
 
     module _ (in-range : ltb r n ≡ true) where
-      over : step turning n src dst (record { marks = marks; heap = heap; done = done; phase = along start mid i }) ≡ arrive turning n src dst (set marks i 1) (r ∷ heap) done start mid y r (eqb y start)
+      over : step turning n src dst (record { marks = marks; heap = heap; done = done; phase = along start mid i })
+          ≡ arrive turning n src dst (set marks i 1) (r ∷ heap) done start mid y r (eqb y start)
       unfolding cross
       over = at-slot ∙ ap (cross turning n src dst (set marks i 1) heap done start mid y r) in-range
 
@@ -114,7 +115,8 @@ module _ (turning : Bool) (n : ℕ) (src dst marks heap : List ℕ) (done : List
       step-close e = over ∙ ap (arrive turning n src dst (set marks i 1) (r ∷ heap) done start mid y r) e
 
       module _ (apart : eqb y start ≡ false) (j : ℕ) (ej : j ≡ after turning n src (set marks i 1) y r) where
-        past : step turning n src dst (record { marks = marks; heap = heap; done = done; phase = along start mid i }) ≡ onward turning n src dst (set marks i 1) (r ∷ heap) done start (mid ++ y ∷ []) j (ltb j n)
+        past : step turning n src dst (record { marks = marks; heap = heap; done = done; phase = along start mid i })
+            ≡ onward turning n src dst (set marks i 1) (r ∷ heap) done start (mid ++ y ∷ []) j (ltb j n)
         unfolding arrive
         past = over ∙ ap (arrive turning n src dst (set marks i 1) (r ∷ heap) done start mid y r) apart ∙ ap (λ (k : ℕ). onward turning n src dst (set marks i 1) (r ∷ heap) done start (mid ++ y ∷ []) k (ltb k n)) (sym ej)
 

@@ -10,7 +10,8 @@ use borrow.Author.Tests.{ltb-true, lt-ltb}
 use Rattle.lists.specs.Search.{first}
 use Rattle.cutting.specs.Edges.{Edge, rings}
 use Rattle.cutting.specs.Cell.{Slot, doubled}
-use Rattle.cutting.specs.Walk.{State, Phase, between, along, Next, more, closed, stuck, broken, orElse, openAt, run, step, go, rest, taken, popped, cross, arrive, onward, after, slot, walkFrom, walkWith}
+use Rattle.cutting.specs.Walk.{State, Phase, between, along, Next, more, closed, stuck, broken, orElse, openAt, after, slot, walkFrom, walkWith}
+use Rattle.cutting.specs.Walk.{run, step, go, rest, taken, popped, cross, arrive, onward}
 use Rattle.cutting.specs.Outcome.{Outcome, refusal, pieces, ofWalk, closesUp, afterWalk, tooMany, cutOutcomeWith}
 
 -- the second is the first, unless the first has no way on
@@ -42,7 +43,8 @@ after-same n src marks a r l = late (ltb (first test (r + 1) n) n) l
 
 module _ (n : ℕ) (src dst : List ℕ) where
   module _ (marks heap : List ℕ) (done : List (List ℕ)) (start : ℕ) where
-    onward-agrees : (mid : List ℕ) (j k : ℕ) → (j < n → k ≡ j) → (t : Bool) → ltb j n ≡ t → Agrees (onward false n src dst marks heap done start mid j t) (onward true n src dst marks heap done start mid k (ltb k n))
+    onward-agrees : (mid : List ℕ) (j k : ℕ) → (j < n → k ≡ j) → (t : Bool) → ltb j n ≡ t
+        → Agrees (onward false n src dst marks heap done start mid j t) (onward true n src dst marks heap done start mid k (ltb k n))
     unfolding onward
     onward-agrees mid j k same true e =
         let at : k ≡ j = same (ltb-true j n e) in
@@ -56,7 +58,8 @@ module _ (n : ℕ) (src dst : List ℕ) where
         let j = after false n src marks y r in
         onward-agrees (mid ++ y ∷ []) j (after true n src marks y r) (after-same n src marks y r) (ltb j n) refl
 
-  cross-agrees : (marks heap : List ℕ) (done : List (List ℕ)) (start : ℕ) (mid : List ℕ) (y r : ℕ) (t : Bool) → Agrees (cross false n src dst marks heap done start mid y r t) (cross true n src dst marks heap done start mid y r t)
+  cross-agrees : (marks heap : List ℕ) (done : List (List ℕ)) (start : ℕ) (mid : List ℕ) (y r : ℕ) (t : Bool)
+      → Agrees (cross false n src dst marks heap done start mid y r t) (cross true n src dst marks heap done start mid y r t)
   unfolding cross
   cross-agrees marks heap done start mid y r true = arrive-agrees marks (r ∷ heap) done start mid y r (eqb y start)
   cross-agrees marks heap done start mid y r false = refl

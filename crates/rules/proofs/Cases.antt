@@ -23,7 +23,7 @@ use Rattle.rules.specs.Meetings.{sceneOf}
 use Rattle.rules.specs.Nodes.{alongEdge}
 use Rattle.rules.specs.Overlay.{Lists, Result, result}
 use Rattle.rules.specs.Forward.{forwardEdge, forwardCell}
-use Rattle.rules.proofs.Tables.{Case, case, lent, onLists, floats, both, same, right}
+use Rattle.rules.proofs.Tables.{Case, case, lent, onLists, floats, both, same, rightWith}
 use Rattle.geometry.specs.declared.segment.Point.{Point}
 use Rattle.geometry.specs.declared.segment.Segment.{Segment}
 
@@ -31,6 +31,7 @@ use Rattle.geometry.specs.declared.segment.Segment.{Segment}
 
 data Row : Type 0 where
   overlay : Case → Row  -- an overlay, lists and all
+  unturned : Case → Row  -- the overlay where no walk may turn back
   meeting-of : Segment → Segment → List ℕ → Row  -- two segments: the number and values of their meeting
   order-of : List ℕ → List ℕ → List ℕ → Row  -- coordinates, and slots at node 0 by their neighbours: the neighbours in order
   inner-of : List ℕ → List ℕ → List ℕ → Row  -- coordinates and a polygon: the number and values of its inner point
@@ -44,7 +45,7 @@ data Row : Type 0 where
 
 -- ---- numbers, meshes and lists of the rows
 
--- coordinates by their bits: 0, 1, 2, 3, 4, -1, 1/2, 1/4
+-- coordinates by their bits: 0, 1, 2, 3, 4, -1, 3/2, 1/2, 1/4
 abbrev o : ℕ
 o = 0
 
@@ -62,6 +63,9 @@ iv = 0x4010_0000_0000_0000
 
 abbrev -i : ℕ
 -i = 0xbff0_0000_0000_0000
+
+abbrev i-half : ℕ
+i-half = 0x3ff8_0000_0000_0000
 
 abbrev half : ℕ
 half = 0x3fe0_0000_0000_0000
@@ -84,6 +88,16 @@ strip = lent (i ∷ -i ∷ iii ∷ -i ∷ iii ∷ iii ∷ i ∷ iii ∷ []) (0 �
 
 abbrev line : Mesh
 line = lent (i ∷ -i ∷ i ∷ i ∷ []) (0 ∷ 1 ∷ []) (2 ∷ []) (1 ∷ []) (0 ∷ [])
+
+-- K10's line with a bend and another end, and with a fork there and two ends; a line inside the square that reaches no side
+abbrev bent : Mesh
+bent = lent (i ∷ -i ∷ i ∷ i ∷ half ∷ i ∷ []) (0 ∷ 1 ∷ 1 ∷ 2 ∷ []) (2 ∷ 4 ∷ []) (1 ∷ 1 ∷ []) (0 ∷ 0 ∷ [])
+
+abbrev forked : Mesh
+forked = lent (i ∷ -i ∷ i ∷ i ∷ half ∷ i ∷ i-half ∷ i ∷ []) (0 ∷ 1 ∷ 1 ∷ 2 ∷ 1 ∷ 3 ∷ []) (2 ∷ 4 ∷ 6 ∷ []) (1 ∷ 1 ∷ 1 ∷ []) (0 ∷ 0 ∷ 0 ∷ [])
+
+abbrev inner-line : Mesh
+inner-line = lent (half ∷ i ∷ i ∷ i ∷ []) (0 ∷ 1 ∷ []) (2 ∷ []) (1 ∷ []) (0 ∷ [])
 
 -- two squares side by side; a triangle away from the square; a line through the square, twice
 abbrev squares : Mesh
@@ -131,9 +145,12 @@ noughts c n e k f w = onLists (replicate c 0) (replicate n 0) (replicate e 0) (r
 abbrev refused : ℕ → Lists → Result
 refused r l = result r 0 0 0 l
 
--- the coordinates of K1's answer
+-- the square's coordinates, and those of K1's answer
+abbrev square-coords : List ℕ
+square-coords = o ∷ o ∷ ii ∷ o ∷ ii ∷ ii ∷ o ∷ ii ∷ []
+
 abbrev cut-coords : List ℕ
-cut-coords = o ∷ o ∷ ii ∷ o ∷ ii ∷ ii ∷ o ∷ ii ∷ i ∷ -i ∷ iii ∷ -i ∷ iii ∷ iii ∷ i ∷ iii ∷ i ∷ o ∷ i ∷ ii ∷ []
+cut-coords = square-coords ++ i ∷ -i ∷ iii ∷ -i ∷ iii ∷ iii ∷ i ∷ iii ∷ i ∷ o ∷ i ∷ ii ∷ []
 
 rows : List Row
 rows =
@@ -151,8 +168,17 @@ rows =
     ∷ order-of (o ∷ o ∷ -i ∷ o ∷ o ∷ i ∷ i ∷ o ∷ o ∷ -i ∷ []) (4 ∷ 3 ∷ 2 ∷ 1 ∷ []) (1 ∷ 2 ∷ 3 ∷ 4 ∷ [])
     -- K9
     ∷ inner-of (o ∷ ii ∷ o ∷ o ∷ i ∷ o ∷ i ∷ ii ∷ []) (0 ∷ 1 ∷ 2 ∷ 3 ∷ []) (1 ∷ half ∷ i ∷ [])
-    -- K10: the walk turns back at the line's end
-    ∷ overlay (case 5 9 square line (fives 15 8 2 2 2 500) (result 0 1 1 0 (onLists (o ∷ o ∷ ii ∷ o ∷ ii ∷ ii ∷ o ∷ ii ∷ i ∷ -i ∷ i ∷ i ∷ i ∷ o ∷ ii ∷ []) (3 ∷ 0 ∷ 6 ∷ 5 ∷ 6 ∷ 1 ∷ 2 ∷ 5 ∷ []) (7 ∷ 5 ∷ []) (11 ∷ 5 ∷ []) (7 ∷ 5 ∷ []) (replicate 500 0))))
+    -- K10: the walk turns back at the line's end; where it may not, refusal 11
+    ∷ overlay (case 5 9 square line (fives 15 8 2 2 2 500) (result 0 1 1 0 (onLists
+    (square-coords ++ i ∷ -i ∷ i ∷ i ∷ i ∷ o ∷ ii ∷ []) (3 ∷ 0 ∷ 6 ∷ 5 ∷ 6 ∷ 1 ∷ 2 ∷ 5 ∷ []) (7 ∷ 5 ∷ []) (11 ∷ 5 ∷ []) (7 ∷ 5 ∷ []) (replicate 500 0))))
+    ∷ unturned (case 5 9 square line (fives 15 8 2 2 2 500) (refused 11 (noughts 15 8 2 2 2 500)))
+    -- a ditch with a bend and an end; one with a fork, where the walk turns back twice; one that reaches no side is never walked
+    ∷ overlay (case 5 9 square bent (fives 16 9 1 1 1 500) (result 0 1 1 0 (onLists
+    (square-coords ++ i ∷ -i ∷ i ∷ i ∷ half ∷ i ∷ i ∷ o ∷ []) (3 ∷ 0 ∷ 7 ∷ 5 ∷ 6 ∷ 5 ∷ 7 ∷ 1 ∷ 2 ∷ []) (9 ∷ []) (11 ∷ []) (7 ∷ []) (replicate 500 0))))
+    ∷ overlay (case 5 9 square forked (fives 18 11 1 1 1 500) (result 0 1 1 0 (onLists
+    (square-coords ++ i ∷ -i ∷ i ∷ i ∷ half ∷ i ∷ i-half ∷ i ∷ i ∷ o ∷ []) (3 ∷ 0 ∷ 8 ∷ 5 ∷ 6 ∷ 5 ∷ 7 ∷ 5 ∷ 8 ∷ 1 ∷ 2 ∷ []) (11 ∷ []) (11 ∷ []) (7 ∷ []) (replicate 500 0))))
+    ∷ overlay (case 5 9 square inner-line (fives 12 4 1 1 1 500) (result 0 1 0 0 (onLists
+    (square-coords ++ half ∷ i ∷ i ∷ i ∷ []) (3 ∷ 0 ∷ 1 ∷ 2 ∷ []) (4 ∷ []) (11 ∷ []) (7 ∷ []) (replicate 500 0))))
     -- 256 nodes on an edge pass, so that the next thing is that the first triangle has no place; 257 give 9
     ∷ overlay (case 5 130 triangles (lines 4) (fives 28 0 0 0 0 3872) (refused 12 (noughts 28 0 0 0 0 3872)))
     ∷ overlay (case 5 131 triangles (lines 5) (fives 30 0 0 0 0 3920) (refused 9 (noughts 30 0 0 0 0 3920)))
@@ -186,6 +212,7 @@ rows =
     ∷ overlay (case 0 1 square strip (fives 18 0 0 0 0 352) (refused 8 (noughts 18 0 0 0 0 352)))
     ∷ overlay (case 1 9 corner wedge (fives 14 7 1 1 1 500) (refused 12 (noughts 14 7 1 1 1 500)))
     ∷ overlay (case 1 9 corner wedge (fives 14 7 2 2 2 500) (refused 11 (noughts 14 7 2 2 2 500)))
+    ∷ overlay (case 4 9 corner wedge (fives 14 7 2 2 2 500) (refused 11 (noughts 14 7 2 2 2 500)))
     -- of these the wedge isn't forward; both meshes of K1 are
     ∷ forward-of corner wedge theSubject true
     ∷ forward-of corner wedge theCutter false
@@ -229,8 +256,9 @@ abbrev no-edges : List Laid
 no-edges = []
 
 holds : Row → Bool
-unfolding right code innerCode forwardEdge forwardCell
-holds (overlay c) = right (c ∷ [])
+unfolding rightWith code innerCode forwardEdge forwardCell
+holds (overlay c) = rightWith true (c ∷ [])
+holds (unturned c) = rightWith false (c ∷ [])
 holds (meeting-of s t m) = same (code (meeting s t)) m
 holds (order-of coords ns order) = same (map (λ s. s .dst) (sorted (standsBefore (floats coords)) (map slot-to ns))) order
 holds (inner-of coords ps p) = same (innerCode (strictInteriorPoint (floats coords) ps)) p

@@ -32,6 +32,11 @@ module _ (turning : Bool) (op m : ℕ) (s c : Mesh) (l : Lists) where
   unfolding overlayWith
   succeeds e f = ap (λ (x : Bool). end x (eqb state 0)) (eq-eqb entry 0 e) ∙ ap (λ (y : Bool). end true y) (eq-eqb state 0 f)
 
+  -- so what is answered has the code 0
+  pub no-refusal : answeredWith turning op s c l .code ≡ 0
+  unfolding answeredWith
+  no-refusal = refl
+
   pub data Ending : Type 0 where
     input : (entryOf op m s c (length (l .work)) ≡ 0 → ⊥) → Ending
     state-met : entryOf op m s c (length (l .work)) ≡ 0 → (stateWith turning op m s c l ≡ 0 → ⊥) → Ending

@@ -27,10 +27,13 @@ cell-kept : (sc : Scene) (w : Side) (i : ℕ) → Made (outcomeWith false sc w i
 unfolding outcomeWith
 cell-kept sc w i made = go (nearOf sc w i) made
   where
-    go : (js : List ℕ) → Made (outcomeBy false (outlineOf sc w i) (tableOf sc w i) (cellOf sc w i) js) → outcomeBy true (outlineOf sc w i) (tableOf sc w i) (cellOf sc w i) js ≡ outcomeBy false (outlineOf sc w i) (tableOf sc w i) (cellOf sc w i) js
+    by : Bool → List ℕ → Outcome
+    by turning js = outcomeBy turning (outlineOf sc w i) (tableOf sc w i) (cellOf sc w i) js
+
+    go : (js : List ℕ) → Made (by false js) → by true js ≡ by false js
     go [] h = refl
     go (j ∷ js) h =
-        let x : Outcome = outcomeBy false (outlineOf sc w i) (tableOf sc w i) (cellOf sc w i) (j ∷ js) in
+        let x : Outcome = by false (j ∷ js) in
         outcome-kept (outlineOf sc w i) (tableOf sc w i) (outcomePieces x) (made-is x h) ∙ sym (made-is x h)
 
 -- a cell's kept pieces go by its outcome
@@ -38,8 +41,11 @@ pieces-kept : (sc : Scene) (w : Side) (op i : ℕ) → outcomeWith true sc w i �
 unfolding keptWith pieceWith
 pieces-kept sc w op i e = ap by e
   where
+    at : Outcome → ℕ → Piece
+    at x j = record { mesh = w; cell = i; place = j; kind = kindOf sc w i; family = getD (netOf sc w .families) i 0; nodes = getD (outcomePieces x) j [] }
+
     by : Outcome → List Piece
-    by x = passing (λ p. keeps op w (inside sc w p)) (each (length (outcomePieces x)) (λ j. record { mesh = w; cell = i; place = j; kind = kindOf sc w i; family = getD (netOf sc w .families) i 0; nodes = getD (outcomePieces x) j [] }))
+    by x = passing (λ p. keeps op w (inside sc w p)) (each (length (outcomePieces x)) (at x))
 
 -- ---- all cells
 
@@ -64,7 +70,8 @@ module _ (op m : ℕ) (s c : Mesh) (l : Lists) (accepted : AcceptedWith false op
       (over theSubject (keptWith true sc theSubject op) (keptWith false sc theSubject op) (λ e i k. pieces-kept sc theSubject op i (outcomes theSubject e i k)))
       (over theCutter (keptWith true sc theCutter op) (keptWith false sc theCutter op) (λ e i k. pieces-kept sc theCutter op i (outcomes theCutter e i k)))
 
-  cut-kept : (w : Side) → cuts op w ≡ true → (i : ℕ) → i < length (netOf sc w .cells) → ofCell (outcomeWith true sc w i) (keptWith true sc w op i) ≡ ofCell (outcomeWith false sc w i) (keptWith false sc w op i)
+  cut-kept : (w : Side) → cuts op w ≡ true → (i : ℕ) → i < length (netOf sc w .cells)
+      → ofCell (outcomeWith true sc w i) (keptWith true sc w op i) ≡ ofCell (outcomeWith false sc w i) (keptWith false sc w op i)
   cut-kept w e i k = let x = outcomes w e i k in ap₂ (λ (o : Outcome) (ps : List Piece). ofCell o ps) x (pieces-kept sc w op i x)
 
   courses : courseWith true op s c ≡ courseWith false op s c
@@ -86,4 +93,6 @@ module _ (op m : ℕ) (s c : Mesh) (l : Lists) (accepted : AcceptedWith false op
   -- the same code, counts and lists.
   pub answers-kept : overlayOf op m s c l ≡ overlayWith false op m s c l
   unfolding overlayWith
-  answers-kept = ap₂ (λ (x : ℕ) (r : Result). cond (eqb (entryOf op m s c (length (l .work))) 0) (cond (eqb x 0) r (result x 0 0 0 (cleared l))) (result (entryOf op m s c (length (l .work))) 0 0 0 l)) states answers
+  answers-kept =
+      let entry = entryOf op m s c (length (l .work)) in
+      ap₂ (λ (x : ℕ) (r : Result). cond (eqb entry 0) (cond (eqb x 0) r (result x 0 0 0 (cleared l))) (result entry 0 0 0 l)) states answers

@@ -25,7 +25,7 @@ use Rattle.rules.specs.Overlay.{Lists, Result, cleared, written, answere
 use Rattle.rules.specs.Demand3.{Accepted}
 use Rattle.lists.proofs.Regions.{length-front}
 use Rattle.entry.proofs.Passed.{passed}
-use Rattle.rules.proofs.Endings.{Ending, input, state-met, success, ending, input-refused, state-refused, succeeds}
+use Rattle.rules.proofs.Endings.{Ending, input, state-met, success, ending, input-refused, state-refused, succeeds, no-refusal}
 use Rattle.rules.proofs.Accepts.{accepted, Calm, calm-left, calm-right, calm-gathered, calm-course}
 use Rattle.rules.specs.Refusals as Refusals
 use Rattle.geometry.specs.declared.segment.Meeting.{Meeting}
@@ -311,10 +311,6 @@ answered-lengths op s c l f =
       work = length-replicate _ _;
     }
 
-no-refusal : (op : ℕ) (s c : Mesh) (l : Lists) → answered op s c l .code ≡ 0
-unfolding answeredWith
-no-refusal op s c l = refl
-
 same-lengths : (l : Lists) → SameLengths l l
 same-lengths l = record { coords = refl; nodes = refl; ends = refl; kinds = refl; families = refl; work = refl }
 
@@ -327,4 +323,4 @@ lengths-kept op m s c l = go (ending true op m s c l)
     go (state-met e n) = rw (state-refused true op m s c l e n) (cleared-lengths l)
     go (success e f) =
         let same = succeeds true op m s c l e f in
-        rw same (answered-lengths op s c l (accepted-fits op m s c l (ap (λ (r : Result). r .code) same ∙ no-refusal op s c l)))
+        rw same (answered-lengths op s c l (accepted-fits op m s c l (ap (λ (r : Result). r .code) same ∙ no-refusal true op m s c l)))

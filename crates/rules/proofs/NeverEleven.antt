@@ -20,9 +20,9 @@ use Rattle.rules.specs.Meetings.{Scene, netOf}
 use Rattle.rules.specs.Cell.{dartsOf, nearEdges, cellOf, nearOf, outlineBy, tableBy, outcomeBy, outlineOf, tableOf, outcomeWith, outcomeOf}
 use Rattle.rules.specs.Operations.{cuts, sceneFor}
 use Rattle.rules.specs.Refusals.{Event, meeting, point, piece, stop, course, firstRefusal}
-use Rattle.rules.specs.Overlay.{Lists, Result, answeredWith, stateWith, overlayOf}
+use Rattle.rules.specs.Overlay.{Lists, Result, stateWith, overlayOf}
 use Rattle.rules.specs.Forward.{forwardCell, Forward}
-use Rattle.rules.proofs.Endings.{Ending, input, state-met, success, ending, input-refused, state-refused, succeeds}
+use Rattle.rules.proofs.Endings.{Ending, input, state-met, success, ending, input-refused, state-refused, succeeds, no-refusal}
 use Rattle.rules.proofs.Accepts.{Without, without-course}
 use Rattle.rules.proofs.Closing.{cells-lent}
 use Rattle.rules.proofs.Rounds.{forward-round}
@@ -90,10 +90,6 @@ entry-low op m s c w =
     go true true true true true true false = omega arith
     go true true true true true true true = omega arith
 
-no-code : (op : ℕ) (s c : Mesh) (l : Lists) → answeredWith true op s c l .code ≡ 0
-unfolding answeredWith
-no-code op s c l = refl
-
 -- For every operation, meeting limit, meshes and lists: if in every cell of a mesh that the operation cuts all edges are forward, then the overlay isn't
 -- refused with 11.
 pub never-eleven : (op m : ℕ) (s c : Mesh) (l : Lists) → Forward op s c → overlayOf op m s c l .code ≡ 11 → ⊥
@@ -109,4 +105,4 @@ never-eleven op m s c l h e = go (ending true op m s c l)
     go : Ending true op m s c l → ⊥
     go (input n) = omega (arith, code _ (input-refused true op m s c l n), entry-low op m s c (length (l .work)))
     go (state-met f n) = first-without (course op s c) m _ _ _ calm (code _ (state-refused true op m s c l f n))
-    go (success f g) = omega (arith, code _ (succeeds true op m s c l f g), no-code op s c l)
+    go (success f g) = omega (arith, code _ (succeeds true op m s c l f g), no-refusal true op m s c l)

@@ -36,8 +36,8 @@ abbrev pub tableBy : Scene → List Edge → List ℕ → List ℕ → List Slot
 tableBy sc es cell [] = copiedTable cell
 tableBy sc es cell (j ∷ js) = cellTable (sc .coords) (dartsOf sc cell) (nearEdges sc es (j ∷ js))
 
--- "A cell's pieces before any are dropped are all that its walk closes, in that order, or the cell itself where it is copied"; or 10 or 11
--- by whether the walk may turn back
+-- "A cell's pieces before any are dropped are all that its walk closes, in that order, or the cell itself where it is copied"; or 10 or 11; by
+-- whether the walk may turn back
 abbrev pub outcomeBy : Bool → List Edge → List Slot → List ℕ → List ℕ → Outcome
 outcomeBy turning outline t cell [] = copiedOutcome cell
 outcomeBy turning outline t cell (j ∷ js) = cutOutcomeWith turning outline t
