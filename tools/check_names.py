@@ -1,6 +1,6 @@
 #!/usr/bin/env python3
-"""Checks docs/RULES-ANSWERED.md: what stands on the left of its tables is document 01's text, in its order and without a gap, and every name on the
-right stands in the file or folder given behind it.
+"""Checks docs/RULES-ANSWERED.md: what stands on the left of its tables is the text of documents 01 and 02, in its order and without a gap, and every
+name on the right stands in the file or folder given behind it.
 
 usage: python3 tools/check_names.py [ROOT]      (ROOT: the repository, default the folder above this file's)
 """
@@ -10,7 +10,7 @@ import sys
 
 root = pathlib.Path(sys.argv[1]) if len(sys.argv) > 1 else pathlib.Path(__file__).resolve().parent.parent
 page = (root / "docs/RULES-ANSWERED.md").read_text()
-rules = " ".join((root / "docs/01-scope.md").read_text().split())
+documents = {"Document 01": "docs/01-scope.md", "Document 02": "docs/02-change-requests.md"}
 faults = []
 
 
@@ -29,38 +29,47 @@ def declared(name, path):
     return name in text
 
 
-# ---- the left: document 01, sentence by sentence
-
-covered = [False] * len(rules)
-at = 0
+# ---- the left: the documents, sentence by sentence
 
 
-def quoted(text):
-    global at
-    for part in text.split(" … "):
-        part = " ".join(part.replace("\\|", "|").split())
-        found = rules.find(part, at)
-        if found < 0:
-            faults.append(f"not in document 01 {'(or out of order) ' if part in rules else ''}: {part}")
-            continue
-        covered[found:found + len(part)] = [True] * len(part)
-        at = found + len(part)
+class Document:
+    def __init__(self, name, path):
+        self.name = name
+        self.text = " ".join(re.sub(r"^#.*", "", (root / path).read_text(), flags=re.M).split())
+        self.covered = [False] * len(self.text)
+        self.at = 0
+
+    def quoted(self, text):
+        for part in text.split(" … "):
+            part = " ".join(part.replace("\\|", "|").split())
+            found = self.text.find(part, self.at)
+            if found < 0:
+                faults.append(f"not in {self.name} {'(or out of order) ' if part in self.text else ''}: {part}")
+                continue
+            self.covered[found:found + len(part)] = [True] * len(part)
+            self.at = found + len(part)
+
+    def unanswered(self):
+        gap = "".join(" " if c else r for r, c in zip(self.text, self.covered))
+        return [t.strip() for t in re.split(r" {2,}", gap) if re.search(r"[A-Za-z]{4}", t)]
 
 
+texts = {name: Document(name, path) for name, path in documents.items()}
+document = texts["Document 01"]
 rights = []
 for line in page.splitlines():
+    if line.startswith("# Document"):
+        document = texts[line[2:13]]
     if line.startswith("Asks for nothing: "):
         for text in re.findall("“([^”]*)”", line):
-            quoted(text)
+            document.quoted(text)
     cells = [c.strip() for c in re.split(r"(?<!\\)\|", line)][1:-1] if line.startswith("|") else []
-    if len(cells) == 2 and cells[0] != "Document 01" and not set(cells[0]) <= set("-:"):
-        quoted(cells[0])
+    if len(cells) == 2 and cells[0] not in documents and not set(cells[0]) <= set("-:"):
+        document.quoted(cells[0])
         rights.append(cells[1])
 
-gap = "".join(" " if c else r for r, c in zip(rules, covered))
-for text in re.split(r" {2,}", gap):
-    if re.search(r"[A-Za-z]{4}", text) and not text.strip().startswith("#"):
-        faults.append(f"not answered: {text.strip()}")
+for document in texts.values():
+    faults += [f"not answered: {text}" for text in document.unanswered()]
 
 # ---- the right: names and places
 

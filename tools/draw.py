@@ -2,7 +2,8 @@
 """draw.py [FILE...] > picture.svg: draws the program's inputs and answers side by side; `-` or no file is standard input.
 
 Cells are coloured by family and pieces outlined, y upwards. Of an input the subject's cells are filled and the cutter's outlines
-dashed; of an answer the new points are dots. A text that is neither gives a message and exit status 1.
+dashed; of an answer the new points are dots, and edges that a piece walks both ways, as a ditch that ends inside a cell, are heavy. A
+text that is neither gives a message and exit status 1.
 """
 import math
 import re
@@ -100,6 +101,15 @@ def used(panel):
     return [m.nodes[c] for m in (filled, dashed) for _, corners in m.cells for c in corners] + points
 
 
+def ring(corners):
+    return list(zip(corners, corners[1:] + corners[:1]))
+
+
+def ditches(panel):
+    """The edges that one piece walks both ways."""
+    return sorted({(a, b) for _, corners in panel[1].cells for a, b in ring(corners) if a < b and (b, a) in ring(corners)})
+
+
 class Frame:
     """All panels have one scale."""
 
@@ -115,6 +125,9 @@ class Frame:
     def place(self, p):
         return f'{(p[0] - self.left) * self.scale:.2f},{(self.top - p[1]) * self.scale:.2f}'
 
+    def line(self, mesh, edge):
+        return f'M{self.place(mesh.nodes[edge[0]])}L{self.place(mesh.nodes[edge[1]])}'
+
 
 def drawn(panel, frame, colour):
     title, filled, dashed, points = panel
@@ -122,15 +135,16 @@ def drawn(panel, frame, colour):
     for family, corners in filled.cells:
         path = ' '.join(frame.place(filled.nodes[c]) for c in corners)
         yield f'<polygon points="{path}" fill="{colour[family]}" stroke="{LINE}" stroke-width="1"/>'
-    for a, b in sorted({tuple(sorted(e)) for _, corners in dashed.cells for e in zip(corners, corners[1:] + corners[:1])}):
-        path = f'M{frame.place(dashed.nodes[a])}L{frame.place(dashed.nodes[b])}'
-        yield f'<path d="{path}" stroke="{DASH}" stroke-width="1.3" stroke-dasharray="5 3"/>'
+    for edge in ditches(panel):
+        yield f'<path d="{frame.line(filled, edge)}" stroke="{DASH}" stroke-width="2.6"/>'
+    for edge in sorted({tuple(sorted(e)) for _, corners in dashed.cells for e in ring(corners)}):
+        yield f'<path d="{frame.line(dashed, edge)}" stroke="{DASH}" stroke-width="1.3" stroke-dasharray="5 3"/>'
     for p in points:
         x, y = frame.place(p).split(',')
         yield f'<circle cx="{x}" cy="{y}" r="2.6" fill="{DOT}"/>'
 
 
-def legend(families, colour, dashed, dots):
+def legend(families, colour, dashed, dots, twice):
     x = 0
     if len(families) > 6:
         yield f'<text x="0" y="11">{len(families)} families</text>'
@@ -144,6 +158,9 @@ def legend(families, colour, dashed, dots):
         x += 90
     if dots:
         yield f'<circle cx="{x + 4}" cy="7" r="2.6" fill="{DOT}"/><text x="{x + 13}" y="11">new point</text>'
+        x += 100
+    if twice:
+        yield f'<path d="M{x} 7h26" stroke="{DASH}" stroke-width="2.6"/><text x="{x + 32}" y="11">walked both ways</text>'
 
 
 def picture(panels):
@@ -160,7 +177,7 @@ def picture(panels):
         yield from drawn(panel, frame, colour)
         yield '</g>'
     yield f'<g transform="translate({GAP} {HEAD + frame.height + 22:.0f})">'
-    yield from legend(families, colour, any(p[2].cells for p in panels), any(p[3] for p in panels))
+    yield from legend(families, colour, any(p[2].cells for p in panels), any(p[3] for p in panels), any(map(ditches, panels)))
     yield '</g>'
     yield '</svg>'
 

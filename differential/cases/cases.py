@@ -2,12 +2,12 @@
 """cases.py OUT [LAW]: writes the inputs that crates/overlay_cases replays, and their right answers. No network.
 
 OUT/data/NAME.in are the inputs, OUT/args their names in order, OUT/stdout each name and its answer. No answer comes from the
-program under test. Those of overlays are what LAW lists (`oracle-law`, as differential/oracle-counts.sh builds it, by default into
-target/oracle-counts), with the cells that it tells to be doubled, which must be as many as stand here; where its walk finds no next
-dart the answer is refusal 11. Other refusals, and text that can't be read, stand here, from document 01. The stored inputs and right
-answers are taken over from crates/overlay_cases, where LAW must list each accepted one alike and stop at each refusal 11. The smallest
-are the oracle's cases/: islands, unmerged neighbours, and the smallest inputs on which the Rust and document 01's orders differ.
-Prints a table of what is made: name, answer, where it comes from.
+program under test. Those of overlays are what LAW lists (`oracle-law`, as differential/oracle-02.sh builds it, by default into
+target/oracle-02: the published Rust that turns back as W1 says), with the cells that it tells to be doubled, which must be as many as
+stand here; where its walk finds no next dart even so the answer is refusal 11. Other refusals, and text that can't be read, stand here,
+from document 01. The stored inputs and right answers are taken over from crates/overlay_cases, where LAW must list each accepted one
+alike and stop at each refusal 11. The smallest are the oracle's cases/: islands, unmerged neighbours, and the smallest inputs on which
+the Rust and document 01's orders differ. Prints a table of what is made: name, answer, where it comes from.
 """
 import math
 import os
@@ -56,6 +56,12 @@ class Listed:
 
     def __init__(self, doubled=0):
         self.doubled = doubled
+
+
+def ditch(*paths):
+    """Lines from each point of a path to the next; a point that comes again is the same node."""
+    points = list(dict.fromkeys(p for path in paths for p in path))
+    return points, [(1, 0, (points.index(a), points.index(b))) for path in paths for a, b in zip(path, path[1:])]
 
 
 def fan(corners, lines, op=5, m=None):
@@ -134,8 +140,19 @@ def made():
     """(name, text, answer, where the answer comes from)"""
     oracle, doc = 'the published Rust', 'document 01'
     yield 'k1', K1, Listed(), doc + ' and ' + oracle
-    line = [(1., -1.), (1., 1.)], [(1, 0, (0, 1))]
-    yield 'k10', overlay(5, 9, SQUARE, line), refused(11), doc
+    turning = 'W1, and the published Rust that turns back'
+    start, low, end, left, right = (1., -1.), (1., .5), (1., 1.), (.5, 1.), (1.5, 1.)
+    yield 'k10', overlay(5, 9, SQUARE, ditch([start, end])), Listed(), turning
+    yield 'ditch-bent', overlay(5, 9, SQUARE, ditch([start, end, left])), Listed(), turning
+    yield 'ditch-forked', overlay(5, 9, SQUARE, ditch([start, end, left], [end, right])), Listed(), turning
+    yield 'ditch-two-ends', overlay(5, 9, SQUARE, ditch([left, end, start, (1.5, -1.), (1.5, .5)])), Listed(), turning
+    yield 'ditch-ring', overlay(5, 9, SQUARE, ditch([start, low, right, left, low])), Listed(), oracle
+    yield 'ditch-inside', overlay(5, 9, SQUARE, ditch([left, end])), Listed(), oracle
+    # a node 2^-27 before the cutter's first, collected on its third edge: the cutter's outline as cut doesn't lead round
+    corner = [(-2. ** -27, 0.), (1., 0.), (0., 1.)], [(5, 7, (0, 1, 2))]
+    wedge = [(0., 0.), (2., 0.), (2., 2.)], [(5, 3, (0, 1, 2))]
+    for op in 0, 1, 4:
+        yield f'not-round-op{op}', overlay(op, 9, corner, wedge), Listed(), oracle if op == 0 else turning
     for op in 1, 2, 3, 4:
         yield f'k1-op{op}', overlay(op, 9, SQUARE, STRIP), Listed(), oracle
     # ---- limits of document 01
@@ -234,7 +251,7 @@ def made():
 
 
 def told(law, name, text):
-    """What the oracle lists, with the count of doubled cells, or refusal 11; and that count."""
+    """What the oracle that turns back lists, with the count of doubled cells, or refusal 11; and that count."""
     run = subprocess.run([law, 'count'], input=text, capture_output=True, text=True, check=True)
     got, doubled = run.stdout, run.stderr.count(' doubled\n')
     lines = got.splitlines(keepends=True)
@@ -307,8 +324,8 @@ def main():
     if len(sys.argv) > 2:
         law = sys.argv[2]
     else:
-        built = f'{ROOT}/target/oracle-counts'
-        subprocess.run(['sh', f'{ROOT}/differential/oracle-counts.sh', built], check=True)
+        built = f'{ROOT}/target/oracle-02'
+        subprocess.run(['sh', f'{ROOT}/differential/oracle-02.sh', built], check=True)
         law = f'{built}/release/oracle-law'
     os.makedirs(f'{out}/data', exist_ok=True)
     with open(f'{out}/args', 'w') as args, open(f'{out}/stdout', 'wb') as stdout:

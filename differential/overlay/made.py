@@ -52,7 +52,7 @@ class Made:
         self.families = [
             (self.grids, 12), (self.turned_grids, 10), (self.lattice, 14), (self.near_nodes, 14), (self.t_junctions, 8), (self.colinear, 8),
             (self.concave, 7), (self.touching, 6), (self.twice, 6), (self.collapsing, 5), (self.islands, 4), (self.unmerged, 8),
-            (self.lines, 16), (self.repeated_lines, 6), (self.fans, 5), (self.mixed, 5), (self.empty, 1),
+            (self.lines, 16), (self.ditches, 8), (self.repeated_lines, 6), (self.fans, 5), (self.mixed, 5), (self.empty, 1),
             (self.large, 1), (self.crowded, 1)]
 
     # ---- parts
@@ -348,6 +348,28 @@ class Made:
             c.cell(LINE, [a, b])
         return 5, s, c
 
+    def ditches(self):
+        """Paths of lines that come in over a side and end inside a cell, with bends, forks and rings; some lie wholly inside."""
+        s = self.grid(self.r.randint(1, 3), self.r.randint(1, 3), self.r.choice([1.0, 2.0])) if self.r.random() < 0.7 else self.concave()[1]
+        steps = self.r.choice([0.25, 0.3, 0.5])
+        c = Mesh()
+        for _ in range(self.r.randint(1, 3)):
+            start = (self.r.uniform(0, 2), -1.0) if self.r.random() < 0.8 else (self.r.uniform(0.1, 0.9), self.r.uniform(0.1, 0.9))
+            ids = [c.node(*start)]
+            for k in range(self.r.randint(1, 6)):
+                # on from the last node, or a fork at an earlier one
+                a = ids[-1] if self.r.random() < 0.7 else self.r.choice(ids)
+                x, y = c.nodes[a]
+                if k > 1 and self.r.random() < 0.15:
+                    b = self.r.choice(ids)
+                else:
+                    d = 1.25 if a == ids[0] and start[1] < 0 else steps
+                    b = c.node(x + d * self.r.choice([-0.5, 0.0, 0.0, 0.5, 1.0]), y + d * self.r.choice([1.0, 1.0, 0.5, -0.5, 0.0]))
+                    ids.append(b)
+                if a != b:
+                    c.cell(LINE, [a, b] if self.r.random() < 0.7 else [b, a])
+        return 5, s, c
+
     def repeated_lines(self):
         """The same line more than once, either way round, by the same or by new nodes."""
         s = self.grid(self.r.randint(1, 3), self.r.randint(1, 2))
@@ -457,7 +479,7 @@ class Made:
     def finished(self, m):
         if self.r.random() < 0.5:
             self.renumbered(m)
-        # a clockwise cell that is cut stops the walk more often than not
+        # in a clockwise cell that is cut the Rust's walk stops more often than not
         backwards = self.r.random() < 0.08
         cells = []
         for k, f, c in m.cells:

@@ -1,12 +1,13 @@
 #!/usr/bin/env python3
 """The whole overlay against the published Rust, bit for bit. No network.
 
-    python3 differential/overlay/run.py [--overlays N] [--seed S] [--replay DIR]... [--show K] [--built DIR] [--counts DIR] [--driver FILE]
+    python3 differential/overlay/run.py [--overlays N] [--seed S] [--replay DIR]... [--show K] [--built DIR] [--later DIR] [--driver FILE]
 
-Builds the oracle (differential/oracle) into target/oracle, its copy that counts into target/oracle-counts and the driver over the proved
-library into target/overlays (or takes those given), asks both sides N made overlays (by default 120,000), the known refusals and the
-named inputs (DIR/*.in; differential/oracle/cases always), and says for each difference which cause it has. The last line has the
-counts; the exit status is 1 where one is unexplained."""
+Builds the oracle (differential/oracle) into target/oracle, its copy that turns back and counts into target/oracle-02 and the driver over
+the proved library into target/overlays (or takes those given), asks both sides N made overlays (by default 120,000), the known refusals
+and the named inputs (DIR/*.in; differential/oracle/cases always), and says for each difference which cause it has. Where the Rust stops
+for want of a next dart, the answer is held to the copy's and to closing up (closing.py). The last line has the counts; the exit status is
+1 where one is unexplained."""
 import argparse
 import collections
 import glob
@@ -22,6 +23,7 @@ ROOT = os.path.dirname(os.path.dirname(HERE))
 sys.path.insert(0, HERE)
 sys.dont_write_bytecode = True
 
+from closing import faults, questions
 from limits import known
 from made import Made, text
 
@@ -30,10 +32,11 @@ ANSWER = re.compile(r'\(overlay\n.*?\n\)\n|\([^\n]*\)\n', re.S)
 STOPPED = '(panic no next dart)\n'
 ORDER, ANGLES, BOTH = 'map order at equal projections', 'rounded angles', 'map order and rounded angles'
 CAUSES = [ORDER, ANGLES, BOTH]
+TURNED, ALIKE = 'turns back and closes up, where the Rust stops', 'stops alike (11)'
 MOST = 65536
-# What the copy of the Rust that counts writes of an overlay, and of each of its cells.
-OVERLAY = re.compile(r'collected (\d+)\n((?:(?:copied )?cell \d+(?: doubled)?\n)*)')
-CELL = re.compile(r'(copied )?cell (\d+)( doubled)?\n')
+# What the copy of the Rust writes of an overlay, and of each of its cells.
+OVERLAY = re.compile(r'collected (\d+)\n((?:(?:copied )?cell \d+(?: doubled)?\noutline[\d ]*\n)*)')
+CELL = re.compile(r'(copied )?cell (\d+)( doubled)?\noutline([\d ]*)\n')
 REFUSED = {9: "refused 9: over 256 nodes under a key of the Rust's", 10: "refused 10: over 1,024 slots in the Rust's own table"}
 HIGHER = 'refused 8, explained at a higher limit'
 
@@ -41,11 +44,11 @@ HIGHER = 'refused 8, explained at a higher limit'
 class Sides:
     """The programs, each started once for a batch of forms."""
 
-    def __init__(self, driver, built, counts):
+    def __init__(self, driver, built, later):
         self.commands = {'ours': [driver]}
         for n in ('oracle', 'oracle-law', 'oracle-seq', 'oracle-angle'):
             self.commands[n] = [os.path.join(built, 'release', n), 'count']
-        self.commands['counts'] = [os.path.join(counts, 'release', 'oracle-law'), 'count']
+        self.commands['later'] = [os.path.join(later, 'release', 'oracle-law'), 'count']
         self.compared = collections.Counter()
 
     def start(self, side, forms):
@@ -69,26 +72,34 @@ class Sides:
     def ask(self, side, forms):
         return self.take(self.start(side, forms))[0] if forms else []
 
-    def counts(self, forms):
-        """For each form the most nodes collected under one key, and its cells in order: (copied, slots, doubled)."""
-        told = OVERLAY.findall(self.take(self.start('counts', forms))[1])
+    def later(self, forms):
+        """Of each form the answer of the copy that turns back, the most nodes collected under one key, and its cells in order: (copied,
+        slots, doubled, outline)."""
+        if not forms:
+            return []
+        answers, told = self.take(self.start('later', forms))
+        told = OVERLAY.findall(told)
         if len(told) != len(forms):
             sys.exit('counts of %d overlays for %d forms' % (len(told), len(forms)))
-        return [(int(n), [(bool(c), int(s), bool(d)) for c, s, d in CELL.findall(cells)]) for n, cells in told]
+        return [(a, int(n), [cell(*c) for c in CELL.findall(cells)]) for a, (n, cells) in zip(answers, told)]
 
 
-def same(ours, rust):
-    """11 is ours for the Rust's stop for want of a next dart."""
-    return ours == rust or (ours == '(refused 11)\n' and rust == STOPPED)
+def cell(copied, slots, doubled, outline):
+    nodes = list(map(int, outline.split()))
+    return bool(copied), int(slots), bool(doubled), list(zip(nodes[::2], nodes[1::2]))
 
 
-def cause(ours, law, seq, angle):
-    """The Rust's answer isn't ours: which of document 01's causes, taken out of the Rust, makes it ours."""
-    if not same(ours, law):
-        return None
-    if same(ours, seq):
+def same(ours, rust, law, later):
+    """The Rust's answer is ours; or it stops for want of a next dart with document 01's orders too, and the copy that turns back gives
+    ours: 11 where that stops as well."""
+    return ours == (rust if rust != STOPPED or law != STOPPED else '(refused 11)\n' if later == STOPPED else later)
+
+
+def cause(ours, later, law, seq, angle):
+    """Neither the Rust's answer nor its stop is ours: which of document 01's causes, taken out of the Rust, makes it ours."""
+    if same(ours, seq, law, later):
         return ORDER
-    if same(ours, angle):
+    if same(ours, angle, law, later):
         return ANGLES
     return BOTH
 
@@ -97,10 +108,31 @@ def raised(form):
     return re.sub(r'^\(overlay (\d) \d+', r'(overlay \1 %d' % MOST, form)
 
 
-def explained(sides, forms, ours):
-    """For forms whose answers differ: the cause of each, or None."""
-    law, seq, angle = (sides.ask(s, forms) for s in ('oracle-law', 'oracle-seq', 'oracle-angle'))
-    return [cause(*row) for row in zip(ours, law, seq, angle)]
+def explained(sides, forms, ours, rust, later):
+    """For forms whose answers differ: that both stop, that ours turns back, the cause, or that it is unexplained."""
+    law = sides.ask('oracle-law', forms)
+    out = ['unexplained'] * len(forms)
+    left = []
+    for i, (a, b, c, d) in enumerate(zip(ours, rust, law, later)):
+        if same(a, b, c, d):
+            out[i] = ALIKE if code(a) == 11 else TURNED
+        elif same(a, c, c, d):
+            left.append(i)
+    seq, angle = (sides.ask(s, [forms[i] for i in left]) for s in ('oracle-seq', 'oracle-angle'))
+    for i, s, n in zip(left, seq, angle):
+        out[i] = cause(ours[i], later[i], law[i], s, n)
+    return out
+
+
+def closed(sides, forms):
+    """Of each form whether its answer closes up, in every cell that isn't doubled."""
+    asked = [questions(form) for form in forms]
+    flat = [q for qs in asked for q in qs]
+    later = sides.later(flat)
+    sides.compared['answers held to closing up'] += len(forms)
+    sides.compared['their cells that are not doubled'] += sum(not c[2] for _, _, cells in later for c in cells)
+    wrong = iter([faults(q, a, cells) for q, a, (_, _, cells) in zip(flat, sides.ask('ours', flat), later)])
+    return [not any([next(wrong) for _ in qs]) for qs in asked]
 
 
 def code(answer):
@@ -108,14 +140,14 @@ def code(answer):
     return int(answer[9:-2]) if answer.startswith('(refused') else 0
 
 
-def counted(sides, forms, ours, doubled):
+def counted(sides, later, ours, doubled):
     """For each form what the Rust's own tables say of our answer: a refusal 9 or 10 explained, that it is unexplained, or nothing.
 
-    The Rust goes on where we refuse, so 9, looked at before any cell is cut, comes before 10; and it stops where we refuse 11, so a
+    The Rust goes on where we refuse, so 9, looked at before any cell is cut, comes before 10; and its copy stops where we refuse 11, so a
     table that it tells of was made before that."""
     out = []
-    for a, n, (collected, cells) in zip(ours, doubled, sides.counts(forms)):
-        crowded = max((s for _, s, _ in cells), default=0) > 1024
+    for a, n, (_, collected, cells) in zip(ours, doubled, later):
+        crowded = max((c[1] for c in cells), default=0) > 1024
         want = 9 if collected > 256 else 10 if crowded else None
         got = code(a)
         sides.compared['overlays'] += 1
@@ -136,29 +168,26 @@ def counted(sides, forms, ours, doubled):
 
 
 def compared(sides, forms):
-    """Each form's verdict: equal, stops alike, a cause, a refusal with its explanation, or unexplained."""
+    """Each form's verdict: equal, stops alike, turns back, a cause, a refusal with its explanation, or unexplained."""
     jobs = sides.start('oracle', forms), sides.start('ours', forms)
     (rust, _), (ours, told) = map(sides.take, jobs)
     doubled = list(map(int, told.split()))
-    verdict = counted(sides, forms, ours, doubled)
-    left = []
-    for i, (a, b) in enumerate(zip(ours, rust)):
-        if verdict[i]:
-            continue
-        if a == b:
-            verdict[i] = 'equal'
-        elif same(a, b):
-            verdict[i] = 'stops alike (11)'
-        else:
-            left.append(i)
+    later = sides.later(forms)
+    verdict = counted(sides, later, ours, doubled)
+    verdict = [v or ('equal' if a == b else None) for v, a, b in zip(verdict, ours, rust)]
     # beyond the limit of meetings: with the largest limit the answer must be the Rust's, or differ from it by one of the causes
-    over = [i for i in left if code(ours[i]) == 8]
+    over = [i for i, v in enumerate(verdict) if v is None and code(ours[i]) == 8]
     if over:
         for i, row in zip(over, compared(sides, [raised(forms[i]) for i in over])):
             verdict[i] = 'unexplained' if row[3] in ('unexplained', HIGHER) else HIGHER
-    left = [i for i in left if verdict[i] is None]
-    for i, why in zip(left, explained(sides, [forms[i] for i in left], [ours[i] for i in left])):
-        verdict[i] = why or 'unexplained'
+    left = [i for i, v in enumerate(verdict) if v is None]
+    rows = ([r[i] for i in left] for r in (forms, ours, rust, [a for a, _, _ in later]))
+    for i, why in zip(left, explained(sides, *rows)):
+        verdict[i] = why
+    # what the Rust doesn't finish, under a cause or not
+    turned = [i for i, v in enumerate(verdict) if rust[i] == STOPPED and v in [TURNED] + CAUSES and not code(ours[i])]
+    for i, good in zip(turned, closed(sides, [forms[i] for i in turned])):
+        verdict[i] = verdict[i] if good else 'unexplained'
     return list(zip(forms, ours, rust, verdict, doubled))
 
 
@@ -236,19 +265,19 @@ def replayed(sides, folders, shown):
 
 
 def build(a):
-    built, counts, driver = a.built, a.counts, a.driver
+    built, later, driver = a.built, a.later, a.driver
     if not built:
         built = os.path.join(ROOT, 'target', 'oracle')
         subprocess.run(['sh', os.path.join(ROOT, 'differential', 'oracle.sh'), built], check=True)
-    if not counts:
-        counts = os.path.join(ROOT, 'target', 'oracle-counts')
-        subprocess.run(['sh', os.path.join(ROOT, 'differential', 'oracle-counts.sh'), counts], check=True)
+    if not later:
+        later = os.path.join(ROOT, 'target', 'oracle-02')
+        subprocess.run(['sh', os.path.join(ROOT, 'differential', 'oracle-02.sh'), later], check=True)
     if not driver:
         subprocess.run(['rt', 'staticlib', 'overlay_c'], cwd=ROOT, check=True, stdout=subprocess.DEVNULL)
         out = os.path.join(ROOT, 'target', 'overlays')
         subprocess.run(['cargo', 'build', '--release', '--offline', '--quiet', '--target-dir', out], cwd=os.path.join(HERE, 'driver'), check=True)
         driver = os.path.join(out, 'release', 'overlays')
-    return Sides(driver, built, counts)
+    return Sides(driver, built, later)
 
 
 def main():
@@ -258,7 +287,7 @@ def main():
     p.add_argument('--replay', action='append', default=[])
     p.add_argument('--show', type=int, default=3)
     p.add_argument('--built')
-    p.add_argument('--counts')
+    p.add_argument('--later')
     p.add_argument('--driver')
     a = p.parse_args()
     sides = build(a)
@@ -284,8 +313,8 @@ def main():
     for c in counts.values():
         n += c
     left = n['unexplained'] + bad + named['unexplained']
-    print('%d made overlays in %.0f s, %d equal, %d stop alike (11), %s, ' % (
-        a.overlays, seconds, n['equal'], n['stops alike (11)'], ', '.join('%d %s' % (n[c], c) for c in CAUSES)), end='')
+    print('%d made overlays in %.0f s, %d equal, %d turn back and close up, %d stop alike (11), %s, ' % (
+        a.overlays, seconds, n['equal'], n[TURNED], n[ALIKE], ', '.join('%d %s' % (n[c], c) for c in CAUSES)), end='')
     print('%d refused 8, %d refused 9, %d refused 10, %d known refusals and limits, %d named inputs, %d unexplained' % (
         n[HIGHER], n[REFUSED[9]], n[REFUSED[10]], sum(codes.values()), sum(named.values()), left))
     return 1 if left else 0
