@@ -35,7 +35,7 @@ enum {
     DAQWIMAY_MANY_MEETINGS = 8,       /* a meeting beyond the limit */
     DAQWIMAY_CROWDED_EDGE = 9,        /* over 256 nodes collected on one edge */
     DAQWIMAY_CROWDED_CELL = 10,       /* over 1,024 slots in a cell's table */
-    DAQWIMAY_OPEN_CELL = 11,          /* a cell whose pieces don't close, as where a line ends inside it */
+    DAQWIMAY_OPEN_CELL = 11,          /* a cell whose outline doesn't lead round once cut: a node a hair beside a corner, not on it */
     DAQWIMAY_FULL_OUTPUT = 12         /* no place in an output list */
 };
 

@@ -165,7 +165,7 @@ impl std::fmt::Display for Refusal {
             Refusal::ManyMeetings => "the edges of the meshes meet more often than the limit allows",
             Refusal::CrowdedEdge => "over 256 nodes were collected on one edge",
             Refusal::CrowdedCell => "over 1,024 slots in the table of one cell",
-            Refusal::OpenCell => "the pieces of a cell don't close, as where a line ends inside it",
+            Refusal::OpenCell => "the outline of a cell doesn't lead round once it is cut, as where a node lies a hair beside a corner and not on it",
             Refusal::FullOutput => "no place in an output list",
         })
     }

@@ -12,11 +12,19 @@ fn one(kind: Kind, family: u32, a: [f64; 2], b: [f64; 2]) -> Mesh {
     m
 }
 
-fn line(a: [f64; 2], b: [f64; 2]) -> Mesh {
+fn of_points<const N: usize>(kind: Kind, points: [[f64; 2]; N]) -> Mesh {
     let mut m = Mesh::default();
-    let ends = [m.add_node(a[0], a[1]), m.add_node(b[0], b[1])];
-    m.add_cell(Kind::Seg2, 0, &ends);
+    let corners = points.map(|[x, y]| m.add_node(x, y));
+    m.add_cell(kind, 0, &corners);
     m
+}
+
+fn line(a: [f64; 2], b: [f64; 2]) -> Mesh {
+    of_points(Kind::Seg2, [a, b])
+}
+
+fn triangle(corners: [[f64; 2]; 3]) -> Mesh {
+    of_points(Kind::Tri3, corners)
 }
 
 /// n strips side by side, with nodes in common, over a square of side n.
@@ -67,6 +75,15 @@ fn lists_grow() {
 }
 
 #[test]
+fn a_ditch_that_ends_inside_is_walked_both_ways() {
+    let (s, _) = k1();
+    let o = overlay(Operation::Lines, &s, &line([1.0, -1.0], [1.0, 1.0])).unwrap();
+    let pieces: Vec<_> = o.mesh.cells().map(|p| p.nodes.to_vec()).collect();
+    assert_eq!(pieces, [vec![3, 0, 6, 5, 6, 1, 2]]);
+    assert_eq!((o.new_points, o.doubled_cells), (1, 0));
+}
+
+#[test]
 fn empty_meshes() {
     let none = Mesh::default();
     let o = overlay(Operation::Union, &none, &none).unwrap();
@@ -93,10 +110,11 @@ fn refusals() {
     assert_eq!(with(&|m| m.nodes[2] = 4), Refusal::BadNode);
     assert_eq!(with(&|m| m.nodes[2] = 0), Refusal::RepeatedNode);
     assert_eq!(Overlayer::default().overlay(Operation::Imprint, 1, &s, &c), Err(Refusal::ManyMeetings));
-    assert_eq!(refused(Operation::Lines, &s, &line([1.0, -1.0], [1.0, 1.0])), Refusal::OpenCell);
+    let corner = triangle([[-(2f64.powi(-27)), 0.0], [1.0, 0.0], [0.0, 1.0]]);
+    assert_eq!(refused(Operation::Union, &corner, &triangle([[0.0, 0.0], [2.0, 0.0], [2.0, 2.0]])), Refusal::OpenCell);
     assert_eq!(refused(Operation::Intersection, &strips(60, true), &strips(60, false)), Refusal::CrowdedCell);
     assert_eq!(Refusal::CrowdedCell.number(), 10);
-    assert!(Refusal::OpenCell.to_string().contains("don't close"));
+    assert!(Refusal::OpenCell.to_string().contains("doesn't lead round"));
 }
 
 #[test]
