@@ -1,4 +1,4 @@
--- `walk_dart_map`: document 01, module 6. Assumes nothing.
+-- `walk_dart_map`: document 01, module 6; document 02, W1. Assumes nothing.
 use mathlib.Core.Bool.{Bool, true, false, _&&_}
 use mathlib.Core.List.{List, [], _∷_, _++_, map}
 use Prim.Native.Nat.{ℕ, zero, suc, _+_, _*_}
