@@ -46,6 +46,7 @@ def refused(n):
 
 
 UNREAD = '(unread)\n'
+TURNING = 'W1, and the published Rust that turns back'
 SQUARE = box(0., 0., 2., 2., 7, 8)
 STRIP = box(1., -1., 3., 3.)
 K1 = overlay(0, 9, SQUARE, STRIP)
@@ -140,19 +141,18 @@ def made():
     """(name, text, answer, where the answer comes from)"""
     oracle, doc = 'the published Rust', 'document 01'
     yield 'k1', K1, Listed(), doc + ' and ' + oracle
-    turning = 'W1, and the published Rust that turns back'
     start, low, end, left, right = (1., -1.), (1., .5), (1., 1.), (.5, 1.), (1.5, 1.)
-    yield 'k10', overlay(5, 9, SQUARE, ditch([start, end])), Listed(), turning
-    yield 'ditch-bent', overlay(5, 9, SQUARE, ditch([start, end, left])), Listed(), turning
-    yield 'ditch-forked', overlay(5, 9, SQUARE, ditch([start, end, left], [end, right])), Listed(), turning
-    yield 'ditch-two-ends', overlay(5, 9, SQUARE, ditch([left, end, start, (1.5, -1.), (1.5, .5)])), Listed(), turning
+    yield 'k10', overlay(5, 9, SQUARE, ditch([start, end])), Listed(), TURNING
+    yield 'ditch-bent', overlay(5, 9, SQUARE, ditch([start, end, left])), Listed(), TURNING
+    yield 'ditch-forked', overlay(5, 9, SQUARE, ditch([start, end, left], [end, right])), Listed(), TURNING
+    yield 'ditch-two-ends', overlay(5, 9, SQUARE, ditch([left, end, start, (1.5, -1.), (1.5, .5)])), Listed(), TURNING
     yield 'ditch-ring', overlay(5, 9, SQUARE, ditch([start, low, right, left, low])), Listed(), oracle
     yield 'ditch-inside', overlay(5, 9, SQUARE, ditch([left, end])), Listed(), oracle
     # a node 2^-27 before the cutter's first, collected on its third edge: the cutter's outline as cut doesn't lead round
     corner = [(-2. ** -27, 0.), (1., 0.), (0., 1.)], [(5, 7, (0, 1, 2))]
     wedge = [(0., 0.), (2., 0.), (2., 2.)], [(5, 3, (0, 1, 2))]
     for op in 0, 1, 4:
-        yield f'not-round-op{op}', overlay(op, 9, corner, wedge), Listed(), oracle if op == 0 else turning
+        yield f'not-round-op{op}', overlay(op, 9, corner, wedge), Listed(), oracle if op == 0 else TURNING
     for op in 1, 2, 3, 4:
         yield f'k1-op{op}', overlay(op, 9, SQUARE, STRIP), Listed(), oracle
     # ---- limits of document 01
@@ -311,8 +311,9 @@ def answers(law):
     for f in sorted(os.listdir(SMALLEST)):
         text = read(f'{SMALLEST}/{f}')
         yield f, text, listed(law, f, text.decode(), DOUBLED.get(f, 0)).encode(), 'the published Rust'
-    text = read(f'{ROOT}/examples/soil.in')
-    yield 'soil.in', text, listed(law, 'soil.in', text.decode(), 0).encode(), 'the published Rust'
+    for f, source in ('soil.in', 'the published Rust'), ('ditch.in', TURNING):
+        text = read(f'{ROOT}/examples/{f}')
+        yield f, text, listed(law, f, text.decode(), 0).encode(), source
     for name, text, answer, source in made():
         if isinstance(answer, Listed):
             answer = listed(law, name, text, answer.doubled)
