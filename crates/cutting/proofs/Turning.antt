@@ -1,5 +1,6 @@
 -- A walk that ends without turning back is the same where it may turn back, and so is the outcome of its cell. Assumes nothing.
 use mathlib.Core.Path.{_≡_, refl, sym, ap, _∙_, subst}
+use mathlib.Core.Logic.{_⊎_, inl, inr}
 use mathlib.Core.Bool.{Bool, true, false, cond, _&&_, _||_}
 use mathlib.Core.List.{List, [], _∷_, _++_}
 use Prim.Native.Nat.{ℕ, zero, suc, _+_, _*_, _<_}
@@ -109,14 +110,17 @@ module _ (outline : List Edge) (t : List Slot) where
   unfolding walkWith walkFrom
   walk-agrees = run-agrees _ _ _ _ _
 
-  -- A cell that has pieces without a turn back has the same pieces.
-  pub outcome-kept : (ps : List (List ℕ)) → cutOutcomeWith false outline t ≡ pieces ps → cutOutcomeWith true outline t ≡ pieces ps
+  -- A cell that isn't refused 11 without a turn back comes to the same with it.
+  pub outcome-turned : (cutOutcomeWith false outline t ≡ refusal 11) ⊎ (cutOutcomeWith true outline t ≡ cutOutcomeWith false outline t)
   unfolding cutOutcomeWith
-  outcome-kept ps e = go (tooMany (length t)) (walkWith false outline t) (walkWith true outline t) walk-agrees e
+  outcome-turned = go (tooMany (length t)) (walkWith false outline t) (walkWith true outline t) walk-agrees
     where
-      go : (b : Bool) (u v : Next) → Agrees u v → cond b (refusal 10) (afterWalk outline (doubled t) (ofWalk u)) ≡ pieces ps → cond b (refusal 10) (afterWalk outline (doubled t) (ofWalk v)) ≡ pieces ps
-      go true u v h q = q
-      go false (closed qs) v h q = ap (λ (x : Next). afterWalk outline (doubled t) (ofWalk x)) h ∙ q
-      go false stuck v h q = let z : _≡_ {A = ℕ} 0 1 = cc in absurd (omega arith)
-      go false broken v h q = let z : _≡_ {A = ℕ} 0 1 = cc in absurd (omega arith)
-      go false (more s) v h q = let z : _≡_ {A = ℕ} 0 1 = cc in absurd (omega arith)
+      by : Bool → Next → Outcome
+      by b u = cond b (refusal 10) (afterWalk outline (doubled t) (ofWalk u))
+
+      go : (b : Bool) (u v : Next) → Agrees u v → (by b u ≡ refusal 11) ⊎ (by b v ≡ by b u)
+      go true u v h = inr refl
+      go false (closed qs) v h = inr (ap (by false) h)
+      go false stuck v h = inl refl
+      go false broken v h = inr (ap (by false) h)
+      go false (more s) v h = inr (ap (by false) h)
