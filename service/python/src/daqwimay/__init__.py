@@ -1,0 +1,3 @@
+from .mesh import Kind, Mesh
+from .overlaying import Operation, Overlay, overlay
+from .refusals import REFUSALS, Refused

@@ -1,0 +1,122 @@
+"""What the proofs do not say, checked after the call with GEOS: every piece is simple, has an area above 0 and lies in one soil."""
+from __future__ import annotations
+
+from typing import Any, Callable
+
+import numpy as np
+
+from . import geos
+from .errors import Problem
+from .mesh import Mesh
+from .models import Model
+from .overlaying import Overlay
+
+Progress = Callable[[str, int, int], None]
+_STEP = 500             # pieces between two words on progress
+
+
+def checked(model: Model, pieces: Overlay, soils: Mesh, names: list[str], progress: Progress) -> tuple[np.ndarray, np.ndarray, list[Problem]]:
+    """The soil of each piece (the last name: none), the area of each soil in the model by GEOS, and what is wrong."""
+    faces = _Faces(soils, names)
+    soil, problems = _pieces(model, pieces, faces, progress)
+    by_geos, more = _cells(model, pieces, soil, faces, progress)
+    return soil, by_geos, problems or more
+
+
+class _Faces:
+    """The soil map's faces, ready to be asked."""
+
+    def __init__(self, soils: Mesh, names: list[str]) -> None:
+        self.names = names
+        self.shapes = geos.polygons(soils)
+        self.soils = soils.families.astype(np.int64)
+        self.reach = reach(soils)
+        self.near = geos.finder(self.shapes)
+        self.ready = [geos.prepared(s) for s in self.shapes]
+
+    def around(self, point: Any) -> int:
+        """The face that a point lies in, or -1."""
+        return next((i for i in self.near(point) if self.ready[i].contains(point)), -1)
+
+    def strays(self, shape: Any, face: int) -> Any:
+        """What of the shape lies outside its face; for no face, what lies in any."""
+        if face >= 0:
+            return geos.geometry.Polygon() if self.ready[face].contains(shape) else shape.difference(self.shapes[face])
+        return geos.ops.unary_union([shape.intersection(self.shapes[i]) for i in self.near(shape)])
+
+    def areas_in(self, shape: Any) -> dict[int, float]:
+        """The area of each soil in a shape."""
+        found: dict[int, float] = {}
+        for i in self.near(shape):
+            soil = int(self.soils[i])
+            area = shape.area if self.ready[i].contains(shape) else shape.intersection(self.shapes[i]).area
+            if area > 0:
+                found[soil] = found.get(soil, 0.0) + area
+        return found
+
+    def slack(self, shape: Any, own: float) -> float:
+        """How far areas in a shape may be off because corners within reach of a side count as on it; `own` is the shape's reach."""
+        return shape.length * max([own, *self.reach[self.near(shape)]])
+
+
+def reach(mesh: Mesh) -> np.ndarray:
+    """How near to a side of each cell the library takes a corner as on it: 8 x 2^-26 of the side's larger component, and rounding."""
+    counts, ends = mesh.counts(), mesh.ends.astype(np.int64)
+    if not len(mesh):
+        return np.zeros(0)
+    after = np.arange(1, len(mesh.nodes) + 1)
+    after[ends - 1] = ends - counts
+    sides = np.abs(mesh.xy[mesh.nodes[after]] - mesh.xy[mesh.nodes]).max(axis=1)
+    return 2.0 ** -23 * np.maximum.reduceat(sides, ends - counts) + 2.0 ** -48 * np.abs(mesh.boxes()).max(axis=1)
+
+
+def _pieces(model: Model, pieces: Overlay, faces: _Faces, progress: Progress) -> tuple[np.ndarray, list[Problem]]:
+    none = len(faces.names) - 1
+    soil, problems = np.full(len(pieces), none), []
+    areas, own, cells = pieces.areas(), reach(pieces), pieces.families.astype(np.int64) + model.first
+    for i, corners in enumerate(pieces.cells()):
+        ring = pieces.xy[corners]
+        why = geos.why_invalid(ring) or ('' if areas[i] > 0 else f'an area of {areas[i]:.3g}')
+        if why:
+            problems.append(Problem(f'a piece that is no simple polygon: {why}', *ring[0], int(cells[i])))
+            continue
+        shape = geos.geometry.Polygon(ring)
+        face = faces.around(shape.representative_point())
+        soil[i] = faces.soils[face] if face >= 0 else none
+        stray = faces.strays(shape, face)
+        if stray.area > 0 and stray.area > faces.slack(shape, own[i]):
+            problems.append(_astray(stray, faces, int(soil[i]), int(cells[i])))
+        if i % _STEP == 0:
+            progress('pieces checked', i, len(pieces))
+    progress('pieces checked', len(pieces), len(pieces))
+    return soil, problems
+
+
+def _astray(stray: Any, faces: _Faces, soil: int, cell: int) -> Problem:
+    point = stray.representative_point()
+    other = faces.around(point)
+    where = f'"{faces.names[int(faces.soils[other])]}"' if other >= 0 else 'no soil'
+    return Problem(f'a piece in two soils: {stray.area:.6g} of it in {where}, the rest in "{faces.names[soil]}"', point.x, point.y, cell)
+
+
+def _cells(model: Model, pieces: Overlay, soil: np.ndarray, faces: _Faces, progress: Progress) -> tuple[np.ndarray, list[Problem]]:
+    """The areas of soils in each cell beside GEOS's."""
+    mesh, many = model.mesh, len(faces.names)
+    ours = np.zeros((len(mesh), many))
+    np.add.at(ours, (pieces.families, soil), pieces.areas())
+    theirs, problems = np.zeros(many), []
+    for i, (shape, own) in enumerate(zip(geos.polygons(mesh), reach(mesh))):
+        family = int(mesh.families[i])
+        found = np.zeros(many)
+        for number, area in faces.areas_in(shape).items():
+            found[number] = area
+        found[-1] += max(shape.area - found.sum(), 0.0)
+        theirs += found
+        worst = int(np.argmax(np.abs(found - ours[family])))
+        if abs(found - ours[family])[worst] > faces.slack(shape, own):
+            problems.append(Problem(f'"{faces.names[worst]}" has an area of {ours[family, worst]:.10g} by the pieces, {found[worst]:.10g} by GEOS',
+                                    *shape.centroid.coords[0], family + model.first))
+        if i % _STEP == 0:
+            progress('cells checked', i, len(mesh))
+    progress('cells checked', len(mesh), len(mesh))
+    return theirs, problems

@@ -1,0 +1,145 @@
+"""Models beyond the limits of one call, cut in chunks of cells that lie together."""
+from __future__ import annotations
+
+from typing import Callable, Optional, Union
+
+import numpy as np
+
+from .mesh import MOST_CELLS, MOST_CORNERS_OF_MESH, MOST_NODES, Mesh
+from .overlaying import Operation, Overlay, operation_number, overlay
+from .refusals import Refused
+
+CHUNK = 4_096               # cells: a call's time grows faster than its cells
+Progress = Callable[[int, int], None]
+
+_SUBJECT_ONLY = (Operation.IMPRINT, Operation.INTERSECTION, Operation.DIFFERENCE, Operation.LINES)
+
+
+def overlay_in_chunks(subject: Mesh, cutter: Mesh, operation: Union[Operation, str, int] = Operation.IMPRINT, *, chunk: int = CHUNK,
+                      progress: Optional[Progress] = None) -> Overlay:
+    """The overlay of meshes of any size, for operations that cut the subject alone. Pieces are listed by the subject's cells.
+
+    A chunk is lent with its rim: the earlier cells that have an edge in common with it. So each edge has the direction that it has in
+    the whole mesh, and a point where two edges meet has the same bits in every chunk: points of equal bits are one node. Chunks are
+    halved where a limit of the library asks for it. A refused cell is named. `doubled_cells` counts a doubled cell of a rim once for
+    each chunk. `progress` is told how many cells are done, of how many.
+    """
+    if operation_number(operation) not in _SUBJECT_ONLY:
+        raise ValueError('in chunks: imprint, intersection, difference and lines; the others cut both meshes')
+    whole = _Whole(subject, cutter, Operation(operation_number(operation)))
+    waiting, done = [np.arange(len(subject))], 0
+    while waiting:
+        cells = waiting.pop()
+        if len(cells) > chunk or not whole.cut(cells):
+            waiting += whole.halves(cells)
+            continue
+        done += len(cells)
+        if progress:
+            progress(done, len(subject))
+    return whole.joined()
+
+
+class _Whole:
+    """Both meshes, and the pieces made so far."""
+
+    def __init__(self, subject: Mesh, cutter: Mesh, operation: Operation) -> None:
+        self.subject, self.cutter, self.operation = subject, cutter, operation
+        self.boxes, self.cutter_boxes = subject.boxes(), cutter.boxes()
+        self.counts = subject.counts()
+        self.first = _first_cells(subject, self.counts)
+        self.done: list[tuple[Overlay, np.ndarray, np.ndarray]] = []        # an answer, its numbers in all, its cells in all
+
+    def cut(self, cells: np.ndarray) -> bool:
+        """Cuts a chunk; false where it has to be halved."""
+        if not len(cells):
+            return True
+        starts = self.subject.ends.astype(np.int64) - self.counts
+        edges = np.repeat(starts[cells], self.counts[cells]) + _within(self.counts[cells])
+        rim = np.setdiff1d(self.first[edges], cells)
+        try:
+            self._lend(np.sort(np.concatenate([cells, rim])), cells)
+        except Refused as e:
+            if len(cells) > 1:
+                return False
+            self._alone(cells, e)
+        return True
+
+    def _alone(self, cell: np.ndarray, refused: Refused) -> None:
+        """One cell that is refused with its rim: the refusal is its own, or that of a cell that comes by itself."""
+        try:
+            self._lend(cell, cell)
+        except Refused as e:
+            x, y = (self.boxes[cell[0]].reshape(2, 2)).mean(axis=0)
+            raise Refused(e.number, f'  cell of family {self.subject.families[cell[0]]}, around ({x:.10g}, {y:.10g})') from refused
+
+    def _lend(self, lent: np.ndarray, own: np.ndarray) -> None:
+        part, nodes = self.subject.take(lent)
+        part.families = np.arange(len(lent), dtype=np.uint32)
+        low, high = self.boxes[lent, :2].min(axis=0), self.boxes[lent, 2:].max(axis=0)
+        b = self.cutter_boxes
+        near = np.flatnonzero((b[:, :2] <= high).all(axis=1) & (b[:, 2:] >= low).all(axis=1))
+        by, by_nodes = self.cutter.take(near)
+        if _too_large(part) or _too_large(by):
+            raise Refused(2)
+        answer = overlay(part, by, self.operation)
+        new = np.full(answer.new_points, -1)
+        self.done.append((answer, np.concatenate([nodes, len(self.subject.xy) + by_nodes, new]), np.where(np.isin(lent, own), lent, -1)))
+
+    def halves(self, cells: np.ndarray) -> list[np.ndarray]:
+        """Parted across the longer side of their box; the half that is taken next comes last."""
+        centres = self.boxes[cells].reshape(-1, 2, 2).mean(axis=1)
+        order = np.argsort(centres[:, int(np.argmax(np.ptp(centres, axis=0)))], kind='stable')
+        middle = len(cells) // 2
+        return [np.sort(cells[order[middle:]]), np.sort(cells[order[:middle]])]
+
+    def joined(self) -> Overlay:
+        """The pieces of all chunks under numbers of the whole, rims left out."""
+        known = len(self.subject.xy) + len(self.cutter.xy)
+        points, corners, counts, kinds, cells = [], [], [], [], []
+        for answer, numbers, lent in self.done:
+            own = lent[answer.families] >= 0
+            many = answer.counts()
+            named = numbers[answer.nodes]
+            fresh = named < 0
+            named[fresh] = known + sum(map(len, points)) + answer.nodes[fresh] - (len(answer.xy) - answer.new_points)
+            points.append(answer.xy[len(answer.xy) - answer.new_points:])
+            corners.append(named[np.repeat(own, many)])
+            counts.append(many[own])
+            kinds.append(answer.kinds[own])
+            cells.append(lent[answer.families[own]])
+        return self._listed(known, *(_joined(a) for a in (points, corners, counts, kinds, cells)))
+
+    def _listed(self, known: int, points: np.ndarray, corners: np.ndarray, counts: np.ndarray, kinds: np.ndarray, cells: np.ndarray) -> Overlay:
+        """In the order of the subject's cells; new points of equal bits one node, those that no piece names left out."""
+        order = np.argsort(cells, kind='stable')
+        starts = np.cumsum(counts) - counts
+        corners = corners[np.repeat(starts[order], counts[order]) + _within(counts[order])]
+        fresh = corners >= known
+        used, numbers = np.unique(points.reshape(-1, 2)[corners[fresh] - known], axis=0, return_inverse=True)
+        corners[fresh] = known + numbers.reshape(-1)
+        return Overlay(np.concatenate([self.subject.xy, self.cutter.xy, used]), corners, np.cumsum(counts[order]), kinds[order],
+                       self.subject.families[cells[order]], new_points=len(used), doubled_cells=sum(a.doubled_cells for a, _, _ in self.done))
+
+
+def _joined(arrays: list[np.ndarray]) -> np.ndarray:
+    return np.concatenate(arrays) if arrays else np.zeros(0, int)
+
+
+def _within(counts: np.ndarray) -> np.ndarray:
+    """0, 1, .. for each count, one after the other."""
+    return np.arange(counts.sum()) - np.repeat(np.cumsum(counts) - counts, counts)
+
+
+def _first_cells(mesh: Mesh, counts: np.ndarray) -> np.ndarray:
+    """For each corner the first cell that has the edge from it to the next corner, in either direction."""
+    ends = mesh.ends.astype(np.int64)
+    after = np.arange(1, len(mesh.nodes) + 1)
+    after[ends - 1] = ends - counts
+    a, b = mesh.nodes.astype(np.int64), mesh.nodes[after].astype(np.int64)
+    _, first, same = np.unique(np.minimum(a, b) * (len(mesh.xy) + 1) + np.maximum(a, b), return_index=True, return_inverse=True)
+    cells = np.repeat(np.arange(len(mesh)), counts)
+    return cells[first[same]]
+
+
+def _too_large(mesh: Mesh) -> bool:
+    return len(mesh.xy) > MOST_NODES or len(mesh) > MOST_CELLS or mesh.nodes.size > MOST_CORNERS_OF_MESH

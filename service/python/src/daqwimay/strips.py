@@ -1,0 +1,111 @@
+"""From a model and a soil map to strips: cut, checked, and added up."""
+from __future__ import annotations
+
+from dataclasses import dataclass, field
+from typing import Any, Callable, Mapping, Optional
+
+import numpy as np
+
+from .chunks import overlay_in_chunks
+from .errors import InputError, NotClean
+from .models import Model
+from .overlaying import Operation, Overlay
+from .refusals import Refused
+from .soils import Box, SoilMap, soil_mesh
+
+Progress = Callable[[str, int, int], None]
+BACKGROUND = '(no soil)'
+_CURE = 'clean the map first: --grid 0.001 (docs/PRACTICE.md says what a clean map is)'
+
+
+@dataclass
+class Strips:
+    """The pieces of a model's cells, each in one soil."""
+
+    model: Model
+    pieces: Overlay                 #: families are the cells' places in the model's file, from 0
+    soil: np.ndarray                #: the soil of each piece: a place in `names`
+    names: list[str]                #: the soils; the last is for what no soil covers
+    by_geos: np.ndarray             #: the area of each soil in the model, by GEOS
+    changes: list[str] = field(default_factory=list)        #: what cleaning changed
+
+    def areas(self) -> np.ndarray:
+        """The area of each piece."""
+        return self.pieces.areas()
+
+    def by_soil(self) -> np.ndarray:
+        """The area of each soil in the model, by its pieces."""
+        return np.bincount(self.soil, self.areas(), len(self.names))
+
+    def table(self) -> dict[str, np.ndarray]:
+        """One row for each cell and soil: cell (counted as in the file), soil (its name), area, share of the cell."""
+        cells = self.pieces.families.astype(np.int64)
+        keys, at = np.unique(cells * len(self.names) + self.soil, return_inverse=True)
+        areas = np.bincount(at.reshape(-1), self.areas(), len(keys))
+        cell = keys // len(self.names)
+        whole = np.bincount(cell, areas)
+        return {'cell': cell + self.model.first, 'soil': np.array(self.names, object)[keys % len(self.names)],
+                'area': areas, 'share': areas / whole[cell]}
+
+    def per_cell(self, rates: Mapping[str, float]) -> np.ndarray:
+        """For each cell of the file the mean of its soils' rates, by area: recharge, say. A soil without a rate is an error."""
+        table = self.table()
+        missing = sorted(set(table['soil']) - set(rates))
+        if missing:
+            raise InputError(f'no rate for {", ".join(missing)}')
+        weighted = np.array([rates[s] for s in table['soil']]) * table['share']
+        return np.bincount(table['cell'] - self.model.first, weighted, len(self.model.mesh))
+
+
+def cut(model: Model, soils: SoilMap, *, grid: Optional[float] = None, background: str = BACKGROUND,
+        progress: Optional[Progress] = None) -> Strips:
+    """The model's cells cut along the soils (operation 0), and checked. With a grid the map is made clean first.
+
+    Raises `NotClean` with the places where the strips would be wrong, `Refused` with the refused cell.
+    """
+    from .checks import checked
+    same_crs(model, soils)
+    mesh, names, changes = _cutter(model, soils, grid, background)
+    told = progress or (lambda what, done, of: None)
+    try:
+        pieces = overlay_in_chunks(model.mesh, mesh, Operation.IMPRINT, progress=lambda done, of: told('cells cut', done, of))
+    except Refused as e:
+        raise Refused(e.number, e.detail + _refused_near(model, mesh)) from e
+    soil, by_geos, problems = checked(model, pieces, mesh, names, told)
+    if problems:
+        raise NotClean(f'{len(problems)} places where the strips are wrong: the map or the model is not clean', problems, '' if grid else _CURE)
+    return Strips(model, pieces, soil, names, by_geos, changes)
+
+
+def _cutter(model: Model, soils: SoilMap, grid: Optional[float], background: str) -> tuple[Any, list[str], list[str]]:
+    if background in soils.names:
+        raise InputError(f'"{background}" is a soil of the map: choose another name for what no soil covers')
+    if grid is None:
+        return soil_mesh(soils), [*soils.names, background], []
+    from .cleaning import clean
+    done = clean(soils, grid, window_of(model), model.mesh.xy, background)
+    return done.mesh, done.names, done.changes
+
+
+def _refused_near(model: Model, soils: Any) -> str:
+    from .defects import between
+    found = between(model.mesh, soils)
+    return ''.join(f'\n  {p}' for p in found[:NotClean.SHOWN])
+
+
+def window_of(model: Model) -> Box:
+    """The model's box, and a little more on every side."""
+    low, high = model.mesh.xy.min(axis=0), model.mesh.xy.max(axis=0)
+    margin = 0.02 * float(max(high - low))
+    return (float(low[0] - margin), float(low[1] - margin), float(high[0] + margin), float(high[1] + margin))
+
+
+def same_crs(model: Model, soils: SoilMap) -> Any:
+    """The reference system of both. Two that differ, or degrees, are an error."""
+    known = [(f, f.crs) for f in (model, soils) if f.crs is not None]
+    for file, crs in known:
+        if crs.is_geographic:
+            raise InputError(f'{file.source} is in degrees ({crs.name}), where areas mean nothing: bring it to a reference system in metres')
+    if len(known) == 2 and not model.crs.equals(soils.crs, ignore_axis_order=True):
+        raise InputError(f'two reference systems: {model.source} is in {model.crs.name}, {soils.source} in {soils.crs.name}; bring one to the other')
+    return known[0][1] if known else None
