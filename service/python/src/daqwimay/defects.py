@@ -1,13 +1,14 @@
 """What is not clean in a model or a map, before anything is cut: places, in words."""
 from __future__ import annotations
 
-from typing import Any, Iterator
+from typing import Iterator
 
 import numpy as np
 
 from . import geos
 from .errors import Problem
-from .mesh import MOST_CORNERS, Mesh
+from .mesh import Mesh, mesh_of_rings
+from .soils import SoilMap, unfit
 
 NEAR = 1e-3             # corners nearer than this are meant to be one
 
@@ -17,22 +18,16 @@ def of_outlines(mesh: Mesh, near: float = NEAR) -> list[Problem]:
     return [*_not_simple(mesh), *_beside_each_other(mesh.xy, mesh.xy, near, 'two corners'), *_on_sides(mesh, near), *_islands(mesh)]
 
 
+def of_map(soils: SoilMap, model: Mesh, near: float = NEAR) -> list[Problem]:
+    """What is wrong in a map, by itself and beside a model."""
+    rings = [np.asarray(r.coords) for s in soils.shapes for r in (s.exterior, *s.interiors)]
+    mesh = mesh_of_rings(rings, None)
+    return [*unfit(soils.shapes), *of_outlines(mesh, near), *between(model, mesh, near)]
+
+
 def between(model: Mesh, soils: Mesh, near: float = NEAR) -> list[Problem]:
     """Soil corners that lie a hair beside the model's nodes."""
     return list(_beside_each_other(soils.xy, model.xy, near, 'a soil corner and a node of the model'))
-
-
-def of_shapes(shapes: list[Any]) -> list[Problem]:
-    """Polygons that cannot be taken as they are."""
-    found = []
-    for shape in shapes:
-        place = map(float, shape.exterior.coords[0][:2])
-        corners = len(shape.exterior.coords) - 1
-        if shape.interiors:
-            found.append(Problem(f'a polygon with {len(shape.interiors)} holes', *place))
-        elif corners > MOST_CORNERS:
-            found.append(Problem(f'a polygon of {corners} corners, {MOST_CORNERS} are allowed', *place))
-    return found
 
 
 def _not_simple(mesh: Mesh) -> Iterator[Problem]:

@@ -3,6 +3,7 @@ from __future__ import annotations
 
 import ctypes
 import logging
+import warnings
 from typing import Any, Callable, Iterable, Sequence
 
 import numpy as np
@@ -27,7 +28,9 @@ def parts(shape: Any, kind: str = 'Polygon') -> list[Any]:
 
 def finder(shapes: Sequence[Any]) -> Callable[[Any], list[int]]:
     """Which of the shapes have a box that meets a geometry's box, in rising order."""
-    tree = extra('shapely.strtree', 'clean').STRtree(list(shapes))
+    with warnings.catch_warnings():
+        warnings.simplefilter('ignore')         # 1.8 warns that 2 differs
+        tree = extra('shapely.strtree', 'clean').STRtree(list(shapes))
     query = tree.query if _NEW else tree.query_items
     return lambda shape: sorted(int(i) for i in query(shape)) if len(shapes) else []
 

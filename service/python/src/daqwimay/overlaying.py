@@ -52,7 +52,7 @@ def overlay(subject: Mesh, cutter: Mesh, operation: Union[Operation, str, int] =
         lists = output_lists(points, room, room)
         code, counts = call(number, limit, subject.lists(), cutter.lists(), lists, work)
         if code == 0:
-            return _answer(lists, points - limit, counts)
+            return answer_of(lists, points - limit, counts)
         if code != 12 or room == most:
             raise Refused(code)
         room = min(4 * room, most)
@@ -81,7 +81,8 @@ def output_lists(points: int, corners: int, cells: int) -> list[np.ndarray]:
     return [np.zeros((room[r.per], r.width) if r.width > 1 else room[r.per], r.dtype) for r in OUTPUT_LISTS]
 
 
-def _answer(lists: list[np.ndarray], nodes: int, counts: np.ndarray) -> Overlay:
+def answer_of(lists: list[np.ndarray], nodes: int, counts: np.ndarray) -> Overlay:
+    """What a call wrote, as parts of its lists; `nodes` are those of both meshes."""
     pieces, new_points, doubled = map(int, counts)
     ends = lists[[r.name for r in OUTPUT_LISTS].index('ends')]
     used = {'node': nodes + new_points, 'corner': int(ends[pieces - 1]) if pieces else 0, 'cell': pieces}

@@ -41,10 +41,14 @@ _ROWS = (
             ('one long side across hundreds of the other mesh\'s edges, as of a soil drawn with few corners over a fine model',),
             'cut long sides with corners in between; --grid puts seams, the command splits the model'),
     Refusal(10, 'crowded cell', 'over 1,024 entries in the table of one cell: it is cut by too many edges',
-            ('soils as the subject and the model as the cutter: a soil over some 16 x 16 cells', 'a cell with hundreds of soils in it'),
-            'the model is the subject, the soils cut it (operation 0); a finer model where soils are many'),
-    Refusal(11, 'open cell', 'the outline of a cell, as cut, is not round: its darts lead into a node more often than out of it',
-            (), ''),
+            ('soils as the subject and the model as the cutter: a soil over some 16 x 16 cells',
+             'hundreds of soil sides in one cell: an outline drawn far finer than the model'),
+            'the model is the subject, the soils cut it (operation 0); simplify the outline, a coarser --grid, or a finer model there'),
+    Refusal(11, 'open cell', 'a cell\'s outline, as cut, does not lead round: its parts run into a node more often than out of it',
+            ('corners that lie less than some 1e-8 beside a node or a side of the other mesh, neither one with it nor apart, '
+             'as after a calculation',),
+            'put the map on a grid: --grid. Clockwise cells, T-junctions, neighbours with nodes of their own and lines that end inside a '
+            'cell are not refused but give wrong pieces: the checks after the call name them'),
     Refusal(12, 'full output', 'an output list is too short',
             ('the program\'s text: over 2,048 pieces or 8,192 corners of pieces',), 'a smaller model; this package lets its lists grow'),
 )

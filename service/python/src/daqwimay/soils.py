@@ -44,13 +44,18 @@ def read_soils(path: Union[str, Path], attribute: Optional[str] = None, *, layer
             result.shapes.append(polygon)
     result.names = list(number)
     if not result.shapes:
-        raise InputError(f'{path}: no polygons' + (' where the model lies: are both in one reference system?' if window else ''))
+        raise InputError(f'{path}: no polygons' + (' where the model lies' if window else ''))
     result.notes += [f'{odd} features without a polygon left out'] if odd else []
     result.notes += ['polygons without a soil are named "(unnamed)"'] if '(unnamed)' in number else []
     return result
 
 
-def read_frame(path: Path, layer: Optional[str] = None, window: Optional[Box] = None) -> Any:
+def peek(path: Union[str, Path], *, layer: Optional[str] = None, crs: Optional[str] = None) -> SoilMap:
+    """A map without its polygons: its reference system, before a long reading."""
+    return SoilMap([], [], [], str(path), frame_crs(read_frame(Path(path), layer, rows=1), Path(path), crs))
+
+
+def read_frame(path: Path, layer: Optional[str] = None, window: Optional[Box] = None, rows: Optional[int] = None) -> Any:
     """A file through geopandas."""
     if not path.exists():
         raise InputError(f'{path}: no such file')
@@ -59,7 +64,7 @@ def read_frame(path: Path, layer: Optional[str] = None, window: Optional[Box] = 
         layers = _layers(path)
         if layer is None and len(layers) > 1:
             raise InputError(f'{path}: several layers, choose one with --layer: {", ".join(layers)}')
-        return geopandas.read_file(path, layer=layer or 0, bbox=window)
+        return geopandas.read_file(path, layer=layer or 0, bbox=window, rows=rows)
     except InputError:
         raise
     except Exception as e:          # fiona, pyogrio and GDAL have error classes of their own
@@ -96,17 +101,24 @@ def frame_crs(frame: Any, path: Path, crs: Optional[str] = None) -> Any:
 
 def soil_mesh(soils: SoilMap) -> Mesh:
     """The map as it is, families being soils: for maps that are clean (no holes, at most 256 corners, corners that neighbours share)."""
-    problems = [Problem(why, *map(float, s.exterior.coords[0][:2])) for s in soils.shapes if (why := _unfit(s))]
+    problems = unfit(soils.shapes)
     if problems:
-        raise NotClean(f'{soils.source}: {len(problems)} polygons that cannot be taken as they are', problems, 'clean the map: --grid 0.001')
+        raise NotClean(f'{soils.source}: {len(problems)} polygons cannot be taken as they are', problems, 'clean the map first: --grid 0.001')
     return faces_mesh(soils.shapes, soils.soils)
 
 
-def _unfit(shape: Any) -> str:
-    if shape.interiors:
-        return f'a polygon with {len(shape.interiors)} holes'
-    corners = len(shape.exterior.coords) - 1
-    return f'a polygon of {corners} corners, {MOST_CORNERS} are allowed' if corners > MOST_CORNERS else ''
+def unfit(shapes: Sequence[Any]) -> list[Problem]:
+    """Polygons that no cell can be."""
+    found = []
+    for shape in shapes:
+        corners, place = len(shape.exterior.coords) - 1, map(float, shape.exterior.coords[0][:2])
+        if shape.interiors:
+            found.append(Problem(f'a polygon with holes, {len(shape.interiors)} of them', *place))
+        elif corners > MOST_CORNERS:
+            found.append(Problem(f'a polygon of {corners} corners; {MOST_CORNERS} are allowed', *place))
+        elif not shape.is_valid:
+            found.append(Problem('a polygon that crosses or touches itself', *place))
+    return found
 
 
 def faces_mesh(shapes: Sequence[Any], families: Sequence[int]) -> Mesh:
