@@ -3,7 +3,8 @@
 
 model.disv    432 cells of 45 m, clockwise, in coordinates of their own with an origin and a rotation, as MODFLOW 6 has them
 soils.gpkg    four soils in many parts, a river across them, made ground with a pond in it, a clay lens inside one cell; in RD New
-              (EPSG:28992). Not clean: a hole, a long outline, overlaps, a place without a soil, corners that neighbours do not share
+              (EPSG:28992). Not clean: a hole, a long outline, outlines that cross themselves by a hair, overlaps, a place without a soil,
+              corners that neighbours do not share
 rates.csv     recharge of each soil, mm a year
 """
 import sys

@@ -54,16 +54,16 @@ def test_the_example_as_the_page_has_it(example):
 
 def test_an_unclean_map_is_told_and_nothing_written(example):
     done = run('cut', 'model.disv', 'soils.gpkg', '-o', 'none.vtu', '--table', 'none.csv', cwd=example)
-    assert done.returncode == 1 and 'holes' in done.stderr and '324 corners' in done.stderr and '--grid' in done.stderr
+    assert done.returncode == 1 and 'with holes' in done.stderr and 'crosses or touches itself' in done.stderr and '--grid' in done.stderr
     assert not list(example.glob('none*'))
 
 
 def test_wrong_strips_are_told_with_cell_and_place(tmp_path):
     write_mesh(tmp_path / 'model.vtu', maps.model(4, 4, 50.0, 0.0).mesh)
-    soils_file(tmp_path / 'soils.gpkg', [maps.moved(box(60, 60, 90, 90)), maps.moved(box(-100, -100, 20, 300))])
+    soils_file(tmp_path / 'soils.gpkg', [maps.moved(box(55, 55, 65, 65)), maps.moved(box(-100, -100, 20, 300))])
     done = run('cut', 'model.vtu', 'soils.gpkg', '--table', '-', cwd=tmp_path)
     assert done.returncode == 1 and done.stdout == ''
-    assert 'cell 5, at (155075, 463075): a piece in two soils: 900 of it in "soil 0"' in done.stderr
+    assert 'cell 5, at (155060, 463060): a piece in two soils: 100 of it in "soil 0", the rest in "(no soil)"' in done.stderr
     assert 'Traceback' not in done.stderr
 
 

@@ -7,10 +7,10 @@ import geopandas
 import numpy as np
 import pyproj
 import pytest
-from shapely.geometry import LineString, MultiPolygon, Point, Polygon, box
+from shapely.geometry import LineString, MultiPolygon, box
 
 import maps
-from daqwimay import InputError, Mesh, Model, cut, read_model, read_soils, write_mesh, write_strips
+from daqwimay import InputError, Mesh, cut, read_model, read_soils, write_mesh, write_strips
 
 RD = pyproj.CRS('EPSG:28992')
 MIXED = Mesh.from_cells([[0, 0], [2, 0], [2, 2], [0, 2], [3, 1], [1.2, 3.3], [0.1, 3.1]], [[0, 1, 2, 3], [1, 4, 2], [3, 2, 5, 6], [4, 5, 2]])

@@ -6,10 +6,13 @@ import sys
 import time
 import warnings
 from pathlib import Path
-from typing import Optional, Sequence
+from typing import Any, Callable, Optional, Sequence
+
+import numpy as np
 
 from . import __version__
 from .errors import InputError, NotClean, Problem
+from .mesh import Mesh
 from .refusals import Refused, markdown
 
 FAILED, UNREAD = 1, 2
@@ -54,7 +57,7 @@ def _parser() -> argparse.ArgumentParser:
     parser.add_argument('--version', action='version', version=f'daqwimay {__version__}')
     sub = parser.add_subparsers(dest='command', required=True, metavar='COMMAND')
 
-    def command(name: str, run, words: str) -> argparse.ArgumentParser:
+    def command(name: str, run: Callable[[argparse.Namespace], int], words: str) -> argparse.ArgumentParser:
         p = sub.add_parser(name, help=words, description=words[0].upper() + words[1:] + '.', epilog=_EXAMPLES, formatter_class=shape)
         p.set_defaults(run=run)
         return p
@@ -69,7 +72,7 @@ def _parser() -> argparse.ArgumentParser:
     return parser
 
 
-def _map_options(p: argparse.ArgumentParser, soils: Optional[str] = None) -> None:
+def _map_options(p: argparse.ArgumentParser, soils: Any = None) -> None:
     p.add_argument('mesh', metavar='MESH', help='the model: .disv, .nc (UGRID), .vtu, .vtk .. (meshio), or a map of its cells')
     p.add_argument('soils', metavar='SOILS', nargs=soils, help='the map: .gpkg, .shp, .geojson ..')
     p.add_argument('--soil', metavar='ATTRIBUTE', help='the attribute that names the soil (default: "soil", or the only one)')
@@ -185,8 +188,8 @@ def _write(options: argparse.Namespace, strips, crs) -> None:
 def _check(options: argparse.Namespace) -> int:
     from . import defects
     model, soils = _read(options)
-    if model.mesh.turned is not None and model.mesh.turned.any():
-        print(f'{model.source}: {int(model.mesh.turned.sum()):,} clockwise cells, turned when read')
+    if _clockwise(model.mesh):
+        print(f'{model.source}: {_clockwise(model.mesh):,} clockwise cells, turned when read')
     found = [(model.source, p) for p in defects.of_outlines(model.mesh)]
     if soils is not None and options.grid is None:
         found += [(soils.source, p) for p in defects.of_map(soils, model.mesh)]
@@ -195,6 +198,10 @@ def _check(options: argparse.Namespace) -> int:
     _print_problems(found)
     print(f'{len(found)} places are not clean' if found else 'clean' if soils is None else 'clean: every piece is simple and in one soil')
     return FAILED if found else 0
+
+
+def _clockwise(mesh: Mesh) -> int:
+    return 0 if mesh.turned is None else int(np.count_nonzero(mesh.turned))
 
 
 def _wrong_strips(options: argparse.Namespace, model, soils) -> Sequence[Problem]:
@@ -233,7 +240,7 @@ def _about_model(path: Path) -> list[str]:
     return [_said(model.source, f'{len(mesh):,} cells ({kinds}), {len(mesh.xy):,} nodes', model.crs, model.notes),
             f'x {low[0]:.10g} to {high[0]:.10g}, y {low[1]:.10g} to {high[1]:.10g}',
             f'area {areas.sum():.10g}, of a cell {areas.min():.6g} to {areas.max():.6g}',
-            f'{int(mesh.turned.sum()):,} clockwise cells, numbered from {model.first}']
+            f'{_clockwise(mesh):,} clockwise cells, numbered from {model.first}']
 
 
 def _about_map(path: Path) -> list[str]:

@@ -7,7 +7,7 @@ import numpy as np
 
 from . import geos
 from .errors import Problem
-from .mesh import Mesh
+from .mesh import Mesh, following
 from .models import Model
 from .overlaying import Overlay
 
@@ -61,24 +61,23 @@ class _Faces:
 
 def reach(mesh: Mesh) -> np.ndarray:
     """How near to a side of each cell the library takes a corner as on it: 8 x 2^-26 of the side's larger component, and rounding."""
-    counts, ends = mesh.counts(), mesh.ends.astype(np.int64)
     if not len(mesh):
         return np.zeros(0)
-    after = np.arange(1, len(mesh.nodes) + 1)
-    after[ends - 1] = ends - counts
-    sides = np.abs(mesh.xy[mesh.nodes[after]] - mesh.xy[mesh.nodes]).max(axis=1)
-    return 2.0 ** -23 * np.maximum.reduceat(sides, ends - counts) + 2.0 ** -48 * np.abs(mesh.boxes()).max(axis=1)
+    counts, corners = mesh.counts(), mesh.xy[mesh.nodes]
+    sides = np.abs(corners[following(counts)] - corners).max(axis=1)
+    return 2.0 ** -23 * np.maximum.reduceat(sides, np.cumsum(counts) - counts) + 2.0 ** -48 * np.abs(mesh.boxes()).max(axis=1)
 
 
 def _pieces(model: Model, pieces: Overlay, faces: _Faces, progress: Progress) -> tuple[np.ndarray, list[Problem]]:
     none = len(faces.names) - 1
-    soil, problems = np.full(len(pieces), none), []
+    soil = np.full(len(pieces), none)
+    problems: list[Problem] = []
     areas, own, cells = pieces.areas(), reach(pieces), pieces.families.astype(np.int64) + model.first
     for i, corners in enumerate(pieces.cells()):
         ring = pieces.xy[corners]
         why = geos.why_invalid(ring) or ('' if areas[i] > 0 else f'an area of {areas[i]:.3g}')
         if why:
-            problems.append(Problem(f'a piece that is no simple polygon: {why}', *ring[0], int(cells[i])))
+            problems.append(Problem.at(ring[0], f'a piece that is no simple polygon: {why}', int(cells[i])))
             continue
         shape = geos.geometry.Polygon(ring)
         face = faces.around(shape.representative_point())
@@ -114,8 +113,8 @@ def _cells(model: Model, pieces: Overlay, soil: np.ndarray, faces: _Faces, progr
         theirs += found
         worst = int(np.argmax(np.abs(found - ours[family])))
         if abs(found - ours[family])[worst] > faces.slack(shape, own):
-            problems.append(Problem(f'"{faces.names[worst]}" has an area of {ours[family, worst]:.10g} by the pieces, {found[worst]:.10g} by GEOS',
-                                    *shape.centroid.coords[0], family + model.first))
+            what = f'"{faces.names[worst]}" has an area of {ours[family, worst]:.10g} by the pieces, {found[worst]:.10g} by GEOS'
+            problems.append(Problem.at(shape.centroid.coords[0], what, family + model.first))
         if i % _STEP == 0:
             progress('cells checked', i, len(mesh))
     progress('cells checked', len(mesh), len(mesh))

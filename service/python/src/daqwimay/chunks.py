@@ -5,7 +5,7 @@ from typing import Callable, Optional, Union
 
 import numpy as np
 
-from .mesh import MOST_CELLS, MOST_CORNERS_OF_MESH, MOST_NODES, Mesh
+from .mesh import MOST_CELLS, MOST_CORNERS_OF_MESH, MOST_NODES, Mesh, entries, following
 from .overlaying import Operation, Overlay, operation_number, overlay
 from .refusals import Refused
 
@@ -53,9 +53,7 @@ class _Whole:
         """Cuts a chunk; false where it has to be halved."""
         if not len(cells):
             return True
-        starts = self.subject.ends.astype(np.int64) - self.counts
-        edges = np.repeat(starts[cells], self.counts[cells]) + _within(self.counts[cells])
-        rim = np.setdiff1d(self.first[edges], cells)
+        rim = np.setdiff1d(self.first[entries(self.counts, cells)], cells)
         try:
             self._lend(np.sort(np.concatenate([cells, rim])), cells)
         except Refused as e:
@@ -94,48 +92,35 @@ class _Whole:
 
     def joined(self) -> Overlay:
         """The pieces of all chunks under numbers of the whole, rims left out."""
-        known = len(self.subject.xy) + len(self.cutter.xy)
-        points, corners, counts, kinds, cells = [], [], [], [], []
+        known, many = len(self.subject.xy) + len(self.cutter.xy), 0
+        parts: list[tuple[np.ndarray, ...]] = [(np.zeros((0, 2)), *[np.zeros(0, np.int64)] * 4)]
         for answer, numbers, lent in self.done:
             own = lent[answer.families] >= 0
-            many = answer.counts()
             named = numbers[answer.nodes]
-            fresh = named < 0
-            named[fresh] = known + sum(map(len, points)) + answer.nodes[fresh] - (len(answer.xy) - answer.new_points)
-            points.append(answer.xy[len(answer.xy) - answer.new_points:])
-            corners.append(named[np.repeat(own, many)])
-            counts.append(many[own])
-            kinds.append(answer.kinds[own])
-            cells.append(lent[answer.families[own]])
-        return self._listed(known, *(_joined(a) for a in (points, corners, counts, kinds, cells)))
+            fresh, old = named < 0, len(answer.xy) - answer.new_points
+            named[fresh] = answer.nodes[fresh].astype(np.int64) - old + known + many
+            many += answer.new_points
+            parts.append((answer.xy[old:], named[np.repeat(own, answer.counts())], answer.counts()[own], answer.kinds[own],
+                          lent[answer.families[own]]))
+        return self._listed(known, *(np.concatenate(p) for p in zip(*parts)))
 
     def _listed(self, known: int, points: np.ndarray, corners: np.ndarray, counts: np.ndarray, kinds: np.ndarray, cells: np.ndarray) -> Overlay:
         """In the order of the subject's cells; new points of equal bits one node, those that no piece names left out."""
         order = np.argsort(cells, kind='stable')
-        starts = np.cumsum(counts) - counts
-        corners = corners[np.repeat(starts[order], counts[order]) + _within(counts[order])]
+        corners = corners[entries(counts, order)]
         fresh = corners >= known
-        used, numbers = np.unique(points.reshape(-1, 2)[corners[fresh] - known], axis=0, return_inverse=True)
+        used, numbers = np.unique(points[corners[fresh] - known], axis=0, return_inverse=True)
         corners[fresh] = known + numbers.reshape(-1)
-        return Overlay(np.concatenate([self.subject.xy, self.cutter.xy, used]), corners, np.cumsum(counts[order]), kinds[order],
-                       self.subject.families[cells[order]], new_points=len(used), doubled_cells=sum(a.doubled_cells for a, _, _ in self.done))
-
-
-def _joined(arrays: list[np.ndarray]) -> np.ndarray:
-    return np.concatenate(arrays) if arrays else np.zeros(0, int)
-
-
-def _within(counts: np.ndarray) -> np.ndarray:
-    """0, 1, .. for each count, one after the other."""
-    return np.arange(counts.sum()) - np.repeat(np.cumsum(counts) - counts, counts)
+        found = Overlay(np.concatenate([self.subject.xy, self.cutter.xy, used]), corners, np.cumsum(counts[order]), kinds[order],
+                        self.subject.families[cells[order]])
+        found.new_points, found.doubled_cells = len(used), sum(a.doubled_cells for a, _, _ in self.done)
+        return found
 
 
 def _first_cells(mesh: Mesh, counts: np.ndarray) -> np.ndarray:
     """For each corner the first cell that has the edge from it to the next corner, in either direction."""
-    ends = mesh.ends.astype(np.int64)
-    after = np.arange(1, len(mesh.nodes) + 1)
-    after[ends - 1] = ends - counts
-    a, b = mesh.nodes.astype(np.int64), mesh.nodes[after].astype(np.int64)
+    a = mesh.nodes.astype(np.int64)
+    b = a[following(counts)]
     _, first, same = np.unique(np.minimum(a, b) * (len(mesh.xy) + 1) + np.maximum(a, b), return_index=True, return_inverse=True)
     cells = np.repeat(np.arange(len(mesh)), counts)
     return cells[first[same]]

@@ -34,7 +34,7 @@ def _not_simple(mesh: Mesh) -> Iterator[Problem]:
     for corners, area in zip(mesh.cells(), mesh.areas()):
         why = geos.why_invalid(mesh.xy[corners]) or ('' if area else 'no area')
         if why:
-            yield Problem(f'an outline that is no simple polygon: {why}', *mesh.xy[corners[0]])
+            yield Problem.at(mesh.xy[corners[0]], f'an outline that is no simple polygon: {why}')
 
 
 def _beside_each_other(some: np.ndarray, others: np.ndarray, near: float, what: str) -> Iterator[Problem]:
@@ -46,7 +46,7 @@ def _beside_each_other(some: np.ndarray, others: np.ndarray, near: float, what: 
         for j in (j for a in (-1, 0, 1) for b in (-1, 0, 1) for j in squares.get((x + a, y + b), ())):
             apart = float(np.hypot(*(some[i] - others[j])))
             if 0 < apart < near and (some is not others or i < j):
-                yield Problem(f'{what}, {apart:.3g} apart', *some[i])
+                yield Problem.at(some[i], f'{what}, {apart:.3g} apart')
 
 
 def _on_sides(mesh: Mesh, near: float) -> Iterator[Problem]:
@@ -59,7 +59,7 @@ def _on_sides(mesh: Mesh, near: float) -> Iterator[Problem]:
         for i in find(point.buffer(near, 1)):
             ends = mesh.xy[list(sides[i])]
             if node not in sides[i] and np.hypot(*(ends - mesh.xy[node]).T).min() >= near and lines[i].distance(point) < near:
-                yield Problem('a corner on a side that has no corner there (T-junction)', *mesh.xy[node])
+                yield Problem.at(mesh.xy[node], 'a corner on a side that has no corner there (T-junction)')
                 break
 
 
@@ -79,4 +79,4 @@ def _islands(mesh: Mesh) -> Iterator[Problem]:
     groups, sizes = np.unique([lead(int(c[0])) for c in mesh.cells()], return_counts=True)
     for group, size in zip(groups, sizes):
         if len(groups) > 1 and group != groups[np.argmax(sizes)]:
-            yield Problem(f'an island: {size} outlines that share no corner with the others', *mesh.xy[group])
+            yield Problem.at(mesh.xy[group], f'an island: {size} outlines that share no corner with the others')

@@ -18,6 +18,10 @@ class Problem(NamedTuple):
     y: float
     cell: int = -1          # in the model's file, counted as there; -1: not in one cell
 
+    @classmethod
+    def at(cls, place: Sequence[float], what: str, cell: int = -1) -> Problem:
+        return cls(what, float(place[0]), float(place[1]), cell)
+
     def __str__(self) -> str:
         cell = f'cell {self.cell}, ' if self.cell >= 0 else ''
         return f'{cell}at ({self.x:.10g}, {self.y:.10g}): {self.what}'

@@ -1,11 +1,11 @@
 """A mesh as the library takes it: flat lists, lent as they are."""
 from __future__ import annotations
 
-from dataclasses import dataclass
 from enum import IntEnum
 from typing import Any, Optional, Sequence
 
 import numpy as np
+from numpy.typing import ArrayLike
 
 from ._library import MESH_LISTS, lendable
 from .refusals import Refused
@@ -24,7 +24,6 @@ class Kind(IntEnum):
     PGON = 11
 
 
-@dataclass(eq=False)
 class Mesh:
     """Five lists. Arrays of the right type that are contiguous are lent to the library as they are; others are copied once, here.
 
@@ -32,32 +31,34 @@ class Mesh:
     them.
     """
 
-    xy: np.ndarray              #: float64, n x 2: the nodes
-    nodes: np.ndarray           #: uint32: the cells' corners, one cell after the other
-    ends: np.ndarray            #: uint32: where each cell's corners end
-    kinds: np.ndarray           #: uint8: see `Kind`
-    families: np.ndarray        #: uint32: one for each cell, carried on to its pieces
+    xy: np.ndarray                      #: float64, n x 2: the nodes
+    nodes: np.ndarray                   #: uint32: the cells' corners, one cell after the other
+    ends: np.ndarray                    #: uint32: where each cell's corners end
+    kinds: np.ndarray                   #: uint8: see `Kind`
+    families: np.ndarray                #: uint32: one for each cell, carried on to its pieces
     order: Optional[np.ndarray] = None      #: from_cells: cell i was the caller's cell order[i]
     turned: Optional[np.ndarray] = None     #: from_cells: whether cell i was clockwise
 
-    def __post_init__(self) -> None:
-        for record in MESH_LISTS:
-            setattr(self, record.name, lendable(getattr(self, record.name), record.dtype, record.name))
+    def __init__(self, xy: ArrayLike, nodes: ArrayLike, ends: ArrayLike, kinds: ArrayLike, families: ArrayLike) -> None:
+        for record, values in zip(MESH_LISTS, (xy, nodes, ends, kinds, families)):
+            setattr(self, record.name, lendable(values, record.dtype, record.name))
         if self.xy.size == 0:
             self.xy = self.xy.reshape(0, 2)
         if self.xy.ndim != 2 or self.xy.shape[1] != 2:
             raise ValueError(f'xy: n x 2 numbers are needed, x and y of each node; these are {" x ".join(map(str, self.xy.shape))}')
 
+    def __repr__(self) -> str:
+        return f'<{type(self).__name__}: {len(self):,} cells, {len(self.xy):,} nodes>'
+
     @classmethod
-    def from_cells(cls, xy: Any, cells: Any, families: Any = None, kinds: Any = None) -> Mesh:
+    def from_cells(cls, xy: ArrayLike, cells: Any, families: Optional[ArrayLike] = None, kinds: Optional[ArrayLike] = None) -> Mesh:
         """A mesh of cells as lists of node numbers (from 0), or as an array n x k.
 
         Cells are sorted by kind, clockwise ones turned, a closing corner dropped, -0.0 made 0.0. Families are the cells' places in
         `cells`, unless given. Kinds go by the count of corners, unless given, one for all or one for each.
         """
         xy = _without_negative_zeros(lendable(xy, np.dtype(np.float64), 'xy'))
-        flat, counts = _flat(cells)
-        flat, counts = _opened(flat, counts)
+        flat, counts = _opened(*_flat(cells))
         _check_nodes(flat, counts, len(xy))
         clockwise = _areas(xy, flat, counts) < 0
         kinds = _kinds(counts) if kinds is None else np.broadcast_to(np.asarray(kinds), counts.shape)
@@ -65,8 +66,9 @@ class Mesh:
         if families.shape != counts.shape:
             raise ValueError(f'families: {len(counts)} are needed, one for each cell; these are {families.size}')
         order = np.argsort(kinds, kind='stable')
-        flat = flat[_entries(counts, order, clockwise)]
-        return cls(xy, flat, np.cumsum(counts[order]), kinds[order], families[order], order, clockwise[order])
+        mesh = cls(xy, flat[entries(counts, order, clockwise)], np.cumsum(counts[order]), kinds[order], families[order])
+        mesh.order, mesh.turned = order, clockwise[order]
+        return mesh
 
     def __len__(self) -> int:
         return len(self.ends)
@@ -97,7 +99,7 @@ class Mesh:
     def take(self, cells: np.ndarray) -> tuple[Mesh, np.ndarray]:
         """The mesh of some cells, in the order given, and which nodes it has: these keep their order."""
         counts = self.counts()
-        corners = self.nodes[_entries(counts, cells)]
+        corners = self.nodes[entries(counts, cells)]
         used, numbers = np.unique(corners, return_inverse=True)
         return Mesh(self.xy[used], numbers, np.cumsum(counts[cells]), self.kinds[cells], self.families[cells]), used
 
@@ -144,7 +146,7 @@ def _kinds(counts: np.ndarray) -> np.ndarray:
     return kinds
 
 
-def _entries(counts: np.ndarray, cells: np.ndarray, backwards: Optional[np.ndarray] = None) -> np.ndarray:
+def entries(counts: np.ndarray, cells: np.ndarray, backwards: Optional[np.ndarray] = None) -> np.ndarray:
     """Where the corners of the cells stand in the flat list, cell by cell; `backwards` says which of all cells are read backwards."""
     starts = np.cumsum(counts) - counts
     many = counts[cells]
@@ -152,6 +154,14 @@ def _entries(counts: np.ndarray, cells: np.ndarray, backwards: Optional[np.ndarr
     if backwards is not None:
         within = np.where(np.repeat(backwards[cells], many), np.repeat(many, many) - 1 - within, within)
     return np.repeat(starts[cells], many) + within
+
+
+def following(counts: np.ndarray) -> np.ndarray:
+    """For each corner in the flat list the place of the next corner of its cell. Every cell has one."""
+    ends = np.cumsum(counts)
+    after = np.arange(1, counts.sum() + 1)
+    after[ends - 1] = ends - counts
+    return after
 
 
 def _areas(xy: np.ndarray, nodes: np.ndarray, counts: np.ndarray) -> np.ndarray:
@@ -162,8 +172,7 @@ def _areas(xy: np.ndarray, nodes: np.ndarray, counts: np.ndarray) -> np.ndarray:
     if not starts.size:
         return areas
     corners = xy[nodes] - np.repeat(xy[nodes[starts]], counts[some], axis=0)
-    after = np.arange(1, len(nodes) + 1)
-    after[starts + counts[some] - 1] = starts
+    after = following(counts[some])
     x, y = corners.T
     areas[some] = np.add.reduceat(x * y[after] - y * x[after], starts) / 2
     return areas

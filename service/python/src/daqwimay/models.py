@@ -55,9 +55,10 @@ def _reader(path: Path) -> Callable[[Path], Model]:
 
 def crs_of(words: Any, source: str) -> Any:
     """A reference system from a name ("EPSG:28992"), a number or WKT."""
+    pyproj = extra('pyproj', 'files')
     try:
-        return extra('pyproj', 'files').CRS.from_user_input(words)
-    except ValueError as e:
+        return pyproj.CRS.from_user_input(words)
+    except pyproj.exceptions.CRSError as e:
         raise InputError(f'{source}: no reference system "{str(words)[:60]}" ({str(e)[:80]})') from e
 
 

@@ -1,7 +1,6 @@
 """The overlay of two meshes."""
 from __future__ import annotations
 
-from dataclasses import dataclass
 from enum import IntEnum
 from typing import Union
 
@@ -26,7 +25,6 @@ class Operation(IntEnum):
     LINES = 5               #: the cutter's cells are of kind SEG2
 
 
-@dataclass(eq=False)
 class Overlay(Mesh):
     """The pieces as a mesh: the subject's nodes, the cutter's, then the new points; each piece has its cell's family."""
 
@@ -87,4 +85,6 @@ def answer_of(lists: list[np.ndarray], nodes: int, counts: np.ndarray) -> Overla
     ends = lists[[r.name for r in OUTPUT_LISTS].index('ends')]
     used = {'node': nodes + new_points, 'corner': int(ends[pieces - 1]) if pieces else 0, 'cell': pieces}
     fields = {r.name: a[:used[r.per]] for r, a in zip(OUTPUT_LISTS, lists)}
-    return Overlay(**fields, new_points=new_points, doubled_cells=doubled)
+    found = Overlay(**fields)
+    found.new_points, found.doubled_cells = new_points, doubled
+    return found

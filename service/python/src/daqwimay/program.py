@@ -80,7 +80,10 @@ class _Reader:
 
     def mesh(self) -> Mesh:
         self.need(re.compile(r'\(mesh'), '`(mesh`')
-        xy, corners, ends, kinds, families = [], [], [], [], []
+        xy: list[list[float]] = []
+        corners: list[int] = []
+        ends: list[int] = []
+        kinds, families = [], []
         while m := self.match(_NODE):
             self._room(len(xy), MOST_NODES, 'nodes')
             xy.append([struct.unpack('>d', bytes.fromhex(h))[0] for h in m.groups()])
@@ -92,7 +95,7 @@ class _Reader:
             self._room(len(corners) - 1, MOST_ENTRIES, 'corners')
             ends.append(len(corners))
         self.need(re.compile(r'\)'), 'a cell or `)`' if ends else 'a node, a cell or `)`')
-        return Mesh(np.array(xy, float).reshape(-1, 2), corners, ends, kinds, families)
+        return Mesh(xy, corners, ends, kinds, families)
 
     def _room(self, have: int, most: int, what: str) -> None:
         if have >= most:

@@ -111,13 +111,13 @@ def unfit(shapes: Sequence[Any]) -> list[Problem]:
     """Polygons that no cell can be."""
     found = []
     for shape in shapes:
-        corners, place = len(shape.exterior.coords) - 1, map(float, shape.exterior.coords[0][:2])
+        corners, place = len(shape.exterior.coords) - 1, shape.exterior.coords[0]
         if shape.interiors:
-            found.append(Problem(f'a polygon with holes, {len(shape.interiors)} of them', *place))
+            found.append(Problem.at(place, f'a polygon with holes, {len(shape.interiors)} of them'))
         elif corners > MOST_CORNERS:
-            found.append(Problem(f'a polygon of {corners} corners; {MOST_CORNERS} are allowed', *place))
+            found.append(Problem.at(place, f'a polygon of {corners} corners; {MOST_CORNERS} are allowed'))
         elif not shape.is_valid:
-            found.append(Problem('a polygon that crosses or touches itself', *place))
+            found.append(Problem.at(place, 'a polygon that crosses or touches itself'))
     return found
 
 

@@ -102,10 +102,10 @@ def window_of(model: Model) -> Box:
 
 def same_crs(model: Model, soils: SoilMap) -> Any:
     """The reference system of both. Two that differ, or degrees, are an error."""
-    known = [(f, f.crs) for f in (model, soils) if f.crs is not None]
-    for file, crs in known:
+    known = [(s, crs) for s, crs in ((model.source, model.crs), (soils.source, soils.crs)) if crs is not None]
+    for source, crs in known:
         if crs.is_geographic:
-            raise InputError(f'{file.source} is in degrees ({crs.name}), where areas mean nothing: bring it to a reference system in metres')
+            raise InputError(f'{source} is in degrees ({crs.name}), where areas mean nothing: bring it to a reference system in metres')
     if len(known) == 2 and not model.crs.equals(soils.crs, ignore_axis_order=True):
         raise InputError(f'two reference systems: {model.source} is in {model.crs.name}, {soils.source} in {soils.crs.name}; bring one to the other')
     return known[0][1] if known else None
