@@ -32,7 +32,7 @@ def new_figure(panels: int, size: float = 4.6, shape: float = 1.0) -> tuple[Any,
     """Panels side by side; `shape` is what they show, height by width."""
     extra('matplotlib', 'plots').use('Agg')
     plt = extra('matplotlib.pyplot', 'plots')
-    figure, axes = plt.subplots(1, panels, figsize=(size * panels, size * min(max(shape, 0.3), 2.0) + 0.5), squeeze=False)
+    figure, axes = plt.subplots(1, panels, figsize=(size * panels, size * min(max(shape, 0.3), 2.0) + 0.5), squeeze=False, constrained_layout=True)
     return figure, list(axes[0])
 
 
@@ -56,6 +56,5 @@ def legend(axis: Any, named: Sequence[tuple[str, str]]) -> None:
 
 
 def save(figure: Any, path: Union[str, Path]) -> None:
-    figure.tight_layout()
-    figure.savefig(path, dpi=90)
+    figure.savefig(path, dpi=90, bbox_inches='tight')
     extra('matplotlib.pyplot', 'plots').close(figure)
