@@ -78,7 +78,7 @@ def test_a_refused_cell_is_named():
     model = Mesh.from_cells(*maps.grid(4, 1, 10.0, 0.0, 0.0, 0.0))
     ys = np.linspace(0.1, 9.9, 250)
     lines = Mesh.from_cells([[x, y] for y in ys for x in (20.0, 30.0)], np.arange(500).reshape(-1, 2))
-    with pytest.raises(Refused, match=r'family 2, around \(25, 5\)') as e:
+    with pytest.raises(Refused, match=r'of family 2, around \(25, 5\)') as e:
         overlay_in_chunks(model, lines, 'lines')
     assert e.value.number == 10
 

@@ -10,7 +10,7 @@ import pytest
 from shapely.geometry import LineString, MultiPolygon, box
 
 import maps
-from daqwimay import InputError, Mesh, cut, read_model, read_soils, write_mesh, write_strips
+from daqwimay import InputError, Mesh, Model, cut, read_model, read_soils, write_mesh, write_strips
 
 RD = pyproj.CRS('EPSG:28992')
 MIXED = Mesh.from_cells([[0, 0], [2, 0], [2, 2], [0, 2], [3, 1], [1.2, 3.3], [0.1, 3.1]], [[0, 1, 2, 3], [1, 4, 2], [3, 2, 5, 6], [4, 5, 2]])
@@ -187,6 +187,30 @@ def test_strips_as_a_map_and_as_a_mesh(tmp_path):
     assert sum(a.sum() for a in data['area']) == pytest.approx(made.mesh.areas().sum())
     rows = list(csv.DictReader(open(tmp_path / 'strips.soils.csv')))
     assert [r['soil'] for r in rows] == strips.names
+
+
+def test_columns_of_disv_and_ugrid_are_not_lost(tmp_path):
+    import netCDF4
+    written = write_mesh(tmp_path / 'm.disv', FIVE, {'soil': np.array([4, 5])}, RD)
+    assert [w.split('/')[-1] for w in written] == ['m.disv', 'm.csv', 'm.prj']
+    assert (tmp_path / 'm.csv').read_text() == 'icell2d,soil\n1,4\n2,5\n'
+    assert write_mesh(tmp_path / 'm.nc', FIVE, {'soil': np.array([4, 5])}, RD) == [str(tmp_path / 'm.nc')]
+    with netCDF4.Dataset(tmp_path / 'm.nc') as d:
+        assert d['soil'][:].tolist() == [4, 5] and d['soil'].location == 'face'
+
+
+def test_a_models_families_are_its_cells():
+    with pytest.raises(ValueError, match='places of its cells'):
+        Model(Mesh.from_cells([[0, 0], [1, 0], [0, 1]], [[0, 1, 2]], families=[7]))
+
+
+def test_a_model_in_a_layer_of_a_map(tmp_path):
+    for layer, size in (('cells', 3), ('other', 1)):
+        frame = geopandas.GeoDataFrame({'id': range(size)}, geometry=[box(i, 0, i + 1, 1) for i in range(size)], crs=RD)
+        frame.to_file(tmp_path / 'm.gpkg', driver='GPKG', layer=layer)
+    assert len(read_model(tmp_path / 'm.gpkg', layer='cells').mesh) == 3
+    with pytest.raises(InputError, match='several layers'):
+        read_model(tmp_path / 'm.gpkg')
 
 
 def test_a_format_that_has_no_polygons(tmp_path):

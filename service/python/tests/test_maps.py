@@ -141,6 +141,21 @@ def test_a_grid_that_makes_nodes_one():
         cut(maps.model(), maps.soil_map(maps.voronoi(1)), grid=200.0)
 
 
+def test_a_refused_cell_is_named_as_in_the_file():
+    """An outline far finer than the model: over 1,024 entries in a cell's table."""
+    made = maps.model(2, 2, 100.0, 0.0)
+    made.first = 1
+    lake = maps.moved(Point(100, 100).buffer(80, 1000))
+    with pytest.raises(Refused, match=r'cell 1, around \(155050, 463050\)') as e:
+        cut(made, maps.soil_map([lake]), grid=GRID)
+    assert e.value.number == 10
+
+
+def test_no_soil_where_the_model_lies():
+    with pytest.raises(InputError, match='no soil where the model lies'):
+        cut(maps.model(2, 2), maps.soil_map([box(0, 0, 1, 1)]), grid=GRID)
+
+
 def test_rates_of_cells():
     made = maps.model(2, 1, 100.0, 0.0)
     left = maps.moved(box(-100, -100, 50, 300))

@@ -31,6 +31,11 @@ def test_numbers_that_would_change_are_an_error(field, value):
         Mesh(**{**lists, field: value})
 
 
+def test_lists_of_corners_may_have_rows():
+    mesh = Mesh(SQUARE, np.array([[0, 1, 2, 3]], np.uint32), [4], [8], [7])
+    assert [c.tolist() for c in mesh.cells()] == [[0, 1, 2, 3]]
+
+
 @pytest.mark.parametrize('xy', [[0.0, 1.0], [[0, 0, 0]], 3.0])
 def test_coordinates_are_pairs(xy):
     with pytest.raises(ValueError, match='n x 2'):

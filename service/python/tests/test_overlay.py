@@ -85,6 +85,12 @@ def test_an_unknown_name_lists_the_operations():
         overlay(SQUARE, RIGHT, 'cut')
 
 
+@pytest.mark.parametrize('number', [1.5, None, '2'])
+def test_an_operation_is_a_name_or_a_whole_number(number):
+    with pytest.raises((TypeError, ValueError)):
+        overlay(SQUARE, RIGHT, number)
+
+
 def test_lists_grow_until_the_pieces_fit():
     """One cell cut by 100 lines: far more corners than 4 times the lent ones."""
     ys = np.linspace(0.01, 1.99, 100)

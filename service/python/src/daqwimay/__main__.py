@@ -76,7 +76,8 @@ def _map_options(p: argparse.ArgumentParser, soils: Any = None) -> None:
     p.add_argument('mesh', metavar='MESH', help='the model: .disv, .nc (UGRID), .vtu, .vtk .. (meshio), or a map of its cells')
     p.add_argument('soils', metavar='SOILS', nargs=soils, help='the map: .gpkg, .shp, .geojson ..')
     p.add_argument('--soil', metavar='ATTRIBUTE', help='the attribute that names the soil (default: "soil", or the only one)')
-    p.add_argument('--layer', help='the layer of a map with several')
+    p.add_argument('--layer', help='the layer of a map with several; --mesh-layer for a model that is a map')
+    p.add_argument('--mesh-layer', metavar='LAYER', help=argparse.SUPPRESS)
     p.add_argument('--mesh-crs', metavar='CRS', help='the model\'s reference system, as EPSG:28992, where its file names none')
     p.add_argument('--soils-crs', metavar='CRS', help='the map\'s reference system, where its file names none')
     p.add_argument('--grid', type=float, metavar='STEP', help='clean the map first on a grid of this step, in the map\'s unit: 0.001 is 1 mm')
@@ -113,7 +114,7 @@ class Progress:
 def _read(options: argparse.Namespace) -> tuple:
     """The model and the map, each with a line that says what it is."""
     from . import models, soils, strips
-    model = models.read_model(options.mesh, options.mesh_crs)
+    model = models.read_model(options.mesh, options.mesh_crs, options.mesh_layer)
     say(_said(model.source, f'{len(model.mesh):,} cells, {len(model.mesh.xy):,} nodes', model.crs, model.notes))
     if options.soils is None:
         return model, None
@@ -139,7 +140,8 @@ def _cut(options: argparse.Namespace) -> int:
         progress.end()
     for change in strips.changes:
         say(f'  cleaned: {change}')
-    say(f'{len(strips.pieces):,} pieces, {strips.pieces.new_points:,} new points ({time.monotonic() - start:.1f} s); every piece is simple and in one soil')
+    seconds = time.monotonic() - start
+    say(f'{len(strips.pieces):,} pieces, {strips.pieces.new_points:,} new points ({seconds:.1f} s); every piece is simple and in one soil')
     _say_areas(strips)
     _write(options, strips, made.same_crs(model, soils))
     return 0

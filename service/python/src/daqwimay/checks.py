@@ -100,22 +100,28 @@ def _astray(stray: Any, faces: _Faces, soil: int, cell: int) -> Problem:
 
 def _cells(model: Model, pieces: Overlay, soil: np.ndarray, faces: _Faces, progress: Progress) -> tuple[np.ndarray, list[Problem]]:
     """The areas of soils in each cell beside GEOS's."""
-    mesh, many = model.mesh, len(faces.names)
-    ours = np.zeros((len(mesh), many))
-    np.add.at(ours, (pieces.families, soil), pieces.areas())
-    theirs, problems = np.zeros(many), []
-    for i, (shape, own) in enumerate(zip(geos.polygons(mesh), reach(mesh))):
-        family = int(mesh.families[i])
-        found = np.zeros(many)
-        for number, area in faces.areas_in(shape).items():
-            found[number] = area
-        found[-1] += max(shape.area - found.sum(), 0.0)
-        theirs += found
-        worst = int(np.argmax(np.abs(found - ours[family])))
-        if abs(found - ours[family])[worst] > faces.slack(shape, own):
-            what = f'"{faces.names[worst]}" has an area of {ours[family, worst]:.10g} by the pieces, {found[worst]:.10g} by GEOS'
+    mesh, ours = model.mesh, _by_cell(pieces, soil)
+    by_geos, problems = np.zeros(len(faces.names)), []
+    for i, (shape, own, family) in enumerate(zip(geos.polygons(mesh), reach(mesh), mesh.families.tolist())):
+        theirs, mine = faces.areas_in(shape), ours.get(family, {})
+        bare = len(faces.names) - 1
+        theirs[bare] = theirs.get(bare, 0.0) + max(shape.area - sum(theirs.values()), 0.0)
+        for number, area in theirs.items():
+            by_geos[number] += area
+        off, worst = max((abs(theirs.get(s, 0.0) - mine.get(s, 0.0)), s) for s in theirs.keys() | mine.keys())
+        if off > faces.slack(shape, own):
+            what = f'"{faces.names[worst]}" has an area of {mine.get(worst, 0.0):.10g} by the pieces, {theirs.get(worst, 0.0):.10g} by GEOS'
             problems.append(Problem.at(shape.centroid.coords[0], what, family + model.first))
         if i % _STEP == 0:
             progress('cells checked', i, len(mesh))
     progress('cells checked', len(mesh), len(mesh))
-    return theirs, problems
+    return by_geos, problems
+
+
+def _by_cell(pieces: Overlay, soil: np.ndarray) -> dict[int, dict[int, float]]:
+    """For each family the area of each soil."""
+    found: dict[int, dict[int, float]] = {}
+    for family, number, area in zip(pieces.families.tolist(), soil.tolist(), pieces.areas().tolist()):
+        cell = found.setdefault(family, {})
+        cell[number] = cell.get(number, 0.0) + area
+    return found

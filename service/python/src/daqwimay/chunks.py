@@ -67,8 +67,9 @@ class _Whole:
         try:
             self._lend(cell, cell)
         except Refused as e:
-            x, y = (self.boxes[cell[0]].reshape(2, 2)).mean(axis=0)
-            raise Refused(e.number, f'  cell of family {self.subject.families[cell[0]]}, around ({x:.10g}, {y:.10g})') from refused
+            x, y = self.boxes[cell[0]].reshape(2, 2).mean(axis=0)
+            family = int(self.subject.families[cell[0]])
+            raise Refused(e.number, f'the cell of family {family}, around ({x:.10g}, {y:.10g})', family) from refused
 
     def _lend(self, lent: np.ndarray, own: np.ndarray) -> None:
         part, nodes = self.subject.take(lent)

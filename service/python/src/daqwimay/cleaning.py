@@ -35,8 +35,8 @@ def clean(soils: SoilMap, grid: float, window: Box, nodes: Optional[np.ndarray] 
     polygons, owners = _inside(soils, window, changes)
     pins = _Pins(np.zeros((0, 2)) if nodes is None else nodes, grid)
     outline = geos.geometry.box(*_rounded(np.array(window).reshape(2, 2), grid).ravel())
-    lines = _on_grid([p.boundary for p in polygons] + [outline.boundary], grid, pins)
-    tiles, seams = _tiled(lines, grid, pins)
+    noded = geos.noded([*(p.boundary for p in polygons), outline.boundary], grid)
+    tiles, seams = _tiled(geos.noded(map(pins.through, noded), grid), grid, pins)
     names = [*soils.names, background]
     mesh = faces_mesh(tiles, _owned(tiles, polygons, owners, names, changes))
     pinned = pins.restore(mesh)
@@ -65,6 +65,8 @@ def _inside(soils: SoilMap, window: Box, changes: list[str]) -> tuple[list[Any],
         owners += [soil] * len(within)
     if broken:
         changes.append(f'{len(broken)} polygons that cross themselves were repaired, {_named(broken)}')
+    if not polygons:
+        raise InputError(f'{soils.source}: no soil where the model lies')
     return polygons, owners
 
 
@@ -109,13 +111,6 @@ class _Pins:
         return len(at)
 
 
-def _on_grid(lines: list[Any], grid: float, pins: _Pins) -> list[Any]:
-    """Lines noded on the grid that run through the pins they pass."""
-    noded = geos.noded(lines, grid)
-    led = [pins.through(line) for line in noded]
-    return noded if all(a is b for a, b in zip(noded, led)) else geos.noded(led, grid)
-
-
 def _tiled(lines: list[Any], grid: float, pins: _Pins) -> tuple[list[Any], int]:
     """Faces without holes and of at most 256 corners, and how many seams that took."""
     count = 0
@@ -125,7 +120,7 @@ def _tiled(lines: list[Any], grid: float, pins: _Pins) -> tuple[list[Any], int]:
         if not seams:
             return tiles, count
         count += len(seams)
-        lines = _on_grid([*lines, *seams], grid, pins)
+        lines = geos.noded([*lines, *map(pins.through, seams)], grid)
     raise InputError(f'the map has faces that {_ROUNDS} rounds of seams do not cut small enough: is the grid of {grid:g} too coarse?')
 
 
@@ -202,4 +197,4 @@ def _summary(polygons: list[Any], owners: list[int], mesh: Mesh, names: list[str
     worst = int(np.argmax(np.abs(after - before)[:-1]))
     said = [f'{np.count_nonzero(moves)} of {len(corners)} corners put on the grid of {grid:g}, moved by at most {moves.max():.3g}',
             f'largest change of a soil\'s area: {names[worst]}, {after[worst] - before[worst]:+.6g} of {before[worst]:.6g} square units']
-    return said + [f'nothing is left on this grid of: {", ".join(lost)}'] * bool(lost)
+    return said + [f'nothing is left of: {", ".join(lost)} (covered by others, or smaller than the grid)'] * bool(lost)

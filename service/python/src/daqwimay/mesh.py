@@ -41,7 +41,8 @@ class Mesh:
 
     def __init__(self, xy: ArrayLike, nodes: ArrayLike, ends: ArrayLike, kinds: ArrayLike, families: ArrayLike) -> None:
         for record, values in zip(MESH_LISTS, (xy, nodes, ends, kinds, families)):
-            setattr(self, record.name, lendable(values, record.dtype, record.name))
+            lent = lendable(values, record.dtype, record.name)
+            setattr(self, record.name, lent if record.width > 1 or lent.ndim == 1 else lent.reshape(-1))
         if self.xy.size == 0:
             self.xy = self.xy.reshape(0, 2)
         if self.xy.ndim != 2 or self.xy.shape[1] != 2:
@@ -136,7 +137,7 @@ def _check_nodes(flat: np.ndarray, counts: np.ndarray, nodes: int) -> None:
     bad = np.flatnonzero((flat < 0) | (flat >= nodes))
     if bad.size:
         cell = int(np.searchsorted(np.cumsum(counts), bad[0], side='right'))
-        raise Refused(5, f'  cell {cell} names node {flat[bad[0]]}; there are {nodes} nodes, numbered from 0')
+        raise Refused(5, f'cell {cell} names node {flat[bad[0]]}; there are {nodes} nodes, numbered from 0')
 
 
 def _kinds(counts: np.ndarray) -> np.ndarray:

@@ -26,8 +26,12 @@ class Model:
     first: int = 0                  #: the number of the file's first cell: 1 in DISV
     notes: tuple[str, ...] = ()     #: what reading did
 
+    def __post_init__(self) -> None:
+        if not np.array_equal(np.sort(self.mesh.families), np.arange(len(self.mesh))):
+            raise ValueError('a model\'s families are the places of its cells, 0, 1, .., each once: leave them to Mesh.from_cells')
 
-def read_model(path: Union[str, Path], crs: Optional[str] = None) -> Model:
+
+def read_model(path: Union[str, Path], crs: Optional[str] = None, layer: Optional[str] = None) -> Model:
     """By the file's ending: .disv, .nc (UGRID), a map of polygons (.gpkg, .shp, .geojson), otherwise meshio (.vtu, .vtk, .msh ..).
 
     A file that names no reference system may have one beside it: model.prj beside model.vtu. `crs` goes before both.
@@ -35,7 +39,7 @@ def read_model(path: Union[str, Path], crs: Optional[str] = None) -> Model:
     path = Path(path)
     if not path.is_file():
         raise InputError(f'{path}: no such file')
-    model = _reader(path)(path)
+    model = read_polygons(path, layer) if path.suffix.lower() in MAPS else _reader(path)(path)
     if not len(model.mesh):
         raise InputError(f'{path}: no cells')
     beside = path.with_suffix('.prj')
@@ -48,8 +52,6 @@ def _reader(path: Path) -> Callable[[Path], Model]:
     ending = path.suffix.lower()
     if ending == '.grb':
         raise InputError(f'{path}: a binary grid file is not read; give the text file of the DISV package')
-    if ending in MAPS:
-        return read_polygons
     return {'.disv': read_disv, '.nc': read_ugrid}.get(ending, read_meshio)
 
 
@@ -146,10 +148,10 @@ def read_meshio(path: Path) -> Model:
     return Model(Mesh.from_cells(mesh.points[:, :2], cells), str(path), None, 0, notes)
 
 
-def read_polygons(path: Path) -> Model:
+def read_polygons(path: Path, layer: Optional[str] = None) -> Model:
     """A model's cells as polygons of a map: corners of equal coordinates are one node."""
     from . import soils
-    frame = soils.read_frame(path)
+    frame = soils.read_frame(path, layer)
     shapes = list(frame.geometry)
     for i, shape in enumerate(shapes):
         if shape is None or shape.geom_type != 'Polygon' or shape.interiors:

@@ -2,6 +2,7 @@
 from __future__ import annotations
 
 from enum import IntEnum
+from operator import index
 from typing import Union
 
 import numpy as np
@@ -38,8 +39,9 @@ def overlay(subject: Mesh, cutter: Mesh, operation: Union[Operation, str, int] =
 
     For recharge by soils the model is the subject and the soils are the cutter, with the operation "imprint".
     """
+    limit = index(limit)
     if not 1 <= limit <= MOST_MEETINGS:
-        raise Refused(1, f'  the meeting limit is {limit}')
+        raise Refused(1, f'the meeting limit is {limit}')
     number = operation_number(operation)
     points = len(subject.xy) + len(cutter.xy) + limit
     corners = subject.nodes.size + cutter.nodes.size
@@ -58,9 +60,9 @@ def overlay(subject: Mesh, cutter: Mesh, operation: Union[Operation, str, int] =
 
 def operation_number(operation: Union[Operation, str, int]) -> int:
     if not isinstance(operation, str):
-        if not 0 <= operation <= max(Operation):
-            raise Refused(1, f'  the operation is {operation}')
-        return int(operation)
+        if not 0 <= index(operation) <= max(Operation):
+            raise Refused(1, f'the operation is {operation}')
+        return index(operation)
     try:
         return Operation[operation.upper().replace(' ', '_').replace('-', '_')]
     except KeyError:

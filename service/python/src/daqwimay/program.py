@@ -10,7 +10,7 @@ import numpy as np
 from ._library import call
 from .mesh import Mesh
 from .overlaying import Overlay, answer_of, output_lists
-from .refusals import REFUSALS, described
+from .refusals import described, refusal
 
 MOST_BYTES = 65_536
 MOST_NODES = MOST_CELLS = 512
@@ -151,7 +151,7 @@ def explained(data: bytes) -> tuple[int, str]:
     if not refused:
         pieces, points, doubled = printed.splitlines()[-2].strip('()').split()[1:]
         return 0, f'answered: {pieces} pieces, {points} new points, {doubled} doubled cells'
-    row = REFUSALS[int(refused[1])]
+    row = refusal(int(refused[1]))
     asked = sum(len(m.xy) + m.nodes.size for m in (question.subject, question.cutter)) + question.limit
-    size = f'  nodes, corners and the limit are {asked:,} together, the program has room for 1,020' if row.number == 7 else ''
+    size = f'nodes, corners and the limit are {asked:,} together, the program has room for 1,020' if row.number == 7 else ''
     return 1, described(row, size)

@@ -1,7 +1,7 @@
 """The refusals: what each number means, its likely causes, and what to do. One table, from which every message and page is made."""
 from __future__ import annotations
 
-from typing import NamedTuple
+from typing import NamedTuple, Optional
 
 
 class Refusal(NamedTuple):
@@ -56,23 +56,26 @@ _ROWS = (
 REFUSALS: dict[int, Refusal] = {row.number: row for row in _ROWS}
 
 
-class Refused(ValueError):
-    """The library refuses an overlay. `number` and `refusal` say why, `detail` where, if that is known."""
+def refusal(number: int) -> Refusal:
+    """The row of a number."""
+    return REFUSALS.get(number, Refusal(number, 'unknown', 'a refusal that this package does not know', (), ''))
 
-    def __init__(self, number: int, detail: str = '') -> None:
-        self.number = number
-        self.refusal = REFUSALS.get(number, Refusal(number, 'unknown', 'a refusal that this package does not know', (), ''))
-        self.detail = detail
+
+class Refused(ValueError):
+    """The library refuses an overlay. `number` and `refusal` say why, `detail` where, if that is known, `family` in which cell."""
+
+    def __init__(self, number: int, detail: str = '', family: Optional[int] = None) -> None:
+        self.number, self.refusal, self.detail, self.family = number, refusal(number), detail, family
         super().__init__(described(self.refusal, detail))
 
-    def __reduce__(self) -> tuple[type, tuple[int, str]]:
-        return type(self), (self.number, self.detail)
+    def __reduce__(self) -> tuple[type, tuple]:
+        return type(self), (self.number, self.detail, self.family)
 
 
 def described(row: Refusal, detail: str = '') -> str:
     """A refusal in a person's words, a line for each part."""
     lines = [f'refused {row.number} ({row.name}): {row.meaning}']
-    lines += [detail] if detail else []
+    lines += [f'  {line}' for line in detail.splitlines()]
     lines += ['  likely: ' + '; or '.join(row.causes)] if row.causes else []
     lines += ['  cure: ' + row.cure] if row.cure else []
     return '\n'.join(lines)

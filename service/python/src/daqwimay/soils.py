@@ -92,9 +92,9 @@ def frame_crs(frame: Any, path: Path, crs: Optional[str] = None) -> Any:
     from .models import crs_of
     if crs:
         return crs_of(crs, str(path))
-    if path.suffix.lower() in ('.geojson', '.json') and frame.crs is not None and frame.crs.to_epsg() == 4326 and len(frame):
+    if path.suffix.lower() in ('.geojson', '.json') and len(frame) and frame.crs is not None and frame.crs.is_geographic:
         x0, y0, x1, y1 = frame.total_bounds
-        if min(x0, x1) < -180 or max(x0, x1) > 180 or min(y0, y1) < -90 or max(y0, y1) > 90:
+        if x0 < -180 or x1 > 180 or y0 < -90 or y1 > 90:
             return None
     return frame.crs
 

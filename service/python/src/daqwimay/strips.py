@@ -8,6 +8,7 @@ import numpy as np
 
 from .chunks import overlay_in_chunks
 from .errors import InputError, NotClean
+from .mesh import Mesh
 from .models import Model
 from .overlaying import Operation, Overlay
 from .refusals import Refused
@@ -70,14 +71,14 @@ def cut(model: Model, soils: SoilMap, *, grid: Optional[float] = None, backgroun
     try:
         pieces = overlay_in_chunks(model.mesh, mesh, Operation.IMPRINT, progress=lambda done, of: told('cells cut', done, of))
     except Refused as e:
-        raise Refused(e.number, e.detail + _refused_near(model, mesh)) from e
+        raise _placed(e, model, mesh) from e
     soil, by_geos, problems = checked(model, pieces, mesh, names, told)
     if problems:
         raise NotClean(f'{len(problems)} places where the strips are wrong: the map or the model is not clean', problems, '' if grid else _CURE)
     return Strips(model, pieces, soil, names, by_geos, changes)
 
 
-def _cutter(model: Model, soils: SoilMap, grid: Optional[float], background: str) -> tuple[Any, list[str], list[str]]:
+def _cutter(model: Model, soils: SoilMap, grid: Optional[float], background: str) -> tuple[Mesh, list[str], list[str]]:
     if background in soils.names:
         raise InputError(f'"{background}" is a soil of the map: choose another name for what no soil covers')
     if grid is None:
@@ -87,10 +88,11 @@ def _cutter(model: Model, soils: SoilMap, grid: Optional[float], background: str
     return done.mesh, done.names, done.changes
 
 
-def _refused_near(model: Model, soils: Any) -> str:
+def _placed(refused: Refused, model: Model, soils: Mesh) -> Refused:
+    """The refusal with the cell's number in the file, and soil corners that lie a hair beside the model's nodes."""
     from .defects import between
-    found = between(model.mesh, soils)
-    return ''.join(f'\n  {p}' for p in found[:NotClean.SHOWN])
+    detail = refused.detail if refused.family is None else refused.detail.replace(f'the cell of family {refused.family}', f'cell {refused.family + model.first}')
+    return Refused(refused.number, '\n'.join([detail, *map(str, between(model.mesh, soils)[:NotClean.SHOWN])]), refused.family)
 
 
 def window_of(model: Model) -> Box:

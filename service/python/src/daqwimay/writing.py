@@ -46,11 +46,18 @@ def write_mesh(path: Union[str, Path], mesh: Mesh, columns: Optional[Columns] = 
     if ending in MAPS:
         _write_map(path, mesh, columns, crs)
         return [str(path)]
-    {'.disv': _write_disv, '.nc': _write_ugrid}.get(ending, _write_meshio)(path, mesh, columns)
-    if crs is None:
+    if ending == '.nc':
+        _write_ugrid(path, mesh, columns, crs)
         return [str(path)]
-    path.with_suffix('.prj').write_text(crs.to_wkt('WKT1_ESRI'))
-    return [str(path), str(path.with_suffix('.prj'))]
+    beside = []
+    if ending == '.disv':
+        beside += _write_disv(path, mesh, columns)
+    else:
+        _write_meshio(path, mesh, columns)
+    if crs is not None:
+        beside.append(path.with_suffix('.prj'))
+        beside[-1].write_text(crs.to_wkt('WKT1_ESRI'))
+    return [str(path), *map(str, beside)]
 
 
 def _write_map(path: Path, mesh: Mesh, columns: Columns, crs: Any) -> None:
@@ -77,8 +84,8 @@ def _write_meshio(path: Path, mesh: Mesh, columns: Columns) -> None:
         raise InputError(f'{path}: meshio does not write all these cells so; polygons go to {", ".join(_POLYGONS)}, .disv, .nc, {", ".join(MAPS)}')
 
 
-def _write_disv(path: Path, mesh: Mesh, columns: Columns) -> None:
-    """The vertices and cells of a MODFLOW 6 DISV package, clockwise as it asks; the rest of the package is the model's."""
+def _write_disv(path: Path, mesh: Mesh, columns: Columns) -> list[Path]:
+    """The vertices and cells of a MODFLOW 6 DISV package, clockwise as it asks, and the columns in NAME.csv; answers what is beside it."""
     lines = ['BEGIN DIMENSIONS', '  NLAY 1', f'  NCPL {len(mesh)}', f'  NVERT {len(mesh.xy)}', 'END DIMENSIONS', '', 'BEGIN VERTICES']
     lines += [f'  {i} {x!r} {y!r}' for i, (x, y) in enumerate(mesh.xy.tolist(), 1)]
     lines += ['END VERTICES', '', 'BEGIN CELL2D']
@@ -86,9 +93,15 @@ def _write_disv(path: Path, mesh: Mesh, columns: Columns) -> None:
         x, y = mesh.xy[corners].mean(axis=0).tolist()
         lines.append(f'  {i} {x!r} {y!r} {len(corners)} {" ".join(str(n + 1) for n in corners[::-1])}')
     path.write_text('\n'.join([*lines, 'END CELL2D', '']))
+    if not columns:
+        return []
+    with open(path.with_suffix('.csv'), 'w', newline='') as f:
+        rows = zip(range(1, len(mesh) + 1), *(np.asarray(v).tolist() for v in columns.values()))
+        csv.writer(f, lineterminator='\n').writerows([('icell2d', *columns), *rows])
+    return [path.with_suffix('.csv')]
 
 
-def _write_ugrid(path: Path, mesh: Mesh, columns: Columns) -> None:
+def _write_ugrid(path: Path, mesh: Mesh, columns: Columns, crs: Any) -> None:
     counts = mesh.counts()
     faces = np.full((len(mesh), int(counts.max(initial=3))), -1, np.int32)
     faces[np.arange(faces.shape[1]) < counts[:, None]] = mesh.nodes
@@ -103,6 +116,8 @@ def _write_ugrid(path: Path, mesh: Mesh, columns: Columns) -> None:
         _put(data, 'face_nodes', faces, ('face', 'corner'), -1, cf_role='face_node_connectivity', start_index=np.int32(0))
         for name, values in columns.items():
             _put(data, name, np.asarray(values), ('face',), mesh='mesh2d', location='face')
+        if crs is not None:
+            _put(data, 'crs', np.int32(0), (), crs_wkt=crs.to_wkt())
 
 
 def _put(data: Any, name: str, values: Any, dimensions: tuple, fill: Any = None, **attributes: Any) -> None:
