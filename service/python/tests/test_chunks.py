@@ -88,6 +88,19 @@ def test_operations_that_cut_both_are_an_error(meshes):
         overlay_in_chunks(*meshes, 'union')
 
 
+@pytest.mark.parametrize('changed, number', [({'ends': [3]}, 2), ({'kinds': [8, 8]}, 2), ({'nodes': [0, 1, 2, 9]}, 5), ({'ends': [0, 4]}, 2)])
+def test_what_is_no_mesh_is_refused(changed, number):
+    lists = dict(xy=[[0, 0], [1, 0], [1, 1], [0, 1]], nodes=[0, 1, 2, 3], ends=[4], kinds=[8], families=[0])
+    with pytest.raises(Refused) as e:
+        overlay_in_chunks(Mesh(**{**lists, **changed}), Mesh(**lists))
+    assert e.value.number == number
+
+
+def test_a_chunk_has_cells(meshes):
+    with pytest.raises(ValueError, match='1 is the least'):
+        overlay_in_chunks(*meshes, chunk=0)
+
+
 def test_nothing_in_chunks():
     nothing = Mesh.from_cells([], [])
     assert len(overlay_in_chunks(nothing, nothing)) == 0

@@ -156,6 +156,12 @@ def test_no_soil_where_the_model_lies():
         cut(maps.model(2, 2), maps.soil_map([box(0, 0, 1, 1)]), grid=GRID)
 
 
+def test_a_model_that_crosses_itself_is_told():
+    made = Model(Mesh.from_cells(np.array([[0, 0], [100, 100], [100, 0], [0, 90.0]]) + [maps.X0, maps.Y0], [[0, 1, 2, 3]]))
+    with pytest.raises(NotClean, match='cell 0, at'):
+        cut(made, maps.soil_map([maps.moved(box(-100, -100, 300, 300))]), grid=GRID)
+
+
 def test_rates_of_cells():
     made = maps.model(2, 1, 100.0, 0.0)
     left = maps.moved(box(-100, -100, 50, 300))

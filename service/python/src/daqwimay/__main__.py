@@ -10,12 +10,16 @@ from typing import Any, Callable, Optional, Sequence
 
 import numpy as np
 
-from . import __version__
+from . import __version__, models, program, soils, strips as made
 from .errors import InputError, NotClean, Problem
-from .mesh import Mesh
+from .mesh import Kind, Mesh
+from .models import Model
 from .refusals import Refused, markdown
+from .soils import SoilMap
+from .strips import Strips
 
 FAILED, UNREAD = 1, 2
+_SOILS = 40             # in the table on standard error
 
 _EXAMPLES = """\
 examples:
@@ -111,40 +115,47 @@ class Progress:
             print('\r' + ' ' * 60 + '\r', end='', file=sys.stderr, flush=True)
 
 
-def _read(options: argparse.Namespace) -> tuple:
-    """The model and the map, each with a line that says what it is."""
-    from . import models, soils, strips
+def _read_model(options: argparse.Namespace) -> Model:
     model = models.read_model(options.mesh, options.mesh_crs, options.mesh_layer)
     say(_said(model.source, f'{len(model.mesh):,} cells, {len(model.mesh.xy):,} nodes', model.crs, model.notes))
-    if options.soils is None:
-        return model, None
-    strips.same_crs(model, soils.peek(options.soils, layer=options.layer, crs=options.soils_crs))
-    found = soils.read_soils(options.soils, options.soil, layer=options.layer, crs=options.soils_crs, window=strips.window_of(model))
+    return model
+
+
+def _read_soils(options: argparse.Namespace, model: Model) -> SoilMap:
+    made.same_crs(model, soils.peek(options.soils, layer=options.layer, crs=options.soils_crs))
+    found = soils.read_soils(options.soils, options.soil, layer=options.layer, crs=options.soils_crs, window=made.window_of(model))
     say(_said(found.source, f'{len(found.shapes):,} polygons near the model, {len(found.names):,} soils', found.crs, found.notes))
-    return model, found
+    return found
 
 
-def _said(source: str, what: str, crs, notes: Sequence[str]) -> str:
+def _said(source: str, what: str, crs: Any, notes: Sequence[str]) -> str:
     return '; '.join([f'{source}: {what}', crs.name if crs is not None else 'no reference system named', *notes])
 
 
 def _cut(options: argparse.Namespace) -> int:
-    from . import strips as made
-    files = [f for f in (options.output, options.table, options.picture) if f]
-    _check_outputs(files, [options.mesh, options.soils])
-    model, soils = _read(options)
-    progress, start = Progress(), time.monotonic()
-    try:
-        strips = made.cut(model, soils, grid=options.grid, background=options.background, progress=progress)
-    finally:
-        progress.end()
+    _check_outputs([f for f in (options.output, options.table, options.picture) if f], [options.mesh, options.soils])
+    model = _read_model(options)
+    found = _read_soils(options, model)
+    start = time.monotonic()
+    strips = _strips(options, model, found)
     for change in strips.changes:
         say(f'  cleaned: {change}')
     seconds = time.monotonic() - start
     say(f'{len(strips.pieces):,} pieces, {strips.pieces.new_points:,} new points ({seconds:.1f} s); every piece is simple and in one soil')
+    if strips.pieces.doubled_cells:
+        say(f'  {strips.pieces.doubled_cells:,} doubled cells; their areas are right')
     _say_areas(strips)
-    _write(options, strips, made.same_crs(model, soils))
+    _write(options, strips, made.same_crs(model, found))
     return 0
+
+
+def _strips(options: argparse.Namespace, model: Model, found: SoilMap) -> Strips:
+    """Cut and checked, with progress."""
+    progress = Progress()
+    try:
+        return made.cut(model, found, grid=options.grid, background=options.background, progress=progress)
+    finally:
+        progress.end()
 
 
 def _check_outputs(files: Sequence[str], inputs: Sequence[str]) -> None:
@@ -158,18 +169,21 @@ def _check_outputs(files: Sequence[str], inputs: Sequence[str]) -> None:
             raise InputError(f'{file} is one of the files that are read')
 
 
-def _say_areas(strips) -> None:
-    """The area of each soil, by the pieces and by GEOS."""
+def _say_areas(strips: Strips) -> None:
+    """The area of each soil, by the pieces and by GEOS; of many soils the largest."""
     ours = strips.by_soil()
-    wide = max(map(len, strips.names))
+    shown = sorted(np.argsort(-ours, kind='stable')[:_SOILS])
+    wide = max(len(strips.names[i]) for i in shown)
     say(f'  {"soil":{wide}}  {"area":>16}  {"by GEOS":>16}')
-    for name, a, b in zip(strips.names, ours, strips.by_geos):
-        if a or b:
-            say(f'  {name:{wide}}  {a:16.3f}  {b:16.3f}')
+    for i in shown:
+        if ours[i] or strips.by_geos[i]:
+            say(f'  {strips.names[i]:{wide}}  {ours[i]:16.3f}  {strips.by_geos[i]:16.3f}')
+    if len(shown) < len(ours):
+        say(f'  and {len(ours) - len(shown)} smaller ones')
     say(f'  {"all":{wide}}  {ours.sum():16.3f}  {strips.by_geos.sum():16.3f}  (largest difference {abs(ours - strips.by_geos).max():.2g})')
 
 
-def _write(options: argparse.Namespace, strips, crs) -> None:
+def _write(options: argparse.Namespace, strips: Strips, crs: Any) -> None:
     from . import picture, writing
     written = []
     if options.output:
@@ -189,32 +203,29 @@ def _write(options: argparse.Namespace, strips, crs) -> None:
 
 def _check(options: argparse.Namespace) -> int:
     from . import defects
-    model, soils = _read(options)
+    model = _read_model(options)
     if _clockwise(model.mesh):
         print(f'{model.source}: {_clockwise(model.mesh):,} clockwise cells, turned when read')
-    found = [(model.source, p) for p in defects.of_outlines(model.mesh)]
-    if soils is not None and options.grid is None:
-        found += [(soils.source, p) for p in defects.of_map(soils, model.mesh)]
-    if soils is not None and not found:
-        found = [('strips', p) for p in _wrong_strips(options, model, soils)]
-    _print_problems(found)
-    print(f'{len(found)} places are not clean' if found else 'clean' if soils is None else 'clean: every piece is simple and in one soil')
-    return FAILED if found else 0
+    problems = [(model.source, p) for p in defects.of_outlines(model.mesh)]
+    if options.soils:
+        found = _read_soils(options, model)
+        problems += [(found.source, p) for p in defects.of_map(found, model.mesh)] if options.grid is None else []
+        problems = problems or [('strips', p) for p in _wrong_strips(options, model, found)]
+    _print_problems(problems)
+    clean = 'clean: every piece is simple and in one soil' if options.soils else 'clean'
+    print(f'{len(problems)} places are not clean' if problems else clean)
+    return FAILED if problems else 0
 
 
 def _clockwise(mesh: Mesh) -> int:
     return 0 if mesh.turned is None else int(np.count_nonzero(mesh.turned))
 
 
-def _wrong_strips(options: argparse.Namespace, model, soils) -> Sequence[Problem]:
-    from . import strips
-    progress = Progress()
+def _wrong_strips(options: argparse.Namespace, model: Model, found: SoilMap) -> Sequence[Problem]:
     try:
-        strips.cut(model, soils, grid=options.grid, background=options.background, progress=progress)
+        _strips(options, model, found)
     except NotClean as e:
         return e.problems
-    finally:
-        progress.end()
     return ()
 
 
@@ -226,15 +237,12 @@ def _print_problems(found: Sequence[tuple[str, Problem]]) -> None:
 
 
 def _info(options: argparse.Namespace) -> int:
-    from . import models
     for file in options.files:
         print('\n  '.join(_about_map(Path(file)) if Path(file).suffix.lower() in models.MAPS else _about_model(Path(file))))
     return 0
 
 
 def _about_model(path: Path) -> list[str]:
-    from . import models
-    from .mesh import Kind
     model = models.read_model(path)
     mesh, areas = model.mesh, model.mesh.areas()
     low, high = mesh.xy.min(axis=0), mesh.xy.max(axis=0)
@@ -246,7 +254,7 @@ def _about_model(path: Path) -> list[str]:
 
 
 def _about_map(path: Path) -> list[str]:
-    from . import geos, soils
+    from . import geos
     frame = soils.read_frame(path)
     polygons = [p for s in frame.geometry if s is not None for p in geos.parts(s)]
     x0, y0, x1, y1 = frame.total_bounds
@@ -262,7 +270,6 @@ def _about_map(path: Path) -> list[str]:
 
 
 def _explain(options: argparse.Namespace) -> int:
-    from . import program
     data = sys.stdin.buffer.read() if options.input == '-' else Path(options.input).read_bytes()
     status, words = program.explained(data)
     print(f'{"standard input" if options.input == "-" else options.input}: {words}')

@@ -1,17 +1,17 @@
 """What the proofs do not say, checked after the call with GEOS: every piece is simple, has an area above 0 and lies in one soil."""
 from __future__ import annotations
 
-from typing import Any, Callable
+from typing import Any
 
 import numpy as np
 
 from . import geos
 from .errors import Problem
-from .mesh import Mesh, following
+from .mesh import Mesh
 from .models import Model
 from .overlaying import Overlay
+from .strips import Progress
 
-Progress = Callable[[str, int, int], None]
 _STEP = 500             # pieces between two words on progress
 
 
@@ -19,8 +19,9 @@ def checked(model: Model, pieces: Overlay, soils: Mesh, names: list[str], progre
     """The soil of each piece (the last name: none), the area of each soil in the model by GEOS, and what is wrong."""
     faces = _Faces(soils, names)
     soil, problems = _pieces(model, pieces, faces, progress)
-    by_geos, more = _cells(model, pieces, soil, faces, progress)
-    return soil, by_geos, problems or more
+    if problems:
+        return soil, np.zeros(len(names)), problems
+    return (soil, *_cells(model, pieces, soil, faces, progress))
 
 
 class _Faces:
@@ -30,7 +31,7 @@ class _Faces:
         self.names = names
         self.shapes = geos.polygons(soils)
         self.soils = soils.families.astype(np.int64)
-        self.reach = reach(soils)
+        self.sides = [_side_boxes(soils.xy[c]) for c in soils.cells()]
         self.near = geos.finder(self.shapes)
         self.ready = [geos.prepared(s) for s in self.shapes]
 
@@ -54,37 +55,48 @@ class _Faces:
                 found[soil] = found.get(soil, 0.0) + area
         return found
 
-    def slack(self, shape: Any, own: float) -> float:
-        """How far areas in a shape may be off because corners within reach of a side count as on it; `own` is the shape's reach."""
-        return shape.length * max([own, *self.reach[self.near(shape)]])
+    def slack(self, shape: Any, longest: float) -> float:
+        """How far areas in a shape may be off, because the library takes a corner as on a side where it is nearer than 2^-23 of the larger
+        component of the two sides that meet, and by rounding. `longest` is that of the cell's sides."""
+        x0, y0, x1, y1 = shape.bounds
+        for low, high in (self.sides[i] for i in self.near(shape)):
+            meet = (low <= (x1, y1)).all(axis=1) & (high >= (x0, y0)).all(axis=1)
+            longest = max(longest, (high - low)[meet].max(initial=0.0))
+        return shape.length * (2.0 ** -23 * longest + 2.0 ** -48 * max(abs(x0), abs(y0), abs(x1), abs(y1)))
 
 
-def reach(mesh: Mesh) -> np.ndarray:
-    """How near to a side of each cell the library takes a corner as on it: 8 x 2^-26 of the side's larger component, and rounding."""
-    if not len(mesh):
-        return np.zeros(0)
-    counts, corners = mesh.counts(), mesh.xy[mesh.nodes]
-    sides = np.abs(corners[following(counts)] - corners).max(axis=1)
-    return 2.0 ** -23 * np.maximum.reduceat(sides, np.cumsum(counts) - counts) + 2.0 ** -48 * np.abs(mesh.boxes()).max(axis=1)
+def _side_boxes(ring: np.ndarray) -> tuple[np.ndarray, np.ndarray]:
+    """The least and the largest coordinates of each side."""
+    after = np.roll(ring, -1, axis=0)
+    return np.minimum(ring, after), np.maximum(ring, after)
+
+
+def _longest_sides(mesh: Mesh) -> list[float]:
+    """For each family the larger component of its cell's sides."""
+    found = np.zeros(len(mesh))
+    for family, corners in zip(mesh.families, mesh.cells()):
+        low, high = _side_boxes(mesh.xy[corners])
+        found[family] = (high - low).max()
+    return found.tolist()
 
 
 def _pieces(model: Model, pieces: Overlay, faces: _Faces, progress: Progress) -> tuple[np.ndarray, list[Problem]]:
     none = len(faces.names) - 1
     soil = np.full(len(pieces), none)
     problems: list[Problem] = []
-    areas, own, cells = pieces.areas(), reach(pieces), pieces.families.astype(np.int64) + model.first
-    for i, corners in enumerate(pieces.cells()):
-        ring = pieces.xy[corners]
+    areas, longest = pieces.areas(), _longest_sides(model.mesh)
+    for i, (corners, family) in enumerate(zip(pieces.cells(), pieces.families.tolist())):
+        ring, cell = pieces.xy[corners], family + model.first
         why = geos.why_invalid(ring) or ('' if areas[i] > 0 else f'an area of {areas[i]:.3g}')
         if why:
-            problems.append(Problem.at(ring[0], f'a piece that is no simple polygon: {why}', int(cells[i])))
+            problems.append(Problem.at(ring[0], f'a piece that is no simple polygon: {why}', cell))
             continue
         shape = geos.geometry.Polygon(ring)
         face = faces.around(shape.representative_point())
         soil[i] = faces.soils[face] if face >= 0 else none
         stray = faces.strays(shape, face)
-        if stray.area > 0 and stray.area > faces.slack(shape, own[i]):
-            problems.append(_astray(stray, faces, int(soil[i]), int(cells[i])))
+        if stray.area > 0 and stray.area > faces.slack(shape, longest[family]):
+            problems.append(_astray(stray, faces, int(soil[i]), cell))
         if i % _STEP == 0:
             progress('pieces checked', i, len(pieces))
     progress('pieces checked', len(pieces), len(pieces))
@@ -100,16 +112,16 @@ def _astray(stray: Any, faces: _Faces, soil: int, cell: int) -> Problem:
 
 def _cells(model: Model, pieces: Overlay, soil: np.ndarray, faces: _Faces, progress: Progress) -> tuple[np.ndarray, list[Problem]]:
     """The areas of soils in each cell beside GEOS's."""
-    mesh, ours = model.mesh, _by_cell(pieces, soil)
+    mesh, ours, longest = model.mesh, _by_cell(pieces, soil), _longest_sides(model.mesh)
     by_geos, problems = np.zeros(len(faces.names)), []
-    for i, (shape, own, family) in enumerate(zip(geos.polygons(mesh), reach(mesh), mesh.families.tolist())):
+    for i, (shape, family) in enumerate(zip(geos.polygons(mesh), mesh.families.tolist())):
         theirs, mine = faces.areas_in(shape), ours.get(family, {})
         bare = len(faces.names) - 1
         theirs[bare] = theirs.get(bare, 0.0) + max(shape.area - sum(theirs.values()), 0.0)
         for number, area in theirs.items():
             by_geos[number] += area
         off, worst = max((abs(theirs.get(s, 0.0) - mine.get(s, 0.0)), s) for s in theirs.keys() | mine.keys())
-        if off > faces.slack(shape, own):
+        if off > 0 and off > faces.slack(shape, longest[family]):
             what = f'"{faces.names[worst]}" has an area of {mine.get(worst, 0.0):.10g} by the pieces, {theirs.get(worst, 0.0):.10g} by GEOS'
             problems.append(Problem.at(shape.centroid.coords[0], what, family + model.first))
         if i % _STEP == 0:

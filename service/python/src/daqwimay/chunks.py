@@ -26,6 +26,10 @@ def overlay_in_chunks(subject: Mesh, cutter: Mesh, operation: Union[Operation, s
     """
     if operation_number(operation) not in _SUBJECT_ONLY:
         raise ValueError('in chunks: imprint, intersection, difference and lines; the others cut both meshes')
+    if chunk < 1:
+        raise ValueError(f'a chunk of {chunk} cells: 1 is the least')
+    subject.check()
+    cutter.check()
     whole = _Whole(subject, cutter, Operation(operation_number(operation)))
     waiting, done = [np.arange(len(subject))], 0
     while waiting:

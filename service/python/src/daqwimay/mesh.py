@@ -78,6 +78,13 @@ class Mesh:
         """The lists in the order of the call."""
         return [getattr(self, record.name) for record in MESH_LISTS]
 
+    def check(self) -> None:
+        """Raises `Refused` 2 or 5 where the lists do not fit together, so that the methods below can read them. Sizes are not looked at."""
+        counts = self.counts()
+        if not len(self.ends) == len(self.kinds) == len(self.families) or np.any(counts <= 0) or counts.sum() != len(self.nodes):
+            raise Refused(2)
+        _check_nodes(self.nodes, counts, len(self.xy))
+
     def counts(self) -> np.ndarray:
         """Corners of each cell."""
         return np.diff(self.ends.astype(np.int64), prepend=0)

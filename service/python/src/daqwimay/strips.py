@@ -89,10 +89,13 @@ def _cutter(model: Model, soils: SoilMap, grid: Optional[float], background: str
 
 
 def _placed(refused: Refused, model: Model, soils: Mesh) -> Refused:
-    """The refusal with the cell's number in the file, and soil corners that lie a hair beside the model's nodes."""
+    """The refusal with the cell's number in the file, and the soil corners that lie a hair beside its nodes."""
     from .defects import between
-    detail = refused.detail if refused.family is None else refused.detail.replace(f'the cell of family {refused.family}', f'cell {refused.family + model.first}')
-    return Refused(refused.number, '\n'.join([detail, *map(str, between(model.mesh, soils)[:NotClean.SHOWN])]), refused.family)
+    if refused.family is None:
+        return refused
+    cell, _ = model.mesh.take(np.flatnonzero(model.mesh.families == refused.family))
+    place = refused.detail.split(', ', 1)[1]
+    return Refused(refused.number, '\n'.join([f'cell {refused.family + model.first}, {place}', *map(str, between(cell, soils))]), refused.family)
 
 
 def window_of(model: Model) -> Box:
