@@ -73,6 +73,16 @@ def test_a_map_beyond_the_limits_is_cut_too():
     assert abs(pieces.areas().sum() - 40_000) < 1e-6 and pieces.areas().min() > 0 and len(pieces) > 6000
 
 
+def test_a_long_side_over_many_cells():
+    """Over 256 nodes on one side of a soil: refused in one call, cut in chunks."""
+    model = Mesh.from_cells(*maps.grid(300, 1, 10.0, 0.0))
+    soil = Mesh.from_cells(np.array([[-5, -5], [3005, -5], [3005, 4], [-5, 6.0]]) + [maps.X0, maps.Y0], [[0, 1, 2, 3]], kinds=11)
+    with pytest.raises(Refused, match='refused 9'):
+        overlay(model, soil)
+    pieces = overlay_in_chunks(model, soil)
+    assert len(pieces) == 600 and pieces.areas().sum() == pytest.approx(30_000) and pieces.areas().min() > 0
+
+
 def test_a_refused_cell_is_named():
     """A cell with over 1,024 slots among others."""
     model = Mesh.from_cells(*maps.grid(4, 1, 10.0, 0.0, 0.0, 0.0))

@@ -189,6 +189,15 @@ def test_strips_as_a_map_and_as_a_mesh(tmp_path):
     assert [r['soil'] for r in rows] == strips.names
 
 
+def test_cells_with_nodes_of_their_own_are_joined(tmp_path):
+    xy, corners = maps.grid(4, 3, 50.0, 10.0)
+    write_mesh(tmp_path / 'apart.vtu', Mesh.from_cells(xy[corners].reshape(-1, 2), np.arange(48).reshape(-1, 4)))
+    model = read_model(tmp_path / 'apart.vtu')
+    assert len(np.unique(model.mesh.nodes)) == 20 and '28 nodes made one' in model.notes[0]
+    shapes = maps.voronoi(8)
+    assert maps.worst(maps.areas_by_strips(cut(model, maps.soil_map(shapes))), maps.areas_by_shapely(model, shapes)) < 1e-6
+
+
 def test_columns_of_disv_and_ugrid_are_not_lost(tmp_path):
     import netCDF4
     written = write_mesh(tmp_path / 'm.disv', FIVE, {'soil': np.array([4, 5])}, RD)

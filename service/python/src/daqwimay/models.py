@@ -42,10 +42,22 @@ def read_model(path: Union[str, Path], crs: Optional[str] = None, layer: Optiona
     model = read_polygons(path, layer) if path.suffix.lower() in MAPS else _reader(path)(path)
     if not len(model.mesh):
         raise InputError(f'{path}: no cells')
+    _weld(model)
     beside = path.with_suffix('.prj')
     if crs or (model.crs is None and beside.is_file()):
         model.crs = crs_of(crs or beside.read_text(), str(path))
     return model
+
+
+def _weld(model: Model) -> None:
+    """Nodes of equal coordinates are made one: some files give each cell nodes of its own, and neighbours have to share theirs."""
+    mesh, used = model.mesh, np.unique(model.mesh.nodes)
+    _, first, numbers = np.unique(mesh.xy[used], axis=0, return_index=True, return_inverse=True)
+    if len(first) < len(used):
+        one = np.arange(len(mesh.xy))
+        one[used] = used[first[numbers.reshape(-1)]]
+        mesh.nodes = one[mesh.nodes].astype(np.uint32)
+        model.notes += (f'{len(used) - len(first):,} nodes made one with others of equal coordinates',)
 
 
 def _reader(path: Path) -> Callable[[Path], Model]:

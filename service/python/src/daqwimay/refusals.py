@@ -39,7 +39,7 @@ _ROWS = (
             'leave the limit out; overlay_in_chunks splits such models until they fit'),
     Refusal(9, 'crowded edge', 'over 256 nodes on one edge',
             ('one long side across hundreds of the other mesh\'s edges, as of a soil drawn with few corners over a fine model',),
-            'cut long sides with corners in between; --grid puts seams, the command splits the model'),
+            'overlay_in_chunks and the command split the model until it fits; or put corners into long sides'),
     Refusal(10, 'crowded cell', 'over 1,024 entries in the table of one cell: it is cut by too many edges',
             ('soils as the subject and the model as the cutter: a soil over 15 x 15 cells or more',
              'hundreds of soil sides in one cell: an outline drawn far finer than the model'),
