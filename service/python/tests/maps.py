@@ -1,6 +1,6 @@
 """Models and soil maps for the tests, made up, and areas by shapely alone."""
 import numpy as np
-from scipy.spatial import Voronoi
+from scipy.spatial import Delaunay, Voronoi
 from shapely.geometry import Point, Polygon, box
 
 from daqwimay import Mesh, Model, SoilMap
@@ -38,6 +38,21 @@ def voronoi(seed, count=60, wide=1600.0, high=1400.0):
     found = Voronoi(around)
     corners = found.vertices + [X0 - 300, Y0 - 200]
     return [Polygon(corners[found.regions[found.point_region[i]]]) for i in range(count)]
+
+
+def along(seed, shapes):
+    """A model of triangles with nodes along the soils' sides, as meshes built around soils or rivers have them."""
+    rng, places = np.random.default_rng(seed), []
+    for shape in shapes:
+        ring = np.asarray(shape.exterior.coords)
+        for a, b in zip(ring, ring[1:]):
+            places.append(a + (b - a) * np.linspace(0, 1, max(1, int(np.hypot(*(b - a)) // 20)), endpoint=False)[:, None])
+    xy = np.concatenate([*places, rng.random((400, 2)) * [1000, 800] + [X0, Y0]])
+    xy = xy[((xy > [X0, Y0]) & (xy < [X0 + 1000, Y0 + 800])).all(axis=1)]
+    xy = xy[sorted({tuple(k): i for i, k in enumerate(np.round(xy).tolist())}.values())]         # a metre apart, about
+    cells = Delaunay(xy - [X0, Y0]).simplices
+    mesh = Mesh.from_cells(xy, cells)
+    return Model(Mesh.from_cells(xy, cells[mesh.order][mesh.areas() > 0.05]))
 
 
 def bands(seed):

@@ -81,6 +81,8 @@ def test_a_table_on_standard_output(tmp_path):
     (('cut', 'model.vtu', 'none.gpkg', '--table', '-'), 'no such file'), (('cut', 'model.vtu', 'soils.gpkg', '--soil', 'x', '--table', '-'), 'no attribute "x"'),
     (('cut', 'model.vtu', 'soils.gpkg', '--mesh-crs', 'EPSG:32631', '--table', '-'), 'two reference systems'),
     (('cut', 'model.vtu', 'soils.gpkg', '--mesh-crs', 'nowhere', '--table', '-'), 'no reference system "nowhere"'),
+    (('cut', 'model.vtu', 'soils.gpkg', '-o', 'strips.xyz'), 'strips are written to'), (('cut', 'model.vtu', 'soils.gpkg', '--picture', 'p.doc'), 'a picture is'),
+    (('cut', 'model.vtu', 'soils.gpkg', '--grid', '0', '--table', '-'), 'a step above 0'), (('cut', '.', 'soils.gpkg', '--table', '-'), 'no such file'),
     (('cut', 'model.vtu', 'soils.gpkg', '--grid', 'fine', '--table', '-'), 'invalid float'), (('slice',), 'invalid choice'), (('explain', 'none.in'), 'none.in')])
 def test_words_that_nothing_can_be_made_of(tmp_path, words, why):
     write_mesh(tmp_path / 'model.vtu', maps.model(2, 2).mesh)

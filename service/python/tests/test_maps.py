@@ -7,7 +7,7 @@ from shapely.ops import unary_union
 import maps
 from daqwimay import InputError, Kind, Mesh, Model, NotClean, Refused, cut, mesh_of_rings, overlay
 from daqwimay.checks import checked
-from daqwimay.cleaning import clean
+from daqwimay.cleaning import clean, step_of
 from daqwimay.strips import window_of
 
 GRID = 0.001
@@ -76,6 +76,23 @@ def test_soils_along_the_models_own_cells(turn, jitter):
     assert maps.worst(maps.areas_by_strips(strips), maps.areas_by_shapely(made, parts, 0.2)) < 0.5
 
 
+@pytest.mark.parametrize('seed', range(8))
+def test_a_model_built_along_the_soils(seed):
+    """Its nodes lie on the soils' sides but for rounding."""
+    shapes = maps.voronoi(seed, 25)
+    strips = cut(maps.along(seed, shapes), maps.soil_map(shapes), grid=GRID)
+    mine = {k: a for k, a in maps.areas_by_strips(strips).items() if k[1] != '(no soil)'}
+    assert maps.worst(mine, maps.areas_by_shapely(strips.model, shapes)) < 0.1
+    moved = np.hypot(*(strips.model.mesh.xy - maps.along(seed, shapes).mesh.xy).T).max()
+    assert moved <= GRID and (moved > 0) == any('nodes are put on the grid' in c for c in strips.changes)
+
+
+def test_the_grid_is_a_power_of_two():
+    assert [step_of(g) for g in (0.001, 1 / 1024, 0.3, 1.0, 3.0)] == [2.0 ** -10, 2.0 ** -10, 0.25, 1.0, 2.0]
+    done = clean(maps.soil_map(maps.bands(1)), GRID, window_of(maps.model()))
+    assert np.array_equal(done.mesh.xy * 1024, np.round(done.mesh.xy * 1024))
+
+
 SQUARE = [[0, 0], [2, 0], [2, 2], [0, 2]]
 E = 2.0 ** -10
 # What the library accepts and a user would not: the maps of one cell that a trial found.
@@ -130,7 +147,7 @@ def test_long_outlines_are_cut():
     assert abs(strips.by_soil()[0] - lake.area) < 1
 
 
-@pytest.mark.parametrize('grid', [0, -1, float('nan')])
+@pytest.mark.parametrize('grid', [0, -1, float('nan'), float('inf')])
 def test_a_grid_has_a_step(grid):
     with pytest.raises(InputError, match='above 0'):
         cut(maps.model(), maps.soil_map(maps.voronoi(1)), grid=grid)

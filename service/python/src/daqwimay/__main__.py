@@ -10,7 +10,7 @@ from typing import Any, Callable, Optional, Sequence
 
 import numpy as np
 
-from . import __version__, models, program, soils, strips as made
+from . import __version__, models, picture, program, soils, strips as made, writing
 from .errors import InputError, NotClean, Problem
 from .mesh import Kind, Mesh
 from .models import Model
@@ -133,7 +133,7 @@ def _said(source: str, what: str, crs: Any, notes: Sequence[str]) -> str:
 
 
 def _cut(options: argparse.Namespace) -> int:
-    _check_outputs([f for f in (options.output, options.table, options.picture) if f], [options.mesh, options.soils])
+    _check_outputs(options)
     model = _read_model(options)
     found = _read_soils(options, model)
     start = time.monotonic()
@@ -158,15 +158,20 @@ def _strips(options: argparse.Namespace, model: Model, found: SoilMap) -> Strips
         progress.end()
 
 
-def _check_outputs(files: Sequence[str], inputs: Sequence[str]) -> None:
-    """Before long work: something is to be written, in folders that are there, over no input."""
+def _check_outputs(options: argparse.Namespace) -> None:
+    """Before long work: something is to be written, in formats that there are, in folders that are there, over no input."""
+    files = [f for f in (options.output, options.table, options.picture) if f]
     if not files:
         raise InputError('nothing to write: give -o, --table or --picture (or use `daqwimay check`)')
     for file in files:
         if file != '-' and not Path(file).resolve().parent.is_dir():
             raise InputError(f'{file}: no such folder')
-        if Path(file).resolve() in [Path(i).resolve() for i in inputs]:
+        if Path(file).resolve() in (Path(options.mesh).resolve(), Path(options.soils).resolve()):
             raise InputError(f'{file} is one of the files that are read')
+    if options.output:
+        writing.check_ending(options.output)
+    if options.picture:
+        picture.check_ending(options.picture)
 
 
 def _say_areas(strips: Strips) -> None:
@@ -184,7 +189,6 @@ def _say_areas(strips: Strips) -> None:
 
 
 def _write(options: argparse.Namespace, strips: Strips, crs: Any) -> None:
-    from . import picture, writing
     written = []
     if options.output:
         written += writing.write_strips(options.output, strips, crs)

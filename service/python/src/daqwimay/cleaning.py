@@ -1,6 +1,7 @@
 """A soil map made clean: noded on a grid, holes and long outlines cut by seams, what no soil covers given to a background soil."""
 from __future__ import annotations
 
+import math
 from dataclasses import dataclass, field
 from typing import Any, Iterable, Optional
 
@@ -27,14 +28,13 @@ class CleanMap:
 def clean(soils: SoilMap, grid: float, window: Box, nodes: Optional[np.ndarray] = None, background: str = '(no soil)') -> CleanMap:
     """The map inside the window with every corner on a grid. `nodes` are the model's: soil lines within a grid step of one run through it.
 
-    Where polygons overlap, the first in the file has the place.
+    The step is the power of two that is not above `grid`. Where polygons overlap, the first in the file has the place.
     """
-    if not grid > 0:
-        raise InputError(f'a grid of {grid}: a step above 0 is needed, in the unit of the map')
+    grid = step_of(grid)
     changes: list[str] = []
     polygons, owners = _inside(soils, window, changes)
     pins = _Pins(np.zeros((0, 2)) if nodes is None else nodes, grid)
-    outline = geos.geometry.box(*_rounded(np.array(window).reshape(2, 2), grid).ravel())
+    outline = geos.geometry.box(*rounded(np.array(window).reshape(2, 2), grid).ravel())
     noded = geos.noded([*(p.boundary for p in polygons), outline.boundary], grid)
     tiles, seams = _tiled(geos.noded(map(pins.through, noded), grid), grid, pins)
     names = [*soils.names, background]
@@ -46,10 +46,20 @@ def clean(soils: SoilMap, grid: float, window: Box, nodes: Optional[np.ndarray] 
     return CleanMap(mesh, names, changes)
 
 
-def _rounded(xy: np.ndarray, grid: float) -> np.ndarray:
-    """As GEOS rounds: to the nearest multiple, by the scale 1 / grid."""
-    scale = 1 / grid
-    return np.floor(xy * scale + 0.5) / scale
+def step_of(grid: float) -> float:
+    """The power of two that is not above a step: 1/1024 for 0.001. Its multiples are exact, so what is in line on the grid is exactly so."""
+    if not 0 < grid < math.inf:
+        raise InputError(f'a grid of {grid}: a step above 0 is needed, in the unit of the map')
+    return 2.0 ** math.floor(math.log2(grid))
+
+
+def step_said(step: float) -> str:
+    return f'1/{round(1 / step):,}' if step < 1 else f'{step:g}'
+
+
+def rounded(xy: np.ndarray, grid: float) -> np.ndarray:
+    """The nearest multiples of a power of two, as GEOS rounds."""
+    return np.floor(xy / grid + 0.5) * grid
 
 
 def _inside(soils: SoilMap, window: Box, changes: list[str]) -> tuple[list[Any], list[int]]:
@@ -81,10 +91,9 @@ class _Pins:
 
     def __init__(self, nodes: np.ndarray, grid: float) -> None:
         self.grid = grid
-        rounded = _rounded(nodes, grid)
-        self.exact = dict(zip(map(tuple, rounded.tolist()), nodes.tolist()))
+        self.exact = dict(zip(map(tuple, rounded(nodes, grid).tolist()), nodes.tolist()))
         if len(self.exact) < len({tuple(p) for p in nodes.tolist()}):
-            raise InputError(f'a grid of {grid:g} makes nodes of the model one: take a smaller step')
+            raise InputError(f'a grid of {step_said(grid)} makes nodes of the model one: take a smaller step')
         self.points = [geos.geometry.Point(p) for p in self.exact]
         self.near = geos.finder(self.points)
 
@@ -121,7 +130,7 @@ def _tiled(lines: list[Any], grid: float, pins: _Pins) -> tuple[list[Any], int]:
             return tiles, count
         count += len(seams)
         lines = geos.noded([*lines, *map(pins.through, seams)], grid)
-    raise InputError(f'the map has faces that {_ROUNDS} rounds of seams do not cut small enough: is the grid of {grid:g} too coarse?')
+    raise InputError(f'the map has faces that {_ROUNDS} rounds of seams do not cut small enough: is the grid of {step_said(grid)} too coarse?')
 
 
 def _seams(tile: Any, grid: float, across: bool) -> list[Any]:
@@ -132,7 +141,7 @@ def _seams(tile: Any, grid: float, across: bool) -> list[Any]:
     if len(corners) <= MOST_CORNERS:
         return []
     x0, y0, x1, y1 = tile.bounds
-    x, y = _rounded(np.median(corners, axis=0), grid)
+    x, y = rounded(np.median(corners, axis=0), grid)
     upright = (x1 - x0 >= y1 - y0) != across
     return _lines_within(tile, [(x, y0), (x, y1)] if upright else [(x0, y), (x1, y)])
 
@@ -189,12 +198,12 @@ class _Places:
 def _summary(polygons: list[Any], owners: list[int], mesh: Mesh, names: list[str], grid: float) -> list[str]:
     """How far corners and areas moved."""
     corners = np.concatenate([np.asarray(r.coords)[:-1, :2] for p in polygons for r in (p.exterior, *p.interiors)])
-    moves = np.hypot(*(_rounded(corners, grid) - corners).T)
+    moves = np.hypot(*(rounded(corners, grid) - corners).T)
     before, after = np.zeros(len(names)), np.zeros(len(names))
     np.add.at(before, owners, [p.area for p in polygons])
     np.add.at(after, mesh.families, mesh.areas())
     lost = [n for n, b, a in zip(names, before, after) if b > 0 and a == 0]
     worst = int(np.argmax(np.abs(after - before)[:-1]))
-    said = [f'{np.count_nonzero(moves)} of {len(corners)} corners put on the grid of {grid:g}, moved by at most {moves.max():.3g}',
+    said = [f'{np.count_nonzero(moves)} of {len(corners)} corners put on the grid of {step_said(grid)}, moved by at most {moves.max():.3g}',
             f'largest change of a soil\'s area: {names[worst]}, {after[worst] - before[worst]:+.6g} of {before[worst]:.6g} square units']
     return said + [f'nothing is left of: {", ".join(lost)} (covered by others, or smaller than the grid)'] * bool(lost)

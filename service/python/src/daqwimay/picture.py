@@ -6,7 +6,7 @@ from typing import Any, Sequence, Union
 
 import numpy as np
 
-from .errors import extra
+from .errors import InputError, extra
 from .mesh import Mesh
 from .strips import Strips
 
@@ -26,6 +26,13 @@ def draw_strips(path: Union[str, Path], strips: Strips) -> None:
     present = np.flatnonzero(np.bincount(strips.soil, minlength=len(strips.names)))
     legend(axes[1], [(strips.names[i], COLOURS[i % len(COLOURS)]) for i in present])
     save(figure, path)
+
+
+def check_ending(path: Union[str, Path]) -> None:
+    """Raises `InputError` where no picture can be made: to be asked before long work."""
+    known = extra('matplotlib.backend_bases', 'plots').FigureCanvasBase.get_supported_filetypes()
+    if Path(path).suffix.lower().lstrip('.') not in known:
+        raise InputError(f'{path}: a picture is written to .{", .".join(sorted(known))}')
 
 
 def new_figure(panels: int, size: float = 4.6, shape: float = 1.0) -> tuple[Any, Sequence[Any]]:

@@ -1,7 +1,7 @@
 """From a model and a soil map to strips: cut, checked, and added up."""
 from __future__ import annotations
 
-from dataclasses import dataclass, field
+from dataclasses import dataclass, field, replace
 from typing import Any, Callable, Mapping, Optional
 
 import numpy as np
@@ -62,12 +62,36 @@ def cut(model: Model, soils: SoilMap, *, grid: Optional[float] = None, backgroun
         progress: Optional[Progress] = None) -> Strips:
     """The model's cells cut along the soils (operation 0), and checked. With a grid the map is made clean first.
 
-    Raises `NotClean` with the places where the strips would be wrong, `Refused` with the refused cell.
+    Where soils run along the model's own sides, its nodes may lie a hair beside their lines; if the strips then come out wrong, the
+    model's nodes are put on the grid too, and `changes` says so. Raises `NotClean` with the places where the strips would be wrong,
+    `Refused` with the refused cell.
     """
-    from .checks import checked
     same_crs(model, soils)
-    mesh, names, changes = _cutter(model, soils, grid, background)
     told = progress or (lambda what, done, of: None)
+    try:
+        return _cut(model, soils, grid, background, told)
+    except (NotClean, Refused) as e:
+        if grid is None or getattr(e, 'number', 11) != 11:
+            raise
+    moved, change = _on_grid(model, grid)
+    strips = _cut(moved, soils, grid, background, told)
+    strips.changes.append(change)
+    return strips
+
+
+def _on_grid(model: Model, grid: float) -> tuple[Model, str]:
+    from .cleaning import rounded, step_of, step_said
+    mesh, step = model.mesh, step_of(grid)
+    xy = rounded(mesh.xy, step)
+    far = float(np.hypot(*(xy - mesh.xy).T).max())
+    moved = Mesh(xy, mesh.nodes, mesh.ends, mesh.kinds, mesh.families)
+    change = f'soils run along the model\'s sides: its nodes are put on the grid of {step_said(step)} too, moved by at most {far:.3g}'
+    return replace(model, mesh=moved), change
+
+
+def _cut(model: Model, soils: SoilMap, grid: Optional[float], background: str, told: Progress) -> Strips:
+    from .checks import checked
+    mesh, names, changes = _cutter(model, soils, grid, background)
     try:
         pieces = overlay_in_chunks(model.mesh, mesh, Operation.IMPRINT, progress=lambda done, of: told('cells cut', done, of))
     except Refused as e:

@@ -34,6 +34,13 @@ def write_strips(path: Union[str, Path], strips: Strips, crs: Any = None) -> lis
     return [*write_mesh(path, strips.pieces, columns, crs), str(beside)]
 
 
+def check_ending(path: Union[str, Path]) -> None:
+    """Raises `InputError` where strips can't be written so: to be asked before long work."""
+    known = {*_POLYGONS, '.disv', '.nc', *MAPS}
+    if Path(path).suffix.lower() not in known:
+        raise InputError(f'{path}: strips are written to {", ".join(sorted(known))}')
+
+
 def write_mesh(path: Union[str, Path], mesh: Mesh, columns: Optional[Columns] = None, crs: Any = None) -> list[str]:
     """A mesh by the file's ending: .disv, .nc (UGRID), a map of polygons, otherwise meshio. Answers the files written.
 
