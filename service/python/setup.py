@@ -9,7 +9,11 @@ from pathlib import Path
 
 from setuptools import Distribution, setup
 from setuptools.command.build_py import build_py
-from wheel.bdist_wheel import bdist_wheel
+
+try:
+    from setuptools.command.bdist_wheel import bdist_wheel
+except ImportError:                     # before setuptools 70
+    from wheel.bdist_wheel import bdist_wheel
 
 HERE = Path(__file__).resolve().parent
 LINK = '-shared -fPIC -Wl,-z,defs,-z,now,-z,relro,-z,noexecstack -Wl,--whole-archive {archive} -Wl,--no-whole-archive -o {out}'

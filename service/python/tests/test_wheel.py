@@ -35,7 +35,7 @@ def test_what_is_in_it(wheel):
     names = set(zipfile.ZipFile(wheel).namelist())
     assert {'daqwimay/libdaqwimay.so', 'daqwimay/py.typed', 'daqwimay/__init__.py'} <= names
     for licence in ('LICENSE-MIT', 'LICENSE-APACHE', 'NOTICE'):
-        inside = next(n for n in names if n.endswith(f'.dist-info/{licence}'))
+        inside = next(n for n in names if '.dist-info/' in n and n.endswith(f'/{licence}'))
         assert zipfile.ZipFile(wheel).read(inside) == (HERE.parents[1] / licence).read_bytes()
     assert not [n for n in names if 'test' in n or n.endswith('.a')]
 

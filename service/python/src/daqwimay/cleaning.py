@@ -107,7 +107,7 @@ class _Pins:
 
     def _between(self, a: tuple, b: tuple) -> list[tuple]:
         segment = geos.geometry.LineString([a, b])
-        found = [self.points[i] for i in self.near(segment.envelope.buffer(self.grid, join_style=2))]
+        found = [self.points[i] for i in self.near(geos.around(segment, self.grid))]
         close = [p for p in found if (p.x, p.y) not in (a, b) and p.distance(segment) < self.grid]
         along = sorted((segment.project(p), p.x, p.y) for p in close)
         return [(x, y) for at, x, y in along if 0 < at < segment.length]

@@ -56,7 +56,7 @@ def _on_sides(mesh: Mesh, near: float) -> Iterator[Problem]:
     find = geos.finder(lines)
     for node in np.unique(mesh.nodes).tolist():
         point = geos.geometry.Point(mesh.xy[node])
-        for i in find(point.buffer(near, 1)):
+        for i in find(geos.around(point, near)):
             ends = mesh.xy[list(sides[i])]
             if node not in sides[i] and np.hypot(*(ends - mesh.xy[node]).T).min() >= near and lines[i].distance(point) < near:
                 yield Problem.at(mesh.xy[node], 'a corner on a side that has no corner there (T-junction)')

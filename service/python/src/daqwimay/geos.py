@@ -35,6 +35,12 @@ def finder(shapes: Sequence[Any]) -> Callable[[Any], list[int]]:
     return lambda shape: sorted(int(i) for i in query(shape)) if len(shapes) else []
 
 
+def around(shape: Any, near: float) -> Any:
+    """The box of a shape, wider by `near` on every side."""
+    x0, y0, x1, y1 = shape.bounds
+    return geometry.box(x0 - near, y0 - near, x1 + near, y1 + near)
+
+
 def noded(lines: Iterable[Any], grid: float) -> list[Any]:
     """The lines cut where they meet, on a grid, by GEOS's snap rounding."""
     flat = [part for line in lines for part in parts(line, 'LineString')]
