@@ -46,5 +46,10 @@ class WithLibrary(Distribution):
     def has_ext_modules(self) -> bool:
         return True
 
+    def parse_config_files(self, *args, **options) -> None:
+        """The name of this option in pyproject.toml changes between versions of setuptools, and so does what is taken without it."""
+        super().parse_config_files(*args, **options)
+        self.metadata.license_files = ['LICENSE-MIT', 'LICENSE-APACHE', 'NOTICE']
+
 
 setup(distclass=WithLibrary, cmdclass={'build_py': BuildWithLibrary, 'bdist_wheel': PlatformWheel})
