@@ -105,7 +105,11 @@ def test_check_names_what_is_not_clean(tmp_path):
     soils_file(tmp_path / 'beside.gpkg', [maps.moved(Polygon([(-50, -50), (300, -50), (300, 300), (50.0001, 50), (-50, 300)]))])
     assert 'a soil corner and a node of the model, 0.0001 apart' in run('check', 'model.disv', 'beside.gpkg', cwd=tmp_path).stdout
     soils_file(tmp_path / 'lens.gpkg', [*tee[:1], maps.moved(box(110, 110, 120, 120))])
-    assert 'an island' in run('check', 'model.disv', 'lens.gpkg', cwd=tmp_path).stdout
+    assert 'at (155110, 463110): a lens inside one cell' in run('check', 'model.disv', 'lens.gpkg', cwd=tmp_path).stdout
+    soils_file(tmp_path / 'over.gpkg', [*tee[:1], maps.moved(box(80, 30, 320, 320))])
+    assert 'at (155100, 463030): two sides cross' in run('check', 'model.disv', 'over.gpkg', cwd=tmp_path).stdout
+    soils_file(tmp_path / 'apart.gpkg', [maps.moved(box(10, 10, 70, 70)), maps.moved(box(110, 110, 180, 180))])
+    assert run('check', 'model.disv', 'apart.gpkg', cwd=tmp_path).returncode == 0
     assert run('check', 'model.disv', 'lens.gpkg', '--grid', 0.001, cwd=tmp_path).returncode == 0
     assert run('check', 'model.disv', cwd=tmp_path).stdout.endswith('clean\n')
 
@@ -135,6 +139,17 @@ def test_explain_tells_by_words_and_status(tmp_path):
     assert '(unread): line 7:' in said[1][1] and 'a space too many' in said[1][1]
     assert 'refused 6 (repeated node)' in said[2][1] and 'k1.out is not the answer' in said[3][1]
     assert run('explain', '-', cwd=tmp_path, text=text).returncode == 0
+
+
+def test_progress_is_said_now_and_then(monkeypatch, capsys):
+    from daqwimay import __main__ as command
+    clock = iter([0.0, 1.0, 6.0, 7.0, 12.0])
+    monkeypatch.setattr(command.time, 'monotonic', lambda: next(clock))
+    progress = command.Progress()
+    for done in (100, 2000, 3000, 4000):
+        progress('cells cut', done, 4000)
+    progress.end()
+    assert capsys.readouterr().err == '  cells cut: 2,000 of 4,000\n  cells cut: 4,000 of 4,000\n'
 
 
 @pytest.mark.parametrize('command', ['cut', 'check', 'info', 'explain'])

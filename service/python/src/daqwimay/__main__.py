@@ -217,7 +217,8 @@ def _check(options: argparse.Namespace) -> int:
         problems = problems or [('strips', p) for p in _wrong_strips(options, model, found)]
     _print_problems(problems)
     clean = 'clean: every piece is simple and in one soil' if options.soils else 'clean'
-    print(f'{len(problems)} places are not clean' if problems else clean)
+    cure = '; `cut --grid 0.001` cleans the map' if options.soils and options.grid is None else ''
+    print(f'{len(problems)} places are not clean{cure}' if problems else clean)
     return FAILED if problems else 0
 
 

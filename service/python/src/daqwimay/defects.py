@@ -14,15 +14,17 @@ NEAR = 1e-3             # corners nearer than this are meant to be one
 
 
 def of_outlines(mesh: Mesh, near: float = NEAR) -> list[Problem]:
-    """What is wrong among the cells or soils of one mesh."""
-    return [*_not_simple(mesh), *_beside_each_other(mesh.xy, mesh.xy, near, 'two corners'), *_on_sides(mesh, near), *_islands(mesh)]
+    """What is wrong among the outlines of one mesh: a model's cells or a map's soils."""
+    sides = _Sides(mesh)
+    return [*_not_simple(mesh), *_beside_each_other(mesh.xy, mesh.xy, near, 'two corners'), *sides.tees(near), *sides.crossings()]
 
 
 def of_map(soils: SoilMap, model: Mesh, near: float = NEAR) -> list[Problem]:
-    """What is wrong in a map, by itself and beside a model."""
-    rings = [np.asarray(r.coords) for s in soils.shapes for r in (s.exterior, *s.interiors)]
-    mesh = mesh_of_rings(rings, None)
-    return [*unfit(soils.shapes), *of_outlines(mesh, near), *between(model, mesh, near)]
+    """What is wrong in a map, where the model lies."""
+    mesh = mesh_of_rings([np.asarray(r.coords) for s in soils.shapes for r in (s.exterior, *s.interiors)], None)
+    low, high = model.xy.min(axis=0), model.xy.max(axis=0)
+    found = [*of_outlines(mesh, near), *_lenses(mesh, model), *between(model, mesh, near)]
+    return [*unfit(soils.shapes), *(p for p in found if low[0] <= p.x <= high[0] and low[1] <= p.y <= high[1])]
 
 
 def between(model: Mesh, soils: Mesh, near: float = NEAR) -> list[Problem]:
@@ -49,22 +51,47 @@ def _beside_each_other(some: np.ndarray, others: np.ndarray, near: float, what: 
                 yield Problem.at(some[i], f'{what}, {apart:.3g} apart')
 
 
-def _on_sides(mesh: Mesh, near: float) -> Iterator[Problem]:
-    """Corners that lie on a side without being its ends: T-junctions."""
-    sides = sorted({(int(min(a, b)), int(max(a, b))) for c in mesh.cells() for a, b in zip(c, np.roll(c, -1))})
-    lines = [geos.geometry.LineString(mesh.xy[list(s)]) for s in sides]
-    find = geos.finder(lines)
-    for node in np.unique(mesh.nodes).tolist():
-        point = geos.geometry.Point(mesh.xy[node])
-        for i in find(geos.around(point, near)):
-            ends = mesh.xy[list(sides[i])]
-            if node not in sides[i] and np.hypot(*(ends - mesh.xy[node]).T).min() >= near and lines[i].distance(point) < near:
-                yield Problem.at(mesh.xy[node], 'a corner on a side that has no corner there (T-junction)')
-                break
+class _Sides:
+    """The sides of a mesh, each once."""
+
+    def __init__(self, mesh: Mesh) -> None:
+        self.mesh = mesh
+        self.ends = sorted({(int(min(a, b)), int(max(a, b))) for c in mesh.cells() for a, b in zip(c, np.roll(c, -1)) if a != b})
+        self.lines = [geos.geometry.LineString(mesh.xy[list(e)]) for e in self.ends]
+        self.find = geos.finder(self.lines)
+
+    def tees(self, near: float) -> Iterator[Problem]:
+        """Corners that lie on a side without being its ends."""
+        for node in np.unique(self.mesh.nodes).tolist():
+            point = geos.geometry.Point(self.mesh.xy[node])
+            if any(self._passes(i, node, point, near) for i in self.find(geos.around(point, near))):
+                yield Problem.at(self.mesh.xy[node], 'a corner on a side that has no corner there (T-junction)')
+
+    def _passes(self, side: int, node: int, point: object, near: float) -> bool:
+        ends = self.mesh.xy[list(self.ends[side])]
+        apart = np.hypot(*(ends - self.mesh.xy[node]).T).min() >= near
+        return node not in self.ends[side] and bool(apart) and self.lines[side].distance(point) < near
+
+    def crossings(self) -> Iterator[Problem]:
+        """Sides that cross: soils that overlap, a boundary drawn twice."""
+        for i, line in enumerate(self.lines):
+            for j in self.find(line):
+                if i < j and line.crosses(self.lines[j]):
+                    yield Problem.at(line.intersection(self.lines[j]).coords[0], 'two sides cross: an overlap, or a boundary drawn twice')
 
 
-def _islands(mesh: Mesh) -> Iterator[Problem]:
-    """Groups of cells that share no node with the largest group."""
+def _lenses(soils: Mesh, model: Mesh) -> Iterator[Problem]:
+    """Groups of outlines that share no corner with others and lie inside one cell."""
+    cells = geos.polygons(model)
+    find, ready = geos.finder(cells), [geos.prepared(c) for c in cells]
+    for group in _groups(soils):
+        shape = geos.geometry.MultiPoint(soils.xy[group])
+        if any(ready[i].contains(shape) for i in find(shape)):
+            yield Problem.at(soils.xy[group[0]], 'a lens inside one cell, which shares no corner with other soils')
+
+
+def _groups(mesh: Mesh) -> list[list[int]]:
+    """The nodes of cells that hang together by shared nodes."""
     leader = list(range(len(mesh.xy)))
 
     def lead(node: int) -> int:
@@ -76,7 +103,7 @@ def _islands(mesh: Mesh) -> Iterator[Problem]:
     for corners in mesh.cells():
         for node in corners[1:].tolist():
             leader[lead(node)] = lead(int(corners[0]))
-    groups, sizes = np.unique([lead(int(c[0])) for c in mesh.cells()], return_counts=True)
-    for group, size in zip(groups, sizes):
-        if len(groups) > 1 and group != groups[np.argmax(sizes)]:
-            yield Problem.at(mesh.xy[group], f'an island: {size} outlines that share no corner with the others')
+    groups: dict[int, list[int]] = {}
+    for node in np.unique(mesh.nodes).tolist():
+        groups.setdefault(lead(node), []).append(node)
+    return list(groups.values())
