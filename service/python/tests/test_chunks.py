@@ -93,6 +93,21 @@ def test_a_refused_cell_is_named():
     assert e.value.number == 10
 
 
+def test_a_crowded_cell_in_parts():
+    """A disc of 2,000 corners in 16 wedges inside one cell. The pieces of its triangles fill it; its neighbours are as they were."""
+    model = Mesh.from_cells(*maps.grid(4, 1, 10.0, 0.0, 0.0, 0.0))
+    a = np.linspace(0, 2 * np.pi, 2000, endpoint=False)
+    xy = np.vstack([np.column_stack([25 + 4 * np.cos(a), 5 + 4 * np.sin(a)]), [[25.1, 5.2]]])
+    disc = Mesh.from_cells(xy, [[2000, *((125 * i + np.arange(126)) % 2000)] for i in range(16)], kinds=11)
+    with pytest.raises(Refused, match='refused 10'):
+        overlay_in_chunks(model, disc)
+    pieces = overlay_in_chunks(model, disc, parts=True)
+    assert pieces.parted.tolist() == [2] and pieces.areas().min() > 0
+    assert np.allclose(np.bincount(pieces.families, pieces.areas()), 100) and [(pieces.families == f).sum() for f in (0, 1, 3)] == [1, 1, 1]
+    inside = overlay_in_chunks(model, disc, 'intersection', parts=True)
+    assert inside.areas().sum() == pytest.approx(Polygon(xy[:2000]).area)
+
+
 def test_operations_that_cut_both_are_an_error(meshes):
     with pytest.raises(ValueError, match='cut both'):
         overlay_in_chunks(*meshes, 'union')

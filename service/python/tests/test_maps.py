@@ -158,11 +158,23 @@ def test_a_grid_that_makes_nodes_one():
         cut(maps.model(), maps.soil_map(maps.voronoi(1)), grid=200.0)
 
 
-def test_a_refused_cell_is_named_as_in_the_file():
+def test_cells_with_very_many_soil_sides():
     """An outline far finer than the model: over 1,024 entries in a cell's table."""
-    made = maps.model(2, 2, 100.0, 0.0)
-    made.first = 1
-    lake = maps.moved(Point(100, 100).buffer(80, 1000))
+    made = maps.model(2, 2, 100.0, 5.0)
+    lake = maps.moved(Point(95, 105).buffer(80, 1000))
+    with pytest.raises(Refused, match='refused 10'):
+        overlay(made.mesh, clean(maps.soil_map([lake]), GRID, window_of(made), made.mesh.xy).mesh)
+    strips = cut(made, maps.soil_map([lake]), grid=GRID)
+    mine = {k: a for k, a in maps.areas_by_strips(strips).items() if k[1] != '(no soil)'}
+    assert maps.worst(mine, maps.areas_by_shapely(made, [lake])) < 0.1
+    assert any('cut in triangles first: 0, 1, 2, 3' in c for c in strips.changes)
+
+
+def test_a_refused_cell_is_named_as_in_the_file():
+    """The same in a cell whose middle lies outside it."""
+    bend = np.array([[0, 0], [100, 0], [100, 100], [70, 100], [70, 30], [30, 30], [30, 100], [0, 100.0]]) + [maps.X0, maps.Y0]
+    made = Model(Mesh.from_cells(bend, [range(8)]), first=1)
+    lake = maps.moved(Point(50, 50).buffer(45, 1000))
     with pytest.raises(Refused, match=r'cell 1, around \(155050, 463050\)') as e:
         cut(made, maps.soil_map([lake]), grid=GRID)
     assert e.value.number == 10

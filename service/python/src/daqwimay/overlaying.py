@@ -3,7 +3,7 @@ from __future__ import annotations
 
 from enum import IntEnum
 from operator import index
-from typing import Union
+from typing import Optional, Union
 
 import numpy as np
 
@@ -31,6 +31,7 @@ class Overlay(Mesh):
 
     new_points: int = 0
     doubled_cells: int = 0      #: cells whose table names a neighbour twice: their pieces are not promised to close up
+    parted: Optional[np.ndarray] = None     #: overlay_in_chunks: the families of cells that were cut in triangles first
 
 
 def overlay(subject: Mesh, cutter: Mesh, operation: Union[Operation, str, int] = Operation.IMPRINT, *,

@@ -43,7 +43,8 @@ _ROWS = (
     Refusal(10, 'crowded cell', 'over 1,024 entries in the table of one cell: it is cut by too many edges',
             ('soils as the subject and the model as the cutter: a soil over 15 x 15 cells or more',
              'hundreds of soil sides in one cell: an outline drawn far finer than the model'),
-            'the model is the subject, the soils cut it (operation 0); simplify the outline, a coarser --grid, or a finer model there'),
+            'the model is the subject, the soils cut it (operation 0); the command cuts such a cell in triangles first (overlay_in_chunks with '
+            'parts) where it is convex; otherwise simplify the outline, or a finer model there'),
     Refusal(11, 'open cell', 'a cell\'s outline, as cut, does not lead round: its parts run into a node more often than out of it',
             ('corners that lie less than some 1e-8 beside a node or a side of the other mesh, neither one with it nor apart, '
              'as after a calculation',),

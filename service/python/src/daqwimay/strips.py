@@ -93,13 +93,20 @@ def _cut(model: Model, soils: SoilMap, grid: Optional[float], background: str, t
     from .checks import checked
     mesh, names, changes = _cutter(model, soils, grid, background)
     try:
-        pieces = overlay_in_chunks(model.mesh, mesh, Operation.IMPRINT, progress=lambda done, of: told('cells cut', done, of))
+        pieces = overlay_in_chunks(model.mesh, mesh, Operation.IMPRINT, parts=True, progress=lambda done, of: told('cells cut', done, of))
     except Refused as e:
         raise _placed(e, model, mesh) from e
     soil, by_geos, problems = checked(model, pieces, mesh, names, told)
     if problems:
         raise NotClean(f'{len(problems)} places where the strips are wrong: the map or the model is not clean', problems, '' if grid else _CURE)
-    return Strips(model, pieces, soil, names, by_geos, changes)
+    return Strips(model, pieces, soil, names, by_geos, changes + _parted(model, pieces))
+
+
+def _parted(model: Model, pieces: Overlay) -> list[str]:
+    if pieces.parted is None or not len(pieces.parted):
+        return []
+    cells = ', '.join(str(f + model.first) for f in pieces.parted[:NotClean.SHOWN].tolist()) + (' ..' if len(pieces.parted) > NotClean.SHOWN else '')
+    return [f'{len(pieces.parted):,} cells have so many soil sides that they were cut in triangles first: {cells}']
 
 
 def _cutter(model: Model, soils: SoilMap, grid: Optional[float], background: str) -> tuple[Mesh, list[str], list[str]]:
