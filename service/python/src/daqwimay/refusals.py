@@ -48,8 +48,8 @@ _ROWS = (
     Refusal(11, 'open cell', 'a cell\'s outline, as cut, does not lead round: its parts run into a node more often than out of it',
             ('corners that lie less than some 1e-8 beside a node or a side of the other mesh, neither one with it nor apart, '
              'as after a calculation',),
-            'put the map on a grid: --grid. Clockwise cells, T-junctions, neighbours with nodes of their own and lines that end inside a '
-            'cell are not refused but give wrong pieces: the checks after the call name them'),
+            'put the map on a grid: --grid. Clockwise cells, T-junctions and neighbours with nodes of their own are not refused but give '
+            'wrong pieces, a line that ends inside a cell gives a piece with a spur: the checks after the call name them'),
     Refusal(12, 'full output', 'an output list is too short',
             ('the program\'s text: over 2,048 pieces or 8,192 corners of pieces',), 'a smaller model; this package lets its lists grow'),
 )
