@@ -201,8 +201,8 @@ def test_cells_with_nodes_of_their_own_are_joined(tmp_path):
 def test_columns_of_disv_and_ugrid_are_not_lost(tmp_path):
     import netCDF4
     written = write_mesh(tmp_path / 'm.disv', FIVE, {'soil': np.array([4, 5])}, RD)
-    assert [w.split('/')[-1] for w in written] == ['m.disv', 'm.csv', 'm.prj']
-    assert (tmp_path / 'm.csv').read_text() == 'icell2d,soil\n1,4\n2,5\n'
+    assert [w.split('/')[-1] for w in written] == ['m.disv', 'm.cells.csv', 'm.prj']
+    assert (tmp_path / 'm.cells.csv').read_text() == 'icell2d,soil\n1,4\n2,5\n'
     assert write_mesh(tmp_path / 'm.nc', FIVE, {'soil': np.array([4, 5])}, RD) == [str(tmp_path / 'm.nc')]
     with netCDF4.Dataset(tmp_path / 'm.nc') as d:
         assert d['soil'][:].tolist() == [4, 5] and d['soil'].location == 'face'

@@ -40,6 +40,8 @@ def test_lists_of_corners_may_have_rows():
 def test_coordinates_are_pairs(xy):
     with pytest.raises(ValueError, match='n x 2'):
         Mesh(xy, [], [], [], [])
+    with pytest.raises(ValueError, match='n x 2'):
+        Mesh.from_cells(xy, [[0, 1, 2]])
 
 
 def test_cells_are_sorted_by_kind_with_the_way_back():

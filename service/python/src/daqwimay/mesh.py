@@ -43,10 +43,7 @@ class Mesh:
         for record, values in zip(MESH_LISTS, (xy, nodes, ends, kinds, families)):
             lent = lendable(values, record.dtype, record.name)
             setattr(self, record.name, lent if record.width > 1 or lent.ndim == 1 else lent.reshape(-1))
-        if self.xy.size == 0:
-            self.xy = self.xy.reshape(0, 2)
-        if self.xy.ndim != 2 or self.xy.shape[1] != 2:
-            raise ValueError(f'xy: n x 2 numbers are needed, x and y of each node; these are {" x ".join(map(str, self.xy.shape))}')
+        self.xy = _pairs(self.xy)
 
     def __repr__(self) -> str:
         return f'<{type(self).__name__}: {len(self):,} cells, {len(self.xy):,} nodes>'
@@ -58,7 +55,7 @@ class Mesh:
         Cells are sorted by kind, clockwise ones turned, a closing corner dropped, -0.0 made 0.0. Families are the cells' places in
         `cells`, unless given. Kinds go by the count of corners, unless given, one for all or one for each.
         """
-        xy = _without_negative_zeros(lendable(xy, np.dtype(np.float64), 'xy'))
+        xy = _without_negative_zeros(_pairs(lendable(xy, np.dtype(np.float64), 'xy')))
         flat, counts = _opened(*_flat(cells))
         _check_nodes(flat, counts, len(xy))
         clockwise = _areas(xy, flat, counts) < 0
@@ -110,6 +107,14 @@ class Mesh:
         corners = self.nodes[entries(counts, cells)]
         used, numbers = np.unique(corners, return_inverse=True)
         return Mesh(self.xy[used], numbers, np.cumsum(counts[cells]), self.kinds[cells], self.families[cells]), used
+
+
+def _pairs(xy: np.ndarray) -> np.ndarray:
+    if xy.size == 0:
+        return xy.reshape(0, 2)
+    if xy.ndim != 2 or xy.shape[1] != 2:
+        raise ValueError(f'xy: n x 2 numbers are needed, x and y of each node; these are {" x ".join(map(str, xy.shape)) or "one"}')
+    return xy
 
 
 def _without_negative_zeros(xy: np.ndarray) -> np.ndarray:

@@ -92,7 +92,7 @@ def _write_meshio(path: Path, mesh: Mesh, columns: Columns) -> None:
 
 
 def _write_disv(path: Path, mesh: Mesh, columns: Columns) -> list[Path]:
-    """The vertices and cells of a MODFLOW 6 DISV package, clockwise as it asks, and the columns in NAME.csv; answers what is beside it."""
+    """The vertices and cells of a MODFLOW 6 DISV package, clockwise as it asks, and the columns in NAME.cells.csv; answers what is beside it."""
     lines = ['BEGIN DIMENSIONS', '  NLAY 1', f'  NCPL {len(mesh)}', f'  NVERT {len(mesh.xy)}', 'END DIMENSIONS', '', 'BEGIN VERTICES']
     lines += [f'  {i} {x!r} {y!r}' for i, (x, y) in enumerate(mesh.xy.tolist(), 1)]
     lines += ['END VERTICES', '', 'BEGIN CELL2D']
@@ -102,10 +102,10 @@ def _write_disv(path: Path, mesh: Mesh, columns: Columns) -> list[Path]:
     path.write_text('\n'.join([*lines, 'END CELL2D', '']))
     if not columns:
         return []
-    with open(path.with_suffix('.csv'), 'w', newline='') as f:
+    with open(path.with_suffix('.cells.csv'), 'w', newline='') as f:
         rows = zip(range(1, len(mesh) + 1), *(np.asarray(v).tolist() for v in columns.values()))
         csv.writer(f, lineterminator='\n').writerows([('icell2d', *columns), *rows])
-    return [path.with_suffix('.csv')]
+    return [path.with_suffix('.cells.csv')]
 
 
 def _write_ugrid(path: Path, mesh: Mesh, columns: Columns, crs: Any) -> None:
