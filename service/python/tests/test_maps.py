@@ -95,7 +95,7 @@ def test_the_grid_is_a_power_of_two():
 
 SQUARE = [[0, 0], [2, 0], [2, 2], [0, 2]]
 E = 2.0 ** -10
-# What the library accepts and a user would not: the maps of one cell that a trial found.
+# What the library accepts and a user would not, in maps of one cell.
 SILENT = {
     'clockwise cell': (Mesh(SQUARE, [3, 2, 1, 0], [4], [8], [0]), [[[1, -1], [3, -1], [3, 3], [1, 3]]]),
     'T-junction': (Mesh(SQUARE, [0, 1, 2, 3], [4], [8], [0]),
@@ -114,6 +114,37 @@ def test_the_checks_name_what_the_library_accepts(name):
     assert pieces.doubled_cells == 0
     _, _, problems = checked(Model(cell, first=1), pieces, soils, [*'abcd'][:len(outlines)] + ['none'], lambda *_: None)
     assert problems and all(p.cell == 1 and -1 <= p.x <= 3 and -1 <= p.y <= 3 for p in problems)
+
+
+def lens_in_a_square():
+    cell, outlines = SILENT['lens']
+    return Model(cell), mesh_of_rings([np.array(o, float) for o in outlines], [0], Kind.PGON)
+
+
+def test_a_piece_in_two_soils_is_told_at_its_place():
+    made, soils = lens_in_a_square()
+    _, _, problems = checked(made, overlay(made.mesh, soils), soils, ['lens', 'none'], lambda *_: None)
+    assert len(problems) == 1 and 'a piece in two soils' in problems[0].what
+
+
+def test_a_soil_that_no_piece_has_is_told():
+    """Pieces that are right one by one, but the lens has none."""
+    made, soils = lens_in_a_square()
+    ring = overlay(made.mesh, Mesh.from_cells([[0, 0.5], [2, 0.5], [0, 1.5], [2, 1.5]], [[0, 1], [2, 3]]), 'lines')
+    outer, _ = ring.take(np.flatnonzero(ring.areas() < 1.5))
+    soil, by_geos, problems = checked(made, outer, soils, ['lens', 'none'], lambda *_: None)
+    assert soil.tolist() == [1, 1] and by_geos.tolist() == [1, 3]
+    assert [p.what for p in problems] == ['"none" has an area of 2 by the pieces, 3 by GEOS']
+
+
+def test_soil_lines_run_through_nodes_that_they_pass():
+    """A boundary 0.4 mm beside a node of the model, and one 2 mm beside another."""
+    made = maps.model(2, 2, 50.0, 7.0)
+    (x, y), (x2, y2) = made.mesh.xy[4], made.mesh.xy[5]
+    upper = Polygon([(x - 200, y + 0.0004), (x + 20, y + 0.0004), (x2 + 200, y2 + 0.002), (x, y + 200)])
+    done = clean(maps.soil_map([upper]), GRID, window_of(made), made.mesh.xy)
+    corners = {tuple(p) for p in done.mesh.xy.tolist()}
+    assert (x, y) in corners and (x2, y2) not in corners
 
 
 def test_cleaning_says_what_it_changed():
