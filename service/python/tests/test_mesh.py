@@ -13,6 +13,13 @@ def test_arrays_of_the_right_type_are_lent_as_they_are():
     assert all(a is b for a, b in zip(lists, mesh.lists()))
 
 
+def test_arrays_at_odd_addresses_are_copied():
+    xy = np.zeros(8 * 8 + 1, np.uint8)[1:].view(float).reshape(4, 2)
+    xy[:] = SQUARE
+    mesh = Mesh(xy, [0, 1, 2, 3], [4], [8], [7])
+    assert not xy.flags.aligned and mesh.xy.flags.aligned and np.array_equal(mesh.xy, SQUARE)
+
+
 def test_from_cells_keeps_coordinates_that_need_no_change():
     xy = np.array(SQUARE, float)
     assert Mesh.from_cells(xy, [[0, 1, 2, 3]]).xy is xy

@@ -34,12 +34,12 @@ _call.argtypes = [ctypes.c_uint32] * 2 + [ctypes.c_void_p, ctypes.c_size_t] * (2
 
 
 def lendable(values: Any, dtype: np.dtype, name: str) -> np.ndarray:
-    """The values as a contiguous array of the type: the array itself where it is one, otherwise a copy that has the same values."""
+    """The values as a contiguous, aligned array of the type: the array itself where it is one, otherwise a copy of the same values."""
     given = np.asarray(values)
-    if given.dtype == dtype and given.flags.c_contiguous:
+    if given.dtype == dtype and given.flags.c_contiguous and given.flags.aligned:
         return given
     with np.errstate(invalid='ignore'):
-        taken = np.ascontiguousarray(given, dtype)
+        taken = np.require(given, dtype, 'CA')
     if dtype.kind == 'u' and not np.array_equal(taken, given):
         raise ValueError(f'{name}: whole numbers from 0 to {np.iinfo(dtype).max} are needed')
     return taken
