@@ -21,9 +21,9 @@ use Rattle.rules.specs.Snap.{weld}
 use Rattle.rules.specs.SpatialIndex.{edgeBox, candidates}
 use Rattle.rules.specs.Meetings.{sceneOf}
 use Rattle.rules.specs.Nodes.{alongEdge}
-use Rattle.rules.specs.Overlay.{Lists, Result, result}
+use Rattle.rules.specs.Overlay.{Lists, Result, result, overlayWith, overlayOf}
 use Rattle.rules.specs.Forward.{forwardEdge, forwardCell}
-use Rattle.rules.proofs.Tables.{Case, case, lent, onLists, floats, both, same, rightWith}
+use Rattle.rules.proofs.Tables.{Case, case, lent, onLists, floats, both, same, rightBy}
 use Rattle.geometry.specs.declared.segment.Point.{Point}
 use Rattle.geometry.specs.declared.segment.Segment.{Segment}
 
@@ -256,9 +256,9 @@ abbrev no-edges : List Laid
 no-edges = []
 
 holds : Row → Bool
-unfolding rightWith code innerCode forwardEdge forwardCell
-holds (overlay c) = rightWith true (c ∷ [])
-holds (unturned c) = rightWith false (c ∷ [])
+unfolding rightBy code innerCode forwardEdge forwardCell
+holds (overlay c) = rightBy overlayOf (c ∷ [])
+holds (unturned c) = rightBy (overlayWith false) (c ∷ [])
 holds (meeting-of s t m) = same (code (meeting s t)) m
 holds (order-of coords ns order) = same (map (λ s. s .dst) (sorted (standsBefore (floats coords)) (map slot-to ns))) order
 holds (inner-of coords ps p) = same (innerCode (strictInteriorPoint (floats coords) ps)) p

@@ -68,8 +68,8 @@ unfoldable pub sameResult : Result → Result → Bool
 sameResult r r′ =
     both (same (r .code ∷ r .pieces ∷ r .points ∷ r .doubled ∷ []) (r′ .code ∷ r′ .pieces ∷ r′ .points ∷ r′ .doubled ∷ [])) (sameLists (r .lists) (r′ .lists))
 
--- by whether a walk may turn back
-unfoldable pub rightWith : Bool → List Case → Bool
+-- an overlay gives the answers of the cases
+unfoldable pub rightBy : (ℕ → ℕ → Mesh → Mesh → Lists → Result) → List Case → Bool
 unfolding both same sameLists sameResult add sub mul div neg lt le eq ofBits toBits seek first gathered all passing tally slimAfter slim joined insert sortOnto Regions.run Regions.front coord mag sign ordered angles orientation magnitude larger scale between along tolerance pointAt parameters inOrder leads ofOrder colinear near settled crossing meeting Corners.cornerAt Corners.after Corners.previous Corners.oriented Corners.term Corners.doubledTo Corners.doubled Corners.signedArea2 Corners.turned Corners.intoCcw2 Polygon.orient2d2 Polygon.clamped Polygon.orthoDist2 Polygon.settle Polygon.nearer Polygon.nearestTo Polygon.nearest Polygon.leftOf Polygon.reflex Polygon.atCorner Polygon.containsStable Polygon.inside heights passed climb widest widestIn crossed crossings lowest strictInteriorPoint hops ring rings times dartsAlong ownDarts outlineDarts isNew fresh nearDarts inner edgeSlots table stands cellTable copiedTable doubled slot after onward arrive cross popped taken rest go step run starts walkFrom walkWith closesUp cutOutcomeWith flat stops every prior endsOk coordOk coordsOk kindOk kindsOk nodesOk absent cellOk cellsOk shapeOk callOk workOk meshOf lower entryOf cellAt cellsOf usedNodes sortedIndicesFor nearestTo closestWithin weld added addedAll descendingTo subjectNet cutterNet boxTo boxesMeet boxHolds candidates metPair metAll meetingsTo meetings sceneOf collected crowded alongEdge sortedNodes dartsOf nearOf outlineOf tableOf outcomeWith kindOf someHolds pointInside pieceWith inside keptWith listingWith doubledCells courseWith firstRefusal cleared written answeredWith stateWith overlayWith
-rightWith turning [] = true
-rightWith turning (case op m s c l r ∷ cs) = both (sameResult (overlayWith turning op m s c l) r) (rightWith turning cs)
+rightBy overlay [] = true
+rightBy overlay (case op m s c l r ∷ cs) = both (sameResult (overlay op m s c l) r) (rightBy overlay cs)
