@@ -10,6 +10,7 @@ pub mod Fronts
 pub mod Grow
 pub mod Heaps
 pub mod Kept
+pub mod Leads
 pub mod Onward
 pub mod Orders
 pub mod Rounds

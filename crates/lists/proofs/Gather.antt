@@ -69,6 +69,15 @@ module _ {A : Type 0} where
       go false ih e = absurd (true≢false (sym e))
 
   -- one element more
+  -- the first passes, and so do the others
+  pub all-both : (p : A → Bool) (x : A) (xs : List A) → all p (x ∷ xs) ≡ true → (p x ≡ true) × (all p xs ≡ true)
+  unfolding all
+  all-both p x xs h = go (p x) h
+    where
+      go : (t : Bool) → (let r : Bool = elim t [ true ↦ all p xs | false ↦ false ] in r ≡ true) → (t ≡ true) × (all p xs ≡ true)
+      go true e = (refl, e)
+      go false e = absurd (true≢false (sym e))
+
   pub all-snoc : (p : A → Bool) (xs : List A) (x : A) → all p (xs ++ x ∷ []) ≡ all p xs && p x
   unfolding all
   all-snoc p [] x = go (p x)

@@ -1,7 +1,7 @@
 -- The laws of the stable order. Assumes nothing.
 use mathlib.Core.Path.{_≡_, refl, sym, ap, ap₂, _∙_}
-use mathlib.Core.Bool.{Bool, true, false}
-use mathlib.Core.List.{List, [], _∷_, _++_, append-nil}
+use mathlib.Core.Bool.{Bool, true, false, not, true≢false}
+use mathlib.Core.List.{List, [], _∷_, _++_, map, append-nil}
 use Prim.Native.Nat.{ℕ, zero, suc, _+_, _≤_, _<_}
 use native.Mathlib.Nat.{le-of-eq}
 use native.Mathlib.Numerals.{add-one}
@@ -13,7 +13,7 @@ use Rattle.lists.specs.Gather.{gathered, each, all, tally}
 use Rattle.lists.specs.Sort.{insert, sortOnto, sorted, moved}
 use Rattle.lists.specs.Regions.{front, putIn, insertAt}
 use Rattle.lists.proofs.Search.{first-here, first-shift, first-le, first-ext}
-use Rattle.lists.proofs.Gather.{each-head}
+use Rattle.lists.proofs.Gather.{each-head, all-both}
 use Rattle.lists.proofs.Regions.{take-front-of, front-front, front-behind}
 use Rattle.lists.proofs.Insert.{insertAt-fits}
 
@@ -136,3 +136,26 @@ module _ {A : Type 0} (before : A → A → Bool) where
       let all : take k s₀ ≡ s₀ = take-all k s₀ b in
       let none : drop (length xs) s₀ ≡ [] = drop-of-length-le s₀ {i = length xs} (omega (arith, length-sorted (take k s₀), ap length all)) in
       e ∙ ap (λ (l : List A). xs ++ l) none ∙ append-nil xs ∙ ap (sorted before) all
+
+  -- ---- what stands first stays first, where nothing that is put in stands before it
+
+  module _ (x : A) where
+    insert-behind : (y : A) (zs : List A) → not (before y x) ≡ true → insert before y (x ∷ zs) ≡ x ∷ insert before y zs
+    unfolding insert
+    insert-behind y zs h = go (before y x) h
+      where
+        go : (t : Bool) → not t ≡ true → (let l : List A = elim t [ true ↦ y ∷ x ∷ zs | false ↦ x ∷ insert before y zs ] in l ≡ x ∷ insert before y zs)
+        go true e = absurd (true≢false (sym e))
+        go false e = refl
+
+    onto-behind : {B : Type 0} (f : B → A) (done : List A) (ys : List B) → all (λ y. not (before (f y) x)) ys ≡ true
+        → sortOnto before (x ∷ done) (map f ys) ≡ x ∷ sortOnto before done (map f ys)
+    unfolding sortOnto
+    onto-behind f done [] h = refl
+    onto-behind f done (y ∷ ys) h =
+        let b = all-both (λ z. not (before (f z) x)) y ys h in
+        ap (λ (l : List A). sortOnto before l (map f ys)) (insert-behind (f y) done (b .0)) ∙ onto-behind f (insert before (f y) done) ys (b .1)
+
+    pub sorted-head : {B : Type 0} (f : B → A) (ys : List B) → all (λ y. not (before (f y) x)) ys ≡ true → sorted before (x ∷ map f ys) ≡ x ∷ sorted before (map f ys)
+    unfolding sortOnto insert
+    sorted-head f ys h = onto-behind f [] ys h
