@@ -57,7 +57,7 @@ def pieces(answer):
 
 
 def uses(outline, edges, whole_cell):
-    """What is wrong with how the pieces' edges stand to the outline, or nothing."""
+    """What is wrong with how the pieces' edges stand to the outline, or nothing; of a cell whose pieces aren't all listed, what is too much."""
     used, darts = collections.Counter(edges), set(outline)
     for a, b in set(edges) | darts:
         there, back = used[a, b], used[b, a]
@@ -69,25 +69,31 @@ def uses(outline, edges, whole_cell):
     return None
 
 
+def looked_at(form, cells):
+    """Of the Rust's cells (copied, slots, doubled, outline) those that the answer to one of `questions` is held to, by their numbers, but
+    for doubled ones: the subject's, or, where both meshes are cut, the cutter's."""
+    subjects, cutters = (len(CELL.findall(mesh)) for mesh in form.split('(mesh\n')[1:])
+    both = operation(form) in BOTH_CUT
+    assert len(cells) == subjects + (cutters if both else 0), (len(cells), subjects, cutters)
+    numbered_cells = enumerate(cells[subjects:], CUTTER) if both else enumerate(cells)
+    return [(i, c[3]) for i, c in numbered_cells if not c[2]]
+
+
 def faults(form, answer, cells):
-    """Of an answer to one of `questions`, and the Rust's cells (copied, slots, doubled, outline): what doesn't close up, a line each."""
+    """Of an answer to one of `questions`, and the Rust's cells: what doesn't close up, a line each."""
     if not answer.startswith('(overlay\n'):
         return ['no answer: ' + answer.strip()]
-    subjects = len(CELL.findall(form.split('(mesh\n')[1]))
-    first = subjects if operation(form) in BOTH_CUT else 0
+    all_listed = operation(form) not in BOTH_CUT
     nodes = [(whole(x), whole(y)) for x, y in NODE.findall(answer)]
     of = pieces(answer)
     out = []
-    for i, (_, _, doubled, outline) in enumerate(cells[first:]):
-        mine = of[CUTTER + i if first else i]
-        edges = [e for p in mine for e in ring(p)]
-        wrong = None if doubled else uses(outline, edges, not first)
-        if not doubled and not first and area(nodes, edges) != area(nodes, outline):
-            wrong = wrong or 'areas: %d, the outline %d' % (area(nodes, edges), area(nodes, outline))
+    for i, outline in looked_at(form, cells):
+        edges = [e for p in of[i] for e in ring(p)]
+        wrong = uses(outline, edges, all_listed)
+        if not wrong and all_listed and area(nodes, edges) != area(nodes, outline):
+            wrong = 'areas: %d, the outline %d' % (area(nodes, edges), area(nodes, outline))
         if wrong:
             out.append('cell %d: %s' % (i, wrong))
-    if len(cells) != (subjects if not first else subjects + len(CELL.findall(form.split('(mesh\n')[2]))):
-        out.append('%d cells told of' % len(cells))
     return out
 
 

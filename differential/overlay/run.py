@@ -23,7 +23,7 @@ ROOT = os.path.dirname(os.path.dirname(HERE))
 sys.path.insert(0, HERE)
 sys.dont_write_bytecode = True
 
-from closing import faults, questions
+from closing import faults, looked_at, questions
 from limits import known
 from made import Made, text
 
@@ -130,7 +130,7 @@ def closed(sides, forms):
     flat = [q for qs in asked for q in qs]
     later = sides.later(flat)
     sides.compared['answers held to closing up'] += len(forms)
-    sides.compared['their cells that are not doubled'] += sum(not c[2] for _, _, cells in later for c in cells)
+    sides.compared['cells of these that are not doubled'] += sum(len(looked_at(q, cells)) for q, (_, _, cells) in zip(flat, later))
     wrong = iter([faults(q, a, cells) for q, a, (_, _, cells) in zip(flat, sides.ask('ours', flat), later)])
     return [not any([next(wrong) for _ in qs]) for qs in asked]
 
@@ -141,12 +141,13 @@ def code(answer):
 
 
 def counted(sides, later, ours, doubled):
-    """For each form what the Rust's own tables say of our answer: a refusal 9 or 10 explained, that it is unexplained, or nothing.
+    """For each form what the copy that turns back, and its tables, say of our answer: a refusal 9 or 10 explained, that it is unexplained,
+    or nothing. An answer of ours is the copy's, whatever the published Rust gives.
 
     The Rust goes on where we refuse, so 9, looked at before any cell is cut, comes before 10; and its copy stops where we refuse 11, so a
     table that it tells of was made before that."""
     out = []
-    for a, n, (_, collected, cells) in zip(ours, doubled, later):
+    for a, n, (answer, collected, cells) in zip(ours, doubled, later):
         crowded = max((c[1] for c in cells), default=0) > 1024
         want = 9 if collected > 256 else 10 if crowded else None
         got = code(a)
@@ -160,7 +161,7 @@ def counted(sides, later, ours, doubled):
             sides.compared['cells'] += len(cells)
             sides.compared['doubled, cut'] += sum(not c[0] for c in told)
             sides.compared['doubled, copied'] += sum(c[0] for c in told)
-            if len(told) != n:
+            if len(told) != n or a != answer:
                 out.append('unexplained')
                 continue
         out.append(None)

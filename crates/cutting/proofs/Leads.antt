@@ -7,43 +7,34 @@ use native.Mathlib.Omega.{arith}
 use lib.Dec.{eqb}
 use borrow.Author.Tests.{eqb-true, eqb-false}
 use Rattle.lists.specs.Search.{bit}
-use Rattle.lists.specs.Gather.{slimAfter}
+use Rattle.lists.specs.Gather.{tally, slimAfter}
+use Rattle.lists.proofs.Gather.{tally-append}
 use Rattle.cutting.specs.Edges.{Edge, turn, hops}
 use Rattle.cutting.specs.Areas.{leaving, entering}
 
 abbrev pub Leads : ℕ → ℕ → List Edge → Type 0
 Leads x z es = (a : ℕ) → leaving a es + bit (eqb z a) ≡ entering a es + bit (eqb x a)
 
-leaving-append : (a : ℕ) (es fs : List Edge) → leaving a (es ++ fs) ≡ leaving a es + leaving a fs
-unfolding leaving
-leaving-append a [] fs = omega arith
-leaving-append a (e ∷ es) fs = omega (arith, leaving-append a es fs)
-
-entering-append : (a : ℕ) (es fs : List Edge) → entering a (es ++ fs) ≡ entering a es + entering a fs
-unfolding entering
-entering-append a [] fs = omega arith
-entering-append a (e ∷ es) fs = omega (arith, entering-append a es fs)
-
 -- one after the other
 pub leads-on : (x y z : ℕ) (es fs : List Edge) → Leads x y es → Leads y z fs → Leads x z (es ++ fs)
-leads-on x y z es fs h k a = omega (arith, h a, k a, leaving-append a es fs, entering-append a es fs)
+leads-on x y z es fs h k a = omega (arith, h a, k a, tally-append (λ e. eqb (e .0) a) es fs, tally-append (λ e. eqb (e .1) a) es fs)
 
 pub leads-none : (x : ℕ) → Leads x x []
-unfolding leaving entering
+unfolding tally
 leads-none x a = refl
 
 pub leads-edge : (x z : ℕ) → Leads x z ((x, z) ∷ [])
-unfolding leaving entering
+unfolding tally
 leads-edge x z a = omega arith
 
 -- the other way
 leaving-turned : (a : ℕ) (es : List Edge) → leaving a (map (turn true) es) ≡ entering a es
-unfolding leaving entering
+unfolding tally
 leaving-turned a [] = refl
 leaving-turned a (e ∷ es) = ap (λ (k : ℕ). bit (eqb (e .1) a) + k) (leaving-turned a es)
 
 entering-turned : (a : ℕ) (es : List Edge) → entering a (map (turn true) es) ≡ leaving a es
-unfolding leaving entering
+unfolding tally
 entering-turned a [] = refl
 entering-turned a (e ∷ es) = ap (λ (k : ℕ). bit (eqb (e .0) a) + k) (entering-turned a es)
 
@@ -57,7 +48,7 @@ leads-turned x z es false h k = subst (Leads x z) (sym (not-turned es)) (k refl)
 
 -- along nodes, adjacent equals dropped
 pub leads-hops : (x : ℕ) (ys : List ℕ) (z : ℕ) → Leads x z (hops x (slimAfter eqb x (ys ++ z ∷ [])))
-unfolding slimAfter hops leaving entering
+unfolding slimAfter hops tally
 leads-hops x [] z = go (eqb x z) refl
   where
     go : (t : Bool) → eqb x z ≡ t → Leads x z (hops x (elim t [ true ↦ slimAfter eqb x [] | false ↦ z ∷ slimAfter eqb z [] ]))

@@ -186,22 +186,22 @@ into-tally a [] = refl
 into-tally a (s ∷ t) = ap (λ (k : ℕ). bit (opens-to a s) + k) (into-tally a t)
 
 from-outline : (a : ℕ) (es : List Edge) → tally (opens-from a) (edgeSlots reverseMark es) ≡ leaving a es
-unfolding tally edgeSlots leaving
+unfolding tally edgeSlots
 from-outline a [] = refl
 from-outline a (e ∷ es) = omega (arith, from-outline a es, ap bit (and-true (eqb (e .0) a)), ap bit (and-false (eqb (e .1) a)))
 
 to-outline : (a : ℕ) (es : List Edge) → tally (opens-to a) (edgeSlots reverseMark es) ≡ entering a es
-unfolding tally edgeSlots entering
+unfolding tally edgeSlots
 to-outline a [] = refl
 to-outline a (e ∷ es) = omega (arith, to-outline a es, ap bit (and-true (eqb (e .1) a)), ap bit (and-false (eqb (e .0) a)))
 
 from-inner : (a : ℕ) (es : List Edge) → tally (opens-from a) (edgeSlots 0 es) ≡ leaving a es + entering a es
-unfolding tally edgeSlots leaving entering
+unfolding tally edgeSlots
 from-inner a [] = omega arith
 from-inner a (e ∷ es) = omega (arith, from-inner a es, ap bit (and-true (eqb (e .0) a)), ap bit (and-true (eqb (e .1) a)))
 
 to-inner : (a : ℕ) (es : List Edge) → tally (opens-to a) (edgeSlots 0 es) ≡ leaving a es + entering a es
-unfolding tally edgeSlots leaving entering
+unfolding tally edgeSlots
 to-inner a [] = omega arith
 to-inner a (e ∷ es) = omega (arith, to-inner a es, ap bit (and-true (eqb (e .0) a)), ap bit (and-true (eqb (e .1) a)))
 

@@ -1,11 +1,11 @@
 -- What it is for pieces to close up to an outline: by their edges, and by exact signed areas. Assumes nothing.
 use mathlib.Core.Path.{_≡_}
 use mathlib.Core.List.{List, [], _∷_}
-use Prim.Native.Nat.{ℕ, _+_, _≤_, _<_}
+use Prim.Native.Nat.{ℕ, _≤_, _<_}
 use lib.Dec.{eqb}
 use lib.IntN.{ℤ, pos, _+ℤ_, _-ℤ_, _*ℤ_}
 use lib.Ieee.{Float}
-use Rattle.lists.specs.Search.{bit}
+use Rattle.lists.specs.Gather.{tally}
 use Rattle.exact.specs.Exact.{coord}
 use Rattle.geometry.specs.Plane.{pointAt}
 use Rattle.cutting.specs.Edges.{Edge, ring, rings, times}
@@ -40,13 +40,11 @@ pub record ClosesUp (coords : List Float) (outline : List Edge) (ps : List (List
 -- ---- outlines that close
 
 -- how many edges of a list lead from a node, and how many to it
-unfoldable pub leaving : ℕ → List Edge → ℕ
-leaving a [] = 0
-leaving a (e ∷ es) = bit (eqb (e .0) a) + leaving a es
+abbrev pub leaving : ℕ → List Edge → ℕ
+leaving a es = tally (λ e. eqb (e .0) a) es
 
-unfoldable pub entering : ℕ → List Edge → ℕ
-entering a [] = 0
-entering a (e ∷ es) = bit (eqb (e .1) a) + entering a es
+abbrev pub entering : ℕ → List Edge → ℕ
+entering a es = tally (λ e. eqb (e .1) a) es
 
 -- as many edges lead from each node as to it
 abbrev pub Round : List Edge → Type 0

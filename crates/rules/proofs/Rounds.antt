@@ -8,13 +8,13 @@ use lib.Dec.{eqb}
 use lib.Ieee.{Float}
 use borrow.Author.Tests.{eqb-true}
 use Rattle.lists.specs.Search.{bit}
-use Rattle.lists.specs.Gather.{all, slimAfter, slim, joined}
+use Rattle.lists.specs.Gather.{all, tally, slimAfter, slim, joined}
 use Rattle.lists.specs.Sort.{sorted}
 use Rattle.lists.proofs.Gather.{all-both}
 use Rattle.lists.proofs.Sort.{sorted-head}
 use Rattle.cutting.specs.Edges.{Edge, key, hops, ring}
 use Rattle.cutting.specs.Cell.{orEnds, dartsAlong, ownDarts, outlineDarts}
-use Rattle.cutting.specs.Areas.{leaving, entering, Round}
+use Rattle.cutting.specs.Areas.{Round}
 use Rattle.cutting.proofs.Leads.{Leads, leads-on, leads-none, leads-edge, leads-turned, leads-hops, leads-key}
 use Rattle.rules.specs.Meetings.{Scene}
 use Rattle.rules.specs.Nodes.{Projected, projected, byProjection, alongEdge, collected, unlessNone, sortedNodes}
@@ -55,6 +55,6 @@ hops-lead sc x (y ∷ ys) z h =
 
 -- As many outline darts lead from each node as to it.
 pub forward-round : (sc : Scene) (cell : List ℕ) → all (forwardEdge sc) (ring cell) ≡ true → Round (dartsOf sc cell)
-unfolding ring dartsOf outlineDarts joined leaving entering
+unfolding ring dartsOf outlineDarts joined tally
 forward-round sc [] h a = refl
 forward-round sc (x ∷ xs) h a = omega (arith, hops-lead sc x xs x h a)

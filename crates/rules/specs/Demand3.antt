@@ -11,14 +11,15 @@ use Rattle.rules.specs.Mesh.{cellAt, Side}
 use Rattle.rules.specs.Meetings.{Scene, netOf}
 use Rattle.rules.specs.Cell.{outlineOf}
 use Rattle.rules.specs.Operations.{cuts, keeps, Piece, piecesOf, pieceAt, inside, listing}
-use Rattle.rules.specs.Overlay.{Lists, Result, overlayWith}
+use Rattle.rules.specs.Overlay.{Lists, Result, overlayOf, overlayWith}
 
--- "An overlay is accepted where it gives no refusal"; by whether a walk may turn back
+-- "An overlay is accepted where it gives no refusal"
+abbrev pub Accepted : ℕ → ℕ → Mesh → Mesh → Lists → Type 0
+Accepted op m s c l = overlayOf op m s c l .code ≡ 0
+
+-- by whether a walk may turn back
 abbrev pub AcceptedWith : Bool → ℕ → ℕ → Mesh → Mesh → Lists → Type 0
 AcceptedWith turning op m s c l = overlayWith turning op m s c l .code ≡ 0
-
-abbrev pub Accepted : ℕ → ℕ → Mesh → Mesh → Lists → Type 0
-Accepted op m s c l = AcceptedWith true op m s c l
 
 -- ---- (a) the pieces before any are dropped close up to the outline as cut
 
