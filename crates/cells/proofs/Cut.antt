@@ -1,6 +1,6 @@
 -- What a cell comes to, from its table and its walk. Assumes nothing.
 use mathlib.Core.Path.{_≡_, sym, ap, _∙_, subst}
-use mathlib.Core.Bool.{Bool, false}
+use mathlib.Core.Bool.{true, false}
 use mathlib.Core.List.{List, []}
 use Prim.Native.Nat.{ℕ, _≤_, _<_}
 use native.Mathlib.Omega.{arith}
@@ -10,13 +10,13 @@ use Rattle.lists.specs.Gather.{joined}
 use Rattle.lists.specs.Regions.{front, zeros}
 use Rattle.lists.proofs.Regions.{take-front}
 use Rattle.cutting.specs.Edges.{Edge}
-use Rattle.cutting.specs.Cell.{Laid, inner, Slot, cellTable, doubled}
+use Rattle.cutting.specs.Cell.{Laid, Slot, newTo, innerWith, cellTable, repeats}
 use Rattle.cutting.specs.Walk.{walk}
 use Rattle.cutting.specs.Outcome.{Outcome, pieces, refusal, ofWalk, flat}
 use Rattle.cutting.specs.Lent.{slotsOf, ends, pairs, answer, cornersIn, endsIn}
 use Rattle.cutting.specs.declared.cut.Walked.{Walked}
 use Rattle.cutting.specs.declared.cut.Walked.the-variants.{Closed, Refused}
-use Rattle.cutting.proofs.Joins.{pairs-ends, cell-length, cut-over, cut-fits}
+use Rattle.cutting.proofs.Joins.{pairs-ends, cell-length, cut-repeats, cut-over, cut-fits}
 use Rattle.cutting.proofs.Tabled.{slots-length}
 use Rattle.rules.specs.declared.Bounds.{Bounds}
 use Rattle.edge_nodes.specs.Lent.{filled}
@@ -24,11 +24,16 @@ use Rattle.edge_nodes.specs.declared.Along.{Along}
 use Rattle.cells.specs.declared.CutCell.{CutCell}
 use Rattle.cells.specs.Cells.{outlineIn, nearIn, tableIn, candidatesFrom, cutAs, cutBy, cutCell, Held}
 
--- ---- refusal 10
+-- ---- refusals 10 and 19
 
-pub too-many : (coords : List Float) (outline : List Edge) (near : List Laid) → 1024 < length (cellTable coords outline near) → cutAs (refusal 10) false ≡ cutBy outline (cellTable coords outline near)
-unfolding cutBy cutAs
-too-many coords outline near many = ap (λ (o : Outcome). cutAs o (doubled (cellTable coords outline near))) (sym (cut-over coords outline near many))
+module _ (coords : List Float) (outline : List Edge) (near : List Laid) where
+  pub too-many : repeats outline ≡ false → 1024 < length (cellTable coords outline near) → cutAs (refusal 10) ≡ cutBy outline (cellTable coords outline near)
+  unfolding cutBy
+  too-many once many = ap cutAs (sym (cut-over coords outline near once many))
+
+  pub repeated : repeats outline ≡ true → cutAs (refusal 19) ≡ cutBy outline (cellTable coords outline near)
+  unfolding cutBy
+  repeated e = ap cutAs (sym (cut-repeats coords outline near e))
 
 -- ---- the outline in a list
 
@@ -57,44 +62,49 @@ module _ (coords : List Float) (subject cutter : List Edge) (met : List ℕ) (ne
   cut-as-lent w n r few put-in e = as-lent coords own w n few put-in others r e
 
   -- too many slots of the own edges are too many in all
-  pub too-many-own : 1024 < length (cellTable coords own []) → cutAs (refusal 10) false ≡ cutCell coords subject cutter met near cell b first
-  unfolding cutCell tableIn inner joined
-  too-many-own many = too-many coords own others (omega (arith, many, cell-length coords own [], cell-length coords own others))
+  pub too-many-own : repeats own ≡ false → 1024 < length (cellTable coords own []) → cutAs (refusal 10) ≡ cutCell coords subject cutter met near cell b first
+  unfolding cutCell tableIn innerWith newTo joined
+  too-many-own once many = too-many coords own others once (omega (arith, many, cell-length coords own [], cell-length coords own others))
+
+  pub repeated-own : repeats own ≡ true → cutAs (refusal 19) ≡ cutCell coords subject cutter met near cell b first
+  unfolding cutCell tableIn
+  repeated-own e = repeated coords own others e
 
 -- ---- the walk
 
 -- the outcome is that of the walk, where the table has its place
-pub as-walked : (coords : List Float) (outline : List Edge) (near : List Laid) (n : ℕ) (src dst marks : List ℕ) (r : CutCell) → n ≤ 1024 → Held (cellTable coords outline near) n src dst marks
-    → r ≡ cutAs (ofWalk (walk outline (slotsOf src dst marks n))) (doubled (slotsOf src dst marks n)) → r ≡ cutBy outline (cellTable coords outline near)
+pub as-walked : (coords : List Float) (outline : List Edge) (near : List Laid) (n : ℕ) (src dst marks : List ℕ) (r : CutCell) → repeats outline ≡ false → n ≤ 1024
+    → Held (cellTable coords outline near) n src dst marks
+    → r ≡ cutAs (ofWalk (walk outline (slotsOf src dst marks n))) → r ≡ cutBy outline (cellTable coords outline near)
 unfolding cutBy
-as-walked coords outline near n src dst marks r few held e =
+as-walked coords outline near n src dst marks r once few held e =
     let t : List Slot = cellTable coords outline near in
     let same : slotsOf src dst marks n ≡ t = held .fits few in
     let small : length t ≤ 1024 = omega (arith, few, ap length same, slots-length src dst marks n) in
-    e ∙ ap (λ (u : List Slot). cutAs (ofWalk (walk outline u)) (doubled u)) same ∙ ap (λ (o : Outcome). cutAs o (doubled t)) (sym (cut-fits coords outline near small))
+    e ∙ ap (λ (u : List Slot). cutAs (ofWalk (walk outline u))) same ∙ ap cutAs (sym (cut-fits coords outline near once small))
 
 -- ---- the answer of the walk
 
 module _ (o : Outcome) (w : Walked) (nodes stops : List ℕ) (ew : w ≡ answer o) (en : nodes ≡ cornersIn o (zeros 1024)) (es : stops ≡ endsIn o (zeros 1024)) where
-  pub closed-as : (k m : ℕ) (twice : Bool) → w ≡ Closed k m → _≡_ {A = CutCell} (record { code = 0; pieces = k; entries = m; doubled = twice; nodes = nodes; stops = stops }) (cutAs o twice)
+  pub closed-as : (k m : ℕ) → w ≡ Closed k m → _≡_ {A = CutCell} (record { code = 0; pieces = k; entries = m; nodes = nodes; stops = stops }) (cutAs o)
   unfolding cutAs cornersIn endsIn
-  closed-as k m twice e = go o ew en es
+  closed-as k m e = go o ew en es
     where
       go : (x : Outcome) → w ≡ answer x → nodes ≡ cornersIn x (zeros 1024) → stops ≡ endsIn x (zeros 1024)
-          → _≡_ {A = CutCell} (record { code = 0; pieces = k; entries = m; doubled = twice; nodes = nodes; stops = stops }) (cutAs x twice)
+          → _≡_ {A = CutCell} (record { code = 0; pieces = k; entries = m; nodes = nodes; stops = stops }) (cutAs x)
       go (pieces ps) a b c =
           let ek : k ≡ length ps = cc in
           let em : m ≡ length (flat ps) = cc in
-          λ t. record { code = 0; pieces = ek t; entries = em t; doubled = twice; nodes = b t; stops = c t }
+          λ t. record { code = 0; pieces = ek t; entries = em t; nodes = b t; stops = c t }
       go (refusal c) a b d = let z : _≡_ {A = ℕ} 0 1 = cc in absurd (omega arith)
 
-  pub refused-as : (k : ℕ) (twice : Bool) → w ≡ Refused k → cutAs (refusal k) false ≡ cutAs o twice
+  pub refused-as : (k : ℕ) → w ≡ Refused k → cutAs (refusal k) ≡ cutAs o
   unfolding cutAs
-  refused-as k twice e = go o ew
+  refused-as k e = go o ew
     where
-      go : (x : Outcome) → w ≡ answer x → cutAs (refusal k) false ≡ cutAs x twice
+      go : (x : Outcome) → w ≡ answer x → cutAs (refusal k) ≡ cutAs x
       go (pieces ps) a = let z : _≡_ {A = ℕ} 0 1 = cc in absurd (omega arith)
-      go (refusal c) a = let ek : k ≡ c = cc in ap (λ (n : ℕ). cutAs (refusal n) false) ek
+      go (refusal c) a = let ek : k ≡ c = cc in ap (λ (n : ℕ). cutAs (refusal n)) ek
 
 -- ---- a list's front
 

@@ -1,5 +1,5 @@
 -- The edges near a cell, one after the other. Assumes nothing.
-use mathlib.Core.Path.{_≡_, refl, sym, ap, _∙_, subst}
+use mathlib.Core.Path.{_≡_, refl, sym, ap, _∙_}
 use mathlib.Core.List.{List, [], _∷_, _++_, append-nil, append-assoc}
 use Prim.Native.Nat.{ℕ, _+_, _*_, _/_, _≤_, _<_}
 use native.Mathlib.Omega.{arith}
@@ -9,7 +9,7 @@ use Rattle.lists.specs.Search.{first}
 use Rattle.lists.proofs.Search.{first-from}
 use Rattle.cutting.specs.Edges.{Edge, edgeAt}
 use Rattle.cutting.specs.Cell.{Laid, nearDarts, cellTable}
-use Rattle.cutting.specs.Lent.{slotsOf, pairs, Added}
+use Rattle.cutting.specs.Lent.{slotsOf, pairs, Table, tableIn, withEdges}
 use Rattle.cutting.proofs.Joins.{near-turn, near-full}
 use Rattle.cutting.proofs.Adds.{pairs-length, pairs-at}
 use Rattle.rules.specs.declared.Bounds.{Bounds}
@@ -20,11 +20,9 @@ use Rattle.cells.specs.Cells.{laidIn, nearIn, candidatesFrom, Uncrowded,
 
 -- ---- `add_near`
 
-pub near-laid : (coords : List Float) (outline : List Edge) (e : Edge) (ns xs : List ℕ) (n r : ℕ) (src dst marks src′ dst′ marks′ : List ℕ) → ns ≡ xs
-    → Added coords 0 (nearDarts outline (record { edge = e; nodes = ns })) n r src dst marks src′ dst′ marks′
-    → Added coords 0 (nearDarts outline (record { edge = e; nodes = xs })) n r src dst marks src′ dst′ marks′
-near-laid coords outline e ns xs n r src dst marks src′ dst′ marks′ q got =
-    subst (λ (l : List ℕ). Added coords 0 (nearDarts outline (record { edge = e; nodes = l })) n r src dst marks src′ dst′ marks′) q got
+pub near-laid : (coords : List Float) (e : Edge) (ns xs : List ℕ) (t u : Table) → ns ≡ xs
+    → u ≡ withEdges coords (nearDarts (record { edge = e; nodes = ns })) t → u ≡ withEdges coords (nearDarts (record { edge = e; nodes = xs })) t
+near-laid coords e ns xs t u q got = got ∙ ap (λ (l : List ℕ). withEdges coords (nearDarts (record { edge = e; nodes = l })) t) q
 
 -- ---- `near_darts`
 
@@ -90,7 +88,7 @@ module _ (coords : List Float) (subject cutter : List Edge) (met near : List ℕ
       unfolding nearIn
       split = ap (λ (f : Edge). v .done ++ laid f ∷ nearBy (from-on (j + 1))) (sym at-j) ∙ ap (λ (js : List ℕ). v .done ++ nearBy js) (sym (places-next (meets coords (pairs near) b) (v .from) (length (pairs near)) j (v .at) below)) ∙ v .left
 
-      module _ (r : ℕ) (src′ dst′ marks′ : List ℕ) (got : Added coords 0 (nearDarts outline (laid e)) m r src dst marks src′ dst′ marks′) where
+      module _ (r : ℕ) (src′ dst′ marks′ : List ℕ) (got : tableIn r src′ dst′ marks′ ≡ withEdges coords (nearDarts (laid e)) (tableIn m src dst marks)) where
         pub near-step : (j′ : ℕ) → r ≤ 1024 → j′ ≡ found (j + 1) → length src′ ≡ length src → length dst′ ≡ length dst → length marks′ ≡ length marks → Nearing₀ src′ dst′ marks′ r j′
         near-step j′ few next ls ld lm = record {
           same-src = ls ∙ v .same-src;
@@ -101,13 +99,14 @@ module _ (coords : List Float) (subject cutter : List Edge) (met near : List ℕ
           from = j + 1;
           at = sym next;
           left = append-assoc (v .done) (laid e ∷ []) (nearBy (from-on (j + 1))) ∙ split;
-          held = near-turn coords src dst marks src′ dst′ marks′ m r outline (v .done) (laid e) got few (v .held);
+          held = near-turn coords outline src dst marks src′ dst′ marks′ m r (v .done) (laid e) got (v .small) (v .held) few;
         }
 
         -- too many at this edge are too many in all
         pub near-many : 1024 < r → Held (cellTable coords outline (nearBy (from-on first₀))) r src′ dst′ marks′
         near-many many =
-            let all : 1024 < length (cellTable coords outline (v .done ++ laid e ∷ nearBy (from-on (j + 1)))) = near-full coords src dst marks src′ dst′ marks′ m r outline (v .done) (laid e) (nearBy (from-on (j + 1))) got many (v .held) in
+            let all : 1024 < length (cellTable coords outline (v .done ++ laid e ∷ nearBy (from-on (j + 1)))) =
+            near-full coords outline src dst marks src′ dst′ marks′ m r (v .done) (laid e) got (v .small) (v .held) (nearBy (from-on (j + 1))) many in
             record {
               fits = λ few. absurd (omega (arith, few, many));
               over = λ _. omega (arith, all, ap (λ (l : List Laid). length (cellTable coords outline l)) split);

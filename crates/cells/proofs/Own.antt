@@ -28,12 +28,12 @@ around x (y ∷ ys) = hops y (ys ++ x ∷ [])
 abbrev pub sidesFrom : List ℕ → ℕ → List Edge
 sidesFrom cell i = around (getD cell 0 0) (drop i cell)
 
-sides-all : (cell : List ℕ) → sidesFrom cell 0 ≡ ring cell
+pub sides-all : (cell : List ℕ) → sidesFrom cell 0 ≡ ring cell
 unfolding ring
 sides-all [] = refl
 sides-all (x ∷ xs) = refl
 
-sides-next : (cell : List ℕ) (i : ℕ) → i < length cell → sidesFrom cell i ≡ (getD cell i 0, nextCorner cell i) ∷ sidesFrom cell (i + 1)
+pub sides-next : (cell : List ℕ) (i : ℕ) → i < length cell → sidesFrom cell i ≡ (getD cell i 0, nextCorner cell i) ∷ sidesFrom cell (i + 1)
 unfolding nextCorner hops
 sides-next cell i h =
     let next : drop i cell ≡ getD cell i 0 ∷ drop (i + 1) cell = drop-cons cell i 0 h ∙ ap (λ (k : ℕ). getD cell i 0 ∷ drop k cell) (sym (add-one i)) in
@@ -54,10 +54,10 @@ next-last cell i h past =
     let at : length cell ≡ i + 1 = le-antisymm past (omega arith) in
     ap (λ (d : List ℕ). getD (d ++ cell) 0 0) (sym (drop-length cell) ∙ ap (λ (k : ℕ). drop k cell) at)
 
-sides-end : (cell : List ℕ) (i : ℕ) → i ≡ length cell → sidesFrom cell i ≡ []
+pub sides-end : (cell : List ℕ) (i : ℕ) → i ≡ length cell → sidesFrom cell i ≡ []
 sides-end cell i e = ap (around (getD cell 0 0)) (ap (λ (k : ℕ). drop k cell) e ∙ drop-length cell)
 
-edge-behind : (es : List Edge) (e : Edge) (fs : List Edge) → edgeAt (es ++ e ∷ fs) (length es) ≡ e
+pub edge-behind : (es : List Edge) (e : Edge) (fs : List Edge) → edgeAt (es ++ e ∷ fs) (length es) ≡ e
 edge-behind [] e fs = refl
 edge-behind (d ∷ es) e fs = edge-behind es e fs
 

@@ -12,7 +12,8 @@ use Rattle.lists.specs.Regions.{front, zeros}
 use Rattle.lists.proofs.Search.{first-here, first-hit, has-none}
 use Rattle.lists.proofs.Regions.{take-front}
 use Rattle.cutting.specs.Edges.{Edge, edgeAt, sameKey, ring}
-use Rattle.cutting.specs.Cell.{Laid, outlineDarts, Slot, cellTable, copiedTable, doubled}
+use Rattle.cutting.specs.Cell.{Laid, outlineDarts, Slot, cellTable}
+use Rattle.cutting.specs.Setting.{ours}
 use Rattle.cutting.specs.Outcome as Outcome
 use Rattle.cutting.specs.Outcome.{Outcome, pieces, refusal, cutOutcome, copiedOutcome, flat}
 use Rattle.rules.specs.declared.Bounds.{Bounds}
@@ -20,7 +21,7 @@ use Rattle.rules.specs.Mesh.{Side, other}
 use Rattle.rules.specs.SpatialIndex.{boxOf, candidates}
 use Rattle.rules.specs.Meetings.{Scene, netOf}
 use Rattle.rules.specs.Nodes.{sortedNodes}
-use Rattle.rules.specs.Cell.{laid, dartsOf, outlineBy, tableBy, outcomeBy, cellOf, nearOf, outlineOf, tableOf, outcomeOf, outcomeWith}
+use Rattle.rules.specs.Cell.{laid, dartsOf, outlineBy, tableBy, outcomeBy, cellOf, nearOf, outlineOf, tableWith, outcomeOf, outcomeWith}
 use Rattle.spatial_index.specs.Candidates.{meets}
 use Rattle.spatial_index.proofs.Candidates.{places-next, places-end, candidates-from}
 use Rattle.edge_nodes.specs.Lent.{collectedIn, sortedIn, crowdedAt}
@@ -72,7 +73,7 @@ module _ (sc : Scene) (subject cutter : List Edge) (met : List ℕ) (same : (e :
   unfolding outlineIn dartsOf
   outline-is cell = ap (λ (f : Edge → Laid). outlineDarts (map f (ring cell))) laid-is
 
-  pub table-is : (es : List Edge) (cell : List ℕ) (j : ℕ) (js : List ℕ) → tableIn (sc .coords) subject cutter met es (j ∷ js) cell ≡ tableBy sc es cell (j ∷ js)
+  pub table-is : (es : List Edge) (cell : List ℕ) (j : ℕ) (js : List ℕ) → tableIn (sc .coords) subject cutter met es (j ∷ js) cell ≡ tableBy true sc es cell (j ∷ js)
   unfolding tableIn nearIn
   table-is es cell j js = ap₂ (λ (o : List Edge) (f : Edge → Laid). cellTable (sc .coords) o (map (λ i. f (edgeAt es i)) (j ∷ js))) (outline-is cell) laid-is
 
@@ -89,30 +90,29 @@ module _ (sc : Scene) (w : Side) (i k : ℕ) (at : k ≡ first (meets (sc .coord
 
   -- a cell with candidates comes to what the rules say of it, and is doubled where they say so
   pub cut-is : (subject cutter : List Edge) (met : List ℕ) → ((e : Edge) → sortedIn (sc .coords) subject cutter met e ≡ sortedNodes sc e) → k < length es
-      → cutCell (sc .coords) subject cutter met es (cellOf sc w i) box k ≡ cutAs (outcomeOf sc w i) (doubled (tableOf sc w i))
-  unfolding cutCell cutBy nearOf outlineOf tableOf outcomeWith
+      → cutCell (sc .coords) subject cutter met es (cellOf sc w i) box k ≡ cutAs (outcomeOf sc w i)
+  unfolding cutCell cutBy nearOf outlineOf tableWith outcomeWith
   cut-is subject cutter met same h =
       let cell = cellOf sc w i in
       let near = from-first (sc .coords) es box k at h in
       ap (λ (js : List ℕ). cutBy (outlineIn (sc .coords) subject cutter met cell) (tableIn (sc .coords) subject cutter met es js cell)) (near .0)
-      ∙ ap₂ (λ (o : List Edge) (t : List Slot). cutAs (cutOutcome o t) (doubled t)) (outline-is sc subject cutter met same cell) (table-is sc subject cutter met same es cell k rest)
-      ∙ ap (λ (js : List ℕ). cutAs (outcomeBy true (outlineBy sc cell js) (tableBy sc es cell js) cell js) (doubled (tableBy sc es cell js))) (sym (near .1))
+      ∙ ap₂ (λ (o : List Edge) (t : List Slot). cutAs (cutOutcome o t)) (outline-is sc subject cutter met same cell) (table-is sc subject cutter met same es cell k rest)
+      ∙ ap (λ (js : List ℕ). cutAs (outcomeBy ours (outlineBy sc cell js) (tableBy true sc es cell js) cell js)) (sym (near .1))
 
   -- one without is copied
-  pub copied-is : length es ≤ k → (outcomeOf sc w i ≡ copiedOutcome (cellOf sc w i)) × (tableOf sc w i ≡ copiedTable (cellOf sc w i))
-  unfolding nearOf outlineOf tableOf outcomeWith
+  pub copied-is : length es ≤ k → outcomeOf sc w i ≡ copiedOutcome (cellOf sc w i)
+  unfolding nearOf outlineOf tableWith outcomeWith
   copied-is h =
       let cell = cellOf sc w i in
       let none = none-near (sc .coords) es box k at h in
-      (ap (λ (js : List ℕ). outcomeBy true (outlineBy sc cell js) (tableBy sc es cell js) cell js) none, ap (tableBy sc es cell) none)
+      ap (λ (js : List ℕ). outcomeBy ours (outlineBy sc cell js) (tableBy true sc es cell js) cell js) none
 
 -- ---- the answer read
 
-pub record Read (ps : List (List ℕ)) (twice : Bool) (r : CutCell) : Type 0 where
+pub record Read (ps : List (List ℕ)) (r : CutCell) : Type 0 where
   pub code : r .code ≡ 0
   pub count : r .pieces ≡ length ps
   pub corners : r .entries ≡ length (flat ps)
-  pub twofold : r .doubled ≡ twice
   pub nodes-fit : r .entries ≤ length (r .nodes)
   pub stops-fit : r .pieces ≤ length (r .stops)
   pub nodes : take (r .entries) (r .nodes) ≡ flat ps
@@ -123,19 +123,18 @@ unfolding Outcome.stops
 stops-length k [] = refl
 stops-length k (c ∷ ps) = ap suc (stops-length (k + length c) ps)
 
-pub read-pieces : (ps : List (List ℕ)) (twice : Bool) (r : CutCell) → r ≡ cutAs (pieces ps) twice → Read ps twice r
+pub read-pieces : (ps : List (List ℕ)) (r : CutCell) → r ≡ cutAs (pieces ps) → Read ps r
 unfolding cutAs
-read-pieces ps twice r e = subst (λ (x : CutCell). Read ps twice x) (sym e) (record {
+read-pieces ps r e = subst (λ (x : CutCell). Read ps x) (sym e) (record {
   code = refl;
   count = refl;
   corners = refl;
-  twofold = refl;
   nodes-fit = front-fits (zeros 1024) (flat ps);
   stops-fit = omega (arith, front-fits (zeros 1024) (Outcome.stops 0 ps), stops-length 0 ps);
   nodes = take-front (zeros 1024) (flat ps);
   stops = ap (λ (n : ℕ). take n (front (zeros 1024) (Outcome.stops 0 ps))) (sym (stops-length 0 ps)) ∙ take-front (zeros 1024) (Outcome.stops 0 ps);
 })
 
-pub read-refusal : (k : ℕ) (twice : Bool) (r : CutCell) → r ≡ cutAs (refusal k) twice → r .code ≡ k
+pub read-refusal : (k : ℕ) (r : CutCell) → r ≡ cutAs (refusal k) → r .code ≡ k
 unfolding cutAs
-read-refusal k twice r e = ap (λ (x : CutCell). x .code) e
+read-refusal k r e = ap (λ (x : CutCell). x .code) e

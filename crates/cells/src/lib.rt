@@ -2,45 +2,45 @@
 use cutting::cut::Walked;
 use cutting::cut::add_near_edge;
 use cutting::cut::add_own_edge;
-use cutting::cut::is_doubled;
 use cutting::cut::walk_dart_map;
 use edge_nodes::sorted_nodes;
+use outlines::edges_meet;
+use outlines::edges_repeat;
+use outlines::lay_own_edge;
 use rules::Bounds;
 use spatial_index::in_bounds;
 ghost use mathlib.Core.Path.{_≡_};
-ghost use mathlib.Core.Bool.{false};
 ghost use mathlib.Core.List.{[]};
-ghost use Prim.Native.Nat.{_≤_, _<_};
+ghost use Prim.Native.Nat.{_+_, _≤_, _<_};
 ghost use lib.ListN.{length, take};
 ghost use Rattle.cutting.specs.Edges.{ring};
-ghost use Rattle.cutting.specs.Cell.{ownDarts, nearDarts, cellTable, doubled};
+ghost use Rattle.cutting.specs.Cell.{ownDarts, nearDarts, cellTable, repeats};
 ghost use Rattle.cutting.specs.Walk.{walk};
 ghost use Rattle.cutting.specs.Outcome.{refusal, ofWalk};
-ghost use Rattle.cutting.specs.Lent.{slotsOf, ends, pairs, Added, Outlined};
+ghost use Rattle.outlines.specs.Meets.{meets};
+ghost use Rattle.cutting.specs.Lent.{slotsOf, ends, pairs, tableIn, withEdges, Added, Outlined};
 ghost use Rattle.spatial_index.specs.Blocks.{Covered};
 ghost use Rattle.edge_nodes.specs.Lent.{collectedIn};
 ghost use Rattle.edge_nodes.specs.Links.{Linked};
-ghost use Rattle.cells.specs.Cells.{laidIn, outlineIn, nearIn, candidatesFrom, cutAs, cutBy, cutCell, Uncrowded, nextCorner, Held};
+ghost use Rattle.cells.specs.Cells.{laidIn, outlineIn, nearIn, candidatesFrom, cutAs, cutBy, cutCell, Uncrowded, nextCorner, outlineFrom, LaidIn, Held};
 
-// What a cell comes to: the refusal or 0, how many pieces there are, and corners in them, and whether the cell is doubled; the corners, one piece
-// after the other, and where each piece ends among them.
+// What a cell comes to: the refusal or 0, how many pieces there are, and corners in them; the corners, one piece after the other, and where each piece
+// ends among them.
 pub struct CutCell {
     pub code: u32,
     pub pieces: usize,
     pub entries: usize,
-    pub doubled: bool,
     pub nodes: [u32; 1024],
     pub stops: [u32; 1024],
 }
 
-fn refused(code: u32) -> CutCell
-    ensures { λ r. ⌜ r ≡ cutAs (refusal code) false ⌝ }
+pub fn refused(code: u32) -> CutCell
+    ensures { λ r. ⌜ r ≡ cutAs (refusal code) ⌝ }
 {
     CutCell {
         code,
         pieces: 0,
         entries: 0,
-        doubled: false,
         nodes: [0u32; 1024],
         stops: [0u32; 1024],
     }
@@ -127,6 +127,87 @@ fn own_darts(
     n
 }
 
+// Writes the darts of the cell's own edge from a to b to the front of a flat list of pairs. Answers how many entries they take.
+fn lay_own(
+    coords: &[f64],
+    subject: &[u32],
+    cutter: &[u32],
+    met: &[u32],
+    links: &[u32],
+    a: u32,
+    b: u32,
+    darts: &mut [u32],
+) -> usize
+    requires { ⌜ Linked (pairs (now subject)) (pairs (now cutter)) (now met) (now links)
+        × (length (collectedIn (pairs (now subject)) (pairs (now cutter)) (now met) (a, b)) ≤ 256) × (518 ≤ length (now darts)) ⌝ }
+    ensures { λ r. ⌜ LaidIn (ownDarts (laidIn (now (coords .entry)) (pairs (now (subject .entry))) (pairs (now (cutter .entry))) (now (met .entry)) (a, b)))
+        r (now (darts .entry)) (now (darts .exit)) ⌝ }
+{
+    let along = sorted_nodes(coords, subject, cutter, met, links, a, b);
+    let nodes = along.nodes;
+    let count = along.count;
+    lay_own_edge(a, b, &nodes[..count], darts)
+}
+
+// Whether one of some darts, a flat list of pairs, is between the same two nodes as one of the cell's own edges from edge k on.
+fn meets_later(
+    coords: &[f64],
+    subject: &[u32],
+    cutter: &[u32],
+    met: &[u32],
+    links: &[u32],
+    cell: &[u32],
+    darts: &[u32],
+    k: usize,
+) -> bool
+    requires { ⌜ Uncrowded (pairs (now subject)) (pairs (now cutter)) (now met) (now links) (ring (now cell)) ⌝ }
+    ensures { λ r. ⌜ r ≡ meets (pairs (now (darts .entry)))
+        (outlineFrom (now (coords .entry)) (pairs (now (subject .entry))) (pairs (now (cutter .entry))) (now (met .entry)) (now (cell .entry)) k) ⌝ }
+{
+    let mut others = [0u32; 518];
+    let mut j = k;
+    while j < cell.len() {
+        let a = cell[j];
+        let b = next_corner(cell, j);
+        let n = lay_own(coords, subject, cutter, met, links, a, b, &mut others);
+        if edges_meet(darts, &others[..n]) {
+            return true;
+        }
+        j += 1;
+    }
+    false
+}
+
+// Whether the outline of the cell passes between the same two nodes twice or from a node to itself, where it has too many darts for the table: 19 comes
+// before 10. Each own edge is compared with itself and with those after it; as such a cell is refused, this happens once in a call.
+fn outline_repeats(
+    coords: &[f64],
+    subject: &[u32],
+    cutter: &[u32],
+    met: &[u32],
+    links: &[u32],
+    cell: &[u32],
+) -> bool
+    requires { ⌜ Uncrowded (pairs (now subject)) (pairs (now cutter)) (now met) (now links) (ring (now cell)) ⌝ }
+    ensures { λ r. ⌜ r ≡ repeats (outlineIn (now (coords .entry)) (pairs (now (subject .entry))) (pairs (now (cutter .entry))) (now (met .entry)) (now (cell .entry))) ⌝ }
+{
+    let mut darts = [0u32; 518];
+    let mut i: usize = 0;
+    while i < cell.len() {
+        let a = cell[i];
+        let b = next_corner(cell, i);
+        let n = lay_own(coords, subject, cutter, met, links, a, b, &mut darts);
+        if edges_repeat(&darts[..n]) {
+            return true;
+        }
+        i += 1;
+        if meets_later(coords, subject, cutter, met, links, cell, &darts[..n], i) {
+            return true;
+        }
+    }
+    false
+}
+
 // Adds an edge near the cell, from a to b, to the table of n slots.
 fn add_near(
     coords: &[f64],
@@ -134,7 +215,6 @@ fn add_near(
     cutter: &[u32],
     met: &[u32],
     links: &[u32],
-    outline: &[u32],
     a: u32,
     b: u32,
     src: &mut [u32],
@@ -143,12 +223,14 @@ fn add_near(
     n: usize,
 ) -> usize
     requires { ⌜ Linked (pairs (now subject)) (pairs (now cutter)) (now met) (now links) × (length (collectedIn (pairs (now subject)) (pairs (now cutter)) (now met) (a, b)) ≤ 256) × (n ≤ 1024) × (1024 ≤ length (now src)) × (1024 ≤ length (now dst)) × (1024 ≤ length (now marks)) ⌝ }
-    ensures { λ r. ⌜ Added (now (coords .entry)) 0 (nearDarts (pairs (now (outline .entry))) (laidIn (now (coords .entry)) (pairs (now (subject .entry))) (pairs (now (cutter .entry))) (now (met .entry)) (a, b))) n r (now (src .entry)) (now (dst .entry)) (now (marks .entry)) (now (src .exit)) (now (dst .exit)) (now (marks .exit)) ⌝ }
+    ensures { λ r. ⌜ tableIn r (now (src .exit)) (now (dst .exit)) (now (marks .exit))
+        ≡ withEdges (now (coords .entry)) (nearDarts (laidIn (now (coords .entry)) (pairs (now (subject .entry))) (pairs (now (cutter .entry))) (now (met .entry)) (a, b)))
+        (tableIn n (now (src .entry)) (now (dst .entry)) (now (marks .entry))) ⌝ }
 {
     let along = sorted_nodes(coords, subject, cutter, met, links, a, b);
     let nodes = along.nodes;
     let count = along.count;
-    add_near_edge(coords, outline, a, b, &nodes[..count], src, dst, marks, n)
+    add_near_edge(coords, a, b, &nodes[..count], src, dst, marks, n)
 }
 
 // Adds the edges near the cell, by its finished outline, to the table of its own edges, of n slots. Answers how many slots there are then; over
@@ -184,7 +266,6 @@ fn near_darts(
             cutter,
             met,
             links,
-            outline,
             p,
             q,
             src,
@@ -204,18 +285,16 @@ fn near_darts(
 // so it is left out.
 fn walk_cell(src: &[u32], dst: &[u32], marks: &[u32], n: usize, outline: &[u32]) -> CutCell
     requires { ⌜ (n ≤ 1024) × (n ≤ length (now src)) × (n ≤ length (now dst)) × (n ≤ length (now marks)) × (length (now outline) ≤ 2048) ⌝ }
-    ensures { λ r. ⌜ r ≡ cutAs (ofWalk (walk (pairs (now (outline .entry))) (slotsOf (now (src .entry)) (now (dst .entry)) (now (marks .entry)) n))) (doubled (slotsOf (now (src .entry)) (now (dst .entry)) (now (marks .entry)) n)) ⌝ }
+    ensures { λ r. ⌜ r ≡ cutAs (ofWalk (walk (pairs (now (outline .entry))) (slotsOf (now (src .entry)) (now (dst .entry)) (now (marks .entry)) n))) ⌝ }
 {
     let mut nodes = [0u32; 1024];
     let mut stops = [0u32; 1024];
     let w = walk_dart_map(src, dst, marks, n, outline, &mut nodes, &mut stops);
-    let doubled = is_doubled(src, dst, n);
     match w {
         Walked::Closed(pieces, entries) => CutCell {
             code: 0,
             pieces,
             entries,
-            doubled,
             nodes,
             stops,
         },
@@ -243,6 +322,9 @@ fn cut_outlined(
     requires { ⌜ Uncrowded (pairs (now subject)) (pairs (now cutter)) (now met) (now links) (pairs (now near)) × Covered (now coords) (pairs (now near)) (now boxes) × (n ≤ 1024) × (1024 ≤ length (now src)) × (1024 ≤ length (now dst)) × (1024 ≤ length (now marks)) × (slotsOf (now src) (now dst) (now marks) n ≡ cellTable (now coords) (pairs (now outline)) []) × (length (now outline) ≤ 2048) ⌝ }
     ensures { λ r. ⌜ r ≡ cutBy (pairs (now (outline .entry))) (cellTable (now (coords .entry)) (pairs (now (outline .entry))) (nearIn (now (coords .entry)) (pairs (now (subject .entry))) (pairs (now (cutter .entry))) (now (met .entry)) (pairs (now (near .entry))) (candidatesFrom (now (coords .entry)) (pairs (now (near .entry))) b first))) ⌝ }
 {
+    if edges_repeat(outline) {
+        return refused(19);
+    }
     let slots = near_darts(
         coords,
         subject,
@@ -299,6 +381,9 @@ pub fn cut_cell(
         &mut marks,
     );
     if 1024 < own {
+        if outline_repeats(coords, subject, cutter, met, links, cell) {
+            return refused(19);
+        }
         return refused(10);
     }
     cut_outlined(

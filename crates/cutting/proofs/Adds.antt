@@ -1,21 +1,26 @@
 -- One edge more in a table: an own edge, or one near the cell. Assumes nothing.
-use mathlib.Core.Path.{_≡_, refl, sym, ap, _∙_}
-use mathlib.Core.Bool.{Bool, true, false, not}
-use mathlib.Core.List.{List, [], _∷_, _++_, map, append-nil, append-assoc}
+use mathlib.Core.Path.{_≡_, refl, sym, ap, ap₂, _∙_}
+use mathlib.Core.Bool.{Bool, true, false, cond, not, _&&_, and-false}
+use mathlib.Core.List.{List, [], _∷_, map}
 use Prim.Native.Nat.{ℕ, zero, suc, _+_, _*_, _-_, _/_, _≤_, _<_}
 use native.Mathlib.Omega.{arith}
+use native.Mathlib.Decide.{decLe}
 use lib.Dec.{eqb}
-use lib.ListN.{length, getD, drop, length-append, length-map}
+use lib.ListN.{length, getD, drop, length-map}
 use lib.Ieee.{Float}
-use Rattle.lists.specs.Search.{bit, first, has}
-use Rattle.lists.specs.Gather.{passing}
+use borrow.Author.Tests.{eq-eqb, ne-eqb, lt-ltb, le-ltb}
+use Rattle.lists.specs.Search.{many}
+use Rattle.lists.specs.Gather.{tally}
 use Rattle.lists.specs.Sort.{sortOnto}
 use Rattle.lists.specs.Regions.{put}
-use Rattle.lists.proofs.Search.{first-here, first-end, has-true, has-false}
-use Rattle.cutting.specs.Edges.{Edge, edgeAt, key, sameKey, turn}
-use Rattle.cutting.specs.Cell.{windows, orEnds, dartsAlong, ownDarts, isNew, fresh, nearDarts, edgeSlots, reverseMark, standsBefore}
-use Rattle.cutting.specs.Lent.{slotsOf, ends, pairs, Inserted, Added, Outlined}
-use Rattle.cutting.proofs.Grow.{the-same, one-more, windows-next, windows-end, windows-length}
+use Rattle.lists.proofs.Search.{many-has, many-some, first-hit, first-some}
+use Rattle.lists.proofs.Gather.{tally-each}
+use Rattle.cutting.specs.Edges.{Edge, edgeAt, key, turn}
+use Rattle.cutting.specs.Cell.{windows, orEnds, dartsAlong, ownDarts, nearDarts, edgeSlots, reverseMark, names, isNew, standsBefore}
+use Rattle.cutting.specs.Walk.{leads, slot}
+use Rattle.cutting.specs.Lent.{slotAt, slotsOf, ends, pairs, Table, tableIn, withDarts, withEdge, withEdges, Inserted, Added, Outlined}
+use Rattle.cutting.proofs.Grow.{the-same, windows-next, windows-end, windows-length}
+use Rattle.cutting.proofs.Fronts.{as-table}
 
 -- ---- an own edge
 
@@ -64,7 +69,7 @@ module _ (coords : List Float) (a b : ℕ) (nodes outline src dst marks outline�
       go [] h x = absurd (h refl)
       go (m ∷ ns) h x = x
 
--- ---- whether an edge is new
+-- ---- a flat list of edges
 
 pub pairs-length : (xs : List ℕ) → length (pairs xs) ≡ length xs / 2
 unfolding pairs
@@ -82,163 +87,126 @@ pairs-at (a ∷ b ∷ xs) (suc i) h =
     let three : 2 * suc i + 1 ≡ suc (suc (2 * i + 1)) = omega arith in
     pairs-at xs i (omega arith) ∙ sym (λ t. (getD (a ∷ b ∷ xs) (two t) 0, getD (a ∷ b ∷ xs) (three t) 0))
 
-module _ (outline : List ℕ) (a b : ℕ) where
-  -- the i-th edge has the key
-  unfoldable pub meets : ℕ → Bool
-  meets i = sameKey (edgeAt (pairs outline) i) (a, b)
-
-  pub meets-at : (i : ℕ) (r : Bool) → i < length outline / 2 → r ≡ sameKey (getD outline (2 * i) 0, getD outline (2 * i + 1) 0) (a, b) → meets i ≡ r
-  unfolding meets
-  meets-at i r h e = ap (λ (x : Edge). sameKey x (a, b)) (pairs-at outline i h) ∙ sym e
-
-  new-is : isNew (pairs outline) (a, b) ≡ not (has meets (length outline / 2))
-  unfolding isNew meets
-  new-is = ap (λ (n : ℕ). not (has (λ i. sameKey (edgeAt (pairs outline) i) (a, b)) n)) (pairs-length outline)
-
-  pub not-new : (i : ℕ) → i < length outline / 2 → first meets i (length outline / 2) ≡ first meets 0 (length outline / 2) → meets i ≡ true → false ≡ isNew (pairs outline) (a, b)
-  not-new i h e m = sym (new-is ∙ ap not (has-true meets (length outline / 2) i (sym (first-here meets i (length outline / 2) h m) ∙ e) h))
-
-  pub all-new : (i : ℕ) → length outline / 2 ≤ i → first meets i (length outline / 2) ≡ first meets 0 (length outline / 2) → true ≡ isNew (pairs outline) (a, b)
-  all-new i h e = sym (new-is ∙ ap not (has-false meets (length outline / 2) i (sym (first-end meets i (length outline / 2) h) ∙ e) h))
-
--- ---- the new windows
-
-module _ (outline : List Edge) where
-  fresh-in : (e : Edge) (es : List Edge) → isNew outline e ≡ true → fresh outline (e ∷ es) ≡ e ∷ fresh outline es
-  unfolding fresh passing
-  fresh-in e es h = ap (λ (t : Bool). elim t [ true ↦ e ∷ passing (isNew outline) es | false ↦ passing (isNew outline) es ]) h
-
-  fresh-out : (e : Edge) (es : List Edge) → isNew outline e ≡ false → fresh outline (e ∷ es) ≡ fresh outline es
-  unfolding fresh passing
-  fresh-out e es h = ap (λ (t : Bool). elim t [ true ↦ e ∷ passing (isNew outline) es | false ↦ passing (isNew outline) es ]) h
-
-  fresh-count : (e : Edge) (es : List Edge) → length (fresh outline (e ∷ es)) ≡ bit (isNew outline e) + length (fresh outline es)
-  fresh-count e es = go (isNew outline e) refl
-    where
-      go : (t : Bool) → isNew outline e ≡ t → length (fresh outline (e ∷ es)) ≡ bit t + length (fresh outline es)
-      go true h = omega (arith, ap length (fresh-in e es h))
-      go false h = omega (arith, ap length (fresh-out e es h))
-
-  fresh-none : fresh outline [] ≡ []
-  unfolding fresh passing
-  fresh-none = refl
-
-  module _ (nodes : List ℕ) (i : ℕ) where
-    pub count-turn : (k m : ℕ) (new : Bool) → i + 1 < length nodes → new ≡ isNew outline (getD nodes i 0, getD nodes (i + 1) 0) → m ≡ bit new
-        → k + length (fresh outline (windows (drop i nodes))) ≡ length (fresh outline (windows nodes)) → k + m + length (fresh outline (windows (drop (i + 1) nodes))) ≡ length (fresh outline (windows nodes))
-    count-turn k m new h e f inv =
-        omega (arith, inv, f, ap bit e, ap (λ (es : List Edge). length (fresh outline es)) (windows-next nodes i h), fresh-count (getD nodes i 0, getD nodes (i + 1) 0) (windows (drop (i + 1) nodes)))
-
-    pub count-end : (k : ℕ) → length nodes ≤ i + 1 → k + length (fresh outline (windows (drop i nodes))) ≡ length (fresh outline (windows nodes)) → k ≡ length (fresh outline (windows nodes))
-    count-end k h inv = omega (arith, inv, ap (λ (es : List Edge). length (fresh outline es)) (windows-end nodes i h), ap length fresh-none)
-
-pub record Gathering (coords : List Float) (outline : List Edge) (nodes src₀ dst₀ marks₀ : List ℕ) (n : ℕ) (src dst marks : List ℕ) (i k : ℕ) : Type 0 where
-  pub same-src : length src ≡ length src₀
-  pub same-dst : length dst ≡ length dst₀
-  pub same-marks : length marks ≡ length marks₀
-  pub low : i ≤ length nodes
-  pub done : List Edge
-  pub count : k ≡ n + 2 * length done
-  pub left : done ++ fresh outline (windows (drop i nodes)) ≡ fresh outline (windows nodes)
-  pub inserted : Inserted (sortOnto (standsBefore coords) (slotsOf src₀ dst₀ marks₀ n) (edgeSlots 0 done)) k src₀ dst₀ marks₀ src dst marks
-
-module _ (coords : List Float) (outline : List Edge) (nodes src₀ dst₀ marks₀ : List ℕ) (n : ℕ) where
-  pub gather-start : Gathering coords outline nodes src₀ dst₀ marks₀ n src₀ dst₀ marks₀ 0 n
-  unfolding sortOnto edgeSlots
-  gather-start = record {
-    same-src = refl;
-    same-dst = refl;
-    same-marks = refl;
-    low = omega arith;
-    done = [];
-    count = omega arith;
-    left = refl;
-    inserted = record { holds = refl; behind-src = refl; behind-dst = refl; behind-marks = refl };
-  }
-
-  module _ (src dst marks : List ℕ) (i k : ℕ) (v : Gathering coords outline nodes src₀ dst₀ marks₀ n src dst marks i k) where
-    pub gather-pass : i + 1 < length nodes → isNew outline (getD nodes i 0, getD nodes (i + 1) 0) ≡ false → Gathering coords outline nodes src₀ dst₀ marks₀ n src dst marks (i + 1) k
-    gather-pass h e = record {
-      same-src = v .same-src;
-      same-dst = v .same-dst;
-      same-marks = v .same-marks;
-      low = omega arith;
-      done = v .done;
-      count = v .count;
-      left = ap (λ (es : List Edge). v .done ++ es) (sym (ap (fresh outline) (windows-next nodes i h) ∙ fresh-out outline (getD nodes i 0, getD nodes (i + 1) 0) (windows (drop (i + 1) nodes)) e)) ∙ v .left;
-      inserted = v .inserted;
-    }
-
-    module _ (h : i + 1 < length nodes) (new : isNew outline (getD nodes i 0, getD nodes (i + 1) 0) ≡ true) where
-      fresh-is : fresh outline (windows (drop i nodes)) ≡ (getD nodes i 0, getD nodes (i + 1) 0) ∷ fresh outline (windows (drop (i + 1) nodes))
-      fresh-is = ap (fresh outline) (windows-next nodes i h) ∙ fresh-in outline (getD nodes i 0, getD nodes (i + 1) 0) (windows (drop (i + 1) nodes)) new
-
-      pub gather-fits : k + 2 ≤ n + 2 * length (fresh outline (windows nodes))
-      gather-fits = omega (arith, v .count, ap length (v .left), length-append (v .done) (fresh outline (windows (drop i nodes))), ap length fresh-is)
-
-      pub gather-turn : (src′ dst′ marks′ : List ℕ) → length src′ ≡ length src → length dst′ ≡ length dst → length marks′ ≡ length marks
-          → Inserted (sortOnto (standsBefore coords) (slotsOf src dst marks k) (edgeSlots 0 ((getD nodes i 0, getD nodes (i + 1) 0) ∷ []))) (k + 2) src dst marks src′ dst′ marks′
-          → Gathering coords outline nodes src₀ dst₀ marks₀ n src′ dst′ marks′ (i + 1) (k + 2)
-      gather-turn src′ dst′ marks′ ls ld lm ins =
-          let e : Edge = (getD nodes i 0, getD nodes (i + 1) 0) in
-          record {
-            same-src = ls ∙ v .same-src;
-            same-dst = ld ∙ v .same-dst;
-            same-marks = lm ∙ v .same-marks;
-            low = omega arith;
-            done = v .done ++ e ∷ [];
-            count = omega (arith, v .count, length-append (v .done) (e ∷ []));
-            left = append-assoc (v .done) (e ∷ []) (fresh outline (windows (drop (i + 1) nodes))) ∙ ap (λ (es : List Edge). v .done ++ es) (sym fresh-is) ∙ v .left;
-            inserted = one-more coords src₀ dst₀ marks₀ src dst marks src′ dst′ marks′ n 0 k (v .done) e (v .inserted) ins;
-          }
-
-    pub gather-end : length nodes ≤ i + 1 → Inserted (sortOnto (standsBefore coords) (slotsOf src₀ dst₀ marks₀ n) (edgeSlots 0 (fresh outline (windows nodes)))) (n + 2 * length (fresh outline (windows nodes))) src₀ dst₀ marks₀ src dst marks
-    gather-end h =
-        let all : v .done ≡ fresh outline (windows nodes) = sym (append-nil (v .done)) ∙ ap (λ (es : List Edge). v .done ++ es) (sym (ap (fresh outline) (windows-end nodes i h) ∙ fresh-none outline)) ∙ v .left in
-        the-same _ _ _ _ _ _ _ _ _ _ (ap (λ (es : List Edge). sortOnto (standsBefore coords) (slotsOf src₀ dst₀ marks₀ n) (edgeSlots 0 es)) all) (omega (arith, v .count, ap length all)) (v .inserted)
-
 -- ---- an edge near the cell
 
-module _ (coords : List Float) (outline : List Edge) (a b : ℕ) (nodes src dst marks : List ℕ) (n : ℕ) where
-  abbrev Near : ℕ → List ℕ → List ℕ → List ℕ → Type 0
-  Near r src′ dst′ marks′ = Added coords 0 (nearDarts outline (record { edge = (a, b); nodes = nodes })) n r src dst marks src′ dst′ marks′
+module _ (coords : List Float) (src dst marks : List ℕ) (n a b : ℕ) where
+  named-is : tally (names a b) (slotsOf src dst marks n) ≡ many (leads src dst a b) n
+  unfolding slotsOf
+  named-is = tally-each (names a b) n (slotAt src dst marks)
 
-  near-whole : length nodes ≡ 0 → nearDarts outline (record { edge = (a, b); nodes = nodes }) ≡ key (a, b) ∷ []
-  unfolding nearDarts
-  near-whole h = go nodes h
-    where
-      go : (ns : List ℕ) → length ns ≡ 0 → nearDarts outline (record { edge = (a, b); nodes = ns }) ≡ key (a, b) ∷ []
-      go [] h = refl
-      go (m ∷ ns) h = absurd (omega arith)
+  loop-old : a ≡ b → isNew (slotsOf src dst marks n) (a, b) ≡ false
+  unfolding isNew
+  loop-old e = ap (λ (x : Bool). not x && eqb (tally (names a b) (slotsOf src dst marks n)) 0) (eq-eqb a b e)
 
-  near-along : (length nodes ≡ 0 → ⊥) → nearDarts outline (record { edge = (a, b); nodes = nodes }) ≡ fresh outline (windows nodes)
-  unfolding nearDarts
-  near-along h = go nodes h
-    where
-      go : (ns : List ℕ) → (length ns ≡ 0 → ⊥) → nearDarts outline (record { edge = (a, b); nodes = ns }) ≡ fresh outline (windows ns)
-      go [] h = absurd (h refl)
-      go (m ∷ ns) h = refl
+  module _ (s : ℕ) (es : s ≡ slot n src dst a b) where
+    known-old : s < n → isNew (slotsOf src dst marks n) (a, b) ≡ false
+    unfolding isNew slot
+    known-old h =
+        let some : 0 < many (leads src dst a b) n = many-has (leads src dst a b) n s h (ap (leads src dst a b) es ∙ first-hit (leads src dst a b) 0 n (rw (← es) h)) in
+        ap (λ (x : Bool). not (eqb a b) && x) (ne-eqb (tally (names a b) (slotsOf src dst marks n)) 0 (λ z. omega (arith, some, named-is, z))) ∙ and-false (not (eqb a b))
 
-  module _ (empty : length nodes ≡ 0) where
-    pub whole-full : 1024 < n + 2 → Near (n + 2) src dst marks
-    whole-full h = record { count = omega (arith, ap length (near-whole empty)); grows = λ l. absurd (omega arith); full = λ l. (refl, refl, refl) }
+    new-one : (a ≡ b → ⊥) → n ≤ s → isNew (slotsOf src dst marks n) (a, b) ≡ true
+    unfolding isNew slot
+    new-one apart h = ap₂ (λ (x y : Bool). not x && y) (ne-eqb a b apart) (eq-eqb (tally (names a b) (slotsOf src dst marks n)) 0 (none (decLe (many (leads src dst a b) n) 0)))
+      where
+        none : Dec (many (leads src dst a b) n ≤ 0) → tally (names a b) (slotsOf src dst marks n) ≡ 0
+        none (yes l) = omega (arith, named-is)
+        none (no l) =
+            let at = many-some (leads src dst a b) n (omega arith) in
+            absurd (omega (arith, first-some (leads src dst a b) 0 n (at .0) (omega arith) (at .1) (at .2), at .1, es, h))
 
-    pub whole-fits : (k k′ : ℕ) (src′ dst′ marks′ : List ℕ) → n + 2 ≤ 1024 → _≡_ {A = Edge} (k, k′) (key (a, b))
-        → Inserted (sortOnto (standsBefore coords) (slotsOf src dst marks n) (edgeSlots 0 ((k, k′) ∷ []))) (n + 2) src dst marks src′ dst′ marks′ → Near (n + 2) src′ dst′ marks′
-    whole-fits k k′ src′ dst′ marks′ h e ins = record {
-      count = omega (arith, ap length (near-whole empty));
-      grows = λ l. the-same _ _ _ _ _ _ _ _ _ _ (ap (λ (es : List Edge). sortOnto (standsBefore coords) (slotsOf src dst marks n) (edgeSlots 0 es)) (ap (λ (x : Edge). x ∷ []) e ∙ sym (near-whole empty))) refl ins;
-      full = λ l. absurd (omega arith);
-    }
+  abbrev before : Table
+  before = tableIn n src dst marks
 
-  module _ (some : length nodes ≡ 0 → ⊥) (m : ℕ) (em : m ≡ length (fresh outline (windows nodes))) where
-    pub near-full : 1024 < n + 2 * m → Near (n + 2 * m) src dst marks
-    near-full h = record { count = omega (arith, ap length (near-along some)); grows = λ l. absurd (omega arith); full = λ l. (refl, refl, refl) }
+  old-edge : isNew (slotsOf src dst marks n) (a, b) ≡ false → tableIn n src dst marks ≡ withEdge coords (a, b) (tableIn n src dst marks)
+  unfolding withEdge
+  old-edge e = sym (ap (λ (x : Bool). cond x (withDarts coords 0 ((a, b) ∷ []) before) before) e)
 
-    pub near-fits : (src′ dst′ marks′ : List ℕ) → n + 2 * m ≤ 1024
-        → Inserted (sortOnto (standsBefore coords) (slotsOf src dst marks n) (edgeSlots 0 (fresh outline (windows nodes)))) (n + 2 * length (fresh outline (windows nodes))) src dst marks src′ dst′ marks′ → Near (n + 2 * m) src′ dst′ marks′
-    near-fits src′ dst′ marks′ h ins = record {
-      count = omega (arith, ap length (near-along some));
-      grows = λ l. the-same _ _ _ _ _ _ _ _ _ _ (ap (λ (es : List Edge). sortOnto (standsBefore coords) (slotsOf src dst marks n) (edgeSlots 0 es)) (sym (near-along some))) (omega arith) ins;
-      full = λ l. absurd (omega arith);
-    }
+  pub edge-loop : a ≡ b → tableIn n src dst marks ≡ withEdge coords (a, b) (tableIn n src dst marks)
+  edge-loop e = old-edge (loop-old e)
+
+  pub edge-known : (s : ℕ) → s ≡ slot n src dst a b → s < n → tableIn n src dst marks ≡ withEdge coords (a, b) (tableIn n src dst marks)
+  edge-known s es h = old-edge (known-old s es h)
+
+  module _ (s : ℕ) (es : s ≡ slot n src dst a b) (apart : a ≡ b → ⊥) (h : n ≤ s) (r : ℕ) (er : r ≡ n + 2) where
+    new-edge : (src′ dst′ marks′ : List ℕ) → tableIn r src′ dst′ marks′ ≡ withDarts coords 0 ((a, b) ∷ []) (tableIn n src dst marks)
+        → tableIn r src′ dst′ marks′ ≡ withEdge coords (a, b) (tableIn n src dst marks)
+    unfolding withEdge
+    new-edge src′ dst′ marks′ e = e ∙ sym (ap (λ (x : Bool). cond x (withDarts coords 0 ((a, b) ∷ []) before) before) (new-one s es apart h))
+
+    module _ (room : (1024 ≤ length src) × (1024 ≤ length dst) × (1024 ≤ length marks)) where
+      pub edge-full : 1024 < r → tableIn r src dst marks ≡ withEdge coords (a, b) (tableIn n src dst marks)
+      edge-full l =
+          new-edge src dst marks (as-table coords 0 ((a, b) ∷ []) n r src dst marks src dst marks
+          (record { count = omega arith; grows = λ f. absurd (omega arith); full = λ f. (refl, refl, refl) }) refl refl refl room)
+
+      pub edge-fits : (src′ dst′ marks′ : List ℕ) → r ≤ 1024 → length src′ ≡ length src → length dst′ ≡ length dst → length marks′ ≡ length marks
+          → Inserted (sortOnto (standsBefore coords) (slotsOf src dst marks n) (edgeSlots 0 ((a, b) ∷ []))) (n + 2) src dst marks src′ dst′ marks′
+          → tableIn r src′ dst′ marks′ ≡ withEdge coords (a, b) (tableIn n src dst marks)
+      edge-fits src′ dst′ marks′ l ls ld lm ins =
+          new-edge src′ dst′ marks′ (as-table coords 0 ((a, b) ∷ []) n r src dst marks src′ dst′ marks′
+          (record { count = omega arith; grows = λ f. the-same _ _ _ _ _ _ _ _ _ _ refl (sym er) ins; full = λ f. absurd (omega arith) }) ls ld lm room)
+
+-- ---- edges one after the other
+
+module _ (coords : List Float) where
+  pub edges-next : (e : Edge) (es : List Edge) (t : Table) → t .slots ≤ 1024 → withEdges coords (e ∷ es) t ≡ withEdges coords es (withEdge coords e t)
+  unfolding withEdges
+  edges-next e es t h = ap (λ (x : Bool). cond x t (withEdges coords es (withEdge coords e t))) (le-ltb 1024 (t .slots) h)
+
+  pub edges-full : (es : List Edge) (t : Table) → 1024 < t .slots → withEdges coords es t ≡ t
+  unfolding withEdges
+  edges-full [] t h = refl
+  edges-full (e ∷ es) t h = ap (λ (x : Bool). cond x t (withEdges coords es (withEdge coords e t))) (lt-ltb 1024 (t .slots) h)
+
+  edges-none : (t : Table) → withEdges coords [] t ≡ t
+  unfolding withEdges
+  edges-none t = refl
+
+  -- the nodes' windows from i on, added to the table as it stands, make the same table
+  pub record Adding (nodes src₀ dst₀ marks₀ : List ℕ) (n : ℕ) (src dst marks : List ℕ) (i k : ℕ) : Type 0 where
+    pub same-src : length src ≡ length src₀
+    pub same-dst : length dst ≡ length dst₀
+    pub same-marks : length marks ≡ length marks₀
+    pub low : i ≤ length nodes
+    pub small : k ≤ 1024
+    pub left : withEdges coords (windows (drop i nodes)) (tableIn k src dst marks) ≡ withEdges coords (windows nodes) (tableIn n src₀ dst₀ marks₀)
+
+  module _ (nodes src₀ dst₀ marks₀ : List ℕ) (n : ℕ) where
+    pub adding-start : n ≤ 1024 → Adding nodes src₀ dst₀ marks₀ n src₀ dst₀ marks₀ 0 n
+    adding-start h = record { same-src = refl; same-dst = refl; same-marks = refl; low = omega arith; small = h; left = refl }
+
+    module _ (src dst marks : List ℕ) (i k : ℕ) (v : Adding nodes src₀ dst₀ marks₀ n src dst marks i k) where
+      pub adding-end : length nodes ≤ i + 1 → tableIn k src dst marks ≡ withEdges coords (windows nodes) (tableIn n src₀ dst₀ marks₀)
+      adding-end h = sym (edges-none (tableIn k src dst marks)) ∙ ap (λ (es : List Edge). withEdges coords es (tableIn k src dst marks)) (sym (windows-end nodes i h)) ∙ v .left
+
+      module _ (h : i + 1 < length nodes) (k′ : ℕ) (src′ dst′ marks′ : List ℕ)
+          (e : tableIn k′ src′ dst′ marks′ ≡ withEdge coords (getD nodes i 0, getD nodes (i + 1) 0) (tableIn k src dst marks)) where
+        on : withEdges coords (windows (drop (i + 1) nodes)) (tableIn k′ src′ dst′ marks′) ≡ withEdges coords (windows nodes) (tableIn n src₀ dst₀ marks₀)
+        on =
+            ap (withEdges coords (windows (drop (i + 1) nodes))) e ∙ sym (edges-next (getD nodes i 0, getD nodes (i + 1) 0) (windows (drop (i + 1) nodes)) (tableIn k src dst marks) (v .small))
+            ∙ ap (λ (es : List Edge). withEdges coords es (tableIn k src dst marks)) (sym (windows-next nodes i h)) ∙ v .left
+
+        pub adding-turn : k′ ≤ 1024 → length src′ ≡ length src → length dst′ ≡ length dst → length marks′ ≡ length marks → Adding nodes src₀ dst₀ marks₀ n src′ dst′ marks′ (i + 1) k′
+        adding-turn few ls ld lm = record { same-src = ls ∙ v .same-src; same-dst = ld ∙ v .same-dst; same-marks = lm ∙ v .same-marks; low = omega arith; small = few; left = on }
+
+        pub adding-full : 1024 < k′ → tableIn k′ src′ dst′ marks′ ≡ withEdges coords (windows nodes) (tableIn n src₀ dst₀ marks₀)
+        adding-full many = sym (edges-full (windows (drop (i + 1) nodes)) (tableIn k′ src′ dst′ marks′) many) ∙ on
+
+  module _ (a b : ℕ) (nodes : List ℕ) (t u : Table) where
+    pub near-whole : length nodes ≡ 0 → t .slots ≤ 1024 → (k k′ : ℕ) → _≡_ {A = Edge} (k, k′) (key (a, b)) → u ≡ withEdge coords (k, k′) t
+        → u ≡ withEdges coords (nearDarts (record { edge = (a, b); nodes = nodes })) t
+    unfolding nearDarts
+    near-whole h small k k′ e q = go nodes h
+      where
+        go : (ns : List ℕ) → length ns ≡ 0 → u ≡ withEdges coords (nearDarts (record { edge = (a, b); nodes = ns })) t
+        go [] h = q ∙ ap (λ (x : Edge). withEdge coords x t) e ∙ sym (edges-none (withEdge coords (key (a, b)) t)) ∙ sym (edges-next (key (a, b)) [] t small)
+        go (m ∷ ns) h = absurd (omega arith)
+
+    pub near-along : (length nodes ≡ 0 → ⊥) → u ≡ withEdges coords (windows nodes) t → u ≡ withEdges coords (nearDarts (record { edge = (a, b); nodes = nodes })) t
+    unfolding nearDarts
+    near-along h q = go nodes h q
+      where
+        go : (ns : List ℕ) → (length ns ≡ 0 → ⊥) → u ≡ withEdges coords (windows ns) t → u ≡ withEdges coords (nearDarts (record { edge = (a, b); nodes = ns })) t
+        go [] h q = absurd (h refl)
+        go (m ∷ ns) h q = q

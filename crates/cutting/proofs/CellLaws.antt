@@ -8,7 +8,7 @@ use lib.ListN.{length}
 use lib.Ieee.{Float}
 use Rattle.lists.specs.Gather.{tally}
 use Rattle.cutting.specs.Edges.{Edge}
-use Rattle.cutting.specs.Cell.{Laid, inner, Slot, edgeSlots, table, standsBefore, cellTable}
+use Rattle.cutting.specs.Cell.{Laid, innerWith, Slot, edgeSlots, table, standsBefore, cellTableWith}
 use Rattle.lists.proofs.Sort.{sorted-tally}
 
 pub slots-append : (back : ℕ) (es fs : List Edge) → edgeSlots back (es ++ fs) ≡ edgeSlots back es ++ edgeSlots back fs
@@ -21,6 +21,7 @@ unfolding edgeSlots
 slots-length back [] = refl
 slots-length back (e ∷ es) = omega (arith, slots-length back es)
 
-pub sorted-table : (coords : List Float) (outline : List Edge) (near : List Laid) (p : Slot → Bool) → tally p (cellTable coords outline near) ≡ tally p (table outline (inner outline near))
-unfolding cellTable
-sorted-table coords outline near p = sorted-tally (standsBefore coords) p (table outline (inner outline near))
+pub sorted-table : (once : Bool) (coords : List Float) (outline : List Edge) (near : List Laid) (p : Slot → Bool)
+    → tally p (cellTableWith once coords outline near) ≡ tally p (table outline (innerWith once outline near))
+unfolding cellTableWith
+sorted-table once coords outline near p = sorted-tally (standsBefore coords) p (table outline (innerWith once outline near))

@@ -12,20 +12,21 @@ use lib.IntN.{ℤ, negℤ, _+ℤ_, _-ℤ_, _*ℤ_, *ℤ-comm, negℤ-+ℤ, neg�
 use borrow.Author.Tests.{ltb-false, lt-ltb, le-ltb}
 use Rattle.exact.specs.Exact.{coord}
 use Rattle.geometry.specs.Plane.{pointAt}
-use Rattle.lists.specs.Gather.{all, tally}
+use Rattle.lists.specs.Gather.{all}
 use Rattle.lists.specs.Regions.{front}
-use Rattle.lists.proofs.Gather.{tally-append}
 use Rattle.cutting.specs.Edges.{Edge, ring, rings, times}
-use Rattle.cutting.specs.Cell.{Laid, inner, edgeSlots, reverseMark, table, cellTable, copiedTable, names, doubled}
+use Rattle.cutting.specs.Cell.{Laid, inner, Slot, cellTable, doubled, repeats}
 use Rattle.cutting.specs.Walk.{Next, more, closed, stuck, broken, srcs, dsts, walkWith}
-use Rattle.cutting.specs.Outcome.{Outcome, refusal, pieces, ofWalk, walked, closesUp, afterWalk, tooMany, cutOutcomeWith, flat, stops}
+use Rattle.cutting.specs.Outcome.{Outcome, refusal, pieces, ofWalk, walked, closesUp, afterWalk, tooMany, cutOutcomeWith, copiedOutcome, flat, stops}
 use Rattle.cutting.specs.Areas.{term, doubledArea, doubledAreas, Closes, ClosesUp, Round}
 use Rattle.cutting.specs.Lent.{answer, cornersIn, endsIn, piecesIn}
 use Rattle.cutting.specs.declared.cut.Walked.the-variants.{Closed}
 use Rattle.cutting.proofs.EdgeLaws.{hit-self}
-use Rattle.cutting.proofs.Tables.{names-edges, single, even, closes}
+use Rattle.cutting.proofs.Tables.{even, closes}
 use Rattle.cutting.proofs.Sums.{sum, sum-append, sum-even}
 use Rattle.cutting.proofs.CellLaws.{sorted-table}
+use Rattle.cutting.proofs.Repeats.{repeats-not}
+use Rattle.cutting.proofs.Once.{never-doubled}
 use Rattle.cutting.proofs.Ends.{Ended, ends}
 use Rattle.cutting.proofs.Onward.{Free, never-stuck}
 
@@ -102,7 +103,7 @@ pieces-read from ps nodes stops₀ = pieces-behind from ps (drop (length (flat p
 
 module _ (turning : Bool) (coords : List Float) (outline : List Edge) (near : List Laid) where
   pub walk-ends : ((ps : List (List ℕ)) × (walkWith turning outline (cellTable coords outline near) ≡ closed ps)) ⊎ (walkWith turning outline (cellTable coords outline near) ≡ stuck)
-  walk-ends = pick (walkWith turning outline (cellTable coords outline near)) refl (ends turning outline (inner outline near) (cellTable coords outline near) (sorted-table coords outline near))
+  walk-ends = pick (walkWith turning outline (cellTable coords outline near)) refl (ends turning outline (inner outline near) (cellTable coords outline near) (sorted-table true coords outline near))
     where
       pick : (r : Next) → walkWith turning outline (cellTable coords outline near) ≡ r → Ended r → ((ps : List (List ℕ)) × (walkWith turning outline (cellTable coords outline near) ≡ closed ps)) ⊎ (walkWith turning outline (cellTable coords outline near) ≡ stuck)
       pick (more s) e h = absurd h
@@ -110,33 +111,39 @@ module _ (turning : Bool) (coords : List Float) (outline : List Edge) (near : Li
       pick stuck e h = inr e
       pick broken e h = absurd h
 
-  module _ (clean : doubled (cellTable coords outline near) ≡ false) (ps : List (List ℕ)) where
+  module _ (once : repeats outline ≡ false) (ps : List (List ℕ)) where
+    clean : doubled (cellTable coords outline near) ≡ false
+    clean = never-doubled coords outline near once
+
     pub closes-up : walkWith turning outline (cellTable coords outline near) ≡ closed ps → ClosesUp coords outline ps
     closes-up e = record {
-      edges = closes outline (inner outline near) (cellTable coords outline near) (sorted-table coords outline near) turning clean ps e;
-      areas = areas coords outline ps (λ a b. even outline (inner outline near) (cellTable coords outline near) (sorted-table coords outline near) turning clean ps e a b .1);
+      edges = closes outline (inner outline near) (cellTable coords outline near) (sorted-table true coords outline near) turning clean ps e;
+      areas = areas coords outline ps (λ a b. even outline (inner outline near) (cellTable coords outline near) (sorted-table true coords outline near) turning clean ps e a b .1);
     }
 
     pub test-passes : walkWith turning outline (cellTable coords outline near) ≡ closed ps → closesUp outline (rings ps) ≡ true
     test-passes e = closes-test outline ps (closes-up e .edges)
 
   -- the outcome without the test is the same
-  pub without-test : cutOutcomeWith turning outline (cellTable coords outline near) ≡ cond (tooMany (length (cellTable coords outline near))) (refusal 10) (ofWalk (walkWith turning outline (cellTable coords outline near)))
+  pub without-test : cutOutcomeWith (record { turning = turning; once = true }) outline (cellTable coords outline near)
+      ≡ cond (repeats outline) (refusal 19) (cond (tooMany (length (cellTable coords outline near))) (refusal 10) (ofWalk (walkWith turning outline (cellTable coords outline near))))
   unfolding cutOutcomeWith
-  without-test = ap (λ (x : Outcome). cond (tooMany (length (cellTable coords outline near))) (refusal 10) x) (go (walkWith turning outline (cellTable coords outline near)) refl)
+  without-test = by (repeats outline) refl
     where
-      done : (ps : List (List ℕ)) → walkWith turning outline (cellTable coords outline near) ≡ closed ps → (b : Bool) → doubled (cellTable coords outline near) ≡ b → cond (b || closesUp outline (rings ps)) (pieces ps) (refusal 11) ≡ pieces ps
-      done ps e true f = refl
-      done ps e false f = ap (λ (x : Bool). cond x (pieces ps) (refusal 11)) (test-passes f ps e)
+      go : repeats outline ≡ false → (x : Next) → walkWith turning outline (cellTable coords outline near) ≡ x → afterWalk outline false (ofWalk x) ≡ ofWalk x
+      go f (closed ps) e = ap (λ (x : Bool). cond x (pieces ps) (refusal 11)) (test-passes f ps e)
+      go f stuck e = refl
+      go f broken e = refl
+      go f (more s) e = refl
 
-      go : (x : Next) → walkWith turning outline (cellTable coords outline near) ≡ x → afterWalk outline (doubled (cellTable coords outline near)) (ofWalk x) ≡ ofWalk x
-      go (closed ps) e = done ps e (doubled (cellTable coords outline near)) refl
-      go stuck e = refl
-      go broken e = refl
-      go (more s) e = refl
+      by : (b : Bool) → repeats outline ≡ b
+          → cond b (refusal 19) (cond (tooMany (length (cellTable coords outline near))) (refusal 10) (afterWalk outline false (ofWalk (walkWith turning outline (cellTable coords outline near)))))
+          ≡ cond b (refusal 19) (cond (tooMany (length (cellTable coords outline near))) (refusal 10) (ofWalk (walkWith turning outline (cellTable coords outline near))))
+      by true f = refl
+      by false f = ap (λ (x : Outcome). cond (tooMany (length (cellTable coords outline near))) (refusal 10) x) (go f (walkWith turning outline (cellTable coords outline near)) refl)
 
-  pub accepted-closes-up : doubled (cellTable coords outline near) ≡ false → (ps : List (List ℕ)) → cutOutcomeWith turning outline (cellTable coords outline near) ≡ pieces ps → ClosesUp coords outline ps
-  accepted-closes-up clean ps e = closes-up clean ps (of-walk (walkWith turning outline (cellTable coords outline near)) (made (tooMany (length (cellTable coords outline near))) (sym without-test ∙ e)))
+  pub accepted-closes-up : (ps : List (List ℕ)) → cutOutcomeWith (record { turning = turning; once = true }) outline (cellTable coords outline near) ≡ pieces ps → ClosesUp coords outline ps
+  accepted-closes-up ps e = by (repeats outline) refl (sym without-test ∙ e)
     where
       made : (b : Bool) → cond b (refusal 10) (ofWalk (walkWith turning outline (cellTable coords outline near))) ≡ pieces ps → ofWalk (walkWith turning outline (cellTable coords outline near)) ≡ pieces ps
       made true q = let z : _≡_ {A = ℕ} 0 1 = cc in absurd (omega arith)
@@ -148,16 +155,22 @@ module _ (turning : Bool) (coords : List Float) (outline : List Edge) (near : Li
       of-walk broken q = let z : _≡_ {A = ℕ} 0 1 = cc in absurd (omega arith)
       of-walk (more s) q = let z : _≡_ {A = ℕ} 0 1 = cc in absurd (omega arith)
 
+      by : (b : Bool) → repeats outline ≡ b
+          → cond b (refusal 19) (cond (tooMany (length (cellTable coords outline near))) (refusal 10) (ofWalk (walkWith turning outline (cellTable coords outline near)))) ≡ pieces ps
+          → ClosesUp coords outline ps
+      by true f q = let z : _≡_ {A = ℕ} 0 1 = cc in absurd (omega arith)
+      by false f q = closes-up f ps (of-walk (walkWith turning outline (cellTable coords outline near)) (made (tooMany (length (cellTable coords outline near))) q))
+
   -- the pieces as they are read from the answer and the lists
-  pub read-closes-up : doubled (cellTable coords outline near) ≡ false → (nodes stops₀ : List ℕ) (k m : ℕ)
+  pub read-closes-up : repeats outline ≡ false → (nodes stops₀ : List ℕ) (k m : ℕ)
       → let o : Outcome = ofWalk (walkWith turning outline (cellTable coords outline near)) in answer o ≡ Closed k m → ClosesUp coords outline (piecesIn 0 k (cornersIn o nodes) (endsIn o stops₀))
   unfolding cornersIn endsIn
-  read-closes-up clean nodes stops₀ k m = go (walkWith turning outline (cellTable coords outline near)) refl
+  read-closes-up once nodes stops₀ k m = go (walkWith turning outline (cellTable coords outline near)) refl
     where
       go : (x : Next) → walkWith turning outline (cellTable coords outline near) ≡ x → answer (ofWalk x) ≡ Closed k m → ClosesUp coords outline (piecesIn 0 k (cornersIn (ofWalk x) nodes) (endsIn (ofWalk x) stops₀))
       go (closed ps) e q =
           let count : k ≡ length ps = cc in
-          subst (ClosesUp coords outline) (sym (ap (λ (j : ℕ). piecesIn 0 j (front nodes (flat ps)) (front stops₀ (stops 0 ps))) count ∙ pieces-read 0 ps nodes stops₀)) (closes-up clean ps e)
+          subst (ClosesUp coords outline) (sym (ap (λ (j : ℕ). piecesIn 0 j (front nodes (flat ps)) (front stops₀ (stops 0 ps))) count ∙ pieces-read 0 ps nodes stops₀)) (closes-up once ps e)
       go stuck e q = let z : _≡_ {A = ℕ} 0 1 = cc in absurd (omega arith)
       go broken e q = let z : _≡_ {A = ℕ} 0 1 = cc in absurd (omega arith)
       go (more s) e q = let z : _≡_ {A = ℕ} 0 1 = cc in absurd (omega arith)
@@ -165,7 +178,9 @@ module _ (turning : Bool) (coords : List Float) (outline : List Edge) (near : Li
 -- an outline with as many darts into each node as out of it: the walk, which may turn back, always has a way on
 pub round-closes : (coords : List Float) (outline : List Edge) (near : List Laid) → Round outline → (ps : List (List ℕ)) × (walkWith true outline (cellTable coords outline near) ≡ closed ps)
 round-closes coords outline near round =
-    pick (walkWith true outline (cellTable coords outline near)) refl (ends true outline (inner outline near) (cellTable coords outline near) (sorted-table coords outline near)) (never-stuck outline (inner outline near) (cellTable coords outline near) (sorted-table coords outline near) round)
+    pick (walkWith true outline (cellTable coords outline near)) refl
+    (ends true outline (inner outline near) (cellTable coords outline near) (sorted-table true coords outline near))
+    (never-stuck outline (inner outline near) (cellTable coords outline near) (sorted-table true coords outline near) round)
   where
     pick : (r : Next) → walkWith true outline (cellTable coords outline near) ≡ r → Ended r → Free (length (cellTable coords outline near)) (srcs (cellTable coords outline near)) (dsts (cellTable coords outline near)) r → (ps : List (List ℕ)) × (walkWith true outline (cellTable coords outline near) ≡ closed ps)
     pick (more s) e h f = absurd h
@@ -173,16 +188,43 @@ round-closes coords outline near round =
     pick stuck e h f = absurd f
     pick broken e h f = absurd h
 
+-- an outline that gives pieces doesn't repeat
+pub accepted-once : (turning : Bool) (outline : List Edge) (t : List Slot) (ps : List (List ℕ))
+    → cutOutcomeWith (record { turning = turning; once = true }) outline t ≡ pieces ps → repeats outline ≡ false
+unfolding cutOutcomeWith
+accepted-once turning outline t ps e = go (repeats outline) refl e
+  where
+    rest : Outcome
+    rest = cond (tooMany (length t)) (refusal 10) (afterWalk outline false (ofWalk (walkWith turning outline t)))
+
+    go : (b : Bool) → repeats outline ≡ b → cond b (refusal 19) rest ≡ pieces ps → repeats outline ≡ false
+    go true f q = let z : _≡_ {A = ℕ} 0 1 = cc in absurd (omega arith)
+    go false f q = f
+
 -- ---- a cell that is copied
 
-pub copy-closes-up : (coords : List Float) (cell : List ℕ) → doubled (copiedTable cell) ≡ false → ClosesUp coords (ring cell) (cell ∷ [])
-unfolding copiedTable rings table edgeSlots tally
-copy-closes-up coords cell clean = record { edges = edges; areas = areas coords (ring cell) (cell ∷ []) (λ a b. omega (arith, ap (times a b) same, ap (times b a) same)) }
+pub copy-once : (cell : List ℕ) (ps : List (List ℕ)) → copiedOutcome cell ≡ pieces ps → repeats (ring cell) ≡ false
+copy-once cell ps e = go (repeats (ring cell)) refl e
+  where
+    go : (b : Bool) → repeats (ring cell) ≡ b → cond b (refusal 19) (pieces (cell ∷ [])) ≡ pieces ps → repeats (ring cell) ≡ false
+    go true f q = let z : _≡_ {A = ℕ} 0 1 = cc in absurd (omega arith)
+    go false f q = f
+
+pub copy-closes-up : (coords : List Float) (cell : List ℕ) (ps : List (List ℕ)) → copiedOutcome cell ≡ pieces ps → ClosesUp coords (ring cell) ps
+unfolding rings
+copy-closes-up coords cell ps e = by (repeats (ring cell)) refl e
   where
     same : rings (cell ∷ []) ≡ ring cell
     same = append-nil (ring cell)
 
-    edges : (a b : ℕ) → Closes (ring cell) (cell ∷ []) a b
-    edges a b =
-        let most : times a b (ring cell) + times b a (ring cell) ≤ 1 = omega (arith, single (table (ring cell) []) clean a b, tally-append (names a b) (edgeSlots reverseMark (ring cell)) [], names-edges reverseMark a b (ring cell)) in
+    edges : repeats (ring cell) ≡ false → (a b : ℕ) → Closes (ring cell) (cell ∷ []) a b
+    edges once a b =
+        let most : times a b (ring cell) + times b a (ring cell) ≤ 1 = repeats-not (ring cell) once a b in
         record { outer = λ h. omega (arith, ap (times a b) same, ap (times b a) same); other = λ h h′. omega (arith, ap (times a b) same, ap (times b a) same) }
+
+    whole : repeats (ring cell) ≡ false → ClosesUp coords (ring cell) (cell ∷ [])
+    whole once = record { edges = edges once; areas = areas coords (ring cell) (cell ∷ []) (λ a b. omega (arith, ap (times a b) same, ap (times b a) same)) }
+
+    by : (b : Bool) → repeats (ring cell) ≡ b → cond b (refusal 19) (pieces (cell ∷ [])) ≡ pieces ps → ClosesUp coords (ring cell) ps
+    by true f q = let z : _≡_ {A = ℕ} 0 1 = cc in absurd (omega arith)
+    by false f q = let is : cell ∷ [] ≡ ps = cc in subst (ClosesUp coords (ring cell)) is (whole f)

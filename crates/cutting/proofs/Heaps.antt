@@ -12,13 +12,13 @@ use Rattle.cutting.specs.Walk.{slot, leads, starts}
 use Rattle.cutting.specs.Lent.{pairs, stacked}
 use Rattle.cutting.proofs.Steps.{stacked-push}
 
-pairs-short : (xs : List ℕ) → length xs ≤ 1 → pairs xs ≡ []
+pub pairs-short : (xs : List ℕ) → length xs ≤ 1 → pairs xs ≡ []
 unfolding pairs
 pairs-short [] h = refl
 pairs-short (a ∷ []) h = refl
 pairs-short (a ∷ b ∷ xs) h = absurd (omega arith)
 
-pairs-drop : (xs : List ℕ) (i : ℕ) → i + 1 < length xs → pairs (drop i xs) ≡ (getD xs i 0, getD xs (i + 1) 0) ∷ pairs (drop (i + 2) xs)
+pub pairs-drop : (xs : List ℕ) (i : ℕ) → i + 1 < length xs → pairs (drop i xs) ≡ (getD xs i 0, getD xs (i + 1) 0) ∷ pairs (drop (i + 2) xs)
 unfolding pairs
 pairs-drop xs i h =
     let two : i + 2 ≡ suc (suc i) = omega arith in

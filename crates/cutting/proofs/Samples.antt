@@ -1,4 +1,4 @@
--- K1's cell, K10's cell and a doubled cell, by computation. Assumes nothing.
+-- K1's cell, K10's cell, a cell with an edge traced again, also by document 01 alone, and one whose outline repeats, by computation. Assumes nothing.
 use mathlib.Core.Path.{_≡_, refl}
 use mathlib.Core.Bool.{Bool, true, false}
 use mathlib.Core.List.{List, [], _∷_}
@@ -11,9 +11,10 @@ use Rattle.exact.specs.Angle.{angles}
 use Rattle.exact.specs.Exact.{coord, mag, sign, ordered}
 use Rattle.geometry.specs.Plane.{between, pointAt}
 use Rattle.cutting.specs.Edges.{Edge, hops, ring, rings, times}
-use Rattle.cutting.specs.Cell.{Laid, dartsAlong, ownDarts, outlineDarts, isNew, fresh, nearDarts, inner, edgeSlots, table, stands, cellTable, doubled}
+use Rattle.cutting.specs.Setting.{Setting, base, ours}
+use Rattle.cutting.specs.Cell.{Laid, dartsAlong, ownDarts, outlineDarts, isNew, newTo, nearDarts, among, repeats, inner, innerWith, edgeSlots, table, stands, cellTableWith, doubled}
 use Rattle.cutting.specs.Walk.{slot, after, onward, arrive, cross, popped, taken, rest, go, step, run, starts, walkFrom, walkWith}
-use Rattle.cutting.specs.Outcome.{Outcome, refusal, pieces, closesUp, tooMany, cutOutcomeWith, cutOutcome}
+use Rattle.cutting.specs.Outcome.{Outcome, refusal, pieces, closesUp, tooMany, cutOutcomeWith}
 
 abbrev laid : ℕ → ℕ → List ℕ → Laid
 laid a b nodes = record { edge = (a, b); nodes = nodes }
@@ -45,29 +46,35 @@ k10 = f0 ∷ f0 ∷ f2 ∷ f0 ∷ f2 ∷ f2 ∷ f0 ∷ f2 ∷ f1 ∷ m1 ∷ f1 �
 abbrev whole : List Laid
 whole = laid 0 1 [] ∷ laid 1 2 [] ∷ laid 2 3 [] ∷ laid 3 0 [] ∷ []
 
--- what a cell comes to, and whether it is doubled
-unfoldable cut : List Float → List Laid → List Laid → Outcome × Bool
-unfolding outlineDarts ownDarts dartsAlong joined hops isNew fresh passing first seek nearDarts inner edgeSlots table stands cellTable insert sortOnto angles coord mag sign ordered between pointAt sub ofBits tally doubled slot after onward arrive cross popped taken rest go step run starts walkFrom walkWith all times ring rings closesUp cutOutcomeWith
-cut coords own near =
+-- what a cell comes to by a setting, and whether it is doubled
+unfoldable cut : Setting → List Float → List Laid → List Laid → Outcome × Bool
+unfolding outlineDarts ownDarts dartsAlong joined hops isNew newTo first seek nearDarts innerWith edgeSlots table stands cellTableWith insert sortOnto angles coord mag sign ordered between pointAt sub ofBits tally doubled slot after onward arrive cross popped taken rest go step run starts walkFrom walkWith all passing times ring rings among repeats closesUp cutOutcomeWith
+cut v coords own near =
     let outline = outlineDarts own in
-    let t = cellTable coords outline near in
-    (cutOutcome outline t, doubled t)
+    let t = cellTableWith (v .once) coords outline near in
+    (cutOutcomeWith v outline t, doubled t)
 
 samples :
-    cut k1 (laid 0 1 (0 ∷ 8 ∷ 1 ∷ []) ∷ laid 1 2 [] ∷ laid 2 3 (2 ∷ 9 ∷ 3 ∷ []) ∷ laid 3 0 [] ∷ []) (laid 7 4 (4 ∷ 8 ∷ 9 ∷ 7 ∷ []) ∷ [])
-    ∷ cut k10 (laid 0 1 (0 ∷ 6 ∷ 1 ∷ []) ∷ laid 1 2 [] ∷ laid 2 3 [] ∷ laid 3 0 [] ∷ []) (laid 4 5 (4 ∷ 6 ∷ 5 ∷ []) ∷ [])
-    ∷ cut k1 whole (laid 0 1 [] ∷ [])
+    cut ours k1 (laid 0 1 (0 ∷ 8 ∷ 1 ∷ []) ∷ laid 1 2 [] ∷ laid 2 3 (2 ∷ 9 ∷ 3 ∷ []) ∷ laid 3 0 [] ∷ []) (laid 7 4 (4 ∷ 8 ∷ 9 ∷ 7 ∷ []) ∷ [])
+    ∷ cut ours k10 (laid 0 1 (0 ∷ 6 ∷ 1 ∷ []) ∷ laid 1 2 [] ∷ laid 2 3 [] ∷ laid 3 0 [] ∷ []) (laid 4 5 (4 ∷ 6 ∷ 5 ∷ []) ∷ [])
+    ∷ cut ours k1 whole (laid 0 1 [] ∷ [])
+    ∷ cut ours k1 (laid 0 1 [] ∷ laid 1 0 [] ∷ []) (laid 4 5 [] ∷ [])
+    ∷ cut base k1 whole (laid 0 1 [] ∷ [])
     ∷ []
     ≡ (pieces ((3 ∷ 0 ∷ 8 ∷ 9 ∷ []) ∷ (9 ∷ 8 ∷ 1 ∷ 2 ∷ []) ∷ []), false)
     ∷ (pieces ((3 ∷ 0 ∷ 6 ∷ 5 ∷ 6 ∷ 1 ∷ 2 ∷ []) ∷ []), false)
+    ∷ (pieces ((3 ∷ 0 ∷ 1 ∷ 2 ∷ []) ∷ []), false)
+    ∷ (refusal 19, true)
     ∷ (pieces ((3 ∷ 0 ∷ 1 ∷ 0 ∷ 1 ∷ 2 ∷ []) ∷ []), true)
     ∷ []
 unfolding cut
 samples = refl
 
--- an own edge in the direction opposite to its sorted nodes, and a candidate that the outline has already
-turned : _≡_ {A = List Edge × List Edge} (outlineDarts (laid 1 0 (0 ∷ 8 ∷ 1 ∷ []) ∷ []), inner ((8, 0) ∷ (1, 8) ∷ []) (laid 0 1 (0 ∷ 8 ∷ 1 ∷ []) ∷ laid 4 8 [] ∷ [])) ((8, 0) ∷ (1, 8) ∷ [], (4, 8) ∷ [])
-unfolding outlineDarts ownDarts dartsAlong joined hops isNew fresh passing first seek nearDarts inner
+-- an own edge in the direction opposite to its sorted nodes; and candidates: one that the outline has already, one twice, one from a node to itself
+turned : _≡_ {A = List Edge × List Edge}
+    (outlineDarts (laid 1 0 (0 ∷ 8 ∷ 1 ∷ []) ∷ []), inner ((8, 0) ∷ (1, 8) ∷ []) (laid 0 1 (0 ∷ 8 ∷ 1 ∷ []) ∷ laid 4 8 [] ∷ laid 8 4 (8 ∷ 4 ∷ 5 ∷ []) ∷ laid 6 6 [] ∷ []))
+    ((8, 0) ∷ (1, 8) ∷ [], (4, 8) ∷ (4, 5) ∷ [])
+unfolding outlineDarts ownDarts dartsAlong joined hops isNew newTo tally table edgeSlots nearDarts innerWith
 turned = refl
 
 -- 1,024 slots pass, 1,026 don't

@@ -1,12 +1,12 @@
 -- What a cell's table holds, and its walk: unless it is doubled, the pieces close up to the outline. Assumes nothing.
-use mathlib.Core.Path.{_≡_, refl, ap, ap₂}
-use mathlib.Core.Bool.{Bool, true, false, _&&_, _||_, and-false, and-true}
+use mathlib.Core.Path.{_≡_, refl, sym, ap, ap₂}
+use mathlib.Core.Bool.{Bool, true, false, _&&_, _||_, and-false, and-true, true≢false}
 use mathlib.Core.List.{List, [], _∷_}
 use Prim.Native.Nat.{ℕ, _+_, _*_, _-_, _≤_, _<_}
 use native.Mathlib.Omega.{arith}
 use lib.Dec.{eqb, ltb}
 use lib.ListN.{length, length-map}
-use borrow.Author.Tests.{ltb-false}
+use borrow.Author.Tests.{ltb-true, ltb-false}
 use Rattle.lists.specs.Search.{bit, many}
 use Rattle.lists.specs.Gather.{tally}
 use Rattle.cutting.specs.Edges.{Edge, rings, hit, times}
@@ -14,7 +14,7 @@ use Rattle.cutting.specs.Cell.{Slot, edgeSlots, reverseMark, table, name
 use Rattle.cutting.specs.Walk.{closed, slot, leads, starts, walkFrom, srcs, dsts, marksOf, walkWith}
 use Rattle.cutting.specs.Areas.{Closes}
 use Rattle.lists.proofs.Gather.{tally-append}
-use Rattle.lists.proofs.Search.{many-some, first-some}
+use Rattle.lists.proofs.Search.{many-some, first-some, both-true, or-false}
 use Rattle.cutting.proofs.EdgeLaws.{both, hit-back, hit-self}
 use Rattle.cutting.proofs.Kept.{free, named, on, close, slot-hit}
 
@@ -47,25 +47,35 @@ unfolding tally edgeSlots times
 opens-inner a b [] = omega arith
 opens-inner a b (e ∷ es) = omega (arith, opens-inner a b es, hit-back a b (e .1) (e .0), ap bit (and-true (eqb (e .0) a && eqb (e .1) b)), ap bit (and-true (eqb (e .1) a && eqb (e .0) b)))
 
-or-left : (s t : Bool) → s || t ≡ false → s ≡ false
-or-left true t e = e
-or-left false t e = refl
-
-or-right : (s t : Bool) → s || t ≡ false → t ≡ false
-or-right true true e = e
-or-right true false e = refl
-or-right false t e = e
-
 pub single : (t : List Slot) → doubled t ≡ false → (a b : ℕ) → tally (names a b) t ≤ 1
 unfolding doubled tally
 single [] e a b = omega arith
-single (s ∷ t) e a b = pick (names a b s) refl (single t (or-right (ltb 0 (tally (names (s .src) (s .dst)) t)) (doubled t) e) a b)
+single (s ∷ t) e a b = pick (names a b s) refl (single t (or-false (ltb 0 (tally (names (s .src) (s .dst)) t)) (doubled t) e .1) a b)
   where
     pick : (x : Bool) → names a b s ≡ x → tally (names a b) t ≤ 1 → bit x + tally (names a b) t ≤ 1
     pick true q tail =
         let at = both (s .src) a (s .dst) b q in
-        omega (arith, ltb-false 0 (tally (names (s .src) (s .dst)) t) (or-left (ltb 0 (tally (names (s .src) (s .dst)) t)) (doubled t) e), ap₂ (λ x y. tally (names x y) t) (at .0) (at .1))
+        omega (arith, ltb-false 0 (tally (names (s .src) (s .dst)) t) (or-false (ltb 0 (tally (names (s .src) (s .dst)) t)) (doubled t) e .0), ap₂ (λ x y. tally (names x y) t) (at .0) (at .1))
     pick false q tail = omega arith
+
+-- a doubled table names some neighbour twice
+pub twice : (t : List Slot) → doubled t ≡ true → (a : ℕ) × (b : ℕ) × (1 < tally (names a b) t)
+unfolding doubled tally
+twice [] h = absurd (true≢false (sym h))
+twice (s ∷ t) h = go (ltb 0 (tally (names (s .src) (s .dst)) t)) refl (λ e. twice t e) h
+  where
+    go : (x : Bool) → ltb 0 (tally (names (s .src) (s .dst)) t) ≡ x → (doubled t ≡ true → (a : ℕ) × (b : ℕ) × (1 < tally (names a b) t)) → x || doubled t ≡ true
+        → (a : ℕ) × (b : ℕ) × (1 < tally (names a b) (s ∷ t))
+    go true e ih k = (s .src, s .dst, omega (arith, ltb-true 0 (tally (names (s .src) (s .dst)) t) e, ap bit (both-true (s .src) (s .src) (s .dst) (s .dst) refl refl)))
+    go false e ih k = let r = ih k in (r .0, r .1, omega (arith, r .2))
+
+-- one that names none twice isn't
+pub not-twice : (t : List Slot) → ((a b : ℕ) → tally (names a b) t ≤ 1) → doubled t ≡ false
+not-twice t h = go (doubled t) refl
+  where
+    go : (x : Bool) → doubled t ≡ x → x ≡ false
+    go true e = let r = twice t e in absurd (omega (arith, r .2, h (r .0) (r .1)))
+    go false e = refl
 
 module _ (n : ℕ) (src dst : List ℕ) where
   pub slot-found : (a b : ℕ) → 0 < named n src dst a b → slot n src dst a b < n

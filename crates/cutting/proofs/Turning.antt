@@ -1,19 +1,19 @@
 -- A walk that ends without turning back is the same where it may turn back, and so is the outcome of its cell. Assumes nothing.
 use mathlib.Core.Path.{_≡_, refl, sym, ap, _∙_, subst}
 use mathlib.Core.Logic.{_⊎_, inl, inr}
-use mathlib.Core.Bool.{Bool, true, false, cond, _&&_, _||_}
+use mathlib.Core.Bool.{Bool, true, false, cond, not, _&&_}
 use mathlib.Core.List.{List, [], _∷_, _++_}
-use Prim.Native.Nat.{ℕ, zero, suc, _+_, _*_, _<_}
+use Prim.Native.Nat.{ℕ, zero, suc, _+_, _<_}
 use native.Mathlib.Omega.{arith}
 use lib.Dec.{eqb, ltb}
 use lib.ListN.{length, getD, set}
-use borrow.Author.Tests.{ltb-true, lt-ltb}
+use borrow.Author.Tests.{ltb-true}
 use Rattle.lists.specs.Search.{first}
-use Rattle.cutting.specs.Edges.{Edge, rings}
-use Rattle.cutting.specs.Cell.{Slot, doubled}
+use Rattle.cutting.specs.Edges.{Edge}
+use Rattle.cutting.specs.Cell.{Slot, repeats, doubled}
 use Rattle.cutting.specs.Walk.{State, Phase, between, along, Next, more, closed, stuck, broken, orElse, openAt, after, slot, walkFrom, walkWith}
 use Rattle.cutting.specs.Walk.{run, step, go, rest, taken, popped, cross, arrive, onward}
-use Rattle.cutting.specs.Outcome.{Outcome, refusal, pieces, ofWalk, closesUp, afterWalk, tooMany, cutOutcomeWith}
+use Rattle.cutting.specs.Outcome.{Outcome, refusal, ofWalk, afterWalk, tooMany, cutOutcomeWith}
 
 -- the second is the first, unless the first has no way on
 abbrev pub Agrees : Next → Next → Type 0
@@ -111,16 +111,17 @@ module _ (outline : List Edge) (t : List Slot) where
   walk-agrees = run-agrees _ _ _ _ _
 
   -- A cell that isn't refused 11 without a turn back comes to the same with it.
-  pub outcome-turned : (cutOutcomeWith false outline t ≡ refusal 11) ⊎ (cutOutcomeWith true outline t ≡ cutOutcomeWith false outline t)
+  pub outcome-turned : (once : Bool) → let by : Bool → Outcome = λ turning. cutOutcomeWith (record { turning = turning; once = once }) outline t in (by false ≡ refusal 11) ⊎ (by true ≡ by false)
   unfolding cutOutcomeWith
-  outcome-turned = go (tooMany (length t)) (walkWith false outline t) (walkWith true outline t) walk-agrees
+  outcome-turned once = go (once && repeats outline) (tooMany (length t)) (walkWith false outline t) (walkWith true outline t) walk-agrees
     where
-      by : Bool → Next → Outcome
-      by b u = cond b (refusal 10) (afterWalk outline (doubled t) (ofWalk u))
+      by : Bool → Bool → Next → Outcome
+      by x b u = cond x (refusal 19) (cond b (refusal 10) (afterWalk outline (not once && doubled t) (ofWalk u)))
 
-      go : (b : Bool) (u v : Next) → Agrees u v → (by b u ≡ refusal 11) ⊎ (by b v ≡ by b u)
-      go true u v h = inr refl
-      go false (closed qs) v h = inr (ap (by false) h)
-      go false stuck v h = inl refl
-      go false broken v h = inr (ap (by false) h)
-      go false (more s) v h = inr (ap (by false) h)
+      go : (x b : Bool) (u v : Next) → Agrees u v → (by x b u ≡ refusal 11) ⊎ (by x b v ≡ by x b u)
+      go true b u v h = inr refl
+      go false true u v h = inr refl
+      go false false (closed qs) v h = inr (ap (by false false) h)
+      go false false stuck v h = inl refl
+      go false false broken v h = inr (ap (by false false) h)
+      go false false (more s) v h = inr (ap (by false false) h)

@@ -1,11 +1,10 @@
--- A cell's outline and its table: document 01, module 6, up to the walk. Assumes nothing.
+-- A cell's outline and its table: document 01, module 6, up to the walk; document 02, W14. Assumes nothing.
 use mathlib.Core.Bool.{Bool, true, false, not, _&&_, _||_}
 use mathlib.Core.List.{List, [], _∷_, _++_, map}
 use Prim.Native.Nat.{ℕ}
 use lib.Dec.{ltb, eqb}
-use lib.ListN.{length, getD}
+use lib.ListN.{getD}
 use lib.Ieee.{Float}
-use Rattle.lists.specs.Search.{has}
 use Rattle.lists.specs.Gather.{tally, passing, joined}
 use Rattle.lists.specs.Sort.{sorted}
 use Rattle.exact.specs.Angle.{angles}
@@ -13,7 +12,7 @@ use Rattle.exact.specs.declared.Order.{Order}
 use Rattle.exact.specs.declared.Order.the-variants.{Less, Equal, Greater}
 use Rattle.geometry.specs.Plane.{between, pointAt}
 use Rattle.geometry.specs.declared.segment.Point.{Point}
-use Rattle.cutting.specs.Edges.{Edge, edgeAt, key, sameKey, turn, hops, ring}
+use Rattle.cutting.specs.Edges.{Edge, key, sameKey, turn, hops, ring}
 
 -- an edge with its sorted nodes; none where nothing was collected on it
 pub record Laid : Type 0 where
@@ -43,24 +42,24 @@ ownDarts l = dartsAlong (l .edge .1) (orEnds (l .edge) (l .nodes))
 unfoldable pub outlineDarts : List Laid → List Edge
 outlineDarts own = joined ownDarts own
 
--- no outline dart has the edge's key
-unfoldable pub isNew : List Edge → Edge → Bool
-isNew outline e = not (has (λ i. sameKey (edgeAt outline i) e) (length outline))
+-- of an edge of the other mesh near the cell: its windows; or the whole edge, in its key's order
+abbrev pub orWhole : Edge → List ℕ → List Edge
+orWhole e [] = key e ∷ []
+orWhole e (n ∷ ns) = hops n ns
 
--- "push only if new"
-unfoldable pub fresh : List Edge → List Edge → List Edge
-fresh outline es = passing (isNew outline) es
+unfoldable pub nearDarts : Laid → List Edge
+nearDarts l = orWhole (l .edge) (l .nodes)
 
--- of an edge of the other mesh near the cell: its new windows; or the whole edge, in its key's order
-abbrev pub orWhole : List Edge → Edge → List ℕ → List Edge
-orWhole outline e [] = key e ∷ []
-orWhole outline e (n ∷ ns) = fresh outline (hops n ns)
+-- ---- edges between the same two nodes, in either direction
 
-unfoldable pub nearDarts : List Edge → Laid → List Edge
-nearDarts outline l = orWhole outline (l .edge) (l .nodes)
+unfoldable pub among : Edge → List Edge → Bool
+among e [] = false
+among e (f ∷ fs) = sameKey f e || among e fs
 
-unfoldable pub inner : List Edge → List Laid → List Edge
-inner outline near = joined (nearDarts outline) near
+-- W14, 19: "an outline as cut that itself passes between the same two nodes twice or from a node to itself"
+unfoldable pub repeats : List Edge → Bool
+repeats [] = false
+repeats (e ∷ es) = eqb (e .0) (e .1) || among e es || repeats es
 
 -- ---- the table
 
@@ -81,6 +80,35 @@ reverseMark = 1
 
 unfoldable pub table : List Edge → List Edge → List Slot
 table outline inside = edgeSlots reverseMark outline ++ edgeSlots 0 inside
+
+-- a slot from a to b
+abbrev pub names : ℕ → ℕ → Slot → Bool
+names a b s = eqb (s .src) a && eqb (s .dst) b
+
+-- ---- which edges near the cell the table takes
+
+-- W14: "an edge already in the cell's table, in either direction, is not added again .., and a candidate edge that welding left from a node to itself
+-- is never added" (an edge in the table has a slot at both its ends)
+unfoldable pub isNew : List Slot → Edge → Bool
+isNew t e = not (eqb (e .0) (e .1)) && eqb (tally (names (e .0) (e .1)) t) 0
+
+-- those of some edges that a table takes, one after the other
+unfoldable pub newTo : List Slot → List Edge → List Edge
+newTo t [] = []
+newTo t (e ∷ es) = elim (isNew t e) [ true ↦ e ∷ newTo (edgeSlots 0 (e ∷ []) ++ t) es | false ↦ newTo t es ]
+
+-- before W14: the windows that the outline hasn't, and a whole edge always
+abbrev pub unlessOutline : List Edge → Edge → List ℕ → List Edge
+unlessOutline outline e [] = key e ∷ []
+unlessOutline outline e (n ∷ ns) = passing (λ f. not (among f outline)) (hops n ns)
+
+-- by whether a table has an edge once
+unfoldable pub innerWith : Bool → List Edge → List Laid → List Edge
+innerWith true outline near = newTo (table outline []) (joined nearDarts near)
+innerWith false outline near = joined (λ l. unlessOutline outline (l .edge) (l .nodes)) near
+
+abbrev pub inner : List Edge → List Laid → List Edge
+inner outline near = innerWith true outline near
 
 -- ---- `sort_cell_dart_map`: by falling angle of the rounded differences, at one node
 
@@ -103,18 +131,17 @@ abbrev pub standsBefore : List Float → Slot → Slot → Bool
 standsBefore coords s u = stands coords (s .src) (s .dst) (u .src) (u .dst)
 
 -- the table of a cell that is cut: its outline darts and the edges near it
-unfoldable pub cellTable : List Float → List Edge → List Laid → List Slot
-cellTable coords outline near = sorted (standsBefore coords) (table outline (inner outline near))
+unfoldable pub cellTableWith : Bool → List Float → List Edge → List Laid → List Slot
+cellTableWith once coords outline near = sorted (standsBefore coords) (table outline (innerWith once outline near))
+
+abbrev pub cellTable : List Float → List Edge → List Laid → List Slot
+cellTable coords outline near = cellTableWith true coords outline near
 
 -- the table of a cell that is copied: its own edges, each with a slot at both its ends
 unfoldable pub copiedTable : List ℕ → List Slot
 copiedTable cell = table (ring cell) []
 
--- ---- doubled: a table names a neighbour twice at some node
-
-abbrev pub names : ℕ → ℕ → Slot → Bool
-names a b s = eqb (s .src) a && eqb (s .dst) b
-
+-- doubled: a table names a neighbour twice at some node
 unfoldable pub doubled : List Slot → Bool
 doubled [] = false
 doubled (s ∷ t) = ltb 0 (tally (names (s .src) (s .dst)) t) || doubled t

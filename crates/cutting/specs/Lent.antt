@@ -9,7 +9,7 @@ use Rattle.lists.specs.Gather.{each, joined}
 use Rattle.lists.specs.Sort.{sortOnto}
 use Rattle.lists.specs.Regions.{front, put, zeros}
 use Rattle.cutting.specs.Edges.{Edge}
-use Rattle.cutting.specs.Cell.{Slot, edgeSlots, standsBefore}
+use Rattle.cutting.specs.Cell.{Slot, edgeSlots, isNew, standsBefore}
 use Rattle.cutting.specs.declared.cut.Walked.{Walked}
 use Rattle.cutting.specs.declared.cut.Walked.the-variants.{Closed, Refused}
 use Rattle.cutting.specs.Walk.{srcs, dsts, marksOf}
@@ -63,6 +63,15 @@ withDarts coords back darts t =
       dst = unlessFull slots (front (t .dst) (dsts s)) (t .dst);
       marks = unlessFull slots (front (t .marks) (marksOf s)) (t .marks);
     }
+
+-- the table with an edge near the cell, if that is new to it
+unfoldable pub withEdge : List Float → Edge → Table → Table
+withEdge coords e t = cond (isNew (slotsOf (t .src) (t .dst) (t .marks) (t .slots)) e) (withDarts coords 0 (e ∷ []) t) t
+
+-- with edges one after the other, until there are over 1,024 slots
+unfoldable pub withEdges : List Float → List Edge → Table → Table
+withEdges coords [] t = t
+withEdges coords (e ∷ es) t = cond (tooMany (t .slots)) t (withEdges coords es (withEdge coords e t))
 
 -- the outline of n entries with more darts
 unfoldable pub outlineWith : List Edge → ℕ → List ℕ → List ℕ

@@ -1,4 +1,5 @@
 pub mod Edges
+pub mod Setting
 pub mod Cell
 pub mod Walk
 pub mod Outcome

@@ -7,14 +7,15 @@ ghost use mathlib.Core.Bool.{true, cond};
 ghost use mathlib.Core.List.{List, [], _∷_, map};
 ghost use Prim.Native.Nat.{ℕ, _+_, _*_, _≤_, _<_};
 ghost use lib.ListN.{length, getD};
-ghost use Rattle.lists.specs.Search.{bit, first};
+ghost use Rattle.lists.specs.Search.{first};
 ghost use Rattle.lists.specs.Sort.{insert, sortOnto};
 ghost use Rattle.lists.specs.Regions.{put};
 ghost use Rattle.cutting.specs.Edges.{turn};
-ghost use Rattle.cutting.specs.Cell.{Laid, windows, dartsAlong, ownDarts, isNew, fresh, nearDarts, edgeSlots, reverseMark, isLess, stands, standsBefore, doubled};
+ghost use Rattle.cutting.specs.Cell.{Laid, windows, dartsAlong, ownDarts, nearDarts, edgeSlots, reverseMark, isLess, stands, standsBefore};
 ghost use Rattle.cutting.specs.Walk.{leads, openAt, slot, after, starts, walkFrom, walk};
 ghost use Rattle.cutting.specs.Outcome.{ofWalk};
-ghost use Rattle.cutting.specs.Lent.{slotsOf, ends, pairs, stacked, tableIn, withDarts, outlineWith, Inserted, Added, Outlined, Room, Written, closedWith, answer, cornersIn, endsIn};
+ghost use Rattle.cutting.specs.Lent.{slotsOf, ends, pairs, stacked, tableIn, withDarts, withEdge, withEdges, outlineWith};
+ghost use Rattle.cutting.specs.Lent.{Inserted, Added, Outlined, Room, Written, closedWith, answer, cornersIn, endsIn};
 
 fn wide(x: u32) -> usize
     ensures { λ r. ⌜ r ≡ x ⌝ }
@@ -184,109 +185,12 @@ pub fn add_own_edge(
     add_darts(coords, b, nodes, outline, src, dst, marks, n)
 }
 
-// Whether no edge of the outline, a flat list of pairs, has the key of the edge from a to b.
-fn is_new(outline: &[u32], a: u32, b: u32) -> bool
-    ensures { λ r. ⌜ r ≡ isNew (pairs (now (outline .entry))) (a, b) ⌝ }
-{
-    let n = outline.len() / 2;
-    let mut i = 0;
-    while i < n {
-        if utils::same_key(outline[2 * i], outline[2 * i + 1], a, b) {
-            return false;
-        }
-        i += 1;
-    }
-    true
-}
-
-fn one_if(b: bool) -> usize
-    ensures { λ r. ⌜ r ≡ bit b ⌝ }
-{
-    if b {
-        return 1;
-    }
-    0
-}
-
-// How many windows of the nodes are new.
-fn count_new(outline: &[u32], nodes: &[u32]) -> usize
-    ensures { λ r. ⌜ (r ≤ length (now (nodes .entry))) × (r ≡ length (fresh (pairs (now (outline .entry))) (windows (now (nodes .entry))))) ⌝ }
-{
-    let mut i = 0;
-    let mut k = 0;
-    while i + 1 < nodes.len() {
-        let new = is_new(outline, nodes[i], nodes[i + 1]);
-        k += one_if(new);
-        i += 1;
-    }
-    k
-}
-
-// Adds the new windows of the nodes.
-fn add_new(
-    coords: &[f64],
-    outline: &[u32],
-    nodes: &[u32],
-    src: &mut [u32],
-    dst: &mut [u32],
-    marks: &mut [u32],
-    n: usize,
-)
-    requires { ⌜ (n + 2 * length (fresh (pairs (now outline)) (windows (now nodes))) ≤ length (now src)) × (n + 2 * length (fresh (pairs (now outline)) (windows (now nodes))) ≤ length (now dst)) × (n + 2 * length (fresh (pairs (now outline)) (windows (now nodes))) ≤ length (now marks)) ⌝ }
-    ensures { λ _. ⌜ Inserted (sortOnto (standsBefore (now (coords .entry))) (slotsOf (now (src .entry)) (now (dst .entry)) (now (marks .entry)) n) (edgeSlots 0 (fresh (pairs (now (outline .entry))) (windows (now (nodes .entry)))))) (n + 2 * length (fresh (pairs (now (outline .entry))) (windows (now (nodes .entry))))) (now (src .entry)) (now (dst .entry)) (now (marks .entry)) (now (src .exit)) (now (dst .exit)) (now (marks .exit)) ⌝ }
-{
-    let mut i = 0;
-    let mut k = n;
-    while i + 1 < nodes.len() {
-        let p = nodes[i];
-        let q = nodes[i + 1];
-        i += 1;
-        if is_new(outline, p, q) {
-            add_dart(coords, p, q, 0, src, dst, marks, k);
-            k += 2;
-        }
-    }
-}
-
-// Adds an edge of the other mesh near the cell, from a to b: those windows of its sorted nodes that are new to the finished outline, or, without
-// such nodes, the whole edge. Answers how many slots there are then; over 1,024 aren't written.
-pub fn add_near_edge(
-    coords: &[f64],
-    outline: &[u32],
-    a: u32,
-    b: u32,
-    nodes: &[u32],
-    src: &mut [u32],
-    dst: &mut [u32],
-    marks: &mut [u32],
-    n: usize,
-) -> usize
-    requires { ⌜ (n ≤ 1024) × (1024 ≤ length (now src)) × (1024 ≤ length (now dst)) × (1024 ≤ length (now marks)) ⌝ }
-    ensures { λ r. ⌜ tableIn r (now (src .exit)) (now (dst .exit)) (now (marks .exit)) ≡ withDarts (now (coords .entry)) 0 (nearDarts (pairs (now (outline .entry))) (record { edge = (a, b); nodes = now (nodes .entry) })) (tableIn n (now (src .entry)) (now (dst .entry)) (now (marks .entry))) ⌝ }
-{
-    if nodes.len() == 0 {
-        let r = n + 2;
-        if 1024 < r {
-            return r;
-        }
-        let k = utils::key(a, b);
-        add_dart(coords, k.first, k.second, 0, src, dst, marks, n);
-        return r;
-    }
-    let r = n + 2 * count_new(outline, nodes);
-    if 1024 < r {
-        return r;
-    }
-    add_new(coords, outline, nodes, src, dst, marks, n);
-    r
-}
-
-// The first slot from k on, below n, that leads from a to b; n, or k where that is larger, where there is none.
-fn slot_from(src: &[u32], dst: &[u32], k: usize, n: usize, a: u32, b: u32) -> usize
+// The first slot that leads from a to b; n where none does.
+fn find_slot(src: &[u32], dst: &[u32], n: usize, a: u32, b: u32) -> usize
     requires { ⌜ (n ≤ length (now src)) × (n ≤ length (now dst)) ⌝ }
-    ensures { λ r. ⌜ r ≡ first (leads (now (src .entry)) (now (dst .entry)) a b) k n ⌝ }
+    ensures { λ r. ⌜ r ≡ slot n (now (src .entry)) (now (dst .entry)) a b ⌝ }
 {
-    let mut i = k;
+    let mut i = 0;
     while i < n {
         if src[i] == a {
             if dst[i] == b {
@@ -298,12 +202,84 @@ fn slot_from(src: &[u32], dst: &[u32], k: usize, n: usize, a: u32, b: u32) -> us
     i
 }
 
-// The first slot that leads from a to b; n where none does.
-fn find_slot(src: &[u32], dst: &[u32], n: usize, a: u32, b: u32) -> usize
-    requires { ⌜ (n ≤ length (now src)) × (n ≤ length (now dst)) ⌝ }
-    ensures { λ r. ⌜ r ≡ slot n (now (src .entry)) (now (dst .entry)) a b ⌝ }
+// Adds the edge from a to b, with a slot at both its ends, if it is new to the table of n slots. Answers how many slots there are then; over 1,024
+// aren't written.
+fn add_edge(
+    coords: &[f64],
+    a: u32,
+    b: u32,
+    src: &mut [u32],
+    dst: &mut [u32],
+    marks: &mut [u32],
+    n: usize,
+) -> usize
+    requires { ⌜ (n ≤ 1024) × (1024 ≤ length (now src)) × (1024 ≤ length (now dst)) × (1024 ≤ length (now marks)) ⌝ }
+    ensures { λ r. ⌜ tableIn r (now (src .exit)) (now (dst .exit)) (now (marks .exit))
+        ≡ withEdge (now (coords .entry)) (a, b) (tableIn n (now (src .entry)) (now (dst .entry)) (now (marks .entry))) ⌝ }
 {
-    slot_from(src, dst, 0, n, a, b)
+    if a == b {
+        return n;
+    }
+    let s = find_slot(src, dst, n, a, b);
+    if s < n {
+        return n;
+    }
+    let r = n + 2;
+    if 1024 < r {
+        return r;
+    }
+    add_dart(coords, a, b, 0, src, dst, marks, n);
+    r
+}
+
+// Adds the new windows of the nodes, until there are over 1,024 slots.
+fn add_new(
+    coords: &[f64],
+    nodes: &[u32],
+    src: &mut [u32],
+    dst: &mut [u32],
+    marks: &mut [u32],
+    n: usize,
+) -> usize
+    requires { ⌜ (n ≤ 1024) × (1024 ≤ length (now src)) × (1024 ≤ length (now dst)) × (1024 ≤ length (now marks)) ⌝ }
+    ensures { λ r. ⌜ tableIn r (now (src .exit)) (now (dst .exit)) (now (marks .exit))
+        ≡ withEdges (now (coords .entry)) (windows (now (nodes .entry))) (tableIn n (now (src .entry)) (now (dst .entry)) (now (marks .entry))) ⌝ }
+{
+    let mut i = 0;
+    let mut k = n;
+    while i + 1 < nodes.len() {
+        let p = nodes[i];
+        let q = nodes[i + 1];
+        i += 1;
+        k = add_edge(coords, p, q, src, dst, marks, k);
+        if 1024 < k {
+            return k;
+        }
+    }
+    k
+}
+
+// Adds an edge of the other mesh near the cell, from a to b: those windows of its sorted nodes that are new to the table of n slots, or, without such
+// nodes, the whole edge, if it is new. Answers how many slots there are then; over 1,024 aren't written.
+pub fn add_near_edge(
+    coords: &[f64],
+    a: u32,
+    b: u32,
+    nodes: &[u32],
+    src: &mut [u32],
+    dst: &mut [u32],
+    marks: &mut [u32],
+    n: usize,
+) -> usize
+    requires { ⌜ (n ≤ 1024) × (1024 ≤ length (now src)) × (1024 ≤ length (now dst)) × (1024 ≤ length (now marks)) ⌝ }
+    ensures { λ r. ⌜ tableIn r (now (src .exit)) (now (dst .exit)) (now (marks .exit))
+        ≡ withEdges (now (coords .entry)) (nearDarts (record { edge = (a, b); nodes = now (nodes .entry) })) (tableIn n (now (src .entry)) (now (dst .entry)) (now (marks .entry))) ⌝ }
+{
+    if nodes.len() == 0 {
+        let k = utils::key(a, b);
+        return add_edge(coords, k.first, k.second, src, dst, marks, n);
+    }
+    add_new(coords, nodes, src, dst, marks, n)
 }
 
 // The first unmarked slot of the node a from k on, below n; n, or k where that is larger, where there is none.
@@ -478,22 +454,4 @@ pub fn walk_dart_map(
             w
         }
     }
-}
-
-// Whether a table of n slots names a neighbour twice at some node; its marks don't matter.
-pub fn is_doubled(src: &[u32], dst: &[u32], n: usize) -> bool
-    requires { ⌜ (n ≤ length (now src)) × (n ≤ length (now dst)) ⌝ }
-    ensures { λ r. ⌜ ((marks : List ℕ) → r ≡ doubled (slotsOf (now (src .entry)) (now (dst .entry)) marks n)) ⌝ }
-{
-    let mut i = 0;
-    while i < n {
-        let a = src[i];
-        let b = dst[i];
-        let j = slot_from(src, dst, i + 1, n, a, b);
-        if j < n {
-            return true;
-        }
-        i += 1;
-    }
-    false
 }

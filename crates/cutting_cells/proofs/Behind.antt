@@ -25,7 +25,7 @@ gathered-behind f n (suc k) =
     let h = gathered-behind f n k in
     rw suc-add (h .0 ++ f (k + n), ap (λ (l : List _). l ++ f (k + n)) (h .1) ∙ append-assoc (gathered n f) (h .0) (f (k + n)))
 
-pub listed-none : (p : Listed) (on oe ok of : List ℕ) → p .code ≡ 0 → ListedBehind [] [] [] p on oe ok of p on oe ok of
+pub listed-none : (p : Listed) (on oe ok of : List ℕ) → p .code ≡ 0 → ListedBehind [] [] p on oe ok of p on oe ok of
 unfolding firstRefusal flat stops
 listed-none p on oe ok of z =
     record {
@@ -34,7 +34,6 @@ listed-none p on oe ok of z =
       placed = λ _. refl;
       counted = λ _. omega arith;
       entered = λ _. omega arith;
-      doubled = λ _. omega arith;
       corners = λ _. sym (put-none on (p .entries));
       ends = λ _. sym (put-none oe (p .count));
       kinds = λ _. sym (put-none ok (p .count));
@@ -51,18 +50,17 @@ left-over a b c n e = omega (arith, e)
 below : (a b n : ℕ) → b ≤ a → b + n ≤ a → n ≤ a - b
 below a b n h k = omega (arith, h, k)
 
-module _ (es : List Event) (ps : List Piece) (ds : List ℕ) (p : Listed) (on oe ok of : List ℕ) (q : Listed) (on₁ oe₁ ok₁ of₁ : List ℕ)
-    (one : ListedBehind es ps ds p on oe ok of q on₁ oe₁ ok₁ of₁) where
+module _ (es : List Event) (ps : List Piece) (p : Listed) (on oe ok of : List ℕ) (q : Listed) (on₁ oe₁ ok₁ of₁ : List ℕ)
+    (one : ListedBehind es ps p on oe ok of q on₁ oe₁ ok₁ of₁) where
   -- a refusal of the first is that of all
-  pub listed-refused : (q .code ≡ 0 → ⊥) → (fs : List Event) (qs : List Piece) (gs : List ℕ) → ListedBehind (es ++ fs) (ps ++ qs) (ds ++ gs) p on oe ok of q on₁ oe₁ ok₁ of₁
-  listed-refused h fs qs gs =
+  pub listed-refused : (q .code ≡ 0 → ⊥) → (fs : List Event) (qs : List Piece) → ListedBehind (es ++ fs) (ps ++ qs) p on oe ok of q on₁ oe₁ ok₁ of₁
+  listed-refused h fs qs =
       record {
         code = λ m s. refused (q .code) es fs m s (room oe ok of - p .count) (length on - p .entries) h (one .code m s);
         uncounted = one .uncounted;
         placed = λ z. absurd (h z);
         counted = λ z. absurd (h z);
         entered = λ z. absurd (h z);
-        doubled = λ z. absurd (h z);
         corners = λ z. absurd (h z);
         ends = λ z. absurd (h z);
         kinds = λ z. absurd (h z);
@@ -118,9 +116,9 @@ module _ (es : List Event) (ps : List Piece) (ds : List ℕ) (p : Listed) (on oe
         let l = length-map ps g in
         put-on w w₁ (map g ps) (map g qs) (p .count) (q .count) e (one .counted z ∙ ap (λ (n : ℕ). p .count + n) (sym l)) (omega (arith, h, l)) ∙ ap (put w (p .count)) (sym (map-append g ps qs))
 
-    pub listed-more : (fs : List Event) (qs : List Piece) (gs : List ℕ) (r : Listed) (on₂ oe₂ ok₂ of₂ : List ℕ) → ListedBehind fs qs gs q on₁ oe₁ ok₁ of₁ r on₂ oe₂ ok₂ of₂
-        → ListedBehind (es ++ fs) (ps ++ qs) (ds ++ gs) p on oe ok of r on₂ oe₂ ok₂ of₂
-    listed-more fs qs gs r on₂ oe₂ ok₂ of₂ two =
+    pub listed-more : (fs : List Event) (qs : List Piece) (r : Listed) (on₂ oe₂ ok₂ of₂ : List ℕ) → ListedBehind fs qs q on₁ oe₁ ok₁ of₁ r on₂ oe₂ ok₂ of₂
+        → ListedBehind (es ++ fs) (ps ++ qs) p on oe ok of r on₂ oe₂ ok₂ of₂
+    listed-more fs qs r on₂ oe₂ ok₂ of₂ two =
         let ls : List (List ℕ) = nodesOf qs in
         let c = one .counted z in
         let e = one .entered z in
@@ -139,7 +137,6 @@ module _ (es : List Event) (ps : List Piece) (ds : List ℕ) (p : Listed) (on oe
           placed = λ y. ap₂ (λ (xs ys : List Event). xs ++ ys) (one .placed z) (two .placed y) ∙ sym (map-append (λ k. piece (length k)) ks ls) ∙ ap events (sym names);
           counted = λ y. omega (arith, two .counted y, c, length-append ps qs);
           entered = λ y. omega (arith, two .entered y, e, ap (λ (l : List (List ℕ)). length (flat l)) names, ap length (flat-append ks ls), length-append (flat ks) (flat ls));
-          doubled = λ y. omega (arith, two .doubled y, one .doubled z, length-append ds gs);
           corners = λ y. two .corners y ∙ put-on on on₁ (flat ks) (flat ls) (p .entries) (q .entries) (one .corners z) e (f .1) ∙ ap (put on (p .entries)) (sym (flat-append ks ls) ∙ ap flat (sym names));
           ends = λ y.
               two .ends y ∙ ap (λ (a : ℕ). put oe₁ (q .count) (stops a ls)) e

@@ -20,7 +20,7 @@ use Rattle.cells.specs.Cells.{Uncrowded}
 use Rattle.pieces.specs.Pieces.{sideOf, runsOf, room}
 use Rattle.pieces.proofs.Runs.{run-at, part-is, length-cell}
 use Rattle.cutting_cells.specs.declared.Listed.{Listed}
-use Rattle.cutting_cells.specs.Listed.{SceneIn, CellIn, MeshIn, cellEvents, twice, ListedBehind, Fits}
+use Rattle.cutting_cells.specs.Listed.{SceneIn, CellIn, MeshIn, cellEvents, ListedBehind, Fits}
 use Rattle.cutting_cells.proofs.Behind.{gathered-behind, listed-none, listed-refused, listed-more}
 
 -- ---- the part that is lent is cell i
@@ -53,7 +53,7 @@ module _ (op : ℕ) (cutter : Bool) (coords : List Float) (subject cut met near 
   abbrev pub ListedTo : ℕ → Listed → (on oe ok of : List ℕ) → Type 0
   ListedTo n q on oe ok of =
       (sc : Scene) → SceneIn sc (sideOf cutter) coords subject cut met near nodes ends → MeshIn sc (sideOf cutter) own stops kinds families
-      → ListedBehind (gathered n (cellEvents op sc (sideOf cutter))) (gathered n (kept sc (sideOf cutter) op)) (gathered n (twice sc (sideOf cutter))) p on₀ oe₀ ok₀ of₀ q on oe ok of
+      → ListedBehind (gathered n (cellEvents op sc (sideOf cutter))) (gathered n (kept sc (sideOf cutter) op)) p on₀ oe₀ ok₀ of₀ q on oe ok of
 
   abbrev pub Going : (on oe ok of : List ℕ) → Listed → (start i : ℕ) → Type 0
   Going on oe ok of q start i =
@@ -64,19 +64,18 @@ module _ (op : ℕ) (cutter : Bool) (coords : List Float) (subject cut met near 
     pub start₀ : p .code ≡ 0 → Going on₀ oe₀ ok₀ of₀ p 0 0
     unfolding prior gathered
     start₀ z =
-        (omega arith, refl, z, refl, refl, refl, refl, record { pieces = hc; corners = he; fewPieces = omega arith; fewCorners = omega arith; fewDoubled = omega arith }, λ sc s m. listed-none p on₀ oe₀ ok₀ of₀ z)
+        (omega arith, refl, z, refl, refl, refl, refl, record { pieces = hc; corners = he; fewPieces = omega arith; fewCorners = omega arith }, λ sc s m. listed-none p on₀ oe₀ ok₀ of₀ z)
 
     module _ (on oe ok of : List ℕ) (q : Listed) (start i : ℕ) (inv : Going on oe ok of q start i) where
       -- what is asked of the lists for one cell more
       module _ (h : i < length stops) where
-        pub room-left : p .entries + 1024 * length stops < 2 ^ 32 → p .doubled + length stops < 2 ^ 32
-            → (q .count ≤ room oe ok of) × (q .entries ≤ length on) × (q .entries + 1024 < 2 ^ 32) × (q .doubled < 2 ^ 32)
-        room-left a b =
+        pub room-left : p .entries + 1024 * length stops < 2 ^ 32
+            → (q .count ≤ room oe ok of) × (q .entries ≤ length on) × (q .entries + 1024 < 2 ^ 32)
+        room-left a =
             let f = inv .7 in (
               omega (arith, f .pieces, inv .4, inv .5, inv .6),
               omega (arith, f .corners, inv .3),
               omega (arith, f .fewCorners, h, a),
-              omega (arith, f .fewDoubled, h, b),
             )
 
         pub cell-uncrowded : (s c : List Edge) (ms ls : List ℕ) → Uncrowded s c ms ls (ring (getD (runsOf own stops) i [])) → Uncrowded s c ms ls (ring (take (getD stops i 0 - start) (drop start own)))
@@ -88,17 +87,15 @@ module _ (op : ℕ) (cutter : Bool) (coords : List Float) (subject cut met near 
       module _ (h : i < length stops) (r : Listed) (on′ oe′ ok′ of′ : List ℕ)
           (got : (r .code ≡ 0 → Fits 1 q on oe ok of r)
           × ((sc : Scene) (j : ℕ) → SceneIn sc (sideOf cutter) coords subject cut met near nodes ends → CellIn sc (sideOf cutter) j (take (getD stops i 0 - start) (drop start own)) (getD kinds i 0) (getD families i 0)
-          → ListedBehind (cellEvents op sc (sideOf cutter) j) (kept sc (sideOf cutter) op j) (twice sc (sideOf cutter) j) q on oe ok of r on′ oe′ ok′ of′)) where
+          → ListedBehind (cellEvents op sc (sideOf cutter) j) (kept sc (sideOf cutter) op j) q on oe ok of r on′ oe′ ok′ of′)) where
         step : ListedTo (i + 1) r on′ oe′ ok′ of′
         step sc s m =
             let e : ℕ → List Event = cellEvents op sc w in
             let k : ℕ → List Piece = kept sc w op in
-            let t : ℕ → List ℕ = twice sc w in
-            let all = listed-more (gathered i e) (gathered i k) (gathered i t) p on₀ oe₀ ok₀ of₀ q on oe ok of (inv .8 sc s m) hc he (inv .2) (e i) (k i) (t i) r on′ oe′ ok′ of′
+            let all = listed-more (gathered i e) (gathered i k) p on₀ oe₀ ok₀ of₀ q on oe ok of (inv .8 sc s m) hc he (inv .2) (e i) (k i) r on′ oe′ ok′ of′
             (got .1 sc i s (cell-in own stops start i (inv .1) h sc w kinds families m)) in
-            subst (λ (x : List Event). ListedBehind x (gathered (i + 1) k) (gathered (i + 1) t) p on₀ oe₀ ok₀ of₀ r on′ oe′ ok′ of′) (sym (gathered-more i e))
-            (subst (λ (x : List Piece). ListedBehind (gathered i e ++ e i) x (gathered (i + 1) t) p on₀ oe₀ ok₀ of₀ r on′ oe′ ok′ of′) (sym (gathered-more i k))
-            (subst (λ (x : List ℕ). ListedBehind (gathered i e ++ e i) (gathered i k ++ k i) x p on₀ oe₀ ok₀ of₀ r on′ oe′ ok′ of′) (sym (gathered-more i t)) all))
+            subst (λ (x : List Event). ListedBehind x (gathered (i + 1) k) p on₀ oe₀ ok₀ of₀ r on′ oe′ ok′ of′) (sym (gathered-more i e))
+            (subst (λ (x : List Piece). ListedBehind (gathered i e ++ e i) x p on₀ oe₀ ok₀ of₀ r on′ oe′ ok′ of′) (sym (gathered-more i k)) all)
 
         pub turn : r .code ≡ 0 → length on′ ≡ length on → length oe′ ≡ length oe → length ok′ ≡ length ok → length of′ ≡ length of → Going on′ oe′ ok′ of′ r (getD stops i 0) (i + 1)
         turn z ln le lk lf =
@@ -116,7 +113,6 @@ module _ (op : ℕ) (cutter : Bool) (coords : List Float) (subject cut met near 
                 corners = omega (arith, g .corners, inv .3);
                 fewPieces = omega (arith, f .fewPieces, g .fewPieces);
                 fewCorners = omega (arith, f .fewCorners, g .fewCorners);
-                fewDoubled = omega (arith, f .fewDoubled, g .fewDoubled);
               },
               step,
             )
@@ -128,17 +124,14 @@ module _ (op : ℕ) (cutter : Bool) (coords : List Float) (subject cut met near 
             all sc s m =
                 let e : ℕ → List Event = cellEvents op sc w in
                 let k : ℕ → List Piece = kept sc w op in
-                let t : ℕ → List ℕ = twice sc w in
                 let j : ℕ = length stops - (i + 1) in
                 let at : j + (i + 1) ≡ length stops = omega (arith, h) in
                 let be = gathered-behind e (i + 1) j in
                 let bk = gathered-behind k (i + 1) j in
-                let bt = gathered-behind t (i + 1) j in
-                let done = listed-refused (gathered (i + 1) e) (gathered (i + 1) k) (gathered (i + 1) t) p on₀ oe₀ ok₀ of₀ r on′ oe′ ok′ of′ (step sc s m) n (be .0) (bk .0) (bt .0) in
-                subst (λ (x : ℕ). ListedBehind (gathered x e) (gathered x k) (gathered x t) p on₀ oe₀ ok₀ of₀ r on′ oe′ ok′ of′) at
-                (subst (λ (x : List Event). ListedBehind x (gathered (j + (i + 1)) k) (gathered (j + (i + 1)) t) p on₀ oe₀ ok₀ of₀ r on′ oe′ ok′ of′) (sym (be .1))
-                (subst (λ (x : List Piece). ListedBehind (gathered (i + 1) e ++ be .0) x (gathered (j + (i + 1)) t) p on₀ oe₀ ok₀ of₀ r on′ oe′ ok′ of′) (sym (bk .1))
-                (subst (λ (x : List ℕ). ListedBehind (gathered (i + 1) e ++ be .0) (gathered (i + 1) k ++ bk .0) x p on₀ oe₀ ok₀ of₀ r on′ oe′ ok′ of′) (sym (bt .1)) done)))
+                let done = listed-refused (gathered (i + 1) e) (gathered (i + 1) k) p on₀ oe₀ ok₀ of₀ r on′ oe′ ok′ of′ (step sc s m) n (be .0) (bk .0) in
+                subst (λ (x : ℕ). ListedBehind (gathered x e) (gathered x k) p on₀ oe₀ ok₀ of₀ r on′ oe′ ok′ of′) at
+                (subst (λ (x : List Event). ListedBehind x (gathered (j + (i + 1)) k) p on₀ oe₀ ok₀ of₀ r on′ oe′ ok′ of′) (sym (be .1))
+                (subst (λ (x : List Piece). ListedBehind (gathered (i + 1) e ++ be .0) x p on₀ oe₀ ok₀ of₀ r on′ oe′ ok′ of′) (sym (bk .1)) done))
 
       pub end : length stops ≤ i → (q .code ≡ 0 → Fits (length stops) p on₀ oe₀ ok₀ of₀ q) × ListedTo (length stops) q on oe ok of
       end h =

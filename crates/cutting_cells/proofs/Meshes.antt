@@ -14,14 +14,13 @@ use Rattle.rules.specs.Refusals.{Event}
 use Rattle.pieces.specs.Pieces.{room}
 use Rattle.pieces.proofs.Runs.{length-runs}
 use Rattle.cutting_cells.specs.declared.Listed.{Listed}
-use Rattle.cutting_cells.specs.Listed.{SceneIn, MeshIn, MeshesIn, cellEvents, twice, ListedBehind, Fits, overBoth, noneYet}
+use Rattle.cutting_cells.specs.Listed.{SceneIn, MeshIn, MeshesIn, cellEvents, ListedBehind, Fits, overBoth, noneYet}
 use Rattle.cutting_cells.proofs.Behind.{listed-refused, listed-more}
 
-recast : (es es′ : List Event) (ps ps′ : List Piece) (ds ds′ : List ℕ) (p : Listed) (on oe ok of : List ℕ) (r : Listed) (on′ oe′ ok′ of′ : List ℕ) → es ≡ es′ → ps ≡ ps′ → ds ≡ ds′
-    → ListedBehind es ps ds p on oe ok of r on′ oe′ ok′ of′ → ListedBehind es′ ps′ ds′ p on oe ok of r on′ oe′ ok′ of′
-recast es es′ ps ps′ ds ds′ p on oe ok of r on′ oe′ ok′ of′ ee ep ed x =
-    subst (λ (l : List Event). ListedBehind l ps′ ds′ p on oe ok of r on′ oe′ ok′ of′) ee
-    (subst (λ (l : List Piece). ListedBehind es l ds′ p on oe ok of r on′ oe′ ok′ of′) ep (subst (λ (l : List ℕ). ListedBehind es ps l p on oe ok of r on′ oe′ ok′ of′) ed x))
+recast : (es es′ : List Event) (ps ps′ : List Piece) (p : Listed) (on oe ok of : List ℕ) (r : Listed) (on′ oe′ ok′ of′ : List ℕ) → es ≡ es′ → ps ≡ ps′
+    → ListedBehind es ps p on oe ok of r on′ oe′ ok′ of′ → ListedBehind es′ ps′ p on oe ok of r on′ oe′ ok′ of′
+recast es es′ ps ps′ p on oe ok of r on′ oe′ ok′ of′ ee ep x =
+    subst (λ (l : List Event). ListedBehind l ps′ p on oe ok of r on′ oe′ ok′ of′) ee (subst (λ (l : List Piece). ListedBehind es l p on oe ok of r on′ oe′ ok′ of′) ep x)
 
 cells-long : (sc : Scene) (w : Side) (nodes ends kinds families : List ℕ) → MeshIn sc w nodes ends kinds families → length ends ≡ length (netOf sc w .cells)
 cells-long sc w nodes ends kinds families m = sym (ap length (m .cells) ∙ length-runs nodes ends)
@@ -50,26 +49,25 @@ module _ (op : ℕ) (coords : List Float) (subject cut met sn se sk sf cn ce ck 
   OneCut w near nodes ends own stops kinds families p on₁ oe₁ ok₁ of₁ r on₂ oe₂ ok₂ of₂ =
       (r .code ≡ 0 → Fits (length stops) p on₁ oe₁ ok₁ of₁ r)
       × ((sc : Scene) → SceneIn sc w coords subject cut met near nodes ends → MeshIn sc w own stops kinds families
-      → ListedBehind (gathered (length stops) (cellEvents op sc w)) (gathered (length stops) (kept sc w op)) (gathered (length stops) (twice sc w)) p on₁ oe₁ ok₁ of₁ r on₂ oe₂ ok₂ of₂)
+      → ListedBehind (gathered (length stops) (cellEvents op sc w)) (gathered (length stops) (kept sc w op)) p on₁ oe₁ ok₁ of₁ r on₂ oe₂ ok₂ of₂)
 
   -- what both come to
   abbrev pub BothCut : (r : Listed) (on₂ oe₂ ok₂ of₂ : List ℕ) → Type 0
   BothCut r on₂ oe₂ ok₂ of₂ =
       (r .code ≡ 0 → Fits (length se + length ce) noneYet on oe ok of r)
       × ((sc : Scene) → MeshesIn sc coords subject cut met sn se sk sf cn ce ck cf
-      → ListedBehind (overBoth op sc (cellEvents op sc)) (overBoth op sc (λ w. kept sc w op)) (overBoth op sc (twice sc)) noneYet on oe ok of r on₂ oe₂ ok₂ of₂)
+      → ListedBehind (overBoth op sc (cellEvents op sc)) (overBoth op sc (λ w. kept sc w op)) noneYet on oe ok of r on₂ oe₂ ok₂ of₂)
 
   module _ (p : Listed) (on₁ oe₁ ok₁ of₁ : List ℕ) (one : OneCut theSubject cut cn ce sn se sk sf noneYet on oe ok of p on₁ oe₁ ok₁ of₁) where
     pub subject-refused : (p .code ≡ 0 → ⊥) → BothCut p on₁ oe₁ ok₁ of₁
     subject-refused n = (
       λ z. absurd (n z),
-      λ sc m. recast _ _ _ _ _ _ noneYet on oe ok of p on₁ oe₁ ok₁ of₁
+      λ sc m. recast _ _ _ _ noneYet on oe ok of p on₁ oe₁ ok₁ of₁
           (subject-first op sc sn se sk sf cn ce ck cf (cellEvents op sc) (m .subjectMesh) (m .cutterMesh))
           (subject-first op sc sn se sk sf cn ce ck cf (λ w. kept sc w op) (m .subjectMesh) (m .cutterMesh))
-          (subject-first op sc sn se sk sf cn ce ck cf (twice sc) (m .subjectMesh) (m .cutterMesh))
-          (listed-refused (gathered (length se) (cellEvents op sc theSubject)) (gathered (length se) (kept sc theSubject op)) (gathered (length se) (twice sc theSubject)) noneYet on oe ok of p on₁ oe₁ ok₁ of₁
+          (listed-refused (gathered (length se) (cellEvents op sc theSubject)) (gathered (length se) (kept sc theSubject op)) noneYet on oe ok of p on₁ oe₁ ok₁ of₁
           (one .1 sc (m .subjectCut) (m .subjectMesh)) n
-          (overCells op sc theCutter (cellEvents op sc theCutter)) (overCells op sc theCutter (kept sc theCutter op)) (overCells op sc theCutter (twice sc theCutter))),
+          (overCells op sc theCutter (cellEvents op sc theCutter)) (overCells op sc theCutter (kept sc theCutter op))),
     )
 
     pub subject-only : p .code ≡ 0 → cuts op theCutter ≡ false → BothCut p on₁ oe₁ ok₁ of₁
@@ -80,24 +78,21 @@ module _ (op : ℕ) (coords : List Float) (subject cut met sn se sk sf cn ce ck 
             corners = f .corners;
             fewPieces = omega (arith, f .fewPieces);
             fewCorners = omega (arith, f .fewCorners);
-            fewDoubled = omega (arith, f .fewDoubled);
           },
-          λ sc m. recast _ _ _ _ _ _ noneYet on oe ok of p on₁ oe₁ ok₁ of₁
+          λ sc m. recast _ _ _ _ noneYet on oe ok of p on₁ oe₁ ok₁ of₁
               (one-cut op sc sn se sk sf cn ce ck cf (cellEvents op sc) (m .subjectMesh) (m .cutterMesh) e)
               (one-cut op sc sn se sk sf cn ce ck cf (λ w. kept sc w op) (m .subjectMesh) (m .cutterMesh) e)
-              (one-cut op sc sn se sk sf cn ce ck cf (twice sc) (m .subjectMesh) (m .cutterMesh) e)
               (one .1 sc (m .subjectCut) (m .subjectMesh)),
         )
 
     module _ (z : p .code ≡ 0) (ln : length on₁ ≡ length on) (le : length oe₁ ≡ length oe) (lk : length ok₁ ≡ length ok) (lf : length of₁ ≡ length of) where
       pub second-room : length se ≤ 16384 → length ce ≤ 16384
-          → (p .count ≤ room oe₁ ok₁ of₁) × (p .entries ≤ length on₁) × (p .entries + 1024 * length ce < 2 ^ 32) × (p .doubled + length ce < 2 ^ 32) × (p .code ≡ 0)
+          → (p .count ≤ room oe₁ ok₁ of₁) × (p .entries ≤ length on₁) × (p .entries + 1024 * length ce < 2 ^ 32) × (p .code ≡ 0)
       second-room a b =
           let f = one .0 z in (
             omega (arith, f .pieces, le, lk, lf),
             omega (arith, f .corners, ln),
             omega (arith, f .fewCorners, a, b),
-            omega (arith, f .fewDoubled, a, b),
             z,
           )
 
@@ -110,14 +105,12 @@ module _ (op : ℕ) (coords : List Float) (subject cut met sn se sk sf cn ce ck 
                   corners = omega (arith, g .corners, ln);
                   fewPieces = omega (arith, f .fewPieces, g .fewPieces);
                   fewCorners = omega (arith, f .fewCorners, g .fewCorners);
-                  fewDoubled = omega (arith, f .fewDoubled, g .fewDoubled);
                 },
-            λ sc m. recast _ _ _ _ _ _ noneYet on oe ok of r on₂ oe₂ ok₂ of₂
+            λ sc m. recast _ _ _ _ noneYet on oe ok of r on₂ oe₂ ok₂ of₂
                 (both-cut op sc sn se sk sf cn ce ck cf (cellEvents op sc) (m .subjectMesh) (m .cutterMesh) e)
                 (both-cut op sc sn se sk sf cn ce ck cf (λ w. kept sc w op) (m .subjectMesh) (m .cutterMesh) e)
-                (both-cut op sc sn se sk sf cn ce ck cf (twice sc) (m .subjectMesh) (m .cutterMesh) e)
-                (listed-more (gathered (length se) (cellEvents op sc theSubject)) (gathered (length se) (kept sc theSubject op)) (gathered (length se) (twice sc theSubject)) noneYet on oe ok of p on₁ oe₁ ok₁ of₁
+                (listed-more (gathered (length se) (cellEvents op sc theSubject)) (gathered (length se) (kept sc theSubject op)) noneYet on oe ok of p on₁ oe₁ ok₁ of₁
                 (one .1 sc (m .subjectCut) (m .subjectMesh)) (omega arith) (omega arith) z
-                (gathered (length ce) (cellEvents op sc theCutter)) (gathered (length ce) (kept sc theCutter op)) (gathered (length ce) (twice sc theCutter)) r on₂ oe₂ ok₂ of₂
+                (gathered (length ce) (cellEvents op sc theCutter)) (gathered (length ce) (kept sc theCutter op)) r on₂ oe₂ ok₂ of₂
                 (two .1 sc (m .cutterCut) (m .cutterMesh))),
           )

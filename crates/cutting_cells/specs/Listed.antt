@@ -2,22 +2,20 @@
 -- lent lists. Assumes nothing.
 use mathlib.Core.Path.{_≡_}
 use mathlib.Core.Bool.{cond}
-use mathlib.Core.List.{List, [], _∷_, _++_, map}
+use mathlib.Core.List.{List, [], _++_, map}
 use Prim.Native.Nat.{ℕ, _+_, _*_, _-_, _≤_, _<_}
 use lib.Dec.{ltb}
 use lib.ListN.{length, getD}
 use lib.Ieee.{Float}
 use Rattle.lists.specs.Regions.{put}
 use Rattle.cutting.specs.Edges.{Edge, ring}
-use Rattle.cutting.specs.Cell as Cell
-use Rattle.cutting.specs.Cell.{copiedTable}
 use Rattle.cutting.specs.Outcome.{copiedOutcome, flat, stops}
 use Rattle.cutting.specs.Lent.{pairs}
 use Rattle.rules.specs.declared.Bounds.{Bounds}
 use Rattle.entry.specs.Mesh.{cellSize}
 use Rattle.rules.specs.Mesh.{Side, theSubject, theCutter, other}
 use Rattle.rules.specs.Meetings.{Scene, netOf}
-use Rattle.rules.specs.Cell.{cellOf, outcomeOf, tableOf}
+use Rattle.rules.specs.Cell.{cellOf, outcomeOf}
 use Rattle.rules.specs.Operations.{Piece, kept, overCells}
 use Rattle.rules.specs.Refusals.{Event, ofCell, firstRefusal}
 use Rattle.edge_nodes.proofs.Scene.{Stored}
@@ -26,10 +24,10 @@ use Rattle.cells.specs.Cells.{cutAs, cutCell, Uncrowded}
 use Rattle.pieces.specs.Pieces.{runsOf, room, events}
 use Rattle.cutting_cells.specs.declared.Listed.{Listed}
 
--- What a cell comes to, and whether it is doubled: cut by the edges es from `first` on whose box meets the box b, or copied where there is none.
+-- What a cell comes to: cut by the edges es from `first` on whose box meets the box b, or copied where there is none.
 unfoldable pub cutIn : List Float → (subject cutter : List Edge) (met : List ℕ) (es : List Edge) (cell : List ℕ) → Bounds → (first : ℕ) → CutCell
 cutIn coords subject cutter met es cell b first =
-    cond (ltb first (length es)) (cutCell coords subject cutter met es cell b first) (cutAs (copiedOutcome cell) (Cell.doubled (copiedTable cell)))
+    cond (ltb first (length es)) (cutCell coords subject cutter met es cell b first) (cutAs (copiedOutcome cell))
 
 -- ---- what the lists hold
 
@@ -56,25 +54,21 @@ pub record MeshIn (sc : Scene) (w : Side) (nodes ends kinds families : List ℕ)
 
 -- ---- pieces behind others
 
--- what happens at cell i, and i where it is doubled
+-- what happens at cell i
 abbrev pub cellEvents : ℕ → Scene → Side → ℕ → List Event
 cellEvents op sc w i = ofCell (outcomeOf sc w i) (kept sc w op i)
-
-abbrev pub twice : Scene → Side → ℕ → List ℕ
-twice sc w i = cond (Cell.doubled (tableOf sc w i)) (i ∷ []) []
 
 abbrev pub nodesOf : List Piece → List (List ℕ)
 nodesOf ps = map (λ p. p .nodes) ps
 
--- Behind what p counts the events es are met, where the cells ds are doubled. The answer is the first refusal among them, or 0: then they are the
--- pieces ps, and these stand in the lists on (corners), oe (ends), ok (kinds) and of (families).
-pub record ListedBehind (es : List Event) (ps : List Piece) (ds : List ℕ) (p : Listed) (on oe ok of : List ℕ) (r : Listed) (on′ oe′ ok′ of′ : List ℕ) : Type 0 where
+-- Behind what p counts the events es are met. The answer is the first refusal among them, or 0: then they are the pieces ps, and these stand in the
+-- lists on (corners), oe (ends), ok (kinds) and of (families).
+pub record ListedBehind (es : List Event) (ps : List Piece) (p : Listed) (on oe ok of : List ℕ) (r : Listed) (on′ oe′ ok′ of′ : List ℕ) : Type 0 where
   pub code : (m q : ℕ) → r .code ≡ firstRefusal m q (room oe ok of - p .count) (length on - p .entries) es
-  pub uncounted : (r .code ≡ 0 → ⊥) → (r .count ≡ 0) × (r .entries ≡ 0) × (r .doubled ≡ 0)
+  pub uncounted : (r .code ≡ 0 → ⊥) → (r .count ≡ 0) × (r .entries ≡ 0)
   pub placed : r .code ≡ 0 → es ≡ events (nodesOf ps)
   pub counted : r .code ≡ 0 → r .count ≡ p .count + length ps
   pub entered : r .code ≡ 0 → r .entries ≡ p .entries + length (flat (nodesOf ps))
-  pub doubled : r .code ≡ 0 → r .doubled ≡ p .doubled + length ds
   pub corners : r .code ≡ 0 → on′ ≡ put on (p .entries) (flat (nodesOf ps))
   pub ends : r .code ≡ 0 → oe′ ≡ put oe (p .count) (stops (p .entries) (nodesOf ps))
   pub kinds : r .code ≡ 0 → ok′ ≡ put ok (p .count) (map (λ q. q .kind) ps)
@@ -86,7 +80,6 @@ pub record Fits (n : ℕ) (p : Listed) (on oe ok of : List ℕ) (r : Listed) : T
   pub corners : r .entries ≤ length on
   pub fewPieces : r .count ≤ p .count + 1024 * n
   pub fewCorners : r .entries ≤ p .entries + 1024 * n
-  pub fewDoubled : r .doubled ≤ p .doubled + n
 
 -- ---- both meshes
 
@@ -108,4 +101,4 @@ overBoth op sc f = overCells op sc theSubject (f theSubject) ++ overCells op sc 
 
 -- before the first cell
 abbrev pub noneYet : Listed
-noneYet = record { code = 0; count = 0; entries = 0; doubled = 0 }
+noneYet = record { code = 0; count = 0; entries = 0 }

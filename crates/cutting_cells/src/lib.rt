@@ -2,8 +2,8 @@
 use cells::CutCell;
 use cells::cut_cell;
 use cells::next_corner;
-use cutting::cut::is_doubled;
 use lists::copy_u32;
+use outlines::edges_repeat;
 use pieces::place_pieces;
 use rules::Bounds;
 use spatial_index::block_bounds;
@@ -14,10 +14,9 @@ ghost use mathlib.Core.Bool.{true, cond};
 ghost use Prim.Native.Nat.{ℕ, _+_, _*_, _^_, _≤_, _<_};
 ghost use lib.Dec.{ltb};
 ghost use lib.ListN.{length};
-ghost use Rattle.lists.specs.Search.{bit};
 ghost use Rattle.lists.specs.Gather.{gathered};
 ghost use Rattle.cutting.specs.Edges.{ring};
-ghost use Rattle.cutting.specs.Cell.{copiedTable, doubled};
+ghost use Rattle.cutting.specs.Cell.{repeats};
 ghost use Rattle.cutting.specs.Outcome.{copiedOutcome};
 ghost use Rattle.cutting.specs.Lent.{pairs};
 ghost use Rattle.entry.specs.Mesh.{Rising};
@@ -27,64 +26,61 @@ ghost use Rattle.rules.specs.Operations.{cuts, kept};
 ghost use Rattle.spatial_index.specs.Blocks.{Covered};
 ghost use Rattle.cells.specs.Cells.{cutAs, Uncrowded};
 ghost use Rattle.pieces.specs.Pieces.{sideOf, room};
-ghost use Rattle.cutting_cells.specs.Listed.{cutIn, SceneIn, CellIn, MeshIn, cellEvents, twice, ListedBehind, Fits, CellsReady, MeshesIn, overBoth, noneYet};
+ghost use Rattle.cutting_cells.specs.Listed.{cutIn, SceneIn, CellIn, MeshIn, cellEvents, ListedBehind, Fits, CellsReady, MeshesIn, overBoth, noneYet};
 
-// The refusal or 0, and how many pieces, corners and doubled cells there are then.
+// The refusal or 0, and how many pieces and corners there are then.
 pub struct Listed {
     pub code: u32,
     pub count: usize,
     pub entries: usize,
-    pub doubled: usize,
 }
 
 fn refused(code: u32) -> Listed
-    ensures { λ r. ⌜ (r .code ≡ code) × (r .count ≡ 0) × (r .entries ≡ 0) × (r .doubled ≡ 0) ⌝ }
+    ensures { λ r. ⌜ (r .code ≡ code) × (r .count ≡ 0) × (r .entries ≡ 0) ⌝ }
 {
     Listed {
         code,
         count: 0,
         entries: 0,
-        doubled: 0,
     }
 }
 
 // ---- A cell that is copied
 
-// Whether the table of the cell's own edges, each with a slot at both its ends, names a neighbour twice at some node.
-fn copy_doubled(cell: &[u32]) -> bool
+// Whether the cell's own edges pass between the same two nodes twice or from a node to itself.
+fn copy_repeats(cell: &[u32]) -> bool
     requires { ⌜ length (now cell) ≤ 256 ⌝ }
-    ensures { λ r. ⌜ r ≡ doubled (copiedTable (now (cell .entry))) ⌝ }
+    ensures { λ r. ⌜ r ≡ repeats (ring (now (cell .entry))) ⌝ }
 {
-    let mut src = [0u32; 512];
-    let mut dst = [0u32; 512];
+    let mut sides = [0u32; 512];
     let mut i: usize = 0;
     while i < cell.len() {
         let a = cell[i];
         let b = next_corner(cell, i);
-        src[2 * i] = a;
-        dst[2 * i] = b;
-        src[2 * i + 1] = b;
-        dst[2 * i + 1] = a;
+        sides[2 * i] = a;
+        sides[2 * i + 1] = b;
         i += 1;
     }
-    is_doubled(&src, &dst, 2 * cell.len())
+    let n = 2 * cell.len();
+    edges_repeat(&sides[..n])
 }
 
-// The cell itself as its one piece.
+// The cell itself as its one piece, unless its own edges repeat (19).
 fn copy_cell(cell: &[u32]) -> CutCell
     requires { ⌜ length (now cell) ≤ 256 ⌝ }
-    ensures { λ r. ⌜ r ≡ cutAs (copiedOutcome (now (cell .entry))) (doubled (copiedTable (now (cell .entry)))) ⌝ }
+    ensures { λ r. ⌜ r ≡ cutAs (copiedOutcome (now (cell .entry))) ⌝ }
 {
     let mut nodes = [0u32; 1024];
     let mut stops = [0u32; 1024];
-    let doubled = copy_doubled(cell);
+    if copy_repeats(cell) {
+        return cells::refused(19);
+    }
     copy_u32(&mut nodes, 0, cell);
     stops[0] = cell.len() as u32;
     CutCell {
         code: 0,
         pieces: 1,
         entries: cell.len(),
-        doubled,
         nodes,
         stops,
     }
@@ -135,16 +131,6 @@ fn kind_of(kind: u8, first: usize, n: usize) -> u8
     kind
 }
 
-fn counted(n: usize, twice: bool) -> usize
-    requires { ⌜ n < 2 ^ 32 ⌝ }
-    ensures { λ r. ⌜ r ≡ n + bit twice ⌝ }
-{
-    if twice {
-        return n + 1;
-    }
-    n
-}
-
 // Places the kept pieces of one cell behind what p counts; the cells of the other mesh are those of `nodes` and `ends`, its edges `near`, with the
 // boxes of blocks of them.
 fn overlay_cell(
@@ -169,10 +155,11 @@ fn overlay_cell(
     family: u32,
 ) -> Listed
     requires { ⌜ Uncrowded (pairs (now subject)) (pairs (now cut)) (now met) (now links) (ring (now cell)) × Uncrowded (pairs (now subject)) (pairs (now cut)) (now met) (now links) (pairs (now near)) × Covered (now coords) (pairs (now near)) (now boxes) × (length (now cell) ≤ 256) × Rising (now ends) (length (now nodes))
-        × (p .count ≤ room (now oe) (now ok) (now of)) × (p .entries ≤ length (now on)) × (p .entries + 1024 < 2 ^ 32) × (p .doubled < 2 ^ 32) ⌝ }
+        × (p .count ≤ room (now oe) (now ok) (now of)) × (p .entries ≤ length (now on)) × (p .entries + 1024 < 2 ^ 32) ⌝ }
     ensures { λ r. ⌜ (r .code ≡ 0 → Fits 1 p (now (on .entry)) (now (oe .entry)) (now (ok .entry)) (now (of .entry)) r)
         × ((sc : Scene) (i : ℕ) → SceneIn sc (sideOf cutter) (now (coords .entry)) (now (subject .entry)) (now (cut .entry)) (now (met .entry)) (now (near .entry)) (now (nodes .entry)) (now (ends .entry)) → CellIn sc (sideOf cutter) i (now (cell .entry)) kind family
-        → ListedBehind (cellEvents op sc (sideOf cutter) i) (kept sc (sideOf cutter) op i) (twice sc (sideOf cutter) i) p (now (on .entry)) (now (oe .entry)) (now (ok .entry)) (now (of .entry)) r (now (on .exit)) (now (oe .exit)) (now (ok .exit)) (now (of .exit))) ⌝ }
+        → ListedBehind (cellEvents op sc (sideOf cutter) i) (kept sc (sideOf cutter) op i)
+        p (now (on .entry)) (now (oe .entry)) (now (ok .entry)) (now (of .entry)) r (now (on .exit)) (now (oe .exit)) (now (ok .exit)) (now (of .exit))) ⌝ }
 {
     let b = bounds2(coords, cell);
     let first = in_bounds(coords, near, boxes, b, 0);
@@ -222,7 +209,6 @@ fn overlay_cell(
         code: 0,
         count: q.count,
         entries: q.entries,
-        doubled: counted(p.doubled, r.doubled),
     }
 }
 
@@ -252,10 +238,10 @@ fn cut_cells(
     requires { ⌜ CellsReady (pairs (now subject)) (pairs (now cut)) (now met) (now links) (now own) (now stops)
         × Uncrowded (pairs (now subject)) (pairs (now cut)) (now met) (now links) (pairs (now near)) × Rising (now ends) (length (now nodes)) × Rising (now stops) (length (now own))
         × (length (now kinds) ≡ length (now stops)) × (length (now families) ≡ length (now stops))
-        × (p .count ≤ room (now oe) (now ok) (now of)) × (p .entries ≤ length (now on)) × (p .entries + 1024 * length (now stops) < 2 ^ 32) × (p .doubled + length (now stops) < 2 ^ 32) × (p .code ≡ 0) ⌝ }
+        × (p .count ≤ room (now oe) (now ok) (now of)) × (p .entries ≤ length (now on)) × (p .entries + 1024 * length (now stops) < 2 ^ 32) × (p .code ≡ 0) ⌝ }
     ensures { λ r. ⌜ (r .code ≡ 0 → Fits (length (now (stops .entry))) p (now (on .entry)) (now (oe .entry)) (now (ok .entry)) (now (of .entry)) r)
         × ((sc : Scene) → SceneIn sc (sideOf cutter) (now (coords .entry)) (now (subject .entry)) (now (cut .entry)) (now (met .entry)) (now (near .entry)) (now (nodes .entry)) (now (ends .entry)) → MeshIn sc (sideOf cutter) (now (own .entry)) (now (stops .entry)) (now (kinds .entry)) (now (families .entry))
-        → ListedBehind (gathered (length (now (stops .entry))) (cellEvents op sc (sideOf cutter))) (gathered (length (now (stops .entry))) (kept sc (sideOf cutter) op)) (gathered (length (now (stops .entry))) (twice sc (sideOf cutter)))
+        → ListedBehind (gathered (length (now (stops .entry))) (cellEvents op sc (sideOf cutter))) (gathered (length (now (stops .entry))) (kept sc (sideOf cutter) op))
         p (now (on .entry)) (now (oe .entry)) (now (ok .entry)) (now (of .entry)) r (now (on .exit)) (now (oe .exit)) (now (ok .exit)) (now (of .exit))) ⌝ }
 {
     let mut boxes = [0.0; 4096];
@@ -321,13 +307,13 @@ pub fn cut_meshes(
         × (length (now se) ≤ 16384) × (length (now ce) ≤ 16384) ⌝ }
     ensures { λ r. ⌜ (r .code ≡ 0 → Fits (length (now (se .entry)) + length (now (ce .entry))) noneYet (now (on .entry)) (now (oe .entry)) (now (ok .entry)) (now (of .entry)) r)
         × ((sc : Scene) → MeshesIn sc (now (coords .entry)) (now (subject .entry)) (now (cut .entry)) (now (met .entry)) (now (sn .entry)) (now (se .entry)) (now (sk .entry)) (now (sf .entry)) (now (cn .entry)) (now (ce .entry)) (now (ck .entry)) (now (cf .entry))
-        → ListedBehind (overBoth op sc (cellEvents op sc)) (overBoth op sc (λ w. kept sc w op)) (overBoth op sc (twice sc)) noneYet (now (on .entry)) (now (oe .entry)) (now (ok .entry)) (now (of .entry)) r (now (on .exit)) (now (oe .exit)) (now (ok .exit)) (now (of .exit))) ⌝ }
+        → ListedBehind (overBoth op sc (cellEvents op sc)) (overBoth op sc (λ w. kept sc w op))
+        noneYet (now (on .entry)) (now (oe .entry)) (now (ok .entry)) (now (of .entry)) r (now (on .exit)) (now (oe .exit)) (now (ok .exit)) (now (of .exit))) ⌝ }
 {
     let none = Listed {
         code: 0,
         count: 0,
         entries: 0,
-        doubled: 0,
     };
     let p = cut_cells(
         op,

@@ -1,6 +1,6 @@
 -- The laws of searches, of tests of every index, and of counts. Assumes nothing.
 use mathlib.Core.Path.{_≡_, refl, sym, ap, ap₂, _∙_, fun-ext}
-use mathlib.Core.Bool.{Bool, true, false, _&&_, and-false, true≢false}
+use mathlib.Core.Bool.{Bool, true, false, _&&_, _||_, and-false, true≢false}
 use mathlib.Core.List.{List}
 use Prim.Native.Nat.{ℕ, zero, suc, _+_, _-_, _/_, _≤_, _<_}
 use native.Mathlib.Nat.{not-suc-le-zero, le-antisymm}
@@ -221,6 +221,11 @@ pub and-true : (a b : Bool) → a && b ≡ true → (a ≡ true) × (b ≡ true)
 and-true true true h = (refl, refl)
 and-true true false h = (refl, h)
 and-true false b h = absurd (true≢false (sym h))
+
+pub or-false : (a b : Bool) → a || b ≡ false → (a ≡ false) × (b ≡ false)
+or-false true true e = (e, e)
+or-false true false e = (e, refl)
+or-false false b e = (refl, e)
 
 -- nothing tested yet
 pub every-none : (p : ℕ → Bool) → every 0 p ≡ true

@@ -11,7 +11,7 @@ use lib.ListN.{length, getD, length-append, List·getD-append}
 use lib.Seq.{getD-append-add}
 use borrow.Author.Tests.{ltb-true, ltb-false, eq-eqb}
 use Rattle.lists.specs.Search.{first, has}
-use Rattle.lists.proofs.Search.{first-hit, has-none}
+use Rattle.lists.proofs.Search.{first-hit, has-none, or-false}
 use Rattle.cutting.specs.Edges.{Edge, edgeAt, key, sameKey, ring}
 use Rattle.entry.specs.Mesh.{cellSize}
 use Rattle.rules.specs.Neighbours.{added, addedAll, descendingTo, computeDescending}
@@ -91,10 +91,6 @@ cells-ready subject cutter met links own stops few small i h =
     (same-keys subject cutter met links (computeDescending cells) few (ring (getD cells i [])) (λ k l. descending-has (length cells) cells i k below l), small i h)
 
 -- ---- refusal 9 passed
-
-or-false : (a b : Bool) → a || b ≡ false → (a ≡ false) × (b ≡ false)
-or-false true b h = absurd (omega (arith, ap (λ (t : Bool). cond {A = ℕ} t 1 0) h))
-or-false false b h = (refl, h)
 
 module _ (sc : Scene) (met links : List ℕ) (stored : Stored (sc .met) met) (linked : Linked (sc .subject .edges) (sc .cutter .edges) met links) where
   few-under : (es : List Edge) → overfull sc es ≡ false → (i : ℕ) → i < length es → length (collectedIn (sc .subject .edges) (sc .cutter .edges) met (edgeAt es i)) ≤ 256

@@ -1,11 +1,11 @@
 -- What the returns of `overlay` come to, over plain values. Assumes nothing.
 use mathlib.Core.Path.{_≡_, sym, ap, _∙_}
-use mathlib.Core.Bool.{true}
 use mathlib.Core.List.{List}
 use Prim.Native.Nat.{ℕ}
 use lib.ListN.{length}
 use lib.Ieee.{Float}
 use Rattle.lists.specs.Regions.{zeros}
+use Rattle.cutting.specs.Setting.{ours}
 use Rattle.entry.specs.Mesh.{Mesh}
 use Rattle.entry.specs.Refused.{entryOf}
 use Rattle.rules.specs.Overlay.{Lists, lentLists, result, cleared, stateOf, answered, overlayOf}
@@ -28,7 +28,7 @@ module _ (op m : ℕ) (s c : Mesh) (oc : List Float) (on oe ok of w : List ℕ) 
   -- refused at the entry: every list is as it was
   pub at-entry : (a p q d : ℕ) → (bad ≡ 0 → ⊥) → Plain bad a p q d → result a p q d l ≡ overlayOf op m s c l
   at-entry a p q d n h =
-      (λ i. result ((h .0 ∙ e) i) (h .1 i) (h .2 i) (h .3 i) l) ∙ sym (input-refused true op m s c l (λ z. n (e ∙ z)))
+      (λ i. result ((h .0 ∙ e) i) (h .1 i) (h .2 i) (h .3 i) l) ∙ sym (input-refused ours op m s c l (λ z. n (e ∙ z)))
 
   module _ (z : bad ≡ 0) (code pieces points doubled : ℕ) (oc₁ : List Float) (on₁ oe₁ ok₁ of₁ w₁ : List ℕ)
       (ran : (code ≡ stateOf op m s c l) × (code ≡ 0 → result 0 pieces points doubled (lentLists oc₁ on₁ oe₁ ok₁ of₁ (zeros (length w))) ≡ answered op s c l)) where
@@ -38,9 +38,9 @@ module _ (op m : ℕ) (s c : Mesh) (oc : List Float) (on oe ok of w : List ℕ) 
         → result a p q d l₂ ≡ overlayOf op m s c l
     at-stage l₂ a p q d n x h hc hn he hk hf hw =
         let same : l₂ ≡ cleared l = x ∙ cleared-same oc oc₁ on on₁ oe oe₁ ok ok₁ of of₁ w w₁ hc hn he hk hf hw in
-        (λ i. result ((h .0 ∙ ran .0) i) (h .1 i) (h .2 i) (h .3 i) (same i)) ∙ sym (state-refused true op m s c l (sym e ∙ z) (λ y. n (ran .0 ∙ y)))
+        (λ i. result ((h .0 ∙ ran .0) i) (h .1 i) (h .2 i) (h .3 i) (same i)) ∙ sym (state-refused ours op m s c l (sym e ∙ z) (λ y. n (ran .0 ∙ y)))
 
     -- success: the working list is zero
     pub done : (w₂ : List ℕ) → code ≡ 0 → w₂ ≡ zeros (length w₁) → length w₁ ≡ length w → result code pieces points doubled (lentLists oc₁ on₁ oe₁ ok₁ of₁ w₂) ≡ overlayOf op m s c l
     done w₂ y x hw =
-        (λ i. result (y i) pieces points doubled (lentLists oc₁ on₁ oe₁ ok₁ of₁ ((x ∙ ap zeros hw) i))) ∙ ran .1 y ∙ sym (succeeds true op m s c l (sym e ∙ z) (sym (ran .0) ∙ y))
+        (λ i. result (y i) pieces points doubled (lentLists oc₁ on₁ oe₁ ok₁ of₁ ((x ∙ ap zeros hw) i))) ∙ ran .1 y ∙ sym (succeeds ours op m s c l (sym e ∙ z) (sym (ran .0) ∙ y))

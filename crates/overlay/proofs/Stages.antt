@@ -19,7 +19,7 @@ use Rattle.finding.proofs.Passed.{bare, ready}
 use Rattle.finding.proofs.Result.{met-few, code-is, coords-are}
 use Rattle.finding.proofs.Scenes.{course-is, found-passes}
 use Rattle.cutting_cells.specs.declared.Listed.{Listed}
-use Rattle.cutting_cells.specs.Listed.{MeshesIn, cellEvents, twice, ListedBehind, Fits, overBoth, noneYet}
+use Rattle.cutting_cells.specs.Listed.{MeshesIn, cellEvents, ListedBehind, Fits, overBoth, noneYet}
 use Rattle.overlay.specs.Lent.{part, MeshesReady}
 use Rattle.overlay.proofs.Whole.{found-refused, cells-state, cells-answered, points-are}
 use Rattle.overlay.proofs.Found.{coords-long, next-is, next-long, points-in, regions-in, lists-hold, lists-ready}
@@ -82,8 +82,8 @@ module _ (op m : ℕ) (s c : Mesh) (oc : List Float) (on oe ok of w : List ℕ) 
     module _ (r : Listed) (on′ oe′ ok′ of′ : List ℕ)
         (got : (r .code ≡ 0 → Fits (length (s .ends) + length (c .ends)) noneYet on oe ok of r)
         × ((v : Scene) → MeshesIn v (take (2 * x .next) oc₁) subject cutter met (s .nodes) (s .ends) (s .kinds) (s .families) nodes (c .ends) (c .kinds) (c .families)
-        → ListedBehind (overBoth op v (cellEvents op v)) (overBoth op v (λ u. kept v u op)) (overBoth op v (twice v)) noneYet on oe ok of r on′ oe′ ok′ of′)) where
-      listed : ListedBehind (overBoth op sc (cellEvents op sc)) (overBoth op sc (λ u. kept sc u op)) (overBoth op sc (twice sc)) noneYet on oe ok of r on′ oe′ ok′ of′
+        → ListedBehind (overBoth op v (cellEvents op v)) (overBoth op v (λ u. kept v u op)) noneYet on oe ok of r on′ oe′ ok′ of′)) where
+      listed : ListedBehind (overBoth op sc (cellEvents op sc)) (overBoth op sc (λ u. kept sc u op)) noneYet on oe ok of r on′ oe′ ok′ of′
       listed = got .1 sc (lists-hold op m s c w pa oc oc₁ w₁ x told z)
 
       state-is : r .code ≡ stateOf op m s c (lentLists oc on oe ok of w)
@@ -94,7 +94,7 @@ module _ (op m : ℕ) (s c : Mesh) (oc : List Float) (on oe ok of w : List ℕ) 
       pub stops-cut : (r .code ≡ 0 → ⊥) → (a p q d : ℕ) → a ≡ r .code → (oc₂ : List Float) (on₂ oe₂ ok₂ of₂ : List ℕ) → Ran a p q d oc₂ on₂ oe₂ ok₂ of₂
       stops-cut n a p q d e oc₂ on₂ oe₂ ok₂ of₂ = (e ∙ state-is, λ y. absurd (n (sym e ∙ y)))
 
-      pub ran : r .code ≡ 0 → Ran 0 (r .count) (x .next - (length (s .coords) + length (c .coords)) / 2) (r .doubled) oc₁ on′ oe′ ok′ of′
+      pub ran : r .code ≡ 0 → Ran 0 (r .count) (x .next - (length (s .coords) + length (c .coords)) / 2) 0 oc₁ on′ oe′ ok′ of′
       ran y =
           let f = found-passes op s c m (length oc / 2) (room oe ok of) (length on) passed in
           let half : length (s .coords) + length (c .coords) ≡ 2 * ((length (s .coords) + length (c .coords)) / 2) = omega (arith, pa .subject .even, pa .cutter .even) in (
@@ -103,7 +103,5 @@ module _ (op m : ℕ) (s c : Mesh) (oc : List Float) (on oe ok of w : List ℕ) 
                 (x .next - (length (s .coords) + length (c .coords)) / 2) (points-are op s c (x .next) ((length (s .coords) + length (c .coords)) / 2) half (next-is op m s c w pa oc oc₁ w₁ x told z)),
           )
 
-      pub counts-fit : r .code ≡ 0 → (r .count < 2 ^ 32) × (r .doubled < 2 ^ 32)
-      counts-fit y =
-          let f = got .0 y in
-          (omega (arith, f .fewPieces, pa .subject .mostCells, pa .cutter .mostCells), omega (arith, f .fewDoubled, pa .subject .mostCells, pa .cutter .mostCells))
+      pub count-fits : r .code ≡ 0 → r .count < 2 ^ 32
+      count-fits y = omega (arith, got .0 y .fewPieces, pa .subject .mostCells, pa .cutter .mostCells)

@@ -16,14 +16,14 @@ use Rattle.rules.specs.Mesh.{theSubject, theCutter, cellAt, cellsOf}
 use Rattle.rules.specs.Snap.{weld}
 use Rattle.rules.specs.Neighbours.{renumbered, subjectNet, cutterNet}
 use Rattle.rules.specs.Meetings.{Scene, addedBy, sceneOf}
-use Rattle.rules.specs.Operations.{sceneFor, kept, listingWith, doubledCells}
+use Rattle.rules.specs.Operations.{sceneFor, kept, listingWith}
 use Rattle.rules.specs.Refusals.{Event, course, firstRefusal}
 use Rattle.rules.specs.Overlay.{Lists, lentLists, result, written, stateOf, stateWith, answered, answeredWith}
 use Rattle.edge_nodes.proofs.Scene.{Stored}
 use Rattle.pieces.specs.Pieces.{runsOf, room}
 use Rattle.pieces.proofs.Room.{refused}
 use Rattle.cutting_cells.specs.declared.Listed.{Listed}
-use Rattle.cutting_cells.specs.Listed.{MeshIn, MeshesIn, cellEvents, twice, nodesOf, ListedBehind, overBoth, noneYet}
+use Rattle.cutting_cells.specs.Listed.{MeshIn, MeshesIn, cellEvents, nodesOf, ListedBehind, overBoth, noneYet}
 
 -- ---- the scene of the definitions stands in the lists
 
@@ -82,7 +82,7 @@ module _ (op m : ℕ) (s c : Mesh) (oc : List Float) (on oe ok of w : List ℕ) 
 
   module _ (m′ p′ : ℕ) (passes : (fs : List Event) → firstRefusal m (length oc / 2) (room oe ok of) (length on) (found ++ fs) ≡ firstRefusal m′ p′ (room oe ok of) (length on) fs)
       (r : Listed) (on′ oe′ ok′ of′ : List ℕ)
-      (got : ListedBehind (overBoth op sc₀ (cellEvents op sc₀)) (overBoth op sc₀ (λ v. kept sc₀ v op)) (overBoth op sc₀ (twice sc₀)) noneYet on oe ok of r on′ oe′ ok′ of′) where
+      (got : ListedBehind (overBoth op sc₀ (cellEvents op sc₀)) (overBoth op sc₀ (λ v. kept sc₀ v op)) noneYet on oe ok of r on′ oe′ ok′ of′) where
     pub cells-state : r .code ≡ stateOf op m s c l
     unfolding stateWith
     cells-state =
@@ -95,17 +95,16 @@ module _ (op m : ℕ) (s c : Mesh) (oc : List Float) (on oe ok of w : List ℕ) 
         sub-none n = omega arith
 
     pub cells-answered : r .code ≡ 0 → (oc′ : List Float) → oc′ ≡ front oc (sc₀ .coords) → (points : ℕ) → points ≡ length (addedBy (sc₀ .met)) / 2
-        → result 0 (r .count) points (r .doubled) (lentLists oc′ on′ oe′ ok′ of′ (zeros (length w))) ≡ answered op s c l
-    unfolding answeredWith written listingWith doubledCells
+        → result 0 (r .count) points 0 (lentLists oc′ on′ oe′ ok′ of′ (zeros (length w))) ≡ answered op s c l
+    unfolding answeredWith written listingWith
     cells-answered z oc′ ec points ep =
         let ps = overBoth op sc₀ (λ v. kept sc₀ v op) in
         let count : r .count ≡ length ps = got .counted z ∙ zero-add (length ps) in
-        let twofold : r .doubled ≡ length (overBoth op sc₀ (twice sc₀)) = got .doubled z ∙ zero-add (length (overBoth op sc₀ (twice sc₀))) in
         let en : on′ ≡ front on (flat (nodesOf ps)) = got .corners z ∙ front-put on (flat (nodesOf ps)) in
         let ee : oe′ ≡ front oe (stops 0 (nodesOf ps)) = got .ends z ∙ front-put oe (stops 0 (nodesOf ps)) in
         let ek : ok′ ≡ front ok (map (λ p. p .kind) ps) = got .kinds z ∙ front-put ok (map (λ p. p .kind) ps) in
         let ef : of′ ≡ front of (map (λ p. p .family) ps) = got .families z ∙ front-put of (map (λ p. p .family) ps) in
-        λ i. result 0 (count i) (ep i) (twofold i) (lentLists (ec i) (en i) (ee i) (ek i) (ef i) (zeros (length w)))
+        λ i. result 0 (count i) (ep i) 0 (lentLists (ec i) (en i) (ee i) (ek i) (ef i) (zeros (length w)))
 
 -- the points are those that the meetings add
 pub points-are : (op : ℕ) (s c : Mesh) (next k : ℕ) → length (s .coords) + length (c .coords) ≡ 2 * k → next ≡ length (sceneFor op s c .coords) / 2

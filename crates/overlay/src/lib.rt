@@ -14,11 +14,12 @@ ghost use Rattle.entry.specs.Mesh.{mesh};
 ghost use Rattle.entry.specs.Refused.{entryOf};
 ghost use Rattle.rules.specs.Meetings.{Scene};
 ghost use Rattle.rules.specs.Operations.{kept};
-ghost use Rattle.cutting_cells.specs.Listed.{MeshesIn, cellEvents, twice, ListedBehind, Fits, overBoth, noneYet};
+ghost use Rattle.cutting_cells.specs.Listed.{MeshesIn, cellEvents, ListedBehind, Fits, overBoth, noneYet};
 ghost use Rattle.overlay.specs.Lent.{part, MeshesReady};
 ghost use Rattle.rules.specs.Overlay.{lentLists, result, cleared, stateOf, answered, overlayOf};
 
-// The refusal or 0, and the counts of pieces, new points and doubled cells.
+// The refusal or 0, and the counts of pieces and new points; `doubled` is 0, as no table names a neighbour twice, and is kept for readers of old
+// listings.
 pub struct Answer {
     pub code: u32,
     pub pieces: u32,
@@ -69,7 +70,8 @@ fn cut_found(
         × MeshesReady op (part (now w) from (from + 2 * s)) (part (now w) at (at + 2 * c)) (part (now w) base (base + 5 * met)) (part (now w) (base + 5 * met) (base + 5 * met + 2 * (h + met))) (now sn) (now se) (now sk) (now sf) (part (now w) entries (entries + n)) (now ce) (now ck) (now cf) ⌝ }
     ensures { λ r. ⌜ (r .code ≡ 0 → Fits (length (now (se .entry)) + length (now (ce .entry))) noneYet (now (on .entry)) (now (oe .entry)) (now (ok .entry)) (now (of .entry)) r)
         × ((v : Scene) → MeshesIn v (take (2 * next) (now (oc .entry))) (part (now (w .entry)) from (from + 2 * s)) (part (now (w .entry)) at (at + 2 * c)) (part (now (w .entry)) base (base + 5 * met)) (now (sn .entry)) (now (se .entry)) (now (sk .entry)) (now (sf .entry)) (part (now (w .entry)) entries (entries + n)) (now (ce .entry)) (now (ck .entry)) (now (cf .entry))
-        → ListedBehind (overBoth op v (cellEvents op v)) (overBoth op v (λ w. kept v w op)) (overBoth op v (twice v)) noneYet (now (on .entry)) (now (oe .entry)) (now (ok .entry)) (now (of .entry)) r (now (on .exit)) (now (oe .exit)) (now (ok .exit)) (now (of .exit))) ⌝ }
+        → ListedBehind (overBoth op v (cellEvents op v)) (overBoth op v (λ w. kept v w op))
+        noneYet (now (on .entry)) (now (oe .entry)) (now (ok .entry)) (now (of .entry)) r (now (on .exit)) (now (oe .exit)) (now (ok .exit)) (now (of .exit))) ⌝ }
 {
     let k = 2 * next;
     let s_end = from + 2 * s;
@@ -169,7 +171,7 @@ fn run(
         code: 0,
         pieces: r.count as u32,
         points: (next - (sc.len() + cc.len()) / 2) as u32,
-        doubled: r.doubled as u32,
+        doubled: 0,
     }
 }
 

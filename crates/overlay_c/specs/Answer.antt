@@ -7,7 +7,7 @@ use lib.Dec.{ltb}
 use lib.ListN.{length, set}
 use Rattle.rules.specs.Overlay.{Lists, Result}
 
--- counts of pieces, new points and doubled cells in the first three places, where there are three
+-- counts of pieces and new points, and the third count, in the first three places, where there are three
 unfoldable pub placed : ℕ → ℕ → ℕ → List ℕ → List ℕ
 placed p q d l = cond (ltb 2 (length l)) (set (set (set l 0 p) 1 q) 2 d) l
 

@@ -17,7 +17,7 @@ fn put(counts: &mut [u32], pieces: u32, points: u32, doubled: u32)
 }
 
 // Operation, meeting limit M; the subject's and the cutter's coordinates, node numbers, cell ends, kinds and families; the same five output lists; the
-// working list; the counts of pieces, new points and doubled cells.
+// working list; the counts of pieces and new points, and 0.
 #[no_mangle]
 pub extern "C" fn daqwimay_overlay(
     op: u32,

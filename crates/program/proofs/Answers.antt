@@ -10,6 +10,7 @@ use lib.Seq.{length-take-le}
 use lib.Ieee.{Float}
 use borrow.Author.Tests.{eq-eqb, ne-eqb}
 use Rattle.lists.specs.Regions.{zeros, fzeros}
+use Rattle.cutting.specs.Setting.{ours}
 use Rattle.entry.specs.Mesh.{Mesh}
 use Rattle.rules.specs.Meetings.{addedBy, sceneOf}
 use Rattle.rules.specs.Overlay.{Lists, Result, lentLists, result, answered as succeeded, answeredWith, overlayOf}
@@ -64,12 +65,12 @@ module _ (op m : ℕ) (s c : Mesh) where
       omega (arith, coords-added, fits)
 
   points-few : overlayOf op m s c lists .points ≤ 2048
-  points-few = go (ending true op m s c lists)
+  points-few = go (ending ours op m s c lists)
     where
-      go : Ending true op m s c lists → overlayOf op m s c lists .points ≤ 2048
-      go (input n) = rw (input-refused true op m s c lists n) (omega arith)
-      go (state-met e n) = rw (state-refused true op m s c lists e n) (omega arith)
-      go (success e f) = let same = succeeds true op m s c lists e f in rw same (success-few same)
+      go : Ending ours op m s c lists → overlayOf op m s c lists .points ≤ 2048
+      go (input n) = rw (input-refused ours op m s c lists n) (omega arith)
+      go (state-met e n) = rw (state-refused ours op m s c lists e n) (omega arith)
+      go (success e f) = let same = succeeds ours op m s c lists e f in rw same (success-few same)
 
   module _ (n code p q d : ℕ) (cs : List Float) (ns es ks fs ws : List ℕ)
       (same : result code p q d (lentLists cs ns es ks fs ws) ≡ overlayOf op m s c (lentLists (fzeros 4096) (zeros 8192) (zeros 2048) (zeros 2048) (zeros 2048) (zeros 16384))) where

@@ -15,6 +15,7 @@ use Rattle.lists.specs.Regions.{front}
 use Rattle.lists.proofs.Regions.{take-front-of}
 use Rattle.cutting.specs.Outcome.{flat, stops}
 use Rattle.cutting.proofs.Steps.{stops-length}
+use Rattle.cutting.specs.Setting.{ours}
 use Rattle.entry.specs.Mesh.{Mesh}
 use Rattle.rules.specs.Operations.{Piece, listing}
 use Rattle.rules.specs.Overlay.{Result, cleared, written, answered as succeeded, answeredWith, overlayOf}
@@ -57,15 +58,15 @@ module _ (op m : ℕ) (s c : Mesh) where
       rw ends (stops-rise 8192 0 runs (omega (arith, fits)))
 
   rises : r .code ≡ 0 → Rising 8192 0 (take (r .pieces) (r .lists .ends))
-  rises z = go (ending true op m s c blank)
+  rises z = go (ending ours op m s c blank)
     where
       no-pieces : (l : List ℕ) → Rising 8192 0 (take 0 l)
       no-pieces l = no-end {n = 0} (omega arith)
 
-      go : Ending true op m s c blank → Rising 8192 0 (take (r .pieces) (r .lists .ends))
-      go (input n) = rw (input-refused true op m s c blank n) (no-pieces (blank .ends))
-      go (state-met e n) = rw (state-refused true op m s c blank e n) (no-pieces (cleared blank .ends))
-      go (success e f) = let same = succeeds true op m s c blank e f in rw same (success-rises same z)
+      go : Ending ours op m s c blank → Rising 8192 0 (take (r .pieces) (r .lists .ends))
+      go (input n) = rw (input-refused ours op m s c blank n) (no-pieces (blank .ends))
+      go (state-met e n) = rw (state-refused ours op m s c blank e n) (no-pieces (cleared blank .ends))
+      go (success e f) = let same = succeeds ours op m s c blank e f in rw same (success-rises same z)
 
   coords-few : (k : ℕ) → length (bits (take k (r .lists .coords))) ≤ 4096
   unfolding bits blank

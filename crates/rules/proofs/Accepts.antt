@@ -1,6 +1,6 @@
 -- What it means that an overlay is accepted: its answer, and that no refusal stands in the course of it. Assumes nothing.
 use mathlib.Core.Path.{_≡_, refl, sym, ap, _∙_}
-use mathlib.Core.Bool.{Bool, true, false, cond, _||_}
+use mathlib.Core.Bool.{Bool, true, false, cond, not, _&&_, _||_}
 use mathlib.Core.List.{List, [], _∷_, _++_, map}
 use Prim.Native.Nat.{ℕ, zero, suc, _+_, _-_, _/_, _≤_, _<_}
 use native.Mathlib.Omega.{arith}
@@ -8,16 +8,17 @@ use native.Mathlib.Decide.{decLe}
 use lib.Dec.{leb}
 use lib.ListN.{length, replicate}
 use Rattle.lists.specs.Gather.{gathered, joined}
-use Rattle.cutting.specs.Edges.{Edge, rings}
-use Rattle.cutting.specs.Cell.{Slot, doubled}
+use Rattle.cutting.specs.Edges.{Edge, ring, rings}
+use Rattle.cutting.specs.Setting.{Setting}
+use Rattle.cutting.specs.Cell.{Slot, repeats, doubled}
 use Rattle.cutting.specs.Walk.{Next, more, closed, stuck, broken, walkWith}
-use Rattle.cutting.specs.Outcome.{Outcome, refusal, pieces, ofWalk, tooMany, closesUp, afterWalk, cutOutcomeWith}
+use Rattle.cutting.specs.Outcome.{Outcome, refusal, pieces, ofWalk, tooMany, closesUp, afterWalk, cutOutcomeWith, copiedOutcomeWith}
 use Rattle.entry.specs.Mesh.{Mesh}
 use Rattle.entry.specs.Refused.{entryOf}
 use Rattle.rules.specs.Mesh.{Side, theSubject, theCutter}
 use Rattle.rules.specs.Meetings.{Met, Scene, netOf}
 use Rattle.rules.specs.Nodes.{crowded}
-use Rattle.rules.specs.Cell.{nearOf, outcomeBy, outcomeWith, outlineOf, tableOf, cellOf}
+use Rattle.rules.specs.Cell.{nearOf, outcomeBy, outcomeWith, outlineOf, tableWith, cellOf}
 use Rattle.rules.specs.Operations.{cuts, sceneFor, keptWith, overCells, Piece, outcomePieces}
 use Rattle.rules.specs.Refusals.{Event, meeting, point, piece, stop, ofMeeting, ofCell, courseWith, firstRefusal}
 use Rattle.rules.specs.Overlay.{Lists, Result, answeredWith, stateWith, overlayWith}
@@ -26,22 +27,22 @@ use Rattle.rules.proofs.Endings.{Ending, input, state-met, success, end
 
 -- ---- an accepted overlay gives the answer, and its state no refusal
 
-pub record Taken (turning : Bool) (op m : ℕ) (s c : Mesh) (l : Lists) : Type 0 where
+pub record Taken (v : Setting) (op m : ℕ) (s c : Mesh) (l : Lists) : Type 0 where
   pub entry : entryOf op m s c (length (l .work)) ≡ 0
-  pub answer : overlayWith turning op m s c l ≡ answeredWith turning op s c l
-  pub state : stateWith turning op m s c l ≡ 0
+  pub answer : overlayWith v op m s c l ≡ answeredWith v op s c l
+  pub state : stateWith v op m s c l ≡ 0
 
-pub accepted : (turning : Bool) (op m : ℕ) (s c : Mesh) (l : Lists) → AcceptedWith turning op m s c l → Taken turning op m s c l
-accepted turning op m s c l h = go (ending turning op m s c l)
+pub accepted : (v : Setting) (op m : ℕ) (s c : Mesh) (l : Lists) → AcceptedWith v op m s c l → Taken v op m s c l
+accepted v op m s c l h = go (ending v op m s c l)
   where
     -- the code of what an overlay comes to
-    code : (r : Result) → overlayWith turning op m s c l ≡ r → r .code ≡ 0
+    code : (r : Result) → overlayWith v op m s c l ≡ r → r .code ≡ 0
     code r e = ap (λ (x : Result). x .code) (sym e) ∙ h
 
-    go : Ending turning op m s c l → Taken turning op m s c l
-    go (input n) = absurd (n (code _ (input-refused turning op m s c l n)))
-    go (state-met e n) = absurd (n (code _ (state-refused turning op m s c l e n)))
-    go (success e f) = record { entry = e; answer = succeeds turning op m s c l e f; state = f }
+    go : Ending v op m s c l → Taken v op m s c l
+    go (input n) = absurd (n (code _ (input-refused v op m s c l n)))
+    go (state-met e n) = absurd (n (code _ (state-refused v op m s c l e n)))
+    go (success e f) = record { entry = e; answer = succeeds v op m s c l e f; state = f }
 
 -- ---- no refusal among events
 
@@ -133,9 +134,9 @@ calm-gathered (suc n) f h i k = go (decLe (suc i) n) (λ l. calm-gathered n f (c
         let same : i ≡ n = omega (arith, k, l) in
         rw same (calm-right (gathered n f) (f n) h)
 
--- ---- a cell's outcome: a refusal is 10 or 11, and where there is none the walk closed
+-- ---- a cell's outcome: a refusal is 19, 10 or 11, and where there is none the walk closed
 
-abbrev Sound : Outcome → Type 0
+abbrev pub Sound : Outcome → Type 0
 Sound (refusal r) = r ≡ 0 → ⊥
 Sound (pieces ps) = Unit {0}
 
@@ -143,28 +144,36 @@ abbrev pub Made : Outcome → Type 0
 Made (refusal r) = ⊥
 Made (pieces ps) = Unit {0}
 
-sound-cut : (turning : Bool) (outline : List Edge) (t : List Slot) → Sound (cutOutcomeWith turning outline t)
+sound-cut : (v : Setting) (outline : List Edge) (t : List Slot) → Sound (cutOutcomeWith v outline t)
 unfolding cutOutcomeWith
-sound-cut turning outline t = go (tooMany (length t)) (walkWith turning outline t)
+sound-cut v outline t = go (v .once && repeats outline) (tooMany (length t)) (not (v .once) && doubled t) (walkWith (v .turning) outline t)
   where
     done : (ps : List (List ℕ)) (b : Bool) → Sound (cond b (pieces ps) (refusal 11))
     done ps true = tt
     done ps false = never 10
 
-    go : (b : Bool) (x : Next) → Sound (cond b (refusal 10) (afterWalk outline (doubled t) (ofWalk x)))
-    go true x = never 9
-    go false (closed ps) = done ps (doubled t || closesUp outline (rings ps))
-    go false stuck = never 10
-    go false broken = never 10
-    go false (more s) = never 10
+    go : (a b u : Bool) (x : Next) → Sound (cond a (refusal 19) (cond b (refusal 10) (afterWalk outline u (ofWalk x))))
+    go true b u x = never 18
+    go false true u x = never 9
+    go false false u (closed ps) = done ps (u || closesUp outline (rings ps))
+    go false false u stuck = never 10
+    go false false u broken = never 10
+    go false false u (more s) = never 10
 
-sound : (turning : Bool) (sc : Scene) (w : Side) (i : ℕ) → Sound (outcomeWith turning sc w i)
-unfolding outcomeWith
-sound turning sc w i = go (nearOf sc w i)
+sound-copy : (once : Bool) (cell : List ℕ) → Sound (copiedOutcomeWith once cell)
+sound-copy once cell = go (once && repeats (ring cell))
   where
-    go : (js : List ℕ) → Sound (outcomeBy turning (outlineOf sc w i) (tableOf sc w i) (cellOf sc w i) js)
-    go [] = tt
-    go (j ∷ js) = sound-cut turning (outlineOf sc w i) (tableOf sc w i)
+    go : (a : Bool) → Sound (cond a (refusal 19) (pieces (cell ∷ [])))
+    go true = never 18
+    go false = tt
+
+pub sound : (v : Setting) (sc : Scene) (w : Side) (i : ℕ) → Sound (outcomeWith v sc w i)
+unfolding outcomeWith
+sound v sc w i = go (nearOf sc w i)
+  where
+    go : (js : List ℕ) → Sound (outcomeBy v (outlineOf sc w i) (tableWith sc w i (v .once)) (cellOf sc w i) js)
+    go [] = sound-copy (v .once) (cellOf sc w i)
+    go (j ∷ js) = sound-cut v (outlineOf sc w i) (tableWith sc w i (v .once))
 
 -- where there is no refusal the outcome is its pieces
 pub made-is : (x : Outcome) → Made x → x ≡ pieces (outcomePieces x)
@@ -185,20 +194,20 @@ made-cell : (x : Outcome) (ps : List Piece) → Calm (ofCell x ps) → Made x
 made-cell (refusal r) ps h = h
 made-cell (pieces qs) ps h = tt
 
-module _ (turning : Bool) (op : ℕ) (s c : Mesh) where
+module _ (v : Setting) (op : ℕ) (s c : Mesh) where
   abbrev sc : Scene
   sc = sceneFor op s c
 
   abbrev cut : Side → ℕ → List Event
-  cut w i = ofCell (outcomeWith turning sc w i) (keptWith turning sc w op i)
+  cut w i = ofCell (outcomeWith v sc w i) (keptWith v sc w op i)
 
   without-over : (k : ℕ) (w : Side) (t : Bool) → (t ≡ true → (i : ℕ) → i < length (netOf sc w .cells) → Without k (cut w i)) → Without k (cond t (gathered (length (netOf sc w .cells)) (cut w)) [])
   without-over k w true h = without-gathered k (length (netOf sc w .cells)) (cut w) (h refl)
   without-over k w false h = tt
 
   -- where no cell that is cut is refused with the number k, other than 9, no stop has it
-  pub without-course : (k : ℕ) → (9 ≡ k → ⊥) → ((w : Side) → cuts op w ≡ true → (i : ℕ) → i < length (netOf sc w .cells) → outcomeWith turning sc w i ≡ refusal k → ⊥)
-      → Without k (courseWith turning op s c)
+  pub without-course : (k : ℕ) → (9 ≡ k → ⊥) → ((w : Side) → cuts op w ≡ true → (i : ℕ) → i < length (netOf sc w .cells) → outcomeWith v sc w i ≡ refusal k → ⊥)
+      → Without k (courseWith v op s c)
   unfolding courseWith
   without-course k nine h =
       without-append k (replicate (length (s .coords ++ c .coords) / 2) point ++ joined ofMeeting (sc .met) ++ cond (crowded sc) (stop 9 ∷ []) []) _
@@ -208,7 +217,7 @@ module _ (turning : Bool) (op : ℕ) (s c : Mesh) where
       (without-append k (overCells op sc theSubject (cut theSubject)) _ (over theSubject) (over theCutter))
     where
       over : (w : Side) → Without k (overCells op sc w (cut w))
-      over w = without-over k w (cuts op w) (λ e i l. without-cell k (outcomeWith turning sc w i) (keptWith turning sc w op i) (h w e i l))
+      over w = without-over k w (cuts op w) (λ e i l. without-cell k (outcomeWith v sc w i) (keptWith v sc w op i) (h w e i l))
 
   made-over : (w : Side) (t : Bool) → t ≡ true → Calm (cond t (gathered (length (netOf sc w .cells)) (cut w)) []) → (i : ℕ) → i < length (netOf sc w .cells) → Calm (cut w i)
   made-over w true e h i k = calm-gathered (length (netOf sc w .cells)) (cut w) h i k
@@ -218,14 +227,14 @@ module _ (turning : Bool) (op : ℕ) (s c : Mesh) where
       bool-number true = 1
       bool-number false = 0
 
-  pub calm-course : (m : ℕ) (l : Lists) → AcceptedWith turning op m s c l → Calm (courseWith turning op s c)
+  pub calm-course : (m : ℕ) (l : Lists) → AcceptedWith v op m s c l → Calm (courseWith v op s c)
   unfolding stateWith
   calm-course m l h =
-      calm (courseWith turning op s c) m _ _ _ (without-course 0 (never 8) (λ w e i k. sound-not (outcomeWith turning sc w i) (sound turning sc w i))) (accepted turning op m s c l h .state)
+      calm (courseWith v op s c) m _ _ _ (without-course 0 (never 8) (λ w e i k. sound-not (outcomeWith v sc w i) (sound v sc w i))) (accepted v op m s c l h .state)
 
-  pub all-made : (m : ℕ) (l : Lists) → AcceptedWith turning op m s c l → (w : Side) → cuts op w ≡ true → (i : ℕ) → i < length (netOf sc w .cells) → Made (outcomeWith turning sc w i)
+  pub all-made : (m : ℕ) (l : Lists) → AcceptedWith v op m s c l → (w : Side) → cuts op w ≡ true → (i : ℕ) → i < length (netOf sc w .cells) → Made (outcomeWith v sc w i)
   unfolding courseWith
-  all-made m l h w e i k = made-cell (outcomeWith turning sc w i) (keptWith turning sc w op i) (go w e k)
+  all-made m l h w e i k = made-cell (outcomeWith v sc w i) (keptWith v sc w op i) (go w e k)
     where
       cells : Calm (overCells op sc theSubject (cut theSubject) ++ overCells op sc theCutter (cut theCutter))
       cells = calm-right (replicate (length (s .coords ++ c .coords) / 2) point ++ joined ofMeeting (sc .met) ++ cond (crowded sc) (stop 9 ∷ []) []) (overCells op sc theSubject (cut theSubject) ++ overCells op sc theCutter (cut theCutter)) (calm-course m l h)

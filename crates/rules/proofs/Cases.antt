@@ -13,6 +13,7 @@ use Rattle.geometry.specs.Interior.{strictInteriorPoint}
 use Rattle.geometry.specs.Code.{code, innerCode}
 use Rattle.cutting.specs.Edges.{Edge}
 use Rattle.cutting.specs.Cell.{Laid, Slot, standsBefore, cellTable}
+use Rattle.cutting.specs.Setting.{Setting, base}
 use Rattle.cutting.specs.Outcome.{Outcome, refusal, pieces, cutOutcome, flat, stops}
 use Rattle.entry.specs.Mesh.{Mesh}
 use Rattle.entry.specs.Refused.{meshOf}
@@ -31,7 +32,7 @@ use Rattle.geometry.specs.declared.segment.Segment.{Segment}
 
 data Row : Type 0 where
   overlay : Case → Row  -- an overlay, lists and all
-  unturned : Case → Row  -- the overlay where no walk may turn back
+  set-to : Setting → Case → Row  -- an overlay by another setting
   meeting-of : Segment → Segment → List ℕ → Row  -- two segments: the number and values of their meeting
   order-of : List ℕ → List ℕ → List ℕ → Row  -- coordinates, and slots at node 0 by their neighbours: the neighbours in order
   inner-of : List ℕ → List ℕ → List ℕ → Row  -- coordinates and a polygon: the number and values of its inner point
@@ -121,6 +122,10 @@ wedge = lent (o ∷ o ∷ ii ∷ o ∷ ii ∷ ii ∷ []) (0 ∷ 1 ∷ 2 ∷ []) 
 abbrev nearby : Mesh
 nearby = lent (0x3d71_9799_812d_ea11 ∷ o ∷ 0x3d61_9799_812d_ea11 ∷ o ∷ i ∷ i ∷ []) (0 ∷ 1 ∷ 2 ∷ []) (3 ∷ []) (5 ∷ []) (0 ∷ [])
 
+-- a triangle with two nodes at 5e-13 from it
+abbrev welded : Mesh
+welded = lent (0x3d61_9799_812d_ea11 ∷ o ∷ o ∷ 0x3d61_9799_812d_ea11 ∷ i ∷ i ∷ []) (0 ∷ 1 ∷ 2 ∷ []) (3 ∷ []) (5 ∷ []) (3 ∷ [])
+
 -- a triangle, and a node that it doesn't name, at the square's first
 abbrev unnamed : Mesh
 unnamed = lent (i ∷ i ∷ iii ∷ i ∷ i ∷ iii ∷ o ∷ o ∷ []) (0 ∷ 1 ∷ 2 ∷ []) (3 ∷ []) (5 ∷ []) (0 ∷ [])
@@ -168,10 +173,10 @@ rows =
     ∷ order-of (o ∷ o ∷ -i ∷ o ∷ o ∷ i ∷ i ∷ o ∷ o ∷ -i ∷ []) (4 ∷ 3 ∷ 2 ∷ 1 ∷ []) (1 ∷ 2 ∷ 3 ∷ 4 ∷ [])
     -- K9
     ∷ inner-of (o ∷ ii ∷ o ∷ o ∷ i ∷ o ∷ i ∷ ii ∷ []) (0 ∷ 1 ∷ 2 ∷ 3 ∷ []) (1 ∷ half ∷ i ∷ [])
-    -- K10: the walk turns back at the line's end; where it may not, refusal 11
+    -- K10: the walk turns back at the line's end; by document 01 alone, refusal 11
     ∷ overlay (case 5 9 square line (fives 15 8 2 2 2 500) (result 0 1 1 0 (onLists
     (square-coords ++ i ∷ -i ∷ i ∷ i ∷ i ∷ o ∷ ii ∷ []) (3 ∷ 0 ∷ 6 ∷ 5 ∷ 6 ∷ 1 ∷ 2 ∷ 5 ∷ []) (7 ∷ 5 ∷ []) (11 ∷ 5 ∷ []) (7 ∷ 5 ∷ []) (replicate 500 0))))
-    ∷ unturned (case 5 9 square line (fives 15 8 2 2 2 500) (refused 11 (noughts 15 8 2 2 2 500)))
+    ∷ set-to base (case 5 9 square line (fives 15 8 2 2 2 500) (refused 11 (noughts 15 8 2 2 2 500)))
     -- a ditch with a bend and an end; one with a fork, where the walk turns back twice; one that reaches no side is never walked
     ∷ overlay (case 5 9 square bent (fives 16 9 1 1 1 500) (result 0 1 1 0 (onLists
     (square-coords ++ i ∷ -i ∷ i ∷ i ∷ half ∷ i ∷ i ∷ o ∷ []) (3 ∷ 0 ∷ 7 ∷ 5 ∷ 6 ∷ 5 ∷ 7 ∷ 1 ∷ 2 ∷ []) (9 ∷ []) (11 ∷ []) (7 ∷ []) (replicate 500 0))))
@@ -223,12 +228,23 @@ rows =
     ∷ overlay (case 2 9 square strip (fives 20 4 1 1 1 500) (result 0 1 2 0 (onLists cut-coords (9 ∷ 8 ∷ 1 ∷ 2 ∷ []) (4 ∷ []) (11 ∷ []) (7 ∷ []) (replicate 500 0))))
     ∷ overlay (case 3 9 square strip (fives 20 4 1 1 1 500) (result 0 1 2 0 (onLists cut-coords (3 ∷ 0 ∷ 8 ∷ 9 ∷ []) (4 ∷ []) (11 ∷ []) (7 ∷ []) (replicate 500 0))))
     ∷ overlay (case 4 9 square strip (fives 20 12 2 2 2 500) (result 0 2 2 0 (onLists cut-coords (3 ∷ 0 ∷ 8 ∷ 9 ∷ 7 ∷ 9 ∷ 2 ∷ 1 ∷ 8 ∷ 4 ∷ 5 ∷ 6 ∷ []) (4 ∷ 12 ∷ []) (11 ∷ 11 ∷ []) (7 ∷ 0 ∷ []) (replicate 500 0))))
-    -- two cells, both cut; a cell copied; lines aren't made unique, so the cell is doubled
+    -- two cells, both cut; a cell copied; lines aren't made unique, but an edge is in a table once
     ∷ overlay (case 0 9 squares strip (fives 28 16 4 4 4 572) (result 0 4 4 0 (onLists
     (o ∷ o ∷ ii ∷ o ∷ iv ∷ o ∷ iv ∷ ii ∷ ii ∷ ii ∷ o ∷ ii ∷ i ∷ -i ∷ iii ∷ -i ∷ iii ∷ iii ∷ i ∷ iii ∷ i ∷ o ∷ i ∷ ii ∷ iii ∷ o ∷ iii ∷ ii ∷ [])
     (5 ∷ 0 ∷ 10 ∷ 11 ∷ 11 ∷ 10 ∷ 1 ∷ 4 ∷ 4 ∷ 1 ∷ 12 ∷ 13 ∷ 13 ∷ 12 ∷ 2 ∷ 3 ∷ []) (4 ∷ 8 ∷ 12 ∷ 16 ∷ []) (11 ∷ 11 ∷ 11 ∷ 11 ∷ []) (7 ∷ 7 ∷ 9 ∷ 9 ∷ []) (replicate 572 0))))
     ∷ overlay (case 1 9 square away (fives 14 7 2 2 2 500) (result 0 2 0 0 (onLists (o ∷ o ∷ ii ∷ o ∷ ii ∷ ii ∷ o ∷ ii ∷ iii ∷ iii ∷ iv ∷ iii ∷ iv ∷ iv ∷ []) (0 ∷ 1 ∷ 2 ∷ 3 ∷ 4 ∷ 5 ∷ 6 ∷ []) (4 ∷ 7 ∷ []) (8 ∷ 5 ∷ []) (7 ∷ 3 ∷ []) (replicate 500 0))))
-    ∷ overlay (case 5 9 square twice (fives 20 8 1 1 1 500) (result 0 1 4 1 (onLists (o ∷ o ∷ ii ∷ o ∷ ii ∷ ii ∷ o ∷ ii ∷ i ∷ -i ∷ i ∷ iii ∷ i ∷ o ∷ i ∷ o ∷ i ∷ ii ∷ i ∷ ii ∷ []) (3 ∷ 0 ∷ 6 ∷ 7 ∷ 1 ∷ 2 ∷ 8 ∷ 9 ∷ []) (8 ∷ []) (11 ∷ []) (7 ∷ []) (replicate 500 0))))
+    ∷ overlay (case 5 9 square twice (fives 20 8 1 1 1 500) (result 0 1 4 0 (onLists
+    (square-coords ++ i ∷ -i ∷ i ∷ iii ∷ i ∷ o ∷ i ∷ o ∷ i ∷ ii ∷ i ∷ ii ∷ []) (3 ∷ 0 ∷ 6 ∷ 7 ∷ 1 ∷ 2 ∷ 8 ∷ 9 ∷ []) (8 ∷ []) (11 ∷ []) (7 ∷ []) (replicate 500 0))))
+    ∷ set-to base (case 5 9 square twice (fives 20 8 1 1 1 500) (result 0 1 4 1 (onLists
+    (square-coords ++ i ∷ -i ∷ i ∷ iii ∷ i ∷ o ∷ i ∷ o ∷ i ∷ ii ∷ i ∷ ii ∷ []) (3 ∷ 0 ∷ 6 ∷ 7 ∷ 1 ∷ 2 ∷ 8 ∷ 9 ∷ []) (8 ∷ []) (11 ∷ []) (7 ∷ []) (replicate 500 0))))
+    -- a triangle whose first edge welding left from a node to itself: it isn't added to the square's table; as an outline it gives 19, and gave pieces of
+    -- one and two corners before W14
+    ∷ overlay (case 0 9 square welded (fives 14 6 1 1 1 500) (result 0 1 0 0 (onLists
+    (square-coords ++ 0x3d61_9799_812d_ea11 ∷ o ∷ o ∷ 0x3d61_9799_812d_ea11 ∷ i ∷ i ∷ []) (3 ∷ 0 ∷ 6 ∷ 0 ∷ 1 ∷ 2 ∷ []) (6 ∷ []) (11 ∷ []) (7 ∷ []) (replicate 500 0))))
+    ∷ overlay (case 1 9 square welded (fives 14 6 1 1 1 500) (refused 19 (noughts 14 6 1 1 1 500)))
+    ∷ set-to (record { turning = true; once = false }) (case 1 9 square welded (fives 14 9 3 3 3 500) (result 0 3 0 2 (onLists
+    (square-coords ++ 0x3d61_9799_812d_ea11 ∷ o ∷ o ∷ 0x3d61_9799_812d_ea11 ∷ i ∷ i ∷ [])
+    (3 ∷ 0 ∷ 6 ∷ 0 ∷ 1 ∷ 2 ∷ 0 ∷ 6 ∷ 0 ∷ []) (6 ∷ 8 ∷ 9 ∷ []) (11 ∷ 11 ∷ 11 ∷ []) (7 ∷ 3 ∷ 3 ∷ []) (replicate 500 0))))
     ∷ []
 
 -- ---- the test
@@ -258,7 +274,7 @@ no-edges = []
 holds : Row → Bool
 unfolding rightBy code innerCode forwardEdge forwardCell
 holds (overlay c) = rightBy overlayOf (c ∷ [])
-holds (unturned c) = rightBy (overlayWith false) (c ∷ [])
+holds (set-to v c) = rightBy (overlayWith v) (c ∷ [])
 holds (meeting-of s t m) = same (code (meeting s t)) m
 holds (order-of coords ns order) = same (map (λ s. s .dst) (sorted (standsBefore (floats coords)) (map slot-to ns))) order
 holds (inner-of coords ps p) = same (innerCode (strictInteriorPoint (floats coords) ps)) p

@@ -7,28 +7,47 @@ use native.Mathlib.Omega.{arith}
 use lib.Dec.{eqb}
 use lib.ListN.{length, length-map}
 use Rattle.lists.specs.Gather.{each}
+use Rattle.lists.proofs.Gather.{length-each}
 use Rattle.cutting.specs.Edges.{Edge}
-use Rattle.cutting.specs.Cell.{cellTable, doubled}
-use Rattle.cutting.specs.Outcome.{cutOutcome}
+use Rattle.cutting.specs.Setting.{ours}
+use Rattle.cutting.specs.Cell.{Slot, doubled, repeats}
+use Rattle.cutting.specs.Outcome.{Outcome}
 use Rattle.cutting.specs.Areas.{ClosesUp}
+use Rattle.cutting.proofs.Closing.{accepted-once, accepted-closes-up, never-doubled, copy-once, copy-closes-up, copy-never-doubled}
 use Rattle.entry.specs.Mesh.{Mesh}
 use Rattle.rules.specs.Mesh.{cellAt, cellsOf, Side, theSubject, theCutter, other, lentMesh}
 use Rattle.rules.specs.Neighbours.{subjectNet, cutterNet}
 use Rattle.rules.specs.Meetings.{Scene, netOf, sceneOf}
-use Rattle.rules.specs.Cell.{dartsOf, nearEdges, cellOf, nearOf, outlineBy, tableBy, outcomeBy, outlineOf, tableOf, outcomeWith}
+use Rattle.rules.specs.Cell.{dartsOf, nearEdges, cellOf, nearOf, outlineBy, tableBy, outcomeBy, outlineOf, tableWith, tableOf, outcomeWith, outcomeOf}
 use Rattle.rules.specs.Operations.{cuts, sceneFor, outcomePieces}
 use Rattle.rules.specs.Overlay.{Lists}
 use Rattle.rules.specs.Demand3.{Accepted, CellCloses}
-use Rattle.lists.proofs.Gather.{length-each}
-use Rattle.cutting.proofs.Closing.{accepted-closes-up, copy-closes-up}
 use Rattle.rules.proofs.Accepts.{Made, made-is, all-made}
 
--- by the theorem of the cutting layer, whether the cell is copied or cut
-cell-closes : (sc : Scene) (es : List Edge) (cell js : List ℕ) → let outline = outlineBy sc cell js in let t = tableBy sc es cell js in let x = outcomeBy true outline t cell js in Made x → doubled t ≡ false → ClosesUp (sc .coords) outline (outcomePieces x)
-cell-closes sc es cell [] made clean = copy-closes-up (sc .coords) cell clean
-cell-closes sc es cell (j ∷ js) made clean =
-    let x = cutOutcome (dartsOf sc cell) (cellTable (sc .coords) (dartsOf sc cell) (nearEdges sc es (j ∷ js))) in
-    accepted-closes-up (sc .coords) (dartsOf sc cell) (nearEdges sc es (j ∷ js)) clean (outcomePieces x) (made-is x made)
+-- by the theorems of the cutting layer, whether the cell is copied or cut
+module _ (sc : Scene) (es : List Edge) (cell : List ℕ) where
+  abbrev outline : List ℕ → List Edge
+  outline js = outlineBy sc cell js
+
+  abbrev table : List ℕ → List Slot
+  table js = tableBy true sc es cell js
+
+  abbrev outcome : List ℕ → Outcome
+  outcome js = outcomeBy ours (outline js) (table js) cell js
+
+  cell-closes : (js : List ℕ) → Made (outcome js) → ClosesUp (sc .coords) (outline js) (outcomePieces (outcome js))
+  cell-closes [] made = copy-closes-up (sc .coords) cell (outcomePieces (outcome [])) (made-is (outcome []) made)
+  cell-closes (j ∷ js) made = accepted-closes-up (sc .coords) (dartsOf sc cell) (nearEdges sc es (j ∷ js)) (outcomePieces (outcome (j ∷ js))) (made-is (outcome (j ∷ js)) made)
+
+  -- its outline doesn't repeat
+  cell-once : (js : List ℕ) → Made (outcome js) → repeats (outline js) ≡ false
+  cell-once [] made = copy-once cell (outcomePieces (outcome [])) (made-is (outcome []) made)
+  cell-once (j ∷ js) made = accepted-once (dartsOf sc cell) (table (j ∷ js)) (outcomePieces (outcome (j ∷ js))) (made-is (outcome (j ∷ js)) made)
+
+  -- and its table names no neighbour twice
+  cell-single : (js : List ℕ) → Made (outcome js) → doubled (table js) ≡ false
+  cell-single [] made = copy-never-doubled cell (cell-once [] made)
+  cell-single (j ∷ js) made = never-doubled (sc .coords) (dartsOf sc cell) (nearEdges sc es (j ∷ js)) (cell-once (j ∷ js) made)
 
 -- the cells of a net are those lent
 pub cells-lent : (lines : Bool) (s c : Mesh) (w : Side) → length (netOf (sceneOf lines s c) w .cells) ≡ length (lentMesh s c w .ends)
@@ -36,9 +55,22 @@ unfolding sceneOf subjectNet cutterNet cellsOf
 cells-lent lines s c theSubject = length-each (length (s .ends)) (cellAt s)
 cells-lent lines s c theCutter = length-map (each (length (c .ends)) (cellAt c)) _ ∙ length-each (length (c .ends)) (cellAt c)
 
-pub accepted-closes : (op m : ℕ) (s c : Mesh) (l : Lists) → Accepted op m s c l → (w : Side) → cuts op w ≡ true → (i : ℕ) → i < length (lentMesh s c w .ends) → doubled (tableOf (sceneFor op s c) w i) ≡ false → CellCloses (sceneFor op s c) w i
-unfolding outlineOf tableOf outcomeWith
-accepted-closes op m s c l h w e i k clean =
-    let sc = sceneFor op s c in
-    let made = all-made true op s c m l h w e i (omega (arith, k, cells-lent (eqb op 5) s c w)) in
-    cell-closes sc (netOf sc (other w) .edges) (cellOf sc w i) (nearOf sc w i) made clean
+-- in every cell of a mesh that the operation cuts, if the overlay is accepted
+module _ (op m : ℕ) (s c : Mesh) (l : Lists) (h : Accepted op m s c l) (w : Side) (e : cuts op w ≡ true) (i : ℕ) (k : i < length (lentMesh s c w .ends)) where
+  abbrev sc : Scene
+  sc = sceneFor op s c
+
+  made : Made (outcomeOf sc w i)
+  made = all-made ours op s c m l h w e i (omega (arith, k, cells-lent (eqb op 5) s c w))
+
+  pub accepted-closes : CellCloses sc w i
+  unfolding outlineOf tableWith outcomeWith
+  accepted-closes = cell-closes sc (netOf sc (other w) .edges) (cellOf sc w i) (nearOf sc w i) made
+
+  pub outline-once : repeats (outlineOf sc w i) ≡ false
+  unfolding outlineOf tableWith outcomeWith
+  outline-once = cell-once sc (netOf sc (other w) .edges) (cellOf sc w i) (nearOf sc w i) made
+
+  pub table-single : doubled (tableOf sc w i) ≡ false
+  unfolding outlineOf tableWith outcomeWith
+  table-single = cell-single sc (netOf sc (other w) .edges) (cellOf sc w i) (nearOf sc w i) made

@@ -5,26 +5,43 @@ use mathlib.Core.Bool.{true, false}
 use Prim.Native.Nat.{ℕ, _<_}
 use native.Mathlib.Omega.{arith}
 use lib.ListN.{length}
+use Rattle.cutting.specs.Setting.{ours}
 use Rattle.cutting.specs.Cell.{doubled}
 use Rattle.entry.specs.Mesh.{Mesh}
 use Rattle.rules.specs.Mesh.{Side, theSubject, lentMesh}
 use Rattle.rules.specs.Cell.{tableOf}
 use Rattle.rules.specs.Operations.{cuts, sceneFor, Piece, piecesOf, pieceAt, listing}
-use Rattle.rules.specs.Overlay.{Lists, Result, overlayOf, answered}
+use Rattle.rules.specs.Overlay.{Lists, Result, overlayOf, answered, answeredWith}
 use Rattle.rules.specs.Demand3.{Accepted, CellCloses, Kept, ListedAt, Listed, WrittenAt, ListedIn, SamePiece, Unlisted, InExactlyOne}
+use Rattle.rules.proofs.Endings.{Ending, input, state-met, success, ending, input-refused, state-refused, succeeds}
 use Rattle.rules.proofs.Accepts.{accepted}
 use Rattle.rules.proofs.Parts.{listed-kept, kept-listed, parts, drops-none}
 use Rattle.rules.proofs.Once.{one-place}
 use Rattle.rules.proofs.ReadBack.{answered-pieces, read-back}
-use Rattle.rules.proofs.Closing.{cells-lent, accepted-closes}
+use Rattle.rules.proofs.Closing.{cells-lent, accepted-closes, table-single}
 
 -- (a) For every operation, meeting limit, pair of meshes and lists: if the overlay is accepted, then in every cell of a mesh that the operation cuts,
--- unless its table names a neighbour twice at a node, the pieces before any are dropped close up to the outline as cut, edges and exact areas.
+-- with no condition on its table, the pieces before any are dropped close up to the outline as cut, edges and exact areas.
 pub closes-up : (op m : ℕ) (s c : Mesh) (l : Lists) → Accepted op m s c l
     → (w : Side) → cuts op w ≡ true → (i : ℕ) → i < length (lentMesh s c w .ends)
-    → doubled (tableOf (sceneFor op s c) w i) ≡ false
     → CellCloses (sceneFor op s c) w i
-closes-up op m s c l h w e i k clean = accepted-closes op m s c l h w e i k clean
+closes-up op m s c l h w e i k = accepted-closes op m s c l h w e i k
+
+-- No table of such a cell names a neighbour twice,
+pub never-doubled : (op m : ℕ) (s c : Mesh) (l : Lists) → Accepted op m s c l
+    → (w : Side) → cuts op w ≡ true → (i : ℕ) → i < length (lentMesh s c w .ends)
+    → doubled (tableOf (sceneFor op s c) w i) ≡ false
+never-doubled op m s c l h w e i k = table-single op m s c l h w e i k
+
+-- so "the third count is 0 ever after", of a refusal too.
+pub third-count : (op m : ℕ) (s c : Mesh) (l : Lists) → overlayOf op m s c l .doubled ≡ 0
+unfolding answeredWith
+third-count op m s c l = go (ending ours op m s c l)
+  where
+    go : Ending ours op m s c l → overlayOf op m s c l .doubled ≡ 0
+    go (input n) = ap (λ (r : Result). r .doubled) (input-refused ours op m s c l n)
+    go (state-met e n) = ap (λ (r : Result). r .doubled) (state-refused ours op m s c l e n)
+    go (success e f) = ap (λ (r : Result). r .doubled) (succeeds ours op m s c l e f)
 
 -- And the answer lists those of them that the operation keeps, and no others,
 pub lists-kept : (op : ℕ) (s c : Mesh) (p : Piece) → Listed p op s c ↔ Kept (sceneFor op s c) op p
@@ -37,7 +54,7 @@ listed-once op s c p q k k′ a b e = one-place op s c p q k k′ a b e
 -- an accepted overlay's answer has as many pieces as the listing, and holds piece k of the listing at k, whatever the meeting limit and the lists lent.
 pub as-listed : (op m : ℕ) (s c : Mesh) (l : Lists) → Accepted op m s c l
     → (overlayOf op m s c l .pieces ≡ length (listing op s c)) × ((k : ℕ) (p : Piece) → ListedAt p k op s c → WrittenAt (overlayOf op m s c l) k p)
-as-listed op m s c l h = (ap (λ (r : Result). r .pieces) (accepted true op m s c l h .answer) ∙ count, at)
+as-listed op m s c l h = (ap (λ (r : Result). r .pieces) (accepted ours op m s c l h .answer) ∙ count, at)
   where
     count : answered op s c l .pieces ≡ length (listing op s c)
     count = answered-pieces op s c l

@@ -13,6 +13,7 @@ use Rattle.lists.specs.Gather.{gathered, joined}
 use Rattle.geometry.specs.Meet.{meeting}
 use Rattle.cutting.specs.Edges.{edgeAt, Edge}
 use Rattle.cutting.specs.Outcome.{Outcome, refusal, pieces, flat, stops}
+use Rattle.cutting.specs.Setting.{ours}
 use Rattle.entry.specs.Mesh.{Mesh}
 use Rattle.rules.specs.Mesh.{Side, theSubject, theCutter}
 use Rattle.rules.specs.Neighbours.{Net, subjectNet, cutterNet}
@@ -272,8 +273,8 @@ whole-points a b t p n e f h k = omega (arith, e, f, h, k)
 pub accepted-fits : (op m : ℕ) (s c : Mesh) (l : Lists) → Accepted op m s c l → Fits op s c l
 unfolding stateWith
 accepted-fits op m s c l h =
-    let t = accepted true op m s c l h in
-    let calm = calm-course true op s c m l h in
+    let t = accepted ours op m s c l h in
+    let calm = calm-course ours op s c m l h in
     let entry = passed op m s c (length (l .work)) (t .entry) in
     let q = min (length (l .ends)) (min (length (l .kinds)) (length (l .families))) in
     let r = room (course op s c) m (length (l .coords) / 2) q (length (l .nodes)) calm (t .state) in
@@ -316,11 +317,11 @@ same-lengths l = record { coords = refl; nodes = refl; ends = refl; kinds = refl
 
 -- For every operation, meeting limit, meshes and lists, accepted or refused.
 pub lengths-kept : (op m : ℕ) (s c : Mesh) (l : Lists) → SameLengths (overlayOf op m s c l .lists) l
-lengths-kept op m s c l = go (ending true op m s c l)
+lengths-kept op m s c l = go (ending ours op m s c l)
   where
-    go : Ending true op m s c l → SameLengths (overlayOf op m s c l .lists) l
-    go (input n) = rw (input-refused true op m s c l n) (same-lengths l)
-    go (state-met e n) = rw (state-refused true op m s c l e n) (cleared-lengths l)
+    go : Ending ours op m s c l → SameLengths (overlayOf op m s c l .lists) l
+    go (input n) = rw (input-refused ours op m s c l n) (same-lengths l)
+    go (state-met e n) = rw (state-refused ours op m s c l e n) (cleared-lengths l)
     go (success e f) =
-        let same = succeeds true op m s c l e f in
-        rw same (answered-lengths op s c l (accepted-fits op m s c l (ap (λ (r : Result). r .code) same ∙ no-refusal true op m s c l)))
+        let same = succeeds ours op m s c l e f in
+        rw same (answered-lengths op s c l (accepted-fits op m s c l (ap (λ (r : Result). r .code) same ∙ no-refusal ours op m s c l)))

@@ -1,5 +1,5 @@
 -- Where every edge of the cells that are cut is forward, refusal 11 doesn't come. Assumes nothing.
-use mathlib.Core.Path.{_≡_, refl, sym, ap, _∙_}
+use mathlib.Core.Path.{_≡_, sym, ap, _∙_}
 use mathlib.Core.Bool.{Bool, true, false, not, _&&_, cond}
 use mathlib.Core.List.{List, [], _∷_}
 use Prim.Native.Nat.{ℕ, zero, suc, _-_, _≤_}
@@ -7,18 +7,19 @@ use native.Mathlib.Omega.{arith}
 use lib.Dec.{leb, eqb}
 use lib.ListN.{length}
 use lib.Ieee.{Float}
-use Rattle.cutting.specs.Edges.{Edge}
-use Rattle.cutting.specs.Cell.{Laid, cellTable}
+use Rattle.cutting.specs.Edges.{Edge, ring}
+use Rattle.cutting.specs.Cell.{Laid, cellTable, repeats}
 use Rattle.cutting.specs.Walk.{Next}
 use Rattle.cutting.specs.Outcome.{refusal, pieces, ofWalk, tooMany, cutOutcome}
 use Rattle.cutting.specs.Areas.{Round}
 use Rattle.cutting.proofs.Closing.{round-closes, without-test}
+use Rattle.cutting.specs.Setting.{ours}
 use Rattle.entry.specs.Mesh.{Mesh, nodeCount}
 use Rattle.entry.specs.Refused.{callOk, shapeOk, coordsOk, kindsOk, nodesOk, cellsOk, workOk, entryOf}
 use Rattle.rules.specs.Mesh.{Side, other}
 use Rattle.rules.specs.Meetings.{Scene, netOf}
-use Rattle.rules.specs.Cell.{dartsOf, nearEdges, cellOf, nearOf, outlineBy, tableBy, outcomeBy, outlineOf, tableOf, outcomeWith, outcomeOf}
-use Rattle.rules.specs.Operations.{cuts, sceneFor}
+use Rattle.rules.specs.Cell.{dartsOf, nearEdges, cellOf, nearOf, outlineBy, tableBy, outcomeBy, outlineOf, tableWith, outcomeWith, outcomeOf}
+use Rattle.rules.specs.Operations.{sceneFor}
 use Rattle.rules.specs.Refusals.{Event, meeting, point, piece, stop, course, firstRefusal}
 use Rattle.rules.specs.Overlay.{Lists, Result, stateWith, overlayOf}
 use Rattle.rules.specs.Forward.{forwardCell, Forward}
@@ -29,20 +30,22 @@ use Rattle.rules.proofs.Rounds.{forward-round}
 
 -- ---- a cell
 
--- one whose outline leads round comes to pieces, or to 10
+-- one whose outline leads round comes to pieces, or to 19 or 10
 round-cut : (coords : List Float) (outline : List Edge) (near : List Laid) → Round outline → cutOutcome outline (cellTable coords outline near) ≡ refusal 11 → ⊥
 round-cut coords outline near round e =
     let t = cellTable coords outline near in
     let w = round-closes coords outline near round in
-    go (w .0) (tooMany (length t)) (sym (ap (λ (x : Next). cond (tooMany (length t)) (refusal 10) (ofWalk x)) (w .1)) ∙ sym (without-test coords outline near) ∙ e)
+    go (w .0) (repeats outline) (tooMany (length t))
+    (sym (ap (λ (x : Next). cond (repeats outline) (refusal 19) (cond (tooMany (length t)) (refusal 10) (ofWalk x))) (w .1)) ∙ sym (without-test coords outline near) ∙ e)
   where
-    go : (ps : List (List ℕ)) (b : Bool) → cond b (refusal 10) (pieces ps) ≡ refusal 11 → ⊥
-    go ps true f = let z : _≡_ {A = ℕ} 10 11 = cc in omega (arith, z)
-    go ps false f = let z : _≡_ {A = ℕ} 0 1 = cc in omega (arith, z)
+    go : (ps : List (List ℕ)) (a b : Bool) → cond a (refusal 19) (cond b (refusal 10) (pieces ps)) ≡ refusal 11 → ⊥
+    go ps true b f = let z : _≡_ {A = ℕ} 19 11 = cc in omega (arith, z)
+    go ps false true f = let z : _≡_ {A = ℕ} 10 11 = cc in omega (arith, z)
+    go ps false false f = let z : _≡_ {A = ℕ} 0 1 = cc in omega (arith, z)
 
 -- A cell all of whose edges are forward isn't refused with 11.
 pub forward-cell : (sc : Scene) (w : Side) (i : ℕ) → forwardCell sc w i ≡ true → outcomeOf sc w i ≡ refusal 11 → ⊥
-unfolding forwardCell outcomeWith outlineOf tableOf
+unfolding forwardCell outcomeWith outlineOf tableWith
 forward-cell sc w i h e = go (nearOf sc w i) e
   where
     cell : List ℕ
@@ -51,8 +54,12 @@ forward-cell sc w i h e = go (nearOf sc w i) e
     es : List Edge
     es = netOf sc (other w) .edges
 
-    go : (js : List ℕ) → outcomeBy true (outlineBy sc cell js) (tableBy sc es cell js) cell js ≡ refusal 11 → ⊥
-    go [] f = let z : _≡_ {A = ℕ} 0 1 = cc in omega (arith, z)
+    copied : (b : Bool) → cond b (refusal 19) (pieces (cell ∷ [])) ≡ refusal 11 → ⊥
+    copied true f = let z : _≡_ {A = ℕ} 19 11 = cc in omega (arith, z)
+    copied false f = let z : _≡_ {A = ℕ} 0 1 = cc in omega (arith, z)
+
+    go : (js : List ℕ) → outcomeBy ours (outlineBy sc cell js) (tableBy true sc es cell js) cell js ≡ refusal 11 → ⊥
+    go [] f = copied (repeats (ring cell)) f
     go (j ∷ js) f = round-cut (sc .coords) (dartsOf sc cell) (nearEdges sc es (j ∷ js)) (forward-round sc cell h) f
 
 -- ---- the overlay
@@ -94,15 +101,15 @@ entry-low op m s c w =
 -- refused with 11.
 pub never-eleven : (op m : ℕ) (s c : Mesh) (l : Lists) → Forward op s c → overlayOf op m s c l .code ≡ 11 → ⊥
 unfolding stateWith
-never-eleven op m s c l h e = go (ending true op m s c l)
+never-eleven op m s c l h e = go (ending ours op m s c l)
   where
     code : (r : Result) → overlayOf op m s c l ≡ r → r .code ≡ 11
     code r f = ap (λ (x : Result). x .code) (sym f) ∙ e
 
     calm : Without 11 (course op s c)
-    calm = without-course true op s c 11 (λ f. omega (arith, f)) (λ w f i k. forward-cell (sceneFor op s c) w i (h w f i (omega (arith, k, cells-lent (eqb op 5) s c w))))
+    calm = without-course ours op s c 11 (λ f. omega (arith, f)) (λ w f i k. forward-cell (sceneFor op s c) w i (h w f i (omega (arith, k, cells-lent (eqb op 5) s c w))))
 
-    go : Ending true op m s c l → ⊥
-    go (input n) = omega (arith, code _ (input-refused true op m s c l n), entry-low op m s c (length (l .work)))
-    go (state-met f n) = first-without (course op s c) m _ _ _ calm (code _ (state-refused true op m s c l f n))
-    go (success f g) = omega (arith, code _ (succeeds true op m s c l f g), no-refusal true op m s c l)
+    go : Ending ours op m s c l → ⊥
+    go (input n) = omega (arith, code _ (input-refused ours op m s c l n), entry-low op m s c (length (l .work)))
+    go (state-met f n) = first-without (course op s c) m _ _ _ calm (code _ (state-refused ours op m s c l f n))
+    go (success f g) = omega (arith, code _ (succeeds ours op m s c l f g), no-refusal ours op m s c l)

@@ -1,6 +1,5 @@
 -- An answer's pieces can be read back from its lists, as a mesh's cells are. Assumes nothing.
 use mathlib.Core.Path.{_≡_, refl, ap, ap₂, _∙_}
-use mathlib.Core.Bool.{true}
 use mathlib.Core.List.{List, [], _∷_, _++_, map, append-assoc}
 use Prim.Native.Nat.{ℕ, zero, suc, _+_, _-_, _≤_, _<_}
 use native.Mathlib.Omega.{arith}
@@ -8,6 +7,7 @@ use lib.ListN.{length, getD, take, drop, length-map, List·getD-map}
 use lib.Seq.{take-at, drop-append-add}
 use Rattle.lists.specs.Regions.{front, run}
 use Rattle.cutting.specs.Outcome.{flat, stops}
+use Rattle.cutting.specs.Setting.{ours}
 use Rattle.entry.specs.Mesh.{Mesh, prior}
 use Rattle.rules.specs.Mesh.{cellAt}
 use Rattle.rules.specs.Operations.{Piece, listing}
@@ -103,4 +103,4 @@ module _ (op : ℕ) (s c : Mesh) (l : Lists) where
   answered-pieces = refl
 
   pub read-back : (m : ℕ) → Accepted op m s c l → (k : ℕ) → k < length (listing op s c) → (d : Piece) → WrittenAt (overlayOf op m s c l) k (getD (listing op s c) k d)
-  read-back m h k b d = rw (accepted true op m s c l h .answer) (answer-at k b d)
+  read-back m h k b d = rw (accepted ours op m s c l h .answer) (answer-at k b d)

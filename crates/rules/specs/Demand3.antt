@@ -2,9 +2,10 @@
 -- proofs/Demand3.antt. Assumes nothing.
 use mathlib.Core.Logic.{_⊎_}
 use mathlib.Core.Path.{_≡_}
-use mathlib.Core.Bool.{Bool, true}
+use mathlib.Core.Bool.{true}
 use Prim.Native.Nat.{ℕ, _<_}
 use lib.ListN.{length, getD}
+use Rattle.cutting.specs.Setting.{Setting}
 use Rattle.cutting.specs.Areas.{ClosesUp}
 use Rattle.entry.specs.Mesh.{Mesh, mesh}
 use Rattle.rules.specs.Mesh.{cellAt, Side}
@@ -17,9 +18,9 @@ use Rattle.rules.specs.Overlay.{Lists, Result, overlayOf, overlayWith}
 abbrev pub Accepted : ℕ → ℕ → Mesh → Mesh → Lists → Type 0
 Accepted op m s c l = overlayOf op m s c l .code ≡ 0
 
--- by whether a walk may turn back
-abbrev pub AcceptedWith : Bool → ℕ → ℕ → Mesh → Mesh → Lists → Type 0
-AcceptedWith turning op m s c l = overlayWith turning op m s c l .code ≡ 0
+-- by the setting
+abbrev pub AcceptedWith : Setting → ℕ → ℕ → Mesh → Mesh → Lists → Type 0
+AcceptedWith v op m s c l = overlayWith v op m s c l .code ≡ 0
 
 -- ---- (a) the pieces before any are dropped close up to the outline as cut
 

@@ -11,3 +11,4 @@ pub mod Refusals
 pub mod Overlay
 pub mod Demand3
 pub mod Forward
+pub mod Winding

@@ -1,16 +1,17 @@
 -- Document 01, "Operations": which meshes are cut, which pieces are kept, and the listing of those that are. Assumes nothing.
-use mathlib.Core.Bool.{Bool, true, cond, not, _||_}
+use mathlib.Core.Bool.{Bool, true, false, cond, not, _||_}
 use mathlib.Core.List.{List, [], _∷_, _++_}
 use Prim.Native.Nat.{ℕ}
 use lib.Dec.{eqb}
 use lib.ListN.{length, getD}
 use Rattle.lists.specs.Gather.{gathered, each, passing}
+use Rattle.cutting.specs.Setting.{Setting, ours}
 use Rattle.cutting.specs.Cell.{doubled}
 use Rattle.cutting.specs.Outcome.{Outcome, refusal, pieces}
 use Rattle.entry.specs.Mesh.{Mesh}
 use Rattle.rules.specs.Mesh.{Side, theSubject, theCutter, other}
 use Rattle.rules.specs.Meetings.{Scene, netOf, sceneOf}
-use Rattle.rules.specs.Cell.{tableOf, outcomeWith, kindOf}
+use Rattle.rules.specs.Cell.{tableWith, outcomeWith, kindOf}
 use Rattle.rules.specs.Inside.{pointInside}
 
 -- ---- 0 Imprint, 1 Union, 2 Intersection, 3 Difference, 4 SymmetricDifference, 5 lines (the rule of 0)
@@ -57,11 +58,11 @@ outcomePieces (pieces ps) = ps
 unfoldable pub inside : Scene → Side → Piece → Bool
 inside sc w p = pointInside (sc .coords) (netOf sc (other w) .cells) (p .nodes)
 
--- by whether a walk may turn back
-module _ (turning : Bool) (sc : Scene) (w : Side) where
+-- by the setting
+module _ (v : Setting) (sc : Scene) (w : Side) where
   -- cell i's pieces before any are dropped
   abbrev pub piecesWith : ℕ → List (List ℕ)
-  piecesWith i = outcomePieces (outcomeWith turning sc w i)
+  piecesWith i = outcomePieces (outcomeWith v sc w i)
 
   -- the one at place j
   unfoldable pub pieceWith : ℕ → ℕ → Piece
@@ -73,30 +74,30 @@ module _ (turning : Bool) (sc : Scene) (w : Side) where
   keptWith op i = passing (λ p. keeps op w (inside sc w p)) (each (length (piecesWith i)) (pieceWith i))
 
 abbrev pub piecesOf : Scene → Side → ℕ → List (List ℕ)
-piecesOf sc w i = piecesWith true sc w i
+piecesOf sc w i = piecesWith ours sc w i
 
 abbrev pub pieceAt : Scene → Side → ℕ → ℕ → Piece
-pieceAt sc w i j = pieceWith true sc w i j
+pieceAt sc w i j = pieceWith ours sc w i j
 
 abbrev pub kept : Scene → Side → ℕ → ℕ → List Piece
-kept sc w op i = keptWith true sc w op i
+kept sc w op i = keptWith ours sc w op i
 
 -- f for each cell of a mesh, if the operation cuts it
 abbrev pub overCells : {A : Type 0} → ℕ → Scene → Side → (ℕ → List A) → List A
 overCells op sc w f = cond (cuts op w) (gathered (length (netOf sc w .cells)) f) []
 
 -- "Pieces are listed as made", the subject's first
-unfoldable pub listingWith : Bool → ℕ → Mesh → Mesh → List Piece
-listingWith turning op s c =
+unfoldable pub listingWith : Setting → ℕ → Mesh → Mesh → List Piece
+listingWith v op s c =
     let sc = sceneFor op s c in
-    overCells op sc theSubject (keptWith turning sc theSubject op) ++ overCells op sc theCutter (keptWith turning sc theCutter op)
+    overCells op sc theSubject (keptWith v sc theSubject op) ++ overCells op sc theCutter (keptWith v sc theCutter op)
 
 abbrev pub listing : ℕ → Mesh → Mesh → List Piece
-listing op s c = listingWith true op s c
+listing op s c = listingWith ours op s c
 
--- "A doubled cell's table names a neighbour twice at some node": those of the cells that the operation cuts
+-- "A doubled cell's table names a neighbour twice at some node": those of the cells that the operation cuts, by their tables before W14
 unfoldable pub doubledCells : ℕ → Mesh → Mesh → List ℕ
 doubledCells op s c =
     let sc = sceneFor op s c in
-    let twice : Side → ℕ → List ℕ = λ w i. cond (doubled (tableOf sc w i)) (i ∷ []) [] in
+    let twice : Side → ℕ → List ℕ = λ w i. cond (doubled (tableWith sc w i false)) (i ∷ []) [] in
     overCells op sc theSubject (twice theSubject) ++ overCells op sc theCutter (twice theCutter)

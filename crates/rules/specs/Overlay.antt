@@ -1,11 +1,12 @@
 -- Document 01, the public call: the answer, and every list at exit, for refusals too. Assumes nothing.
-use mathlib.Core.Bool.{Bool, true, cond}
+use mathlib.Core.Bool.{cond}
 use mathlib.Core.List.{List, map}
 use Prim.Native.Nat.{ℕ, _/_, min}
 use lib.Dec.{eqb}
 use lib.ListN.{length}
 use lib.Ieee.{Float}
 use Rattle.lists.specs.Regions.{front, zeros, fzeros}
+use Rattle.cutting.specs.Setting.{Setting, ours}
 use Rattle.cutting.specs.Outcome.{flat, stops}
 use Rattle.entry.specs.Mesh.{Mesh}
 use Rattle.entry.specs.Refused.{entryOf}
@@ -43,11 +44,11 @@ cleared l =
     lentLists (fzeros (length (l .coords))) (zeros (length (l .nodes))) (zeros (length (l .ends))) (zeros (length (l .kinds))) (zeros (length (l .families))) (zeros (length (l .work)))
 
 -- Its number, or 0. A point takes two numbers of the coordinates; a piece takes its node entries, and a place in each of ends, kinds and families.
-unfoldable pub stateWith : Bool → ℕ → ℕ → Mesh → Mesh → Lists → ℕ
-stateWith turning op m s c l = firstRefusal m (length (l .coords) / 2) (min (length (l .ends)) (min (length (l .kinds)) (length (l .families)))) (length (l .nodes)) (courseWith turning op s c)
+unfoldable pub stateWith : Setting → ℕ → ℕ → Mesh → Mesh → Lists → ℕ
+stateWith v op m s c l = firstRefusal m (length (l .coords) / 2) (min (length (l .ends)) (min (length (l .kinds)) (length (l .families)))) (length (l .nodes)) (courseWith v op s c)
 
 abbrev pub stateOf : ℕ → ℕ → Mesh → Mesh → Lists → ℕ
-stateOf op m s c l = stateWith true op m s c l
+stateOf op m s c l = stateWith ours op m s c l
 
 -- ---- success: "places after the answer keep their content and the working list is zero"
 
@@ -58,28 +59,29 @@ written coords ps l =
     lentLists (front (l .coords) coords) (front (l .nodes) (flat runs)) (front (l .ends) (stops 0 runs))
     (front (l .kinds) (map (λ p. p .kind) ps)) (front (l .families) (map (λ p. p .family) ps)) (zeros (length (l .work)))
 
--- "The answer also counts pieces, new points and doubled cells"; "new points are all coordinates added"
-unfoldable pub answeredWith : Bool → ℕ → Mesh → Mesh → Lists → Result
-answeredWith turning op s c l =
+-- "The answer also counts pieces, new points and doubled cells"; "new points are all coordinates added". W14: "The third count is 0 ever after", since
+-- no table of an accepted cell names a neighbour twice (`never-doubled`, proofs/Demand3.antt).
+unfoldable pub answeredWith : Setting → ℕ → Mesh → Mesh → Lists → Result
+answeredWith v op s c l =
     let sc = sceneFor op s c in
-    let ps = listingWith turning op s c in
-    result 0 (length ps) (length (addedBy (sc .met)) / 2) (length (doubledCells op s c)) (written (sc .coords) ps l)
+    let ps = listingWith v op s c in
+    result 0 (length ps) (length (addedBy (sc .met)) / 2) (cond (v .once) 0 (length (doubledCells op s c))) (written (sc .coords) ps l)
 
 abbrev pub answered : ℕ → Mesh → Mesh → Lists → Result
-answered op s c l = answeredWith true op s c l
+answered op s c l = answeredWith ours op s c l
 
 -- ---- the whole
 
--- Operation, meeting limit M, subject, cutter, lists; by whether a walk may turn back. Refused because of the input (1 to 7): "Counts are 0 and every
+-- Operation, meeting limit M, subject, cutter, lists; by the setting. Refused because of the input (1 to 7): "Counts are 0 and every
 -- list keeps its content".
-unfoldable pub overlayWith : Bool → ℕ → ℕ → Mesh → Mesh → Lists → Result
-overlayWith turning op m s c l =
+unfoldable pub overlayWith : Setting → ℕ → ℕ → Mesh → Mesh → Lists → Result
+overlayWith v op m s c l =
     let entry = entryOf op m s c (length (l .work)) in
-    let state = stateWith turning op m s c l in
+    let state = stateWith v op m s c l in
     cond (eqb entry 0)
-    (cond (eqb state 0) (answeredWith turning op s c l) (result state 0 0 0 (cleared l)))
+    (cond (eqb state 0) (answeredWith v op s c l) (result state 0 0 0 (cleared l)))
     (result entry 0 0 0 l)
 
--- the overlay: a walk may turn back
+-- the overlay
 abbrev pub overlayOf : ℕ → ℕ → Mesh → Mesh → Lists → Result
-overlayOf op m s c l = overlayWith true op m s c l
+overlayOf op m s c l = overlayWith ours op m s c l

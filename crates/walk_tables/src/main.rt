@@ -1,4 +1,4 @@
-// Stored cells: the table is built edge by edge and walked. For each cell a line `doubled` where it is, then its pieces, a line each, or its refusal.
+// Stored cells: the table is built edge by edge and walked. For each cell its pieces, a line each, or its refusal.
 use cutting::cut;
 use cutting::cut::Walked;
 ghost use Prim.Native.Nat.{_≤_};
@@ -42,7 +42,6 @@ fn add_own(
 fn add_near(
     coords: &[f64],
     edges: &[u32],
-    outline: &[u32],
     src: &mut [u32],
     dst: &mut [u32],
     marks: &mut [u32],
@@ -61,7 +60,7 @@ fn add_near(
             return n;
         }
         let to = from + k;
-        n = cut::add_near_edge(coords, outline, a, b, &edges[from..to], src, dst, marks, n);
+        n = cut::add_near_edge(coords, a, b, &edges[from..to], src, dst, marks, n);
         if 1024 < n {
             return n;
         }
@@ -114,21 +113,14 @@ fn show(coords: &[f64], own: &[u32], near: &[u32]) {
         refused(10);
         return;
     }
-    let n = add_near(
-        coords,
-        near,
-        &outline[..top],
-        &mut src,
-        &mut dst,
-        &mut marks,
-        top,
-    );
+    if outlines::edges_repeat(&outline[..top]) {
+        refused(19);
+        return;
+    }
+    let n = add_near(coords, near, &mut src, &mut dst, &mut marks, top);
     if 1024 < n {
         refused(10);
         return;
-    }
-    if cut::is_doubled(&src, &dst, n) {
-        io::write_all(1, b"doubled\n");
     }
     let w = cut::walk_dart_map(
         &src,
@@ -217,13 +209,18 @@ fn main() {
     let k10_own = [0u32, 1, 3, 0, 6, 1, 1, 2, 0, 2, 3, 0, 3, 0, 0];
     let k10_near = [4u32, 5, 3, 4, 6, 5];
     show(&k10, &k10_own, &k10_near);
-    // doubled: the edge 0 1 comes whole once more
+    // the edge 0 1 comes whole once more
     let square = [0u32, 1, 0, 1, 2, 0, 2, 3, 0, 3, 0, 0];
     let twice = [1u32, 0, 0];
     show(&k1, &square, &twice);
     // the same edge with its nodes is the outline's own
     let known = [1u32, 0, 2, 0, 1];
     show(&k1, &square, &known);
+    // an outline that runs back along itself, and one from a node to itself
+    let folded = [0u32, 1, 0, 1, 2, 0, 2, 1, 0, 1, 0, 0];
+    let stuck = [0u32, 1, 0, 1, 1, 0, 1, 0, 0];
+    show(&k1, &folded, &twice);
+    show(&k1, &stuck, &twice);
     // a copied cell
     let none = [0u32; 1];
     show(&k1, &square, &none);

@@ -1,72 +1,44 @@
-use mathlib.Core.Path.{_∙_}
-use Rattle.cells.proofs.Cut.{too-many, as-walked}
+use mathlib.Core.Path.{sym, _∙_}
+use Rattle.cells.proofs.Cut.{too-many, repeated, as-walked}
 use borrow.Author.Needs.{needs}
 use Rattle.cells.proofs.cut_outlined.Statement.{statement}
 use Rattle.cells.proofs.cut_outlined.Tie as tie
-use Rattle.cells.proofs.cut_outlined.Reads as reads
-use Rattle.cells.proofs.cut_outlined.Lts as lts
-use Rattle.cells.proofs.near_darts.Reads as near-darts-reads
-use Rattle.cells.proofs.refused.Reads as refused-reads
-use Rattle.cells.proofs.walk_cell.Reads as walk-cell-reads
 
--- src/lib.rt:210:9
-near-darts-requires : tie.Need-near-darts-requires
-near-darts-requires c κs = search needs
+-- places of the code, each counted once
+abbrev edges-repeat-of-else1 : tie.Else1 → tie.After-edges-repeat
+edges-repeat-of-else1 c = c .before
 
--- src/lib.rt:212:9
-refused-requires : tie.Need-refused-requires
-refused-requires c κs = search needs
+abbrev edges-repeat-at-returns : tie.After-refused → tie.After-edges-repeat
+edges-repeat-at-returns c = c .before .before
 
--- src/lib.rt:212:9
-same-length : tie.Need-same-length
-same-length c = search needs
+abbrev else1 : tie.After-near-darts → tie.Else1
+else1 c = c .before .before .before .before
 
--- src/lib.rt:212:9
-same-length-2 : tie.Need-same-length-2
-same-length-2 c = search needs
+abbrev near-darts-of-else2 : tie.Else2 → tie.After-near-darts
+near-darts-of-else2 c = c .before .before .before .before .before .before .before
 
--- src/lib.rt:212:9
-same-length-3 : tie.Need-same-length-3
-same-length-3 c = search needs
+abbrev near-darts-at-returns-2 : tie.After-refused2 → tie.After-near-darts
+near-darts-at-returns-2 c = c .before .before .before .before .before .before .before .before
 
--- src/lib.rt:212:9
+abbrev else2 : tie.After-walk-cell → tie.Else2
+else2 c = c .before .before .before .before
+
 returns : tie.Need-returns
-returns c =
-    c .refused .ensures ∙ too-many _ _ _ (c .before .before .before .before .before .before .before .before .near-darts .ensures .over (c .before .if1 .taken))
+returns c = c .refused .ensures ∙ repeated _ _ _ (sym (edges-repeat-at-returns c .edges-repeat .ensures) ∙ c .before .if1 .taken)
 
--- src/lib.rt:214:5
-walk-cell-requires : tie.Need-walk-cell-requires
-walk-cell-requires c κs = search needs
-
--- src/lib.rt:193:1
-same-length-4 : tie.Need-same-length-4
-same-length-4 c = search needs
-
--- src/lib.rt:193:1
-same-length-5 : tie.Need-same-length-5
-same-length-5 c = search needs
-
--- src/lib.rt:193:1
-same-length-6 : tie.Need-same-length-6
-same-length-6 c = search needs
-
--- src/lib.rt:193:1
 returns-2 : tie.Need-returns-2
 returns-2 c =
-    as-walked _ _ _ _ _ _ _ _ (c .before .before .before .before .if1 .left) (c .before .before .before .before .before .before .before .before .before .before .before .near-darts .ensures) (c .walk-cell .ensures)
+    let at-else1 = else1 (near-darts-at-returns-2 c) in
+    c .refused2 .ensures ∙ too-many _ _ _ (sym (edges-repeat-of-else1 at-else1 .edges-repeat .ensures) ∙ at-else1 .if1 .left)
+    (near-darts-at-returns-2 c .near-darts .ensures .over (c .before .if2 .taken))
+
+returns-3 : tie.Need-returns-3
+returns-3 c =
+    let at-near-darts = near-darts-of-else2 (else2 c) in
+    let at-edges-repeat = edges-repeat-of-else1 (else1 at-near-darts) in
+    as-walked _ _ _ _ _ _ _ _ (sym (at-edges-repeat .edges-repeat .ensures) ∙ else1 at-near-darts .if1 .left) (else2 c .if2 .left)
+    (at-near-darts .near-darts .ensures) (c .walk-cell .ensures)
 
 pub cut-outlined-spec : {M : Type 1} → statement M
-cut-outlined-spec =
-    tie.close
-    (tie.spec
-    near-darts-requires
-    refused-requires
-    same-length
-    same-length-2
-    same-length-3
-    returns
-    walk-cell-requires
-    same-length-4
-    same-length-5
-    same-length-6
-    returns-2)
+cut-outlined-spec = tie.close (tie.spec (λ c κs. search needs) (λ c κs. search needs) returns (λ c κs. search needs) (λ c κs. search needs) (λ c. search needs)
+    (λ c. search needs) (λ c. search needs) returns-2 (λ c κs. search needs) (λ c. search needs) (λ c. search needs) (λ c. search needs) returns-3)

@@ -1,109 +1,86 @@
--- `cutting::cut::add_new` meets its contract: what the first windows come to. Assumes nothing.
-use mathlib.Core.Path.{sym, _∙_}
+-- `cutting::cut::add_new` meets its contract: the windows left, added to the table as it stands, make the same table. Assumes nothing.
+use mathlib.Core.Path.{_∙_}
 use Prim.Native.Nat.{_-_}
-use native.Mathlib.Omega.{arith}
 use lib.ListN.{length}
-use Rattle.cutting.specs.Lent.{pairs}
-use Rattle.cutting.proofs.Adds.{Gathering, gather-start, gather-pass, gather-fits, gather-turn, gather-end}
+use Rattle.cutting.proofs.Adds.{Adding, adding-start, adding-turn, adding-full, adding-end}
 use borrow.Author.Needs.{needs}
 use Rattle.cutting.proofs.cut.add_new.Statement.{statement}
 use Rattle.cutting.proofs.cut.add_new.Tie as tie
 
 abbrev Inv-loop : tie.InvT-loop
-Inv-loop coords outline nodes src₀ dst₀ marks₀ n i₀ k₀ src dst marks i k =
-    Gathering coords (pairs outline) nodes src₀ dst₀ marks₀ n src dst marks i k
+Inv-loop coords nodes src₀ dst₀ marks₀ n i₀ k₀ src dst marks i k = Adding coords nodes src₀ dst₀ marks₀ n src dst marks i k
 
 abbrev μ-loop : tie.MeasureT-loop
-μ-loop coords outline nodes src₀ dst₀ marks₀ n i₀ k₀ src dst marks i k = length nodes - i
+μ-loop coords nodes src₀ dst₀ marks₀ n i₀ k₀ src dst marks i k = length nodes - i
+
+-- places of the code, each counted once
+abbrev entry : tie.After-slice-known3 Inv-loop μ-loop → tie.Start Inv-loop μ-loop
+entry c = c .before .before .before .before .before
+
+abbrev loop-of-in-loop : tie.In-loop Inv-loop μ-loop → tie.At-loop Inv-loop μ-loop
+loop-of-in-loop c = c .before
+
+abbrev in-loop : tie.After-add-edge Inv-loop μ-loop → tie.In-loop Inv-loop μ-loop
+in-loop c = c .before .before .before .before .before .before
+
+abbrev add-edge-at-loop-again : tie.Else1 Inv-loop μ-loop → tie.After-add-edge Inv-loop μ-loop
+add-edge-at-loop-again c = c .before .before .before .before .before .before .before
+
+abbrev add-edge-at-same-length : tie.Then1 Inv-loop μ-loop → tie.After-add-edge Inv-loop μ-loop
+add-edge-at-same-length c = c .before .before .before .before .before .before .before
 
 loop-holds : tie.Need-loop-holds Inv-loop μ-loop
-loop-holds c = gather-start _ _ _ _ _ _ _
+loop-holds c = adding-start _ _ _ _ _ _ (entry c .pre .0)
 
-add-loop : tie.Need-add-loop Inv-loop μ-loop
-add-loop c = search needs
+same-length : tie.Need-same-length Inv-loop μ-loop
+same-length c =
+    let at-loop = loop-of-in-loop (in-loop (add-edge-at-same-length c)) in
+    let l = at-loop .loop in
+    let d = add-edge-at-same-length c .add-edge in
+    d .kept .1 .1 .1 .0 ∙ l .inv .same-src
 
-mul-p : tie.Need-mul-p Inv-loop μ-loop
-mul-p c = search needs
+same-length-2 : tie.Need-same-length-2 Inv-loop μ-loop
+same-length-2 c =
+    let at-loop = loop-of-in-loop (in-loop (add-edge-at-same-length c)) in
+    let l = at-loop .loop in
+    let d = add-edge-at-same-length c .add-edge in
+    d .kept .1 .1 .1 .1 .0 ∙ l .inv .same-dst
 
-shared-slice-read-p : tie.Need-shared-slice-read-p Inv-loop μ-loop
-shared-slice-read-p c = search needs
+same-length-3 : tie.Need-same-length-3 Inv-loop μ-loop
+same-length-3 c =
+    let at-loop = loop-of-in-loop (in-loop (add-edge-at-same-length c)) in
+    let l = at-loop .loop in
+    let d = add-edge-at-same-length c .add-edge in
+    d .kept .1 .1 .1 .1 .1 .0 ∙ l .inv .same-marks
 
-add-q : tie.Need-add-q Inv-loop μ-loop
-add-q c = search needs
-
-mul-q : tie.Need-mul-q Inv-loop μ-loop
-mul-q c = search needs
-
-shared-slice-read-q : tie.Need-shared-slice-read-q Inv-loop μ-loop
-shared-slice-read-q c = search needs
-
-add-i : tie.Need-add-i Inv-loop μ-loop
-add-i c = search needs
-
-is-new-requires : tie.Need-is-new-requires Inv-loop μ-loop
-is-new-requires c κs = search needs
-
-add-dart-requires : tie.Need-add-dart-requires Inv-loop μ-loop
-add-dart-requires c κs =
-    let l = c .before .before .before .before .before .before .before .before .loop in
-    let fits = gather-fits _ _ _ _ _ _ _ _ _ _ _ _ (l .inv) (c .before .before .before .before .before .before .before .loop-test .taken) (sym (c .before .before .before .before .is-new .ensures) ∙ c .before .before .before .if1 .taken) in
-    omega (arith, fits, c .before .before .before .before .before .before .before .before .before .before .before .before .before .before .before .pre, l .inv)
-
-add-k : tie.Need-add-k Inv-loop μ-loop
-add-k c =
-    let l = c .before .before .before .before .before .before .before .before .before .before .before .before .before .before .before .loop in
-    let fits = gather-fits _ _ _ _ _ _ _ _ _ _ _ _ (l .inv) (c .before .before .before .before .before .before .before .before .before .before .before .before .before .before .loop-test .taken) (sym (c .before .before .before .before .before .before .before .before .before .before .before .is-new .ensures) ∙ c .before .before .before .before .before .before .before .before .before .before .if1 .taken) in
-    omega (arith, fits, c .before .before .before .before .before .before .before .before .before .before .before .before .before .before .before .before .before .before .before .before .before .before .pre)
-
-loop-less : tie.Need-loop-less Inv-loop μ-loop
-loop-less c = search needs
+returns : tie.Need-returns Inv-loop μ-loop
+returns c =
+    let at-in-loop = in-loop (add-edge-at-same-length c) in
+    let l = loop-of-in-loop at-in-loop .loop in
+    let d = add-edge-at-same-length c .add-edge in
+    adding-full _ _ _ _ _ _ _ _ _ _ _ (l .inv) (at-in-loop .loop-test .taken) _ _ _ _ (d .ensures) (c .if1 .taken)
 
 loop-again : tie.Need-loop-again Inv-loop μ-loop
 loop-again c =
-    let l = c .before .before .before .before .before .before .before .before .before .before .before .before .before .before .before .loop in
-    let d = c .before .before .before .before .before .before .add-dart in
-    gather-turn _ _ _ _ _ _ _ _ _ _ _ _ (l .inv) (c .before .before .before .before .before .before .before .before .before .before .before .before .before .before .loop-test .taken) (sym (c .before .before .before .before .before .before .before .before .before .before .before .is-new .ensures) ∙ c .before .before .before .before .before .before .before .before .before .before .if1 .taken) _ _ _ (d .kept .1 .1 .1 .1 .0) (d .kept .1 .1 .1 .1 .1 .0) (d .kept .1 .1 .1 .1 .1 .1 .0) (d .ensures)
+    let at-in-loop = in-loop (add-edge-at-loop-again c) in
+    let l = loop-of-in-loop at-in-loop .loop in
+    let d = add-edge-at-loop-again c .add-edge in
+    adding-turn _ _ _ _ _ _ _ _ _ _ _ (l .inv) (at-in-loop .loop-test .taken) _ _ _ _ (d .ensures) (c .if1 .left) (d .kept .1 .1 .1 .0)
+    (d .kept .1 .1 .1 .1 .0) (d .kept .1 .1 .1 .1 .1 .0)
 
-loop-less-2 : tie.Need-loop-less-2 Inv-loop μ-loop
-loop-less-2 c = search needs
+same-length-4 : tie.Need-same-length-4 Inv-loop μ-loop
+same-length-4 c = c .before .loop .inv .same-src
 
-loop-again-2 : tie.Need-loop-again-2 Inv-loop μ-loop
-loop-again-2 c = gather-pass _ _ _ _ _ _ _ _ _ _ _ _ (c .before .before .before .before .before .loop .inv) (c .before .before .before .before .loop-test .taken) (sym (c .before .is-new .ensures) ∙ c .if1 .left)
+same-length-5 : tie.Need-same-length-5 Inv-loop μ-loop
+same-length-5 c = c .before .loop .inv .same-dst
 
-same-length : tie.Need-same-length Inv-loop μ-loop
-same-length c = c .before .loop .inv .same-src
+same-length-6 : tie.Need-same-length-6 Inv-loop μ-loop
+same-length-6 c = c .before .loop .inv .same-marks
 
-same-length-2 : tie.Need-same-length-2 Inv-loop μ-loop
-same-length-2 c = c .before .loop .inv .same-dst
-
-same-length-3 : tie.Need-same-length-3 Inv-loop μ-loop
-same-length-3 c = c .before .loop .inv .same-marks
-
-returns : tie.Need-returns Inv-loop μ-loop
-returns c = gather-end _ _ _ _ _ _ _ _ _ _ _ _ (c .before .loop .inv) (c .loop-test .left)
+returns-2 : tie.Need-returns-2 Inv-loop μ-loop
+returns-2 c = adding-end _ _ _ _ _ _ _ _ _ _ _ (c .before .loop .inv) (c .loop-test .left)
 
 pub add-new-spec : {M : Type 1} → statement M
-add-new-spec =
-    tie.close
-    (tie.spec
-    Inv-loop
-    μ-loop
-    loop-holds
-    add-loop
-    mul-p
-    shared-slice-read-p
-    add-q
-    mul-q
-    shared-slice-read-q
-    add-i
-    is-new-requires
-    add-dart-requires
-    add-k
-    loop-less
-    loop-again
-    loop-less-2
-    loop-again-2
-    same-length
-    same-length-2
-    same-length-3
-    returns)
+add-new-spec = tie.close (tie.spec Inv-loop μ-loop loop-holds (λ c. search needs) (λ c. search needs) (λ c. search needs) (λ c. search needs)
+    (λ c. search needs) (λ c. search needs) (λ c. search needs) (λ c κs. search needs) same-length same-length-2 same-length-3 returns (λ c. search needs)
+    loop-again same-length-4 same-length-5 same-length-6 returns-2)
