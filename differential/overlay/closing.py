@@ -8,6 +8,9 @@ import collections
 import re
 import struct
 
+# What the copy of the Rust tells of a cell: whether it is copied, the slots of its table, whether the published table is doubled, whether its
+# outline as cut repeats, and that outline.
+Told = collections.namedtuple('Told', 'copied slots doubled repeats outline')
 CUTTER = 1 << 31
 BOTH_CUT = ('1', '4')
 NODE = re.compile(r'^\(node (\w+) (\w+)\)$', re.M)
@@ -70,24 +73,23 @@ def uses(outline, edges, whole_cell):
 
 
 def looked_at(form, cells):
-    """Of the Rust's cells (copied, slots, doubled, outline) those that the answer to one of `questions` is held to, by their numbers, but
-    for doubled ones: the subject's, or, where both meshes are cut, the cutter's."""
+    """Of an overlay's cells, as told, those that the answer to one of its `questions` is held to, by their numbers: the subject's, or, where
+    both meshes are cut, the cutter's."""
     subjects, cutters = (len(CELL.findall(mesh)) for mesh in form.split('(mesh\n')[1:])
-    both = operation(form) in BOTH_CUT
-    assert len(cells) == subjects + (cutters if both else 0), (len(cells), subjects, cutters)
-    numbered_cells = enumerate(cells[subjects:], CUTTER) if both else enumerate(cells)
-    return [(i, c[3]) for i, c in numbered_cells if not c[2]]
+    assert len(cells) in (subjects, subjects + cutters), (len(cells), subjects, cutters)
+    return enumerate(cells[subjects:], CUTTER) if operation(form) in BOTH_CUT else enumerate(cells[:subjects])
 
 
 def faults(form, answer, cells):
-    """Of an answer to one of `questions`, and the Rust's cells: what doesn't close up, a line each."""
+    """Of an answer to one of an overlay's `questions`, and the overlay's cells, as told: what doesn't close up, a line each."""
     if not answer.startswith('(overlay\n'):
         return ['no answer: ' + answer.strip()]
     all_listed = operation(form) not in BOTH_CUT
     nodes = [(whole(x), whole(y)) for x, y in NODE.findall(answer)]
     of = pieces(answer)
     out = []
-    for i, outline in looked_at(form, cells):
+    for i, cell in looked_at(form, cells):
+        outline = cell.outline
         edges = [e for p in of[i] for e in ring(p)]
         wrong = uses(outline, edges, all_listed)
         if not wrong and all_listed and area(nodes, edges) != area(nodes, outline):
@@ -115,9 +117,10 @@ K10 = '''(overlay 5 9
 
 
 def selftest():
-    """K10's answer closes up; without the way back, the ditch, a side, a piece or the right coordinates it doesn't."""
+    """K10's answer closes up; without the way back, the ditch, a side, a piece or the right coordinates it doesn't. So too with a line across it
+    twice, from 0 to 2, as the Rust answers: with a piece of two corners."""
     head = '(overlay\n' + '\n'.join(m[0] for m in NODE.finditer(K10)) + '\n(node 3ff0000000000000 %s)\n'
-    cells = [(False, 14, False, [(0, 6), (6, 1), (1, 2), (2, 3), (3, 0)])]
+    cells = [Told(False, 14, False, False, [(0, 6), (6, 1), (1, 2), (2, 3), (3, 0)])]
 
     def told(corners, y='0000000000000000'):
         pieces = ''.join('(cell 11 0 %s)\n' % c for c in corners)
@@ -127,7 +130,10 @@ def selftest():
     assert not told(['3 0 6 5 6 1 2'], y='3fd0000000000000')
     for wrong in ['3 0 6 5 1 2'], ['3 0 1 2'], ['0 6 5 6 1 2'], [], ['3 0 6 1 2', '5 6', '6 5'], ['3 0 6 5 6 1 2'] * 2, ['2 1 6 5 6 0 3'], ['3 0 6 5 6 5 6 1 2']:
         assert told(wrong), wrong
-    print('closing up: K10 passes, 8 wrong answers are told')
+    cells = [Told(False, 14, True, False, [(0, 6), (6, 1), (1, 2), (2, 3), (3, 0)])]
+    assert not told(['0 6 1 2', '0 2 3'])
+    assert told(['0 6 1 2', '0 2', '0 2 3'])
+    print('closing up: K10 passes, 9 wrong answers are told')
 
 
 if __name__ == '__main__':

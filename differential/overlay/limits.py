@@ -1,4 +1,5 @@
-"""Inputs with a refusal that is known beforehand: limits of the state (8, 9, 10) on both sides, and bad inputs (1 to 6)."""
+"""Inputs with a refusal that is known beforehand: limits of the state (8, 9, 10) on both sides, outlines that repeat (19), and bad inputs (1
+to 6)."""
 from made import LINE, PGON, QUAD, TRI, Mesh, text
 
 
@@ -27,6 +28,44 @@ def fan(n):
     for i in range(n):
         c.cell(LINE, [at, c.node(3.0 * i + 100.0, -100.0)])
     return s, c
+
+
+def zigzag(n, spike):
+    """n corners (an even number) up and down over a straight base, two level lines through them all, and a line that ends on the base; with the
+    spike the base runs beyond that place and back to a corner there. Without it the table has 3 n + 3 darts of the outline and 2 n + 3 parts of
+    the lines, two slots each."""
+    s, c = Mesh(), Mesh()
+    s.polygon([(0.0, 0.0), (float(n), 0.0)] + [(n - 0.5, 0.0)] * spike + [(float(i), 8.0 if i % 2 else 1.0) for i in reversed(range(n))], PGON)
+    for a, b in [((-1.0, 3.0), (n + 1.0, 3.0)), ((-1.0, 5.0), (n + 1.0, 5.0)), ((n - 0.5, 0.0), (n - 0.5, -1.0))]:
+        c.cell(LINE, [c.node(*a), c.node(*b)])
+    return s, c
+
+
+def two_cells(first, second):
+    """Cells over each other, as one mesh of polygons."""
+    m = Mesh()
+    for part in first, second:
+        base = len(m.nodes)
+        m.nodes += part.nodes
+        m.cells += [(PGON, f, [base + i for i in c]) for _, f, c in part.cells]
+    return m
+
+
+def repeats():
+    for n in (2, 50, 100, 102, 168, 170, 172, 250):
+        s, c = zigzag(n, False)
+        yield 'outline of many darts', text(5, 4000, s, c), 10 if 2 * (5 * n + 6) > 1024 else 0
+        s, c = zigzag(n, True)
+        yield 'outline that repeats', text(5, 4000, s, c), 19
+    # cell by cell
+    (many, c), (spiked, _) = zigzag(102, False), zigzag(102, True)
+    yield '10 of an earlier cell', text(5, 4000, two_cells(many, spiked), c), 10
+    yield '19 of an earlier cell', text(5, 4000, two_cells(spiked, many), c), 19
+    # 9 is looked at before any cell, 8 before that
+    for _ in range(260):
+        c.cell(LINE, [4, 5])
+    yield '9 before 19', text(5, 4000, spiked, c), 9
+    yield '8 before 9', text(5, 100, spiked, c), 8
 
 
 def limits():
@@ -90,4 +129,5 @@ def bad():
 
 def known():
     yield from limits()
+    yield from repeats()
     yield from bad()

@@ -47,13 +47,16 @@ def text(op, limit, *meshes):
 
 
 class Made:
-    def __init__(self, seed):
+    def __init__(self, seed, only=''):
+        """`only`: the families whose names start so."""
         self.r = random.Random(seed)
-        self.families = [
+        families = [
             (self.grids, 12), (self.turned_grids, 10), (self.lattice, 14), (self.near_nodes, 14), (self.t_junctions, 8), (self.colinear, 8),
             (self.concave, 7), (self.touching, 6), (self.twice, 6), (self.collapsing, 5), (self.islands, 4), (self.unmerged, 8),
             (self.lines, 16), (self.ditches, 8), (self.repeated_lines, 6), (self.fans, 5), (self.mixed, 5), (self.empty, 1),
-            (self.large, 1), (self.crowded, 1)]
+            (self.large, 1), (self.crowded, 1), (self.traced_banks, 4), (self.traced_lines, 4), (self.traced_cells, 3), (self.traced_hair, 3),
+            (self.traced_sides, 2), (self.traced_folds, 2)]
+        self.families = [(f, w) for f, w in families if f.__name__.startswith(only)]
 
     # ---- parts
 
@@ -466,6 +469,163 @@ class Made:
     def empty(self):
         op, s, c = self.r.choice([self.grids, self.lattice, self.lines])()
         return (op, Mesh(), c) if self.r.random() < 0.5 else (op, s, Mesh())
+
+    # ---- boundaries traced twice
+
+    def boundary(self, nx, ny):
+        """A path over a grid's nodes from its left to its right side, or from outside to outside; straight runs are likely."""
+        y, step = float(self.r.randint(0, ny)), 0.0
+        out = [(-1.0, y)] if self.r.random() < 0.4 else []
+        for x in range(nx + 1):
+            out.append((float(x), y))
+            step = step if self.r.random() < 0.6 else self.r.choice([-1.0, 0.0, 0.0, 1.0])
+            y = min(float(ny), max(0.0, y + step))
+        return out + ([(nx + 1.0, out[-1][1])] if self.r.random() < 0.4 else [])
+
+    def traced(self, path):
+        """The path once more: some nodes left out, most of them in straight runs, or some put in between."""
+        out = list(path)
+        for i in reversed(range(1, len(out) - 1)):
+            (a, b), (x, y), (u, v) = out[i - 1:i + 2]
+            straight = (x - a) * (v - y) == (y - b) * (u - x)
+            if self.r.random() < (0.5 if straight else 0.05):
+                del out[i]
+        if self.r.random() < 0.2:
+            i = self.r.randrange(1, len(out))
+            t = self.r.choice([0.5, 0.25, self.r.random()])
+            out.insert(i, tuple(a + t * (b - a) for a, b in zip(out[i - 1], out[i])))
+        return out
+
+    def shaken(self, points, size):
+        """Each point moved by about this much, some of them not."""
+        def moved(p):
+            if size == 0.0 or self.r.random() < 0.3:
+                return p
+            a = self.r.choice([self.r.random() * math.tau, 0.0, math.pi / 2, math.pi, -math.pi / 2])
+            return (p[0] + size * math.cos(a), p[1] + size * math.sin(a))
+        return [moved(p) for p in points]
+
+    def under(self, nx, ny):
+        """What a boundary runs over: a grid, the grid's cells with nodes of their own, or its rim as one cell with all of the rim's nodes."""
+        m = self.grid(nx, ny)
+        way = self.r.random()
+        if way < 0.5:
+            return self.some_cells(m)
+        if way < 0.7:
+            return self.apart([[m.nodes[i] for i in c] for _, _, c in m.cells])
+        rim = [(float(i), 0.0) for i in range(nx)] + [(float(nx), float(j)) for j in range(ny)]
+        return self.apart([rim + [(nx - x, ny - y) for x, y in rim]])
+
+    def either(self, s, c):
+        return (None, s, c) if self.r.random() < 0.7 else (None, c, s)
+
+    def traced_banks(self):
+        """Two soils on both sides of a boundary that runs over the subject's nodes, each with the boundary as traced for it."""
+        nx, ny = self.r.randint(1, 4), self.r.randint(1, 3)
+        path = self.boundary(nx, ny)
+        size = self.r.choice([0.0, 0.0, 0.0, 1e-13, 3e-13, 1e-12, 1e-9, 1e-8])
+        low, high = (self.shaken(self.traced(path), size) for _ in range(2))
+        low = [(-1.0, -1.0), (nx + 1.0, -1.0)] + low[::-1]
+        high = high + [(nx + 1.0, ny + 1.0), (-1.0, ny + 1.0)]
+        make = self.merged if self.r.random() < 0.4 else self.apart
+        return self.either(self.under(nx, ny), make(self.r.sample([low, high], 2)))
+
+    def traced_lines(self):
+        """A boundary as lines, more than once: whole or in part, either way round, by the same nodes, by new ones there or beside them."""
+        nx, ny = self.r.randint(1, 4), self.r.randint(1, 3)
+        path = self.boundary(nx, ny)
+        size = self.r.choice([0.0, 0.0, 1e-13, 1e-12, 1e-9])
+        c, at = Mesh(), {}
+        for _ in range(self.r.randint(2, 4)):
+            p = self.traced(path)
+            if self.r.random() < 0.3:
+                i = self.r.randrange(len(p) - 1)
+                p = p[i:self.r.randint(i + 2, len(p))]
+            own = self.r.random() < 0.5
+            if own:
+                ids = [c.node(*v) for v in self.shaken(p, size)]
+            else:
+                at.update((v, c.node(*v)) for v in p if v not in at)
+                ids = [at[v] for v in p]
+            back = self.r.random() < 0.5
+            for a, b in zip(ids, ids[1:]):
+                c.cell(LINE, [b, a] if back else [a, b])
+        return 5, self.under(nx, ny), c
+
+    def traced_cells(self):
+        """The same cell more than once, by the same nodes or its own, turned round or started elsewhere; its corners are mostly the subject's nodes."""
+        nx, ny = self.r.randint(1, 3), self.r.randint(1, 3)
+        places = [(float(i), float(j)) for i in range(-1, nx + 2) for j in range(-1, ny + 2)]
+        c = Mesh()
+        for _ in range(self.r.randint(1, 2)):
+            p = self.r.sample(places, self.r.randint(3, 6))
+            x, y = sum(v[0] for v in p) / len(p), sum(v[1] for v in p) / len(p)
+            p.sort(key=lambda v: math.atan2(v[1] - y, v[0] - x))
+            if self.r.random() < 0.3:
+                p = [(a + self.r.choice([0.0, 0.5]), b) for a, b in p]
+            size = self.r.choice([0.0, 0.0, 0.0, 1e-13, 1e-12, 1e-10])
+            ids = [c.node(*v) for v in p]
+            for k in range(self.r.randint(2, 3)):
+                if k and self.r.random() < 0.5:
+                    ids = [c.node(*v) for v in self.shaken(p, size)]
+                i = self.r.randrange(len(ids)) if k else 0
+                again = ids[i:] + ids[:i]
+                c.cell(self.kind(len(again)), again[::-1] if k and self.r.random() < 0.2 else again)
+        return self.either(self.under(nx, ny), c)
+
+    def traced_hair(self):
+        """Two outlines of a boundary that leave each other by a hair, cross, and come together at the subject's nodes."""
+        nx, ny = self.r.randint(1, 3), self.r.randint(1, 2)
+        path = self.boundary(nx, ny)
+        size = self.r.choice([2e-12, 1e-11, 1e-10, 1e-9, 1e-8, 5e-8, 1e-7, 2e-7, 1e-6])
+
+        def side():
+            out = []
+            for a, b in zip(path, path[1:]):
+                out.append(a)
+                for t in sorted(self.r.choice([0.5, 0.25, self.r.random()]) for _ in range(self.r.randint(0, 2))):
+                    out.append((a[0] + t * (b[0] - a[0]), a[1] + t * (b[1] - a[1]) + size * self.r.choice([-1.0, 0.0, 1.0])))
+            return out + path[-1:]
+        low = [(-1.0, -1.0), (nx + 1.0, -1.0)] + side()[::-1]
+        return self.either(self.under(nx, ny), self.apart([low, side() + [(nx + 1.0, ny + 1.0), (-1.0, ny + 1.0)]]))
+
+    def traced_sides(self):
+        """Cutter cells with a side on the subject's edges, some too short to meet them, others from node to node, in part or beyond."""
+        nx, ny = self.r.randint(1, 3), self.r.randint(1, 3)
+        polygons = []
+        for _ in range(self.r.randint(1, 4)):
+            y, x = float(self.r.randint(0, ny)), self.r.randint(0, nx) + self.r.choice([0.0, 0.0, 0.5, self.r.random()])
+            d = self.r.choice([2.0 ** -26, 1e-9, 1e-8, 3e-8, 1e-7, 0.5, 1.0, 2.0, self.r.uniform(0.1, 3)])
+            up = self.r.choice([-1.0, -0.5, 0.25, 1.0])
+            p = [(x, y), (x + d, y), (x + d + self.r.choice([0.0, 0.5]), y + up), (x - self.r.choice([0.0, 0.5]), y + up)]
+            p = p if up > 0 else p[::-1]
+            polygons.append(p if self.r.random() < 0.5 else [(v, u) for u, v in p[::-1]])
+        polygons += [list(p) for p in self.r.sample(polygons, self.r.randint(0, 1))]
+        make = self.merged if self.r.random() < 0.5 else self.apart
+        return self.either(self.under(nx, ny), make(polygons))
+
+    def traced_folds(self):
+        """Outlines that may repeat: corners that weld onto one, sides that run back over others, there and back by nodes of their own."""
+        nx, ny = self.r.randint(1, 3), self.r.randint(1, 2)
+        polygons = []
+        for _ in range(self.r.randint(1, 2)):
+            places = [(float(self.r.randint(0, nx)), float(self.r.randint(0, ny))) for _ in range(self.r.randint(2, 5))]
+            way = self.r.random()
+            if way < 0.4:
+                # some corners come again, a little beside
+                p = [v for v in places for _ in range(self.r.choice([1, 1, 1, 2]))] + self.r.sample(places, self.r.randint(0, 2))
+                p = self.shaken(p, self.r.choice([2e-13, 6e-13, 1.5e-12]))
+            elif way < 0.7:
+                # along a side, and back in part
+                y, x = float(self.r.randint(0, ny)), float(self.r.randint(1, 2))
+                p = [(0.0, y), (x + 1.0, y), (x, y), (self.r.choice([x, x / 2, x + 1.0]), y + self.r.choice([1.0, 2.0, 0.5]))]
+            else:
+                p = self.boundary(nx, ny)
+                p = p + self.shaken(p[::-1][self.r.randint(0, 1):], self.r.choice([0.0, 1e-13, 1e-12]))
+            if len(p) > 2:
+                polygons.append(p)
+        s = self.under(nx, ny)
+        return (None, s, self.apart(polygons)) if self.r.random() < 0.6 else (None, self.apart(polygons), s)
 
     # ---- the form
 

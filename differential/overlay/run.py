@@ -1,13 +1,14 @@
 #!/usr/bin/env python3
 """The whole overlay against the published Rust, bit for bit. No network.
 
-    python3 differential/overlay/run.py [--overlays N] [--seed S] [--replay DIR]... [--show K] [--built DIR] [--later DIR] [--driver FILE]
+    python3 differential/overlay/run.py [--overlays N] [--seed S] [--only NAME] [--replay DIR]... [--show K] [--built DIR] [--later DIR] [--driver FILE]
 
-Builds the oracle (differential/oracle) into target/oracle, its copy that turns back and counts into target/oracle-02 and the driver over
-the proved library into target/overlays (or takes those given), asks both sides N made overlays (by default 120,000), the known refusals
-and the named inputs (DIR/*.in; differential/oracle/cases always), and says for each difference which cause it has. Where the Rust stops
-for want of a next dart, the answer is held to the copy's and to closing up (closing.py). The last line has the counts; the exit status is
-1 where one is unexplained."""
+Builds the oracle (differential/oracle) into target/oracle, its copy that goes on as document 02 says and counts into target/oracle-02 and
+the driver over the proved library into target/overlays (or takes those given), asks all sides N made overlays (by default 120,000; of the
+families whose names start with NAME), the known refusals and the named inputs (DIR/*.in; differential/oracle/cases always). Each refusal
+because of the state and each answer is held to the copy's, each accepted answer to closing up in every cell (closing.py). Where no cell's
+table is doubled in the Rust, the answer is also held to the published Rust's, and each difference gets its cause. The last line has the
+counts; the exit status is 1 where one is unexplained."""
 import argparse
 import collections
 import glob
@@ -23,7 +24,7 @@ ROOT = os.path.dirname(os.path.dirname(HERE))
 sys.path.insert(0, HERE)
 sys.dont_write_bytecode = True
 
-from closing import faults, looked_at, questions
+from closing import Told, faults, looked_at, pieces, questions
 from limits import known
 from made import Made, text
 
@@ -33,12 +34,15 @@ STOPPED = '(panic no next dart)\n'
 ORDER, ANGLES, BOTH = 'map order at equal projections', 'rounded angles', 'map order and rounded angles'
 CAUSES = [ORDER, ANGLES, BOTH]
 TURNED, ALIKE = 'turns back and closes up, where the Rust stops', 'stops alike (11)'
+DOUBLED, DOUBLED_11 = "doubled in the Rust's table; the copy's answer, and closes up", "doubled in the Rust's table; the copy stops alike (11)"
 MOST = 65536
 # What the copy of the Rust writes of an overlay, and of each of its cells.
-OVERLAY = re.compile(r'collected (\d+)\n((?:(?:copied )?cell \d+(?: doubled)?\noutline[\d ]*\n)*)')
-CELL = re.compile(r'(copied )?cell (\d+)( doubled)?\noutline([\d ]*)\n')
-REFUSED = {9: "refused 9: over 256 nodes under a key of the Rust's", 10: "refused 10: over 1,024 slots in the Rust's own table"}
-HIGHER = 'refused 8, explained at a higher limit'
+OVERLAY = re.compile(r'meetings (\d+) collected (\d+)\n((?:(?:copied )?cell \d+(?: doubled)?(?: repeats)?\noutline[\d ]*\n)*)')
+CELL = re.compile(r'(copied )?cell (\d+)( doubled)?( repeats)?\noutline([\d ]*)\n')
+REFUSED = {8: "refused 8: more meetings in the Rust's count, explained at a higher limit", 9: "refused 9: over 256 nodes under a key of the Rust's",
+           10: "refused 10: over 1,024 slots in the copy's table", 19: 'refused 19: the outline as cut repeats in the copy'}
+# An overlay as the copy tells of it: its answer, the meetings, the most nodes collected under one key, its cells in order.
+Later = collections.namedtuple('Later', 'answer meetings collected cells')
 
 
 class Sides:
@@ -73,25 +77,24 @@ class Sides:
         return self.take(self.start(side, forms))[0] if forms else []
 
     def later(self, forms):
-        """Of each form the answer of the copy that turns back, the most nodes collected under one key, and its cells in order: (copied,
-        slots, doubled, outline)."""
+        """What the copy that goes on as document 02 says tells of each form."""
         if not forms:
             return []
         answers, told = self.take(self.start('later', forms))
         told = OVERLAY.findall(told)
         if len(told) != len(forms):
             sys.exit('counts of %d overlays for %d forms' % (len(told), len(forms)))
-        return [(a, int(n), [cell(*c) for c in CELL.findall(cells)]) for a, (n, cells) in zip(answers, told)]
+        return [Later(a, int(m), int(n), [cell(*c) for c in CELL.findall(cells)]) for a, (m, n, cells) in zip(answers, told)]
 
 
-def cell(copied, slots, doubled, outline):
+def cell(copied, slots, doubled, repeats, outline):
     nodes = list(map(int, outline.split()))
-    return bool(copied), int(slots), bool(doubled), list(zip(nodes[::2], nodes[1::2]))
+    return Told(bool(copied), int(slots), bool(doubled), bool(repeats), list(zip(nodes[::2], nodes[1::2])))
 
 
 def same(ours, rust, law, later):
-    """The Rust's answer is ours; or it stops for want of a next dart with document 01's orders too, and the copy that turns back gives
-    ours: 11 where that stops as well."""
+    """The Rust's answer is ours; or it stops for want of a next dart with document 01's orders too, and the copy gives ours: 11 where that
+    stops as well."""
     return ours == (rust if rust != STOPPED or law != STOPPED else '(refused 11)\n' if later == STOPPED else later)
 
 
@@ -124,14 +127,26 @@ def explained(sides, forms, ours, rust, later):
     return out
 
 
-def closed(sides, forms):
-    """Of each form whether its answer closes up, in every cell that isn't doubled."""
+def closed(sides, forms, told):
+    """Of each form, and what the copy tells of it, whether its answer closes up in every cell, and whether the Rust, where a cell is doubled and
+    it finishes, gives the other cells the same pieces."""
     asked = [questions(form) for form in forms]
-    flat = [q for qs in asked for q in qs]
-    later = sides.later(flat)
+    flat = [(q, later.cells) for qs, later in zip(asked, told) for q in qs]
     sides.compared['answers held to closing up'] += len(forms)
-    sides.compared['cells of these that are not doubled'] += sum(len(looked_at(q, cells)) for q, (_, _, cells) in zip(flat, later))
-    wrong = iter([faults(q, a, cells) for q, a, (_, _, cells) in zip(flat, sides.ask('ours', flat), later)])
+    for q, cells in flat:
+        for _, c in looked_at(q, cells):
+            sides.compared['cells of these'] += 1
+            sides.compared['of these doubled in the Rust'] += c.doubled
+    ours = sides.ask('ours', [q for q, _ in flat])
+    wrong = [bool(faults(q, a, cells)) for (q, cells), a in zip(flat, ours)]
+    beside = [i for i, (_, cells) in enumerate(flat) if any(c.doubled for c in cells)]
+    for i, law in zip(beside, sides.ask('oracle-law', [flat[i][0] for i in beside])):
+        if law != STOPPED:
+            a, b = pieces(ours[i]), pieces(law)
+            single = [n for n, c in looked_at(*flat[i]) if not c.doubled]
+            sides.compared['cells beside a doubled one, held to the Rust'] += len(single)
+            wrong[i] = wrong[i] or any(a[n] != b[n] for n in single)
+    wrong = iter(wrong)
     return [not any([next(wrong) for _ in qs]) for qs in asked]
 
 
@@ -140,61 +155,73 @@ def code(answer):
     return int(answer[9:-2]) if answer.startswith('(refused') else 0
 
 
-def counted(sides, later, ours, doubled):
-    """For each form what the copy that turns back, and its tables, say of our answer: a refusal 9 or 10 explained, that it is unexplained,
-    or nothing. An answer of ours is the copy's, whatever the published Rust gives.
+def limit(form):
+    return int(form[:form.index('\n')].split()[2])
 
-    The Rust goes on where we refuse, so 9, looked at before any cell is cut, comes before 10; and its copy stops where we refuse 11, so a
-    table that it tells of was made before that."""
+
+def wanted(form, later):
+    """The refusal that the copy's counts and its stop give, the first one in the order of module 7; 0 where there is none. The copy goes on
+    but for 11, in the last cell that it tells of, so what it tells of a cell holds before its walk."""
+    if later.meetings > limit(form):
+        return 8
+    if later.collected > 256:
+        return 9
+    for c in later.cells:
+        if c.repeats or c.slots > 1024:
+            return 19 if c.repeats else 10
+    return 11 if later.answer == STOPPED else 0
+
+
+def counted(sides, forms, later, ours, rust, third):
+    """For each form what the copy says of our answer: a refusal explained, that the published table is doubled, that it is unexplained, or
+    nothing: then the published Rust is the measure as well."""
     out = []
-    for a, n, (answer, collected, cells) in zip(ours, doubled, later):
-        crowded = max((c[1] for c in cells), default=0) > 1024
-        want = 9 if collected > 256 else 10 if crowded else None
-        got = code(a)
+    for form, told, a, r, n in zip(forms, later, ours, rust, third):
+        want, got = wanted(form, told), code(a)
+        doubled = sum(c.doubled for c in told.cells)
         sides.compared['overlays'] += 1
-        if got in (9, 10) or want and got != 8:
-            out.append(REFUSED[want] if want == got else 'unexplained')
+        sides.compared['overlays with a doubled cell'] += doubled > 0
+        if want != got or n or not got and a != told.answer:
+            out.append('unexplained')
             continue
         if not got:
-            told = [c for c in cells if c[2]]
             sides.compared['accepted'] += 1
-            sides.compared['cells'] += len(cells)
-            sides.compared['doubled, cut'] += sum(not c[0] for c in told)
-            sides.compared['doubled, copied'] += sum(c[0] for c in told)
-            if len(told) != n or a != answer:
-                out.append('unexplained')
-                continue
-        out.append(None)
+            sides.compared['cells'] += len(told.cells)
+            sides.compared['accepted with a doubled cell'] += doubled > 0
+            sides.compared['doubled, cut'] += sum(c.doubled and not c.copied for c in told.cells)
+            sides.compared['doubled, copied'] += sum(c.doubled and c.copied for c in told.cells)
+            sides.compared['accepted with a doubled cell, the Rust lists the same'] += doubled > 0 and a == r
+        out.append(REFUSED.get(got) or ((DOUBLED_11 if got else DOUBLED) if doubled else None))
     return out
 
 
 def compared(sides, forms):
-    """Each form's verdict: equal, stops alike, turns back, a cause, a refusal with its explanation, or unexplained."""
+    """Each form's verdict: equal, stops alike, turns back, a cause, doubled, a refusal with its explanation, or unexplained."""
     jobs = sides.start('oracle', forms), sides.start('ours', forms)
-    (rust, _), (ours, told) = map(sides.take, jobs)
-    doubled = list(map(int, told.split()))
+    (rust, _), (ours, third) = map(sides.take, jobs)
     later = sides.later(forms)
-    verdict = counted(sides, later, ours, doubled)
+    verdict = counted(sides, forms, later, ours, rust, map(int, third.split()))
     verdict = [v or ('equal' if a == b else None) for v, a, b in zip(verdict, ours, rust)]
-    # beyond the limit of meetings: with the largest limit the answer must be the Rust's, or differ from it by one of the causes
-    over = [i for i, v in enumerate(verdict) if v is None and code(ours[i]) == 8]
+    # beyond the limit of meetings: with the largest limit the answer must be explained as well
+    over = [i for i, v in enumerate(verdict) if v == REFUSED[8]]
     if over:
         for i, row in zip(over, compared(sides, [raised(forms[i]) for i in over])):
-            verdict[i] = 'unexplained' if row[3] in ('unexplained', HIGHER) else HIGHER
+            verdict[i] = 'unexplained' if row[3] in ('unexplained', REFUSED[8]) else REFUSED[8]
     left = [i for i, v in enumerate(verdict) if v is None]
-    rows = ([r[i] for i in left] for r in (forms, ours, rust, [a for a, _, _ in later]))
+    rows = ([r[i] for i in left] for r in (forms, ours, rust, [told.answer for told in later]))
     for i, why in zip(left, explained(sides, *rows)):
         verdict[i] = why
-    # what the Rust doesn't finish, under a cause or not
-    turned = [i for i, v in enumerate(verdict) if rust[i] == STOPPED and v in [TURNED] + CAUSES and not code(ours[i])]
-    for i, good in zip(turned, closed(sides, [forms[i] for i in turned])):
+    accepted = [i for i, v in enumerate(verdict) if v != 'unexplained' and not code(ours[i])]
+    for i, good in zip(accepted, closed(sides, [forms[i] for i in accepted], [later[i] for i in accepted])):
         verdict[i] = verdict[i] if good else 'unexplained'
-    return list(zip(forms, ours, rust, verdict, doubled))
+    return list(zip(forms, ours, rust, verdict))
 
 
 def show(title, row, sides):
-    form, ours, rust, why, _ = row
-    print('---- %s: %s\n%sours: %srust: %slaw: %s' % (title, why, form, ours, rust, sides.ask('oracle-law', [form])[0]))
+    form, ours, rust, why = row
+    told = sides.later([form])[0]
+    print('---- %s: %s\n%sours: %srust: %slaw: %scopy (wanted %d): %s' % (
+        title, why, form, ours, rust, sides.ask('oracle-law', [form])[0], wanted(form, told), told.answer))
 
 
 def table(counts, verdicts):
@@ -206,7 +233,7 @@ def table(counts, verdicts):
 
 
 def made_overlays(a, sides, shown):
-    made = Made(a.seed)
+    made = Made(a.seed, a.only)
     counts = collections.defaultdict(collections.Counter)
     ops = collections.defaultdict(collections.Counter)
     scales, reached = collections.Counter(), collections.Counter()
@@ -216,17 +243,16 @@ def made_overlays(a, sides, shown):
         forms = [text(*row[2:]) for row in rows]
         done += len(rows)
         for (family, scale, op, _, s, c), row in zip(rows, compared(sides, forms)):
-            _, ours, _, why, doubled = row
+            _, ours, _, why = row
             counts[family][why] += 1
             scales[scale] += 1
             ops['operation %d' % op][why] += 1
             if ours.startswith('(overlay'):
-                pieces, points = map(int, re.search(r'\(count (\d+) (\d+)\)', ours).groups())
-                reached['pieces'] += pieces
+                listed, points = map(int, re.search(r'\(count (\d+) (\d+)\)', ours).groups())
+                reached['pieces'] += listed
                 reached['new points'] += points
-                reached['doubled cells'] += doubled
                 reached['overlays with a new point'] += points > 0
-                reached['overlays without a piece'] += pieces == 0
+                reached['overlays without a piece'] += listed == 0
             if why == 'unexplained' and len(shown) < a.show:
                 shown.append((family + ', ' + scale, row))
     return counts, scales, ops, reached
@@ -241,9 +267,9 @@ def known_refusals(sides, shown):
         if got != want:
             bad += 1
             print('known refusal: %s: %d in the place of %d' % (name, got, want))
-    asked = [(form, want) for _, form, want in rows if want in (0, 9, 10)]
+    asked = [(form, want) for _, form, want in rows if want in (0, 8, 9, 10, 19)]
     for (_, want), row in zip(asked, compared(sides, [form for form, _ in asked])):
-        if row[3] != REFUSED.get(want, 'equal'):
+        if row[3] not in ((REFUSED[want],) if want else ('equal', DOUBLED)):
             bad += 1
             shown.append(('limit', row))
     return collections.Counter(codes), bad
@@ -285,6 +311,7 @@ def main():
     p = argparse.ArgumentParser()
     p.add_argument('--overlays', type=int, default=120000)
     p.add_argument('--seed', type=int, default=1)
+    p.add_argument('--only', default='')
     p.add_argument('--replay', action='append', default=[])
     p.add_argument('--show', type=int, default=3)
     p.add_argument('--built')
@@ -316,8 +343,9 @@ def main():
     left = n['unexplained'] + bad + named['unexplained']
     print('%d made overlays in %.0f s, %d equal, %d turn back and close up, %d stop alike (11), %s, ' % (
         a.overlays, seconds, n['equal'], n[TURNED], n[ALIKE], ', '.join('%d %s' % (n[c], c) for c in CAUSES)), end='')
-    print('%d refused 8, %d refused 9, %d refused 10, %d known refusals and limits, %d named inputs, %d unexplained' % (
-        n[HIGHER], n[REFUSED[9]], n[REFUSED[10]], sum(codes.values()), sum(named.values()), left))
+    print('%d doubled in the Rust, %d of them 11, %s, %d known refusals and limits, %d named inputs, %d unexplained' % (
+        n[DOUBLED] + n[DOUBLED_11], n[DOUBLED_11], ', '.join('%d refused %d' % (n[REFUSED[c]], c) for c in REFUSED), sum(codes.values()),
+        sum(named.values()), left))
     return 1 if left else 0
 
 

@@ -1,5 +1,5 @@
 //! Reads the program's forms from standard input, one after another, overlays each by the proved library and prints what `oracle count`
-//! prints: pieces regrouped by kind, `(count pieces newpoints)`; or `(refused N)`. Standard error has each form's count of doubled cells.
+//! prints: pieces regrouped by kind, `(count pieces newpoints)`; or `(refused N)`. Standard error has each form's third count.
 use daqwimay::{Mesh, Operation, Overlay, Overlayer};
 use std::fmt::Write as _;
 use std::io::{Read, Write as _};
