@@ -1,20 +1,25 @@
 #!/usr/bin/env python3
-"""draw.py [FILE...] > picture.svg: draws the program's inputs and answers side by side; `-` or no file is standard input.
+"""draw.py [[TITLE=]FILE...] > picture.svg: draws the program's inputs and answers side by side; `-` or no file is standard input.
 
 Cells are coloured by family and pieces outlined, y upwards. Of an input the subject's cells are filled and the cutter's outlines
-dashed; of an answer the new points are dots, and edges that a piece walks both ways, as a ditch that ends inside a cell, are heavy. A
-text that is neither gives a message and exit status 1.
+dashed; of an answer the new points are dots, and edges that a piece walks both ways, as a ditch that ends inside a cell, are heavy. An
+answer may also be a listing of differential/oracle with its two counts. TITLE stands in the place of "before" or "after", and an answer
+with a title has the cells of the input before it as thin outlines, so that what is missing shows. A text that is neither gives a message
+and exit status 1.
 """
 import math
+import os
 import re
 import struct
 import sys
 from html import escape
+from typing import NamedTuple
 
 COLOURS = '#e8cf92 #d49a74 #9ecbe0 #b9d38f #b09bc8 #e3a9ae #8fc1ab #c9c3b4 #a8b5dd #d8b0d0'.split()
-LINE, DASH, DOT, TEXT = '#3a3a3a', '#1f5f9f', '#c8322b', '#222222'
+LINE, DASH, DOT, TEXT, THIN = '#3a3a3a', '#1f5f9f', '#c8322b', '#222222', '#9a9a9a'
 WIDTH, HEIGHT, LEAST, GAP, HEAD, FOOT = 440, 340, 250, 28, 34, 40
 NUMBER = r' (\d{1,10})'
+INPUT = rf'\(overlay{NUMBER}{NUMBER}'
 
 
 class Malformed(Exception):
@@ -29,9 +34,19 @@ class Mesh:
         self.cells = []
 
 
+class Panel(NamedTuple):
+    """Cells to fill, outlines to dash, points to dot; thin outlines below them."""
+
+    title: str
+    filled: Mesh
+    dashed: Mesh
+    points: list
+    thin: Mesh
+
+
 class Reader:
-    def __init__(self, name, text):
-        self.name, self.lines, self.at = name, text.splitlines(), 0
+    def __init__(self, name, text, title=''):
+        self.name, self.lines, self.at, self.title = name, text.splitlines(), 0, title
 
     def fail(self, what):
         raise Malformed(f'{self.name}, line {self.at + 1}: {what}')
@@ -65,24 +80,26 @@ class Reader:
         self.need(r'\)', 'a mesh\'s `)`')
         return mesh
 
-    def panel(self):
-        """(title, cells to fill, outlines to dash, points to dot)"""
+    def is_input(self):
+        return bool(re.fullmatch(INPUT, self.lines[0]))
+
+    def panel(self, thin):
         if not self.lines:
             self.fail('nothing to draw')
-        if m := self.match(rf'\(overlay{NUMBER}{NUMBER}'):
+        if self.match(INPUT):
             subject, cutter = self.mesh(), self.mesh()
-            title = f'before: {count(len(subject.cells), "cell")}, cut by {len(cutter.cells)}'
-            panel = title, subject, cutter, []
+            title = f'{self.title or "before"}: {count(len(subject.cells), "cell")}, cut by {len(cutter.cells)}'
+            panel = Panel(title, subject, cutter, [], Mesh())
         elif self.match(r'\(overlay'):
             mesh = self.body()
-            m = self.need(rf'\(count{NUMBER}{NUMBER}{NUMBER}\)', '`(count`')
-            pieces, points, doubled = map(int, m.groups())
+            m = self.need(rf'\(count{NUMBER}{NUMBER}(?:{NUMBER})?\)', '`(count`')
+            pieces, points, doubled = (int(n or 0) for n in m.groups())
             if pieces != len(mesh.cells) or points > len(mesh.nodes):
                 self.fail('the counts are not those of the listing')
-            title = f'after: {count(pieces, "piece")}, {count(points, "new point")}'
-            if doubled:
+            title = f'{self.title or "after"}: {count(pieces, "piece")}, {count(points, "new point")}'
+            if doubled:     # a listing from before W14
                 title += f', {count(doubled, "doubled cell")}'
-            panel = title, mesh, Mesh(), mesh.nodes[len(mesh.nodes) - points:]
+            panel = Panel(title, mesh, Mesh(), mesh.nodes[len(mesh.nodes) - points:], thin if self.title else Mesh())
         else:
             self.fail(f'nothing to draw: {self.lines[0][:60]}')
         self.need(r'\)', 'the last `)`')
@@ -97,8 +114,12 @@ def count(n, word):
 
 def used(panel):
     """The places that a panel draws."""
-    _, filled, dashed, points = panel
-    return [m.nodes[c] for m in (filled, dashed) for _, corners in m.cells for c in corners] + points
+    return [m.nodes[c] for m in (panel.filled, panel.dashed, panel.thin) for _, corners in m.cells for c in corners] + panel.points
+
+
+def edges(mesh):
+    """Each edge of a mesh once."""
+    return sorted({tuple(sorted(e)) for _, corners in mesh.cells for e in ring(corners)})
 
 
 def ring(corners):
@@ -107,7 +128,7 @@ def ring(corners):
 
 def ditches(panel):
     """The edges that one piece walks both ways."""
-    return sorted({(a, b) for _, corners in panel[1].cells for a, b in ring(corners) if a < b and (b, a) in ring(corners)})
+    return sorted({(a, b) for _, corners in panel.filled.cells for a, b in ring(corners) if a < b and (b, a) in ring(corners)})
 
 
 class Frame:
@@ -130,14 +151,16 @@ class Frame:
 
 
 def drawn(panel, frame, colour):
-    title, filled, dashed, points = panel
+    title, filled, dashed, points, thin = panel
     yield f'<text x="0" y="-12">{escape(title)}</text>'
+    for edge in edges(thin):
+        yield f'<path d="{frame.line(thin, edge)}" stroke="{THIN}" stroke-width="0.8"/>'
     for family, corners in filled.cells:
         path = ' '.join(frame.place(filled.nodes[c]) for c in corners)
         yield f'<polygon points="{path}" fill="{colour[family]}" stroke="{LINE}" stroke-width="1"/>'
     for edge in ditches(panel):
         yield f'<path d="{frame.line(filled, edge)}" stroke="{DASH}" stroke-width="2.6"/>'
-    for edge in sorted({tuple(sorted(e)) for _, corners in dashed.cells for e in ring(corners)}):
+    for edge in edges(dashed):
         yield f'<path d="{frame.line(dashed, edge)}" stroke="{DASH}" stroke-width="1.3" stroke-dasharray="5 3"/>'
     for p in points:
         x, y = frame.place(p).split(',')
@@ -164,7 +187,7 @@ def legend(families, colour, dashed, dots, twice):
 
 
 def picture(panels):
-    families = sorted({f for p in panels for f, _ in p[1].cells})
+    families = sorted({f for p in panels for f, _ in p.filled.cells})
     colour = {f: COLOURS[i % len(COLOURS)] for i, f in enumerate(families)}
     frame = Frame([q for p in panels for q in used(p)])
     step = round(frame.width) + GAP
@@ -177,21 +200,26 @@ def picture(panels):
         yield from drawn(panel, frame, colour)
         yield '</g>'
     yield f'<g transform="translate({GAP} {HEAD + frame.height + 22:.0f})">'
-    yield from legend(families, colour, any(p[2].cells for p in panels), any(p[3] for p in panels), any(map(ditches, panels)))
+    yield from legend(families, colour, any(p.dashed.cells for p in panels), any(p.points for p in panels), any(map(ditches, panels)))
     yield '</g>'
     yield '</svg>'
 
 
-def read(name):
+def read(argument):
+    title, _, name = ('', '', argument) if os.path.exists(argument) else argument.rpartition('=')
     if name == '-':
-        return Reader('standard input', sys.stdin.buffer.read().decode('ascii'))
+        return Reader('standard input', sys.stdin.buffer.read().decode('ascii'), title)
     with open(name, 'rb') as f:
-        return Reader(name, f.read().decode('ascii'))
+        return Reader(name, f.read().decode('ascii'), title)
 
 
 def main():
+    panels, cells = [], Mesh()
     try:
-        panels = [read(name).panel() for name in sys.argv[1:] or ['-']]
+        for argument in sys.argv[1:] or ['-']:
+            reader = read(argument)
+            panels.append(reader.panel(cells))
+            cells = panels[-1].filled if reader.is_input() else cells
     except (Malformed, OSError, UnicodeDecodeError) as e:
         sys.exit(f'draw.py: {e}')
     print('\n'.join(picture(panels)))

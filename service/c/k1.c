@@ -29,6 +29,6 @@ int main(void)
             printf(" (%g, %g)", coords[2 * out[at]], coords[2 * out[at] + 1]);
         printf("\n");
     }
-    printf("%u pieces, %u new points, %u doubled cells\n", (unsigned)counts[0], (unsigned)counts[1], (unsigned)counts[2]);
+    printf("%u pieces, %u new points\n", (unsigned)counts[0], (unsigned)counts[1]);
     return 0;
 }

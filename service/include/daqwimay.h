@@ -22,7 +22,7 @@ enum {
 /* Kinds of cells. In a mesh they don't fall from one cell to the next. */
 enum { DAQWIMAY_SEG2 = 1, DAQWIMAY_TRI3 = 5, DAQWIMAY_QUAD4 = 8, DAQWIMAY_PGON = 11 };
 
-/* Answers. At 1 to 7 every list keeps its content; at 8 to 12 the output lists and the working list are all zero. */
+/* Answers. At 1 to 7 every list keeps its content; at the others but 0 the output lists and the working list are all zero. */
 enum {
     DAQWIMAY_DONE = 0,
     DAQWIMAY_BAD_OPERATION = 1,       /* operation above 5, or meeting limit outside 1..65,536 */
@@ -36,7 +36,8 @@ enum {
     DAQWIMAY_CROWDED_EDGE = 9,        /* over 256 nodes collected on one edge */
     DAQWIMAY_CROWDED_CELL = 10,       /* over 1,024 slots in a cell's table */
     DAQWIMAY_OPEN_CELL = 11,          /* a cell whose outline doesn't lead round once cut: a node a hair beside a corner, not on it */
-    DAQWIMAY_FULL_OUTPUT = 12         /* no place in an output list */
+    DAQWIMAY_FULL_OUTPUT = 12,        /* no place in an output list */
+    DAQWIMAY_FOLDED_CELL = 19         /* a cell whose outline runs along itself once cut: corners so close that they became one node, a spike */
 };
 
 /* Numbers in the working list, at least: of the nodes and the node entries of both meshes, and the meeting limit. */
@@ -49,7 +50,8 @@ enum {
  *   ends      where each cell's node numbers end
  *   kinds, families   one for each cell
  * The output's coordinates are those of the subject, of the cutter, then the new points: 2 x (nodes + limit) numbers always suffice.
- * counts: pieces, new points and doubled cells, where it has three places (0 at a refusal); kept as it is otherwise.
+ * counts: pieces, new points and 0, where it has three places (all 0 at a refusal); kept as it is otherwise. The third was the count of
+ * doubled cells: there are none any more, and it stays for readers of old listings.
  *
  * Addresses are aligned and not null, and no written list overlaps another. Nothing else is asked of the caller: any content is
  * answered. The call keeps nothing, allocates nothing and may run in many threads at once.

@@ -238,6 +238,55 @@ fn row(first: &str, op: u32, n: usize) {
     );
 }
 
+/// A comb of so many teeth, counterclockwise; `folded`: its last tooth is a spike, there and back at x = 1, where the bars have nodes.
+fn comb(teeth: usize, folded: bool) -> Mesh {
+    let mut m = Mesh::default();
+    m.coords.extend([0.0, -1.0, 2.0 * teeth as f64, -1.0]);
+    for i in (0..teeth).rev() {
+        let x = 2.0 * i as f64;
+        let thin = if folded && i == 0 { 0.0 } else { 0.5 };
+        m.coords.extend([x + 1.0 + thin, 0.0, x + 1.0, 10.0]);
+        if thin == 0.0 {
+            m.coords.extend([x + 1.0, 0.0]);
+        }
+    }
+    m.nodes.extend(0..(m.coords.len() / 2) as u32);
+    m.ends.push(m.nodes.len() as u32);
+    m.kinds.push(11);
+    m.families.push(1);
+    m
+}
+
+/// So many flat cells across all teeth of a comb.
+fn bars(teeth: usize, n: usize) -> Mesh {
+    let mut m = Mesh::default();
+    for i in 0..n {
+        let (low, high) = (1.0 + 8.0 * i as f64 / n as f64, 1.0 + 8.0 * (i as f64 + 0.5) / n as f64);
+        let (left, right) = (-1.0, 2.0 * teeth as f64 + 1.0);
+        let at = m.coords.len() as u32 / 2;
+        m.coords.extend([left, low, 1.0, low, right, low, right, high, 1.0, high, left, high]);
+        m.nodes.extend(at..at + 6);
+        m.ends.push(m.nodes.len() as u32);
+        m.kinds.push(11);
+        m.families.push(0);
+    }
+    m
+}
+
+/// An outline as cut that has too many darts for the table: the refusal, the time of the call and its stack.
+fn outline_row(teeth: usize, n: usize, folded: bool) {
+    let (s, c) = (comb(teeth, folded), bars(teeth, n));
+    let corners = s.coords.len() / 2;
+    let mut l = lists(&s, &c);
+    let mut code = 0;
+    let stack = stack_of(|| code = ours(0, &s, &c, &mut l));
+    assert_eq!(code, if folded { 19 } else { 10 });
+    let t = timed(&mut [&mut || {
+        std::hint::black_box(ours(0, &s, &c, &mut l));
+    }]);
+    println!("| {corners} | {n} | {} | {code} | {} | {stack} |", corners + 4 * teeth * n, milliseconds(t[0]));
+}
+
 fn table(first: &str) {
     println!("| {first} | cells, each mesh | pieces | new points | Rattle ms | Rust ms | Rust ms, grid index | to Rust | to Rust, grid index | stack bytes |");
     println!("|---|---|---|---|---|---|---|---|---|---|");
@@ -269,5 +318,11 @@ fn main() {
     table("operation");
     for (op, name) in ["Imprint", "Union", "Intersection", "Difference", "symmetric difference"].iter().enumerate() {
         row(name, op as u32, 50);
+    }
+    println!("\nA comb and bars across its teeth, Imprint: an outline of over 512 darts, which is refused.\n");
+    println!("| corners | bars | outline darts | refusal | Rattle ms | stack bytes |");
+    println!("|---|---|---|---|---|---|");
+    for (n, folded) in [(1, false), (1, true), (16, false), (64, false), (64, true)] {
+        outline_row(126, n, folded);
     }
 }

@@ -135,7 +135,7 @@ def test_explain_tells_by_words_and_status(tmp_path):
     (tmp_path / 'k1.out').write_text('(refused 11)\n')
     said = [(done.returncode, done.stdout) for done in (run('explain', *f, cwd=tmp_path) for f in (['k1.in'], ['bad.in'], ['refused.in'], ['k1.in', 'k1.out']))]
     assert [s for s, _ in said] == [0, 2, 1, 1]
-    assert said[0][1] == 'k1.in: answered: 2 pieces, 2 new points, 0 doubled cells\n'
+    assert said[0][1] == 'k1.in: answered: 2 pieces, 2 new points\n'
     assert '(unread): line 7:' in said[1][1] and 'a space too many' in said[1][1]
     assert 'refused 6 (repeated node)' in said[2][1] and 'k1.out is not the answer' in said[3][1]
     assert run('explain', '-', cwd=tmp_path, text=text).returncode == 0

@@ -74,6 +74,14 @@ def test_every_operation_on_cells(operation, families, areas):
     assert (pieces.new_points, pieces.doubled_cells) == (2, 0)
 
 
+def test_a_boundary_traced_twice_cuts_once():
+    """The row of cells of the README: the sum was right before, two cells were not."""
+    q = read_question((ROOT / 'examples' / 'traced.in').read_bytes())
+    pieces = overlay(q.subject, q.cutter, q.operation)
+    assert dict(zip(pieces.families.tolist(), pieces.areas().tolist())) == {2: 7750, 3: 10_000, 4: 10_000, 5: 2250}
+    assert (pieces.new_points, pieces.doubled_cells) == (0, 0)
+
+
 def test_lines():
     line = Mesh.from_cells([[1, -1], [1, 3]], [[0, 1]])
     assert line.kinds.tolist() == [Kind.SEG2]

@@ -4,7 +4,7 @@ import pickle
 import numpy as np
 import pytest
 
-from daqwimay import Kind, Mesh, REFUSALS, Refused, overlay
+from daqwimay import Kind, Mesh, REFUSALS, Refused, overlay, overlay_in_chunks
 from daqwimay._library import call
 from daqwimay.overlaying import output_lists, work_size
 from daqwimay.refusals import markdown
@@ -36,6 +36,18 @@ def beside_a_node():
             Mesh([[0, 0], [-1, 0], [-1, -1], [0, -1]], [0, 1, 2, 3], [4], [Kind.QUAD4], [1]), 4)
 
 
+def welded_corners():
+    """A triangle with two corners that become the square's first node."""
+    return SQUARE, Mesh([[5e-13, 0], [0, 5e-13], [-1, -1]], [0, 1, 2], [3], [Kind.TRI3], [1]), 1
+
+
+def spike():
+    """A cell with a spike, and a soil with a corner in it."""
+    xy = [[0, 0], [2, 0], [2, 1 - 1e-9], [3, 1], [2, 1 + 1e-9], [2, 2], [0, 2]]
+    return (Mesh(xy, np.arange(7), [7], [Kind.PGON], [7]),
+            Mesh([[2.5, 3], [2.5, 1], [2.5, -1], [5, 1]], [0, 1, 2, 3], [4], [Kind.PGON], [1]), 0)
+
+
 CASES = {
     1: [(SQUARE, NOTHING, 6), (SQUARE, NOTHING, -1)],
     2: [(square(ends=[3]), NOTHING, 0), (square(kinds=[8, 8]), NOTHING, 0),
@@ -49,6 +61,7 @@ CASES = {
     9: [(Mesh([[0, 0], [2, 0], [2, 2], [0, 2]], [0, 1, 2, 3], [4], [8], [7]), lines(257), 5)],
     10: [(SQUARE, lines(250), 5)],
     11: [beside_a_node()],
+    19: [welded_corners(), spike()],
 }
 
 
@@ -83,8 +96,15 @@ def test_lists_that_are_too_short(short, number):
         raise Refused(code)
 
 
+def test_a_folded_cell_is_named():
+    subject, cutter, operation = spike()
+    with pytest.raises(Refused, match=r'the cell of family 7, around \(1\.5, 1\)') as e:
+        overlay_in_chunks(subject, cutter, operation)
+    assert (e.value.number, e.value.family) == (19, 7)
+
+
 def test_every_refusal_has_words():
-    assert sorted(REFUSALS) == list(range(1, 13))
+    assert sorted(REFUSALS) == [*range(1, 13), 19]
     assert all(r.name and r.meaning and r.causes and r.cure for r in REFUSALS.values())
     assert markdown().count('\n') == 2 + len(REFUSALS)
 

@@ -19,13 +19,13 @@ fn main() -> Result<(), Refusal> {
         }
         println!();
     }
-    println!("{} pieces, {} new points, {} doubled cells", answer.mesh.ends.len(), answer.new_points, answer.doubled_cells);
+    println!("{} pieces, {} new points", answer.mesh.ends.len(), answer.new_points);
 
-    // A line that ends inside the square leaves a piece open.
-    let mut line = Mesh::default();
-    let ends = [line.add_node(1.0, -1.0), line.add_node(1.0, 1.0)];
-    line.add_cell(Kind::Seg2, 0, &ends);
-    if let Err(r) = overlay(Operation::Lines, &subject, &line) {
+    // Two corners so close to the square's first that both become it: the triangle's outline runs along itself.
+    let mut near = Mesh::default();
+    let corners = [[5e-13, 0.0], [0.0, 5e-13], [-1.0, -1.0]].map(|[x, y]| near.add_node(x, y));
+    near.add_cell(Kind::Tri3, 0, &corners);
+    if let Err(r) = overlay(Operation::Union, &subject, &near) {
         println!("refused, {}: {r}", r.number());
     }
     Ok(())

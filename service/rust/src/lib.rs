@@ -122,6 +122,7 @@ pub enum Refusal {
     CrowdedCell = 10,
     OpenCell = 11,
     FullOutput = 12,
+    FoldedCell = 19,
 }
 
 impl Refusal {
@@ -138,6 +139,7 @@ impl Refusal {
             9 => Refusal::CrowdedEdge,
             10 => Refusal::CrowdedCell,
             11 => Refusal::OpenCell,
+            19 => Refusal::FoldedCell,
             _ => Refusal::FullOutput,
         }
     }
@@ -167,6 +169,10 @@ impl std::fmt::Display for Refusal {
             Refusal::CrowdedCell => "over 1,024 slots in the table of one cell",
             Refusal::OpenCell => "the outline of a cell doesn't lead round once it is cut, as where a node lies a hair beside a corner and not on it",
             Refusal::FullOutput => "no place in an output list",
+            Refusal::FoldedCell => {
+                "the outline of a cell runs along itself once it is cut: corners so close that they became one node, or a spike; merge or \
+                 remove those corners"
+            }
         })
     }
 }
@@ -178,6 +184,7 @@ impl std::error::Error for Refusal {}
 pub struct Overlay {
     pub mesh: Mesh,
     pub new_points: u32,
+    /// Always 0: an edge is in a cell's table once. Kept for readers of old listings.
     pub doubled_cells: u32,
 }
 

@@ -83,6 +83,18 @@ fn a_ditch_that_ends_inside_is_walked_both_ways() {
     assert_eq!((o.new_points, o.doubled_cells), (1, 0));
 }
 
+/// The left sides of two soils lie on x = 1, where the cell has nodes.
+#[test]
+fn a_boundary_traced_twice_cuts_once() {
+    let cell = of_points(Kind::Pgon, [[2.0, 2.0], [1.0, 2.0], [0.0, 2.0], [0.0, 0.0], [1.0, 0.0], [2.0, 0.0]]);
+    let mut soil = one(Kind::Quad4, 1, [1.0, -1.0], [3.0, 3.0]);
+    rectangle(&mut soil, Kind::Quad4, 2, [1.0, -2.0], [4.0, 4.0]);
+    let o = overlay(Operation::Imprint, &cell, &soil).unwrap();
+    let pieces: Vec<_> = o.mesh.cells().map(|p| p.nodes.to_vec()).collect();
+    assert_eq!(pieces, [vec![5, 0, 1, 4], vec![4, 1, 2, 3]]);
+    assert_eq!((o.new_points, o.doubled_cells), (0, 0));
+}
+
 #[test]
 fn empty_meshes() {
     let none = Mesh::default();
@@ -113,8 +125,15 @@ fn refusals() {
     let corner = triangle([[-(2f64.powi(-27)), 0.0], [1.0, 0.0], [0.0, 1.0]]);
     assert_eq!(refused(Operation::Union, &corner, &triangle([[0.0, 0.0], [2.0, 0.0], [2.0, 2.0]])), Refusal::OpenCell);
     assert_eq!(refused(Operation::Intersection, &strips(60, true), &strips(60, false)), Refusal::CrowdedCell);
+    // corners that are welded onto one node; a spike of 2e-9 at its foot and a soil's corner in it, which both of its sides meet
+    assert_eq!(refused(Operation::Union, &s, &triangle([[5e-13, 0.0], [0.0, 5e-13], [-1.0, -1.0]])), Refusal::FoldedCell);
+    let spike = of_points(Kind::Pgon, [[0.0, 0.0], [2.0, 0.0], [2.0, 1.0 - 1e-9], [3.0, 1.0], [2.0, 1.0 + 1e-9], [2.0, 2.0], [0.0, 2.0]]);
+    let corner_in_it = of_points(Kind::Pgon, [[2.5, 3.0], [2.5, 1.0], [2.5, -1.0], [5.0, 1.0]]);
+    assert_eq!(refused(Operation::Imprint, &spike, &corner_in_it), Refusal::FoldedCell);
     assert_eq!(Refusal::CrowdedCell.number(), 10);
+    assert_eq!(Refusal::FoldedCell.number(), 19);
     assert!(Refusal::OpenCell.to_string().contains("doesn't lead round"));
+    assert!(Refusal::FoldedCell.to_string().contains("runs along itself"));
 }
 
 #[test]

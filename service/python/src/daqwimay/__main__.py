@@ -142,8 +142,6 @@ def _cut(options: argparse.Namespace) -> int:
         say(f'  cleaned: {change}')
     seconds = time.monotonic() - start
     say(f'{len(strips.pieces):,} pieces, {strips.pieces.new_points:,} new points ({seconds:.1f} s); every piece is simple and in one soil')
-    if strips.pieces.doubled_cells:
-        say(f'  {strips.pieces.doubled_cells:,} doubled cells; their areas are right')
     _say_areas(strips)
     _write(options, strips, made.same_crs(model, found))
     return 0

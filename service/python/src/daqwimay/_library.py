@@ -26,7 +26,7 @@ MESH_LISTS = (
     ListRecord('families', np.dtype(np.uint32), 'cell'),
 )
 OUTPUT_LISTS = MESH_LISTS
-COUNTS = 3          # pieces, new points, doubled cells
+COUNTS = 3          # pieces, new points, and 0, once the count of doubled cells
 
 _call = ctypes.CDLL(str(Path(__file__).with_name('libdaqwimay.so'))).daqwimay_overlay
 _call.restype = ctypes.c_uint32

@@ -22,8 +22,7 @@ def overlay_in_chunks(subject: Mesh, cutter: Mesh, operation: Union[Operation, s
 
     A chunk is lent with its rim: the earlier cells that have an edge in common with it. So each edge has the direction that it has in
     the whole mesh, and a point where two edges meet has the same bits in every chunk: points of equal bits are one node. Chunks are
-    halved where a limit of the library asks for it. A refused cell is named. `doubled_cells` counts a doubled cell of a rim once for
-    each chunk. `progress` is told how many cells are done, of how many.
+    halved where a limit of the library asks for it. A refused cell is named. `progress` is told how many cells are done, of how many.
 
     With `parts` a cell that is cut by too many edges (refusals 9 and 10) is cut in triangles first: its pieces end at their sides too, and
     nodes on its own sides are not those of its neighbours. `Overlay.parted` has the families of such cells.
@@ -139,7 +138,7 @@ class _Whole:
         corners[fresh] = known + numbers.reshape(-1)
         found = Overlay(np.concatenate([self.subject.xy, self.cutter.xy, used]), corners, np.cumsum(counts[order]), kinds[order],
                         self.subject.families[cells[order]])
-        found.new_points, found.doubled_cells = len(used), sum(a.doubled_cells for a, _, _ in self.done)
+        found.new_points = len(used)
         found.parted = self.subject.families[np.array(self.parted, np.int64)]
         return found
 

@@ -30,7 +30,7 @@ class Overlay(Mesh):
     """The pieces as a mesh: the subject's nodes, the cutter's, then the new points; each piece has its cell's family."""
 
     new_points: int = 0
-    doubled_cells: int = 0      #: cells whose table names a neighbour twice: their pieces are not promised to close up
+    doubled_cells: int = 0      #: always 0, since an edge is in a cell's table once; kept for readers of old listings
     parted: Optional[np.ndarray] = None     #: overlay_in_chunks: the families of cells that were cut in triangles first
 
 

@@ -149,8 +149,8 @@ def explained(data: bytes) -> tuple[int, str]:
     printed = answer(data)
     refused = re.fullmatch(r'\(refused (\d+)\)\n', printed)
     if not refused:
-        pieces, points, doubled = printed.splitlines()[-2].strip('()').split()[1:]
-        return 0, f'answered: {pieces} pieces, {points} new points, {doubled} doubled cells'
+        pieces, points, _ = printed.splitlines()[-2].strip('()').split()[1:]
+        return 0, f'answered: {pieces} pieces, {points} new points'
     row = refusal(int(refused[1]))
     asked = sum(len(m.xy) + m.nodes.size for m in (question.subject, question.cutter)) + question.limit
     size = f'nodes, corners and the limit are {asked:,} together, the program has room for 1,020' if row.number == 7 else ''

@@ -52,6 +52,12 @@ _ROWS = (
             'wrong pieces, a line that ends inside a cell gives a piece with a spur: the checks after the call name them'),
     Refusal(12, 'full output', 'an output list is too short',
             ('the program\'s text: over 2,048 pieces or 8,192 corners of pieces',), 'a smaller model; this package lets its lists grow'),
+    Refusal(19, 'folded cell', 'a cell\'s outline, as cut, runs along itself: it passes between the same two nodes twice, or from a node to itself',
+            ('two corners of one outline so close (under 1e-12) to a node of the other mesh that both become that node',
+             'a spike or a sliver whose sides are nearer to each other than some 1e-7 of their length, with a corner of the other mesh in it',
+             'Union or the symmetric difference of two maps whose corners lie beside each other by less than some 1e-7 of their sides'),
+            'merge the corners that are nearly one and remove the spike: --grid does so in a soil map; of a model the command and '
+            'overlay_in_chunks name the cell'),
 )
 
 REFUSALS: dict[int, Refusal] = {row.number: row for row in _ROWS}
