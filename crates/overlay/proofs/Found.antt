@@ -59,8 +59,11 @@ even-one i j next e f (New x y) = (1, refl, omega arith)
 even-one i j next e f (Overlap p q) = (0, refl, omega arith)
 
 even-append : (ms ns : List Met) → Even ms → Even ns → Even (ms ++ ns)
-even-append ms ns a b =
-    (a .0 + b .0, omega (arith, a .1, b .1, ap length (joined-append (λ (m : Met). m .point) ms ns), length-append (addedBy ms) (addedBy ns)), omega (arith, a .2, b .2, length-append ms ns))
+even-append ms ns a b = (
+  a .0 + b .0,
+  omega (arith, a .1, b .1, ap length (joined-append (λ (m : Met). m .point) ms ns), length-append (addedBy ms) (addedBy ns)),
+  omega (arith, a .2, b .2, length-append ms ns),
+)
 
 module _ (coords : List Float) (s c : Net) where
   even-all : (i : ℕ) (js : List ℕ) (ms : List Met) → Even ms → Even (metAll coords s c i js ms)
@@ -68,8 +71,10 @@ module _ (coords : List Float) (s c : Net) where
   even-all i [] ms a = a
   even-all i (j ∷ js) ms a =
       even-all i js (metPair coords s c i j ms)
-      (even-append ms (recorded i j ((length coords + length (addedBy ms)) / 2) (edgeAt (s .edges) i) (edgeAt (c .edges) j) (Meet.meeting (segmentOf coords (edgeAt (s .edges) i)) (segmentOf coords (edgeAt (c .edges) j)))) a
-      (even-one i j ((length coords + length (addedBy ms)) / 2) (edgeAt (s .edges) i) (edgeAt (c .edges) j) (Meet.meeting (segmentOf coords (edgeAt (s .edges) i)) (segmentOf coords (edgeAt (c .edges) j)))))
+      (even-append ms (recorded i j ((length coords + length (addedBy ms)) / 2) (edgeAt (s .edges) i) (edgeAt (c .edges) j)
+      (Meet.meeting (segmentOf coords (edgeAt (s .edges) i)) (segmentOf coords (edgeAt (c .edges) j)))) a
+      (even-one i j ((length coords + length (addedBy ms)) / 2) (edgeAt (s .edges) i) (edgeAt (c .edges) j)
+      (Meet.meeting (segmentOf coords (edgeAt (s .edges) i)) (segmentOf coords (edgeAt (c .edges) j)))))
 
   even-to : (i : ℕ) → Even (meetingsTo coords s c i)
   unfolding meetingsTo joined
@@ -154,9 +159,15 @@ module _ (op m : ℕ) (s c : Mesh) (w₀ : List ℕ) (ok : Passed op m s c (leng
   abbrev nodes : List ℕ
   nodes = part w′ (x .regions .entries) (x .regions .entries + length (c .nodes))
 
-  pub regions-in : (x .regions .from + 2 * x .regions .subject ≤ length w′) × (x .regions .at + 2 * x .regions .cutter ≤ length w′) × (x .regions .base + 5 * x .met + 2 * (x .chains + x .met) ≤ length w′)
+  pub regions-in : (x .regions .from + 2 * x .regions .subject ≤ length w′) × (x .regions .at + 2 * x .regions .cutter ≤ length w′) ×
+      (x .regions .base + 5 * x .met + 2 * (x .chains + x .met) ≤ length w′)
       × (x .regions .entries + length (c .nodes) ≤ length w′)
-  regions-in = (omega (arith, held .subject-fits, held .links-fit), omega (arith, held .cutter-fits, held .links-fit), omega (arith, held .links-fit, chains-are), omega (arith, held .entries-fit, held .links-fit))
+  regions-in = (
+    omega (arith, held .subject-fits, held .links-fit),
+    omega (arith, held .cutter-fits, held .links-fit),
+    omega (arith, held .links-fit, chains-are),
+    omega (arith, held .entries-fit, held .links-fit),
+  )
 
   nodes-are : nodes ≡ cutterEntries s c
   nodes-are = part-is w′ (x .regions .entries) (length (c .nodes)) ∙ held .entries
@@ -209,8 +220,10 @@ module _ (op m : ℕ) (s c : Mesh) (w₀ : List ℕ) (ok : Passed op m s c (leng
   lists-ready =
       let few = not-crowded sc met links stored lent-linked uncrowded in
       record {
-        subjectCells = cells-ready (pairs subject) (pairs cutter) met links (s .nodes) (s .ends) (few-read (computeDescending (runsOf (s .nodes) (s .ends))) (sc .subject .edges) subject-own (few .0)) (ok .subject .cellMost);
-        cutterCells = λ h. cells-ready (pairs subject) (pairs cutter) met links nodes (c .ends) (few-read (computeDescending (runsOf nodes (c .ends))) (sc .cutter .edges) (cutter-own h) (few .1)) (ok .cutter .cellMost);
+        subjectCells = cells-ready (pairs subject) (pairs cutter) met links (s .nodes) (s .ends)
+            (few-read (computeDescending (runsOf (s .nodes) (s .ends))) (sc .subject .edges) subject-own (few .0)) (ok .subject .cellMost);
+        cutterCells = λ h. cells-ready (pairs subject) (pairs cutter) met links nodes (c .ends)
+            (few-read (computeDescending (runsOf nodes (c .ends))) (sc .cutter .edges) (cutter-own h) (few .1)) (ok .cutter .cellMost);
         subjectFew = few-read (pairs subject) (sc .subject .edges) (sym (lists-hold .subjectCut .subjectEdges)) (few .0);
         cutterFew = few-read (pairs cutter) (sc .cutter .edges) (sym (lists-hold .subjectCut .cutterEdges)) (few .1);
         subjectRise = λ i h. (omega (arith, ok .subject .rises i h), ok .subject .within i h);

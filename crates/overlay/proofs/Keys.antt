@@ -77,13 +77,16 @@ unfolding descendingTo
 descending-has zero cells j i h l = absurd (omega (arith, h))
 descending-has (suc n) cells j i h l = go (decLe (suc j) n) (λ b. descending-has n cells j i b l)
   where
-    go : Dec (suc j ≤ n) → (j < n → Among (descendingTo n cells) (edgeAt (ring (getD cells j [])) i)) → Among (addedAll (descendingTo n cells) (ring (getD cells n []))) (edgeAt (ring (getD cells j [])) i)
+    go : Dec (suc j ≤ n) → (j < n → Among (descendingTo n cells) (edgeAt (ring (getD cells j [])) i))
+        → Among (addedAll (descendingTo n cells) (ring (getD cells n []))) (edgeAt (ring (getD cells j [])) i)
     go (yes b) ih = all-keep (ring (getD cells n [])) (descendingTo n cells) (edgeAt (ring (getD cells j [])) i) (ih b)
     go (no b) ih =
         let same : n ≡ j = omega (arith, h, b) in
-        subst (λ (k : ℕ). Among (addedAll (descendingTo n cells) (ring (getD cells k []))) (edgeAt (ring (getD cells j [])) i)) (sym same) (all-have (ring (getD cells j [])) (descendingTo n cells) i l)
+        subst (λ (k : ℕ). Among (addedAll (descendingTo n cells) (ring (getD cells k []))) (edgeAt (ring (getD cells j [])) i)) (sym same)
+        (all-have (ring (getD cells j [])) (descendingTo n cells) i l)
 
-pub cells-ready : (subject cutter : List Edge) (met links own stops : List ℕ) → Uncrowded subject cutter met links (computeDescending (runsOf own stops)) → ((i : ℕ) → i < length stops → cellSize stops i ≤ 256)
+pub cells-ready : (subject cutter : List Edge) (met links own stops : List ℕ) → Uncrowded subject cutter met links (computeDescending (runsOf own stops))
+    → ((i : ℕ) → i < length stops → cellSize stops i ≤ 256)
     → CellsReady subject cutter met links own stops
 cells-ready subject cutter met links own stops few small i h =
     let cells : List (List ℕ) = runsOf own stops in
@@ -95,7 +98,8 @@ cells-ready subject cutter met links own stops few small i h =
 module _ (sc : Scene) (met links : List ℕ) (stored : Stored (sc .met) met) (linked : Linked (sc .subject .edges) (sc .cutter .edges) met links) where
   few-under : (es : List Edge) → overfull sc es ≡ false → (i : ℕ) → i < length es → length (collectedIn (sc .subject .edges) (sc .cutter .edges) met (edgeAt es i)) ≤ 256
   few-under es none i h =
-      let few : length (collected sc (edgeAt es i)) ≤ 256 = ltb-false 256 (length (collected sc (edgeAt es i))) (has-none (λ k. ltb 256 (length (collected sc (edgeAt es k)))) (length es) i none h) in
+      let few : length (collected sc (edgeAt es i)) ≤ 256 = ltb-false 256 (length (collected sc (edgeAt es i)))
+      (has-none (λ k. ltb 256 (length (collected sc (edgeAt es k)))) (length es) i none h) in
       omega (arith, few, ap length (collected-is sc met stored (edgeAt es i)))
 
   pub not-crowded : crowded sc ≡ false

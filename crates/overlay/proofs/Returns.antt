@@ -16,7 +16,8 @@ abbrev pub Plain : ℕ → ℕ → ℕ → ℕ → ℕ → Type 0
 Plain n a p q d = (a ≡ n) × (p ≡ 0) × (q ≡ 0) × (d ≡ 0)
 
 -- lists of the same lengths are cleared alike
-cleared-same : (c c′ : List Float) (n n′ e e′ k k′ f f′ w w′ : List ℕ) → length c′ ≡ length c → length n′ ≡ length n → length e′ ≡ length e → length k′ ≡ length k → length f′ ≡ length f → length w′ ≡ length w
+cleared-same : (c c′ : List Float) (n n′ e e′ k k′ f f′ w w′ : List ℕ) → length c′ ≡ length c → length n′ ≡ length n → length e′ ≡ length e
+    → length k′ ≡ length k → length f′ ≡ length f → length w′ ≡ length w
     → cleared (lentLists c′ n′ e′ k′ f′ w′) ≡ cleared (lentLists c n e k f w)
 unfolding cleared
 cleared-same c c′ n n′ e e′ k k′ f f′ w w′ hc hn he hk hf hw = rw (hc, hn, he, hk, hf, hw)
@@ -41,6 +42,7 @@ module _ (op m : ℕ) (s c : Mesh) (oc : List Float) (on oe ok of w : List ℕ) 
         (λ i. result ((h .0 ∙ ran .0) i) (h .1 i) (h .2 i) (h .3 i) (same i)) ∙ sym (state-refused ours op m s c l (sym e ∙ z) (λ y. n (ran .0 ∙ y)))
 
     -- success: the working list is zero
-    pub done : (w₂ : List ℕ) → code ≡ 0 → w₂ ≡ zeros (length w₁) → length w₁ ≡ length w → result code pieces points doubled (lentLists oc₁ on₁ oe₁ ok₁ of₁ w₂) ≡ overlayOf op m s c l
+    pub done : (w₂ : List ℕ) → code ≡ 0 → w₂ ≡ zeros (length w₁) → length w₁ ≡ length w
+        → result code pieces points doubled (lentLists oc₁ on₁ oe₁ ok₁ of₁ w₂) ≡ overlayOf op m s c l
     done w₂ y x hw =
         (λ i. result (y i) pieces points doubled (lentLists oc₁ on₁ oe₁ ok₁ of₁ ((x ∙ ap zeros hw) i))) ∙ ran .1 y ∙ sym (succeeds ours op m s c l (sym e ∙ z) (sym (ran .0) ∙ y))

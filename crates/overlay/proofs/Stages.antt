@@ -66,8 +66,10 @@ module _ (op m : ℕ) (s c : Mesh) (oc : List Float) (on oe ok of w : List ℕ) 
     nodes = part w₁ (x .regions .entries) (x .regions .entries + length (c .nodes))
 
     -- what `cut_found` asks
-    pub asked : (2 * x .next ≤ length oc₁) × (x .regions .from + 2 * x .regions .subject ≤ length w₁) × (x .regions .at + 2 * x .regions .cutter ≤ length w₁) × (x .regions .base + 5 * x .met + 2 * (x .chains + x .met) ≤ length w₁)
-        × (x .regions .entries + length (c .nodes) ≤ length w₁) × MeshesReady op subject cutter met links (s .nodes) (s .ends) (s .kinds) (s .families) nodes (c .ends) (c .kinds) (c .families)
+    pub asked : (2 * x .next ≤ length oc₁) × (x .regions .from + 2 * x .regions .subject ≤ length w₁) × (x .regions .at + 2 * x .regions .cutter ≤ length w₁) ×
+        (x .regions .base + 5 * x .met + 2 * (x .chains + x .met) ≤ length w₁)
+        × (x .regions .entries + length (c .nodes) ≤ length w₁) × MeshesReady op subject cutter met links (s .nodes) (s .ends) (s .kinds) (s .families) nodes
+        (c .ends) (c .kinds) (c .families)
     asked =
         let h = regions-in op m s c w pa oc oc₁ w₁ x told z in
         (points-in op m s c w pa oc oc₁ w₁ x told z, h .0, h .1, h .2, h .3, lists-ready op m s c w pa oc oc₁ w₁ x told z)
@@ -99,8 +101,10 @@ module _ (op m : ℕ) (s c : Mesh) (oc : List Float) (on oe ok of w : List ℕ) 
           let f = found-passes op s c m (length oc / 2) (room oe ok of) (length on) passed in
           let half : length (s .coords) + length (c .coords) ≡ 2 * ((length (s .coords) + length (c .coords)) / 2) = omega (arith, pa .subject .even, pa .cutter .even) in (
             sym y ∙ state-is,
-            λ _. cells-answered op m s c oc on oe ok of w (foundEvents op s c) (course-is op s c) (f .0) (f .1) (f .2) r on′ oe′ ok′ of′ listed y oc₁ (let t = ready op m s c (length w) pa in coords-are op m s c (t .0) (t .1) (t .2) w (t .3) oc oc₁ w₁ x told z)
-                (x .next - (length (s .coords) + length (c .coords)) / 2) (points-are op s c (x .next) ((length (s .coords) + length (c .coords)) / 2) half (next-is op m s c w pa oc oc₁ w₁ x told z)),
+            λ _. cells-answered op m s c oc on oe ok of w (foundEvents op s c) (course-is op s c) (f .0) (f .1) (f .2) r on′ oe′ ok′ of′ listed y oc₁
+                (let t = ready op m s c (length w) pa in coords-are op m s c (t .0) (t .1) (t .2) w (t .3) oc oc₁ w₁ x told z)
+                (x .next - (length (s .coords) + length (c .coords)) / 2)
+                (points-are op s c (x .next) ((length (s .coords) + length (c .coords)) / 2) half (next-is op m s c w pa oc oc₁ w₁ x told z)),
           )
 
       pub count-fits : r .code ≡ 0 → r .count < 2 ^ 32

@@ -27,7 +27,8 @@ use Rattle.cutting_cells.specs.Listed.{MeshIn, MeshesIn, cellEvents, nodesOf, L
 
 -- ---- the scene of the definitions stands in the lists
 
-module _ (op : ℕ) (s c : Mesh) (coords : List Float) (subject cutter met nodes : List ℕ) (ep : sceneFor op s c .coords ≡ coords) (es : subject ≡ ends (sceneFor op s c .subject .edges)) (ec : cutter ≡ ends (sceneFor op s c .cutter .edges))
+module _ (op : ℕ) (s c : Mesh) (coords : List Float) (subject cutter met nodes : List ℕ) (ep : sceneFor op s c .coords ≡ coords)
+    (es : subject ≡ ends (sceneFor op s c .subject .edges)) (ec : cutter ≡ ends (sceneFor op s c .cutter .edges))
     (em : Stored (sceneFor op s c .met) met) (en : renumbered (weld s c) (cellsOf c) ≡ runsOf nodes (c .ends)) where
   abbrev sc : Scene
   sc = sceneFor op s c
