@@ -57,7 +57,8 @@ module _ (coords : List Float) (subject cutter : List Edge) (met : List ℕ) (ne
   abbrev others : List Laid
   others = nearIn coords subject cutter met near (candidatesFrom coords near b first)
 
-  pub cut-as-lent : (w : List ℕ) (n : ℕ) (r : CutCell) → n ≤ 1024 → (n ≤ 1024 → take n w ≡ ends own) → r ≡ cutBy (pairs (take n w)) (cellTable coords (pairs (take n w)) others) → r ≡ cutCell coords subject cutter met near cell b first
+  pub cut-as-lent : (w : List ℕ) (n : ℕ) (r : CutCell) → n ≤ 1024 → (n ≤ 1024 → take n w ≡ ends own)
+      → r ≡ cutBy (pairs (take n w)) (cellTable coords (pairs (take n w)) others) → r ≡ cutCell coords subject cutter met near cell b first
   unfolding cutCell tableIn
   cut-as-lent w n r few put-in e = as-lent coords own w n few put-in others r e
 

@@ -27,7 +27,8 @@ near-laid coords e ns xs t u q got = got ∙ ap (λ (l : List ℕ). withEdges co
 -- ---- `near_darts`
 
 -- the table holds the near edges so far, j is the next
-pub record Nearing (coords : List Float) (subject cutter : List Edge) (met near : List ℕ) (b : Bounds) (first₀ : ℕ) (outline : List Edge) (src₀ dst₀ marks₀ src dst marks : List ℕ) (m j : ℕ) : Type 0 where
+pub record Nearing (coords : List Float) (subject cutter : List Edge) (met near : List ℕ) (b : Bounds) (first₀ : ℕ) (outline : List Edge)
+    (src₀ dst₀ marks₀ src dst marks : List ℕ) (m j : ℕ) : Type 0 where
   pub same-src : length src ≡ length src₀
   pub same-dst : length dst ≡ length dst₀
   pub same-marks : length marks ≡ length marks₀
@@ -35,7 +36,8 @@ pub record Nearing (coords : List Float) (subject cutter : List Edge) (met near 
   pub done : List Laid
   pub from : ℕ
   pub at : first (meets coords (pairs near) b) from (length (pairs near)) ≡ j
-  pub left : done ++ nearIn coords subject cutter met (pairs near) (candidatesFrom coords (pairs near) b from) ≡ nearIn coords subject cutter met (pairs near) (candidatesFrom coords (pairs near) b first₀)
+  pub left : done ++ nearIn coords subject cutter met (pairs near) (candidatesFrom coords (pairs near) b from) ≡ nearIn coords subject cutter met (pairs near)
+      (candidatesFrom coords (pairs near) b first₀)
   pub held : slotsOf src dst marks m ≡ cellTable coords outline done
 
 module _ (coords : List Float) (subject cutter : List Edge) (met near : List ℕ) (b : Bounds) (first₀ : ℕ) (outline : List Edge) (src₀ dst₀ marks₀ : List ℕ) where
@@ -86,10 +88,12 @@ module _ (coords : List Float) (subject cutter : List Edge) (met near : List ℕ
 
       split : v .done ++ laid e ∷ nearBy (from-on (j + 1)) ≡ nearBy (from-on first₀)
       unfolding nearIn
-      split = ap (λ (f : Edge). v .done ++ laid f ∷ nearBy (from-on (j + 1))) (sym at-j) ∙ ap (λ (js : List ℕ). v .done ++ nearBy js) (sym (places-next (meets coords (pairs near) b) (v .from) (length (pairs near)) j (v .at) below)) ∙ v .left
+      split = ap (λ (f : Edge). v .done ++ laid f ∷ nearBy (from-on (j + 1))) (sym at-j) ∙ ap (λ (js : List ℕ). v .done ++ nearBy js)
+          (sym (places-next (meets coords (pairs near) b) (v .from) (length (pairs near)) j (v .at) below)) ∙ v .left
 
       module _ (r : ℕ) (src′ dst′ marks′ : List ℕ) (got : tableIn r src′ dst′ marks′ ≡ withEdges coords (nearDarts (laid e)) (tableIn m src dst marks)) where
-        pub near-step : (j′ : ℕ) → r ≤ 1024 → j′ ≡ found (j + 1) → length src′ ≡ length src → length dst′ ≡ length dst → length marks′ ≡ length marks → Nearing₀ src′ dst′ marks′ r j′
+        pub near-step : (j′ : ℕ) → r ≤ 1024 → j′ ≡ found (j + 1) → length src′ ≡ length src → length dst′ ≡ length dst → length marks′ ≡ length marks
+            → Nearing₀ src′ dst′ marks′ r j′
         near-step j′ few next ls ld lm = record {
           same-src = ls ∙ v .same-src;
           same-dst = ld ∙ v .same-dst;

@@ -71,7 +71,8 @@ along-short coords k ns =
       length-map (k .0 ∷ ns) (projected coords k),
     )
 
-pub sorted-short : (coords : List Float) (subject cutter : List Edge) (met : List ℕ) (e : Edge) → length (collectedIn subject cutter met e) ≤ 256 → length (sortedIn coords subject cutter met e) ≤ 258
+pub sorted-short : (coords : List Float) (subject cutter : List Edge) (met : List ℕ) (e : Edge) → length (collectedIn subject cutter met e) ≤ 256
+    → length (sortedIn coords subject cutter met e) ≤ 258
 unfolding sortedIn
 sorted-short coords subject cutter met e h = go (collectedIn subject cutter met e) h
   where

@@ -67,7 +67,8 @@ pub own-laid : (coords : List Float) (e : Edge) (ns xs : List ℕ) (n r : ℕ) (
     → Added coords 1 (ownDarts (record { edge = e; nodes = ns })) n r src dst marks src′ dst′ marks′ × Outlined (ownDarts (record { edge = e; nodes = ns })) n r outline outline′
     → Added coords 1 (ownDarts (record { edge = e; nodes = xs })) n r src dst marks src′ dst′ marks′ × Outlined (ownDarts (record { edge = e; nodes = xs })) n r outline outline′
 own-laid coords e ns xs n r outline src dst marks outline′ src′ dst′ marks′ q got =
-    subst (λ (l : List ℕ). Added coords 1 (ownDarts (record { edge = e; nodes = l })) n r src dst marks src′ dst′ marks′ × Outlined (ownDarts (record { edge = e; nodes = l })) n r outline outline′) q got
+    subst (λ (l : List ℕ). Added coords 1 (ownDarts (record { edge = e; nodes = l })) n r src dst marks src′ dst′ marks′ × Outlined
+    (ownDarts (record { edge = e; nodes = l })) n r outline outline′) q got
 
 -- ---- `own_darts`
 
@@ -130,14 +131,18 @@ module _ (coords : List Float) (subject cutter : List Edge) (met cell outline₀
       laid-split : ls ++ laid e ∷ map laid (sidesFrom cell (i + 1)) ≡ map laid (ring cell)
       laid-split = sym (map-append laid (v .done) (e ∷ sidesFrom cell (i + 1))) ∙ ap (map laid) split
 
-      module _ (r : ℕ) (outline′ src′ dst′ marks′ : List ℕ) (got : Added coords 1 (ownDarts (laid e)) n r src dst marks src′ dst′ marks′ × Outlined (ownDarts (laid e)) n r outline outline′) where
-        pub outline-turn : r ≤ 1024 → 1024 ≤ length outline₀ → length outline′ ≡ length outline → length src′ ≡ length src → length dst′ ≡ length dst → length marks′ ≡ length marks → Outlining₀ outline′ src′ dst′ marks′ r (i + 1)
+      module _ (r : ℕ) (outline′ src′ dst′ marks′ : List ℕ) (got : Added coords 1 (ownDarts (laid e)) n r src dst marks src′ dst′ marks′ × Outlined
+          (ownDarts (laid e)) n r outline outline′) where
+        pub outline-turn : r ≤ 1024 → 1024 ≤ length outline₀ → length outline′ ≡ length outline → length src′ ≡ length src → length dst′ ≡ length dst
+            → length marks′ ≡ length marks → Outlining₀ outline′ src′ dst′ marks′ r (i + 1)
         unfolding outlineDarts
         outline-turn few room lo ls′ ld lm =
             let more : map laid (v .done ++ e ∷ []) ≡ ls ++ laid e ∷ [] = map-append laid (v .done) (e ∷ []) in
             let fits : n ≤ length outline = omega (arith, v .small, v .same-outline) in
-            let put-in : take (n + 2 * length (ownDarts (laid e))) outline′ ≡ ends (outlineDarts (ls ++ laid e ∷ [])) = outline-more outline outline′ n ls (laid e) fits (v .outlined) (got .1 .grows few) in
-            let darts : length (outlineDarts (ls ++ laid e ∷ [])) ≡ length (outlineDarts ls) + length (ownDarts (laid e)) = ap length (joined-snoc ownDarts ls (laid e)) ∙ length-append (outlineDarts ls) (ownDarts (laid e)) in
+            let put-in : take (n + 2 * length (ownDarts (laid e))) outline′ ≡ ends (outlineDarts (ls ++ laid e ∷ [])) = outline-more outline outline′ n ls
+            (laid e) fits (v .outlined) (got .1 .grows few) in
+            let darts : length (outlineDarts (ls ++ laid e ∷ [])) ≡ length (outlineDarts ls) + length (ownDarts (laid e)) = ap length
+            (joined-snoc ownDarts ls (laid e)) ∙ length-append (outlineDarts ls) (ownDarts (laid e)) in
             record {
               same-outline = lo ∙ v .same-outline;
               same-src = ls′ ∙ v .same-src;
@@ -150,14 +155,17 @@ module _ (coords : List Float) (subject cutter : List Edge) (met cell outline₀
               left = append-assoc (v .done) (e ∷ []) (sidesFrom cell (i + 1)) ∙ split;
               count = omega (arith, got .0 .count, v .count, darts, ap (λ (l : List Laid). length (outlineDarts l)) more);
               outlined = ap (λ (k : ℕ). take k outline′) (got .0 .count) ∙ put-in ∙ ap (λ (l : List Laid). ends (outlineDarts l)) (sym more);
-              held = own-turn coords src dst marks src′ dst′ marks′ n r ls (laid e) (got .0) few (v .held) ∙ ap (λ (l : List Laid). sorted (standsBefore coords) (edgeSlots 1 (outlineDarts l))) (sym more);
+              held = own-turn coords src dst marks src′ dst′ marks′ n r ls (laid e) (got .0) few (v .held) ∙ ap
+                  (λ (l : List Laid). sorted (standsBefore coords) (edgeSlots 1 (outlineDarts l))) (sym more);
             }
 
         -- too many at this edge are too many in all
-        pub outline-over : 1024 < r → Held (cellTable coords (outlineIn coords subject cutter met cell) []) r src′ dst′ marks′ × (r ≤ 1024 → take r outline′ ≡ ends (outlineIn coords subject cutter met cell))
+        pub outline-over : 1024 < r → Held (cellTable coords (outlineIn coords subject cutter met cell) []) r src′ dst′ marks′ ×
+            (r ≤ 1024 → take r outline′ ≡ ends (outlineIn coords subject cutter met cell))
         unfolding outlineIn
         outline-over many =
-            let all : 1024 < length (cellTable coords (outlineDarts (ls ++ laid e ∷ map laid (sidesFrom cell (i + 1)))) []) = own-full coords src dst marks src′ dst′ marks′ n r ls (laid e) (map laid (sidesFrom cell (i + 1))) [] (got .0) many (v .count) in (
+            let all : 1024 < length (cellTable coords (outlineDarts (ls ++ laid e ∷ map laid (sidesFrom cell (i + 1)))) []) = own-full coords src dst marks
+            src′ dst′ marks′ n r ls (laid e) (map laid (sidesFrom cell (i + 1))) [] (got .0) many (v .count) in (
               record {
                 fits = λ few. absurd (omega (arith, few, many));
                 over = λ _. omega (arith, all, ap (λ (l : List Laid). length (cellTable coords (outlineDarts l) [])) laid-split);
@@ -165,13 +173,15 @@ module _ (coords : List Float) (subject cutter : List Edge) (met cell outline₀
               λ few. absurd (omega (arith, few, many)),
             )
 
-    pub outline-end : length cell ≤ i → Held (cellTable coords (outlineIn coords subject cutter met cell) []) n src dst marks × (n ≤ 1024 → take n outline ≡ ends (outlineIn coords subject cutter met cell))
+    pub outline-end : length cell ≤ i → Held (cellTable coords (outlineIn coords subject cutter met cell) []) n src dst marks ×
+        (n ≤ 1024 → take n outline ≡ ends (outlineIn coords subject cutter met cell))
     unfolding outlineIn
     outline-end past =
         let at : i ≡ length cell = le-antisymm (v .low) past in
         let all : v .done ≡ ring cell = sym (append-nil (v .done)) ∙ ap (λ (es : List Edge). v .done ++ es) (sym (sides-end cell i at)) ∙ v .left in (
           record {
-            fits = λ few. v .held ∙ ap (λ (es : List Edge). sorted (standsBefore coords) (edgeSlots 1 (outlineDarts (map laid es)))) all ∙ none-near coords (outlineDarts (map laid (ring cell)));
+            fits = λ few. v .held ∙ ap (λ (es : List Edge). sorted (standsBefore coords) (edgeSlots 1 (outlineDarts (map laid es)))) all ∙ none-near coords
+                (outlineDarts (map laid (ring cell)));
             over = λ many. absurd (omega (arith, many, v .small));
           },
           λ few. v .outlined ∙ ap (λ (es : List Edge). ends (outlineDarts (map laid es))) all,

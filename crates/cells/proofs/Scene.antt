@@ -41,7 +41,8 @@ module _ (subject cutter : List Edge) (met links : List ℕ) (es : List Edge) wh
   }
 
   -- and so of edges that have their keys among these
-  pub same-keys : Uncrowded subject cutter met links es → (fs : List Edge) → ((i : ℕ) → i < length fs → (k : ℕ) × (k < length es) × (sameKey (edgeAt es k) (edgeAt fs i) ≡ true)) → Uncrowded subject cutter met links fs
+  pub same-keys : Uncrowded subject cutter met links es → (fs : List Edge)
+      → ((i : ℕ) → i < length fs → (k : ℕ) × (k < length es) × (sameKey (edgeAt es k) (edgeAt fs i) ≡ true)) → Uncrowded subject cutter met links fs
   same-keys u fs among = record {
     linked = u .linked;
     few = λ i h. let k = among i h in omega (arith, u .few (k .0) (k .1), ap length (same-collected (edgeAt es (k .0)) (edgeAt fs i) (k .2) subject cutter met));
@@ -78,7 +79,8 @@ module _ (sc : Scene) (subject cutter : List Edge) (met : List ℕ) (same : (e :
   table-is es cell j js = ap₂ (λ (o : List Edge) (f : Edge → Laid). cellTable (sc .coords) o (map (λ i. f (edgeAt es i)) (j ∷ js))) (outline-is cell) laid-is
 
 -- cell i of mesh w; k is the first candidate
-module _ (sc : Scene) (w : Side) (i k : ℕ) (at : k ≡ first (meets (sc .coords) (netOf sc (other w) .edges) (boxOf (sc .coords) (cellOf sc w i))) 0 (length (netOf sc (other w) .edges))) where
+module _ (sc : Scene) (w : Side) (i k : ℕ) (at : k ≡ first (meets (sc .coords) (netOf sc (other w) .edges) (boxOf (sc .coords) (cellOf sc w i))) 0
+    (length (netOf sc (other w) .edges))) where
   abbrev es : List Edge
   es = netOf sc (other w) .edges
 

@@ -41,11 +41,18 @@ module _ (coords : List Float) (second : ℕ) (nodes outline src dst marks : Lis
   )
 
   pub darts-fit : (outline′ src′ dst′ marks′ : List ℕ) → r ≤ 1024
-      → (outline′ ≡ put outline n (ends (map (turn (eqb second (getD nodes 0 0))) (windows nodes)))) × Inserted (sortOnto (standsBefore coords) (slotsOf src dst marks n) (edgeSlots reverseMark (map (turn (eqb second (getD nodes 0 0))) (windows nodes)))) (n + 2 * length (windows nodes)) src dst marks src′ dst′ marks′
+      → (outline′ ≡ put outline n (ends (map (turn (eqb second (getD nodes 0 0))) (windows nodes)))) × Inserted
+      (sortOnto (standsBefore coords) (slotsOf src dst marks n) (edgeSlots reverseMark (map (turn (eqb second (getD nodes 0 0))) (windows nodes))))
+      (n + 2 * length (windows nodes)) src dst marks src′ dst′ marks′
       → Added coords reverseMark (dartsAlong second nodes) n r src dst marks src′ dst′ marks′ × Outlined (dartsAlong second nodes) n r outline outline′
   unfolding dartsAlong
   darts-fit outline′ src′ dst′ marks′ h laid = (
-    record { count = omega (arith, darts-length second nodes some); grows = λ l. the-same _ _ _ _ _ _ _ _ _ _ refl (omega (arith, windows-count nodes some)) (laid .1); full = λ l. absurd (omega arith) },
+    record {
+      count = omega (arith, darts-length second nodes some);
+      grows = λ l. the-same _ _ _ _ _ _ _ _ _ _ refl (omega (arith, windows-count nodes some))
+          (laid .1);
+      full = λ l. absurd (omega arith);
+    },
     record { grows = λ l. laid .0; full = λ l. absurd (omega arith) },
   )
 
@@ -184,10 +191,12 @@ module _ (coords : List Float) where
           (e : tableIn k′ src′ dst′ marks′ ≡ withEdge coords (getD nodes i 0, getD nodes (i + 1) 0) (tableIn k src dst marks)) where
         on : withEdges coords (windows (drop (i + 1) nodes)) (tableIn k′ src′ dst′ marks′) ≡ withEdges coords (windows nodes) (tableIn n src₀ dst₀ marks₀)
         on =
-            ap (withEdges coords (windows (drop (i + 1) nodes))) e ∙ sym (edges-next (getD nodes i 0, getD nodes (i + 1) 0) (windows (drop (i + 1) nodes)) (tableIn k src dst marks) (v .small))
+            ap (withEdges coords (windows (drop (i + 1) nodes))) e ∙ sym
+            (edges-next (getD nodes i 0, getD nodes (i + 1) 0) (windows (drop (i + 1) nodes)) (tableIn k src dst marks) (v .small))
             ∙ ap (λ (es : List Edge). withEdges coords es (tableIn k src dst marks)) (sym (windows-next nodes i h)) ∙ v .left
 
-        pub adding-turn : k′ ≤ 1024 → length src′ ≡ length src → length dst′ ≡ length dst → length marks′ ≡ length marks → Adding nodes src₀ dst₀ marks₀ n src′ dst′ marks′ (i + 1) k′
+        pub adding-turn : k′ ≤ 1024 → length src′ ≡ length src → length dst′ ≡ length dst → length marks′ ≡ length marks
+            → Adding nodes src₀ dst₀ marks₀ n src′ dst′ marks′ (i + 1) k′
         adding-turn few ls ld lm = record { same-src = ls ∙ v .same-src; same-dst = ld ∙ v .same-dst; same-marks = lm ∙ v .same-marks; low = omega arith; small = few; left = on }
 
         pub adding-full : 1024 < k′ → tableIn k′ src′ dst′ marks′ ≡ withEdges coords (windows nodes) (tableIn n src₀ dst₀ marks₀)

@@ -118,7 +118,8 @@ module _ (coords : List Float) (outline : List Edge) (near : List Laid) (clean :
   outcome-kept turning =
       let t = cellTableWith false coords outline near in
       let walked : Bool → Outcome = λ unasked. cond (tooMany (length t)) (refusal 10) (afterWalk outline unasked (ofWalk (walkWith turning outline t))) in
-      ap (cutOutcomeWith (record { turning = turning; once = true }) outline) table-kept ∙ ap (λ (b : Bool). cond b (refusal 19) (walked false)) outline-once ∙ sym (ap walked clean)
+      ap (cutOutcomeWith (record { turning = turning; once = true }) outline) table-kept ∙ ap (λ (b : Bool). cond b (refusal 19) (walked false)) outline-once ∙
+      sym (ap walked clean)
 
 -- a copied cell too
 pub copy-kept : (cell : List ℕ) → doubled (copiedTable cell) ≡ false → copiedOutcomeWith true cell ≡ copiedOutcomeWith false cell

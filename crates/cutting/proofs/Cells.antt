@@ -38,7 +38,8 @@ module _ (coords : List Float) where
   term-odd a b = back (coord (pointAt coords a .x)) (coord (pointAt coords a .y)) (coord (pointAt coords b .x)) (coord (pointAt coords b .y))
     where
       back : (x y x′ y′ : ℤ) → x *ℤ y′ -ℤ y *ℤ x′ ≡ negℤ (x′ *ℤ y -ℤ y′ *ℤ x)
-      back x y x′ y′ = ap₂ (λ (u v : ℤ). u +ℤ negℤ v) (*ℤ-comm x y′) (*ℤ-comm y x′) ∙ +ℤ-comm (y′ *ℤ x) (negℤ (x′ *ℤ y)) ∙ ap (λ (u : ℤ). negℤ (x′ *ℤ y) +ℤ u) (sym (negℤ-negℤ (y′ *ℤ x))) ∙ sym (negℤ-+ℤ (x′ *ℤ y) (negℤ (y′ *ℤ x)))
+      back x y x′ y′ = ap₂ (λ (u v : ℤ). u +ℤ negℤ v) (*ℤ-comm x y′) (*ℤ-comm y x′) ∙ +ℤ-comm (y′ *ℤ x) (negℤ (x′ *ℤ y)) ∙ ap (λ (u : ℤ). negℤ (x′ *ℤ y) +ℤ u)
+          (sym (negℤ-negℤ (y′ *ℤ x))) ∙ sym (negℤ-+ℤ (x′ *ℤ y) (negℤ (y′ *ℤ x)))
 
   area-sum : (es : List Edge) → doubledArea coords es ≡ sum (term coords) es
   unfolding doubledArea sum
@@ -50,7 +51,8 @@ module _ (coords : List Float) where
   areas-sum [] = refl
   areas-sum (p ∷ ps) = ap₂ (λ (y z : ℤ). y +ℤ z) (area-sum (ring p)) (areas-sum ps) ∙ sym (sum-append (term coords) (ring p) (rings ps))
 
-  areas : (outline : List Edge) (ps : List (List ℕ)) → ((a b : ℕ) → times a b (rings ps) + times b a outline ≡ times b a (rings ps) + times a b outline) → doubledAreas coords ps ≡ doubledArea coords outline
+  areas : (outline : List Edge) (ps : List (List ℕ)) → ((a b : ℕ) → times a b (rings ps) + times b a outline ≡ times b a (rings ps) + times a b outline)
+      → doubledAreas coords ps ≡ doubledArea coords outline
   areas outline ps h = areas-sum ps ∙ sum-even (term coords) term-odd (rings ps) outline h ∙ sym (area-sum outline)
 
 -- ---- the after-walk test
@@ -93,7 +95,8 @@ pieces-behind from (p ∷ ps) ns ss =
     let all : p ++ flat ps ++ ns ≡ p ++ (flat ps ++ ns) = append-assoc p (flat ps) ns in
     ap₂ (λ (q : List ℕ) (qs : List (List ℕ)). q ∷ qs)
     (ap (take (from + length p - from)) all ∙ take-at p (flat ps ++ ns) (from + length p - from) size)
-    (ap (λ (w : List ℕ). piecesIn (from + length p) (length ps) w (stops (from + length p) ps ++ ss)) (ap (drop (from + length p - from)) all ∙ drop-at p (flat ps ++ ns) (from + length p - from) size) ∙ pieces-behind (from + length p) ps ns ss)
+    (ap (λ (w : List ℕ). piecesIn (from + length p) (length ps) w (stops (from + length p) ps ++ ss))
+    (ap (drop (from + length p - from)) all ∙ drop-at p (flat ps ++ ns) (from + length p - from) size) ∙ pieces-behind (from + length p) ps ns ss)
 
 pieces-read : (from : ℕ) (ps : List (List ℕ)) (nodes stops₀ : List ℕ) → piecesIn from (length ps) (front nodes (flat ps)) (front stops₀ (stops from ps)) ≡ ps
 unfolding front
@@ -102,10 +105,13 @@ pieces-read from ps nodes stops₀ = pieces-behind from ps (drop (length (flat p
 -- ---- a cell that is cut
 
 module _ (turning : Bool) (coords : List Float) (outline : List Edge) (near : List Laid) where
-  pub walk-ends : ((ps : List (List ℕ)) × (walkWith turning outline (cellTable coords outline near) ≡ closed ps)) ⊎ (walkWith turning outline (cellTable coords outline near) ≡ stuck)
-  walk-ends = pick (walkWith turning outline (cellTable coords outline near)) refl (ends turning outline (inner outline near) (cellTable coords outline near) (sorted-table true coords outline near))
+  pub walk-ends : ((ps : List (List ℕ)) × (walkWith turning outline (cellTable coords outline near) ≡ closed ps)) ⊎
+      (walkWith turning outline (cellTable coords outline near) ≡ stuck)
+  walk-ends = pick (walkWith turning outline (cellTable coords outline near)) refl
+      (ends turning outline (inner outline near) (cellTable coords outline near) (sorted-table true coords outline near))
     where
-      pick : (r : Next) → walkWith turning outline (cellTable coords outline near) ≡ r → Ended r → ((ps : List (List ℕ)) × (walkWith turning outline (cellTable coords outline near) ≡ closed ps)) ⊎ (walkWith turning outline (cellTable coords outline near) ≡ stuck)
+      pick : (r : Next) → walkWith turning outline (cellTable coords outline near) ≡ r → Ended r
+          → ((ps : List (List ℕ)) × (walkWith turning outline (cellTable coords outline near) ≡ closed ps)) ⊎ (walkWith turning outline (cellTable coords outline near) ≡ stuck)
       pick (more s) e h = absurd h
       pick (closed ps) e h = inl (ps, e)
       pick stuck e h = inr e
@@ -126,7 +132,8 @@ module _ (turning : Bool) (coords : List Float) (outline : List Edge) (near : Li
 
   -- the outcome without the test is the same
   pub without-test : cutOutcomeWith (record { turning = turning; once = true }) outline (cellTable coords outline near)
-      ≡ cond (repeats outline) (refusal 19) (cond (tooMany (length (cellTable coords outline near))) (refusal 10) (ofWalk (walkWith turning outline (cellTable coords outline near))))
+      ≡ cond (repeats outline) (refusal 19) (cond (tooMany (length (cellTable coords outline near))) (refusal 10)
+      (ofWalk (walkWith turning outline (cellTable coords outline near))))
   unfolding cutOutcomeWith
   without-test = by (repeats outline) refl
     where
@@ -137,15 +144,19 @@ module _ (turning : Bool) (coords : List Float) (outline : List Edge) (near : Li
       go f (more s) e = refl
 
       by : (b : Bool) → repeats outline ≡ b
-          → cond b (refusal 19) (cond (tooMany (length (cellTable coords outline near))) (refusal 10) (afterWalk outline false (ofWalk (walkWith turning outline (cellTable coords outline near)))))
+          → cond b (refusal 19) (cond (tooMany (length (cellTable coords outline near))) (refusal 10)
+          (afterWalk outline false (ofWalk (walkWith turning outline (cellTable coords outline near)))))
           ≡ cond b (refusal 19) (cond (tooMany (length (cellTable coords outline near))) (refusal 10) (ofWalk (walkWith turning outline (cellTable coords outline near))))
       by true f = refl
-      by false f = ap (λ (x : Outcome). cond (tooMany (length (cellTable coords outline near))) (refusal 10) x) (go f (walkWith turning outline (cellTable coords outline near)) refl)
+      by false f = ap (λ (x : Outcome). cond (tooMany (length (cellTable coords outline near))) (refusal 10) x)
+          (go f (walkWith turning outline (cellTable coords outline near)) refl)
 
-  pub accepted-closes-up : (ps : List (List ℕ)) → cutOutcomeWith (record { turning = turning; once = true }) outline (cellTable coords outline near) ≡ pieces ps → ClosesUp coords outline ps
+  pub accepted-closes-up : (ps : List (List ℕ)) → cutOutcomeWith (record { turning = turning; once = true }) outline (cellTable coords outline near) ≡ pieces
+      ps → ClosesUp coords outline ps
   accepted-closes-up ps e = by (repeats outline) refl (sym without-test ∙ e)
     where
-      made : (b : Bool) → cond b (refusal 10) (ofWalk (walkWith turning outline (cellTable coords outline near))) ≡ pieces ps → ofWalk (walkWith turning outline (cellTable coords outline near)) ≡ pieces ps
+      made : (b : Bool) → cond b (refusal 10) (ofWalk (walkWith turning outline (cellTable coords outline near))) ≡ pieces ps
+          → ofWalk (walkWith turning outline (cellTable coords outline near)) ≡ pieces ps
       made true q = let z : _≡_ {A = ℕ} 0 1 = cc in absurd (omega arith)
       made false q = q
 
@@ -156,33 +167,40 @@ module _ (turning : Bool) (coords : List Float) (outline : List Edge) (near : Li
       of-walk (more s) q = let z : _≡_ {A = ℕ} 0 1 = cc in absurd (omega arith)
 
       by : (b : Bool) → repeats outline ≡ b
-          → cond b (refusal 19) (cond (tooMany (length (cellTable coords outline near))) (refusal 10) (ofWalk (walkWith turning outline (cellTable coords outline near)))) ≡ pieces ps
+          → cond b (refusal 19) (cond (tooMany (length (cellTable coords outline near))) (refusal 10)
+          (ofWalk (walkWith turning outline (cellTable coords outline near)))) ≡ pieces ps
           → ClosesUp coords outline ps
       by true f q = let z : _≡_ {A = ℕ} 0 1 = cc in absurd (omega arith)
       by false f q = closes-up f ps (of-walk (walkWith turning outline (cellTable coords outline near)) (made (tooMany (length (cellTable coords outline near))) q))
 
   -- the pieces as they are read from the answer and the lists
   pub read-closes-up : repeats outline ≡ false → (nodes stops₀ : List ℕ) (k m : ℕ)
-      → let o : Outcome = ofWalk (walkWith turning outline (cellTable coords outline near)) in answer o ≡ Closed k m → ClosesUp coords outline (piecesIn 0 k (cornersIn o nodes) (endsIn o stops₀))
+      → let o : Outcome = ofWalk (walkWith turning outline (cellTable coords outline near)) in answer o ≡ Closed k m
+      → ClosesUp coords outline (piecesIn 0 k (cornersIn o nodes) (endsIn o stops₀))
   unfolding cornersIn endsIn
   read-closes-up once nodes stops₀ k m = go (walkWith turning outline (cellTable coords outline near)) refl
     where
-      go : (x : Next) → walkWith turning outline (cellTable coords outline near) ≡ x → answer (ofWalk x) ≡ Closed k m → ClosesUp coords outline (piecesIn 0 k (cornersIn (ofWalk x) nodes) (endsIn (ofWalk x) stops₀))
+      go : (x : Next) → walkWith turning outline (cellTable coords outline near) ≡ x → answer (ofWalk x) ≡ Closed k m
+          → ClosesUp coords outline (piecesIn 0 k (cornersIn (ofWalk x) nodes) (endsIn (ofWalk x) stops₀))
       go (closed ps) e q =
           let count : k ≡ length ps = cc in
-          subst (ClosesUp coords outline) (sym (ap (λ (j : ℕ). piecesIn 0 j (front nodes (flat ps)) (front stops₀ (stops 0 ps))) count ∙ pieces-read 0 ps nodes stops₀)) (closes-up once ps e)
+          subst (ClosesUp coords outline) (sym (ap (λ (j : ℕ). piecesIn 0 j (front nodes (flat ps)) (front stops₀ (stops 0 ps))) count ∙ pieces-read 0 ps nodes
+          stops₀)) (closes-up once ps e)
       go stuck e q = let z : _≡_ {A = ℕ} 0 1 = cc in absurd (omega arith)
       go broken e q = let z : _≡_ {A = ℕ} 0 1 = cc in absurd (omega arith)
       go (more s) e q = let z : _≡_ {A = ℕ} 0 1 = cc in absurd (omega arith)
 
 -- an outline with as many darts into each node as out of it: the walk, which may turn back, always has a way on
-pub round-closes : (coords : List Float) (outline : List Edge) (near : List Laid) → Round outline → (ps : List (List ℕ)) × (walkWith true outline (cellTable coords outline near) ≡ closed ps)
+pub round-closes : (coords : List Float) (outline : List Edge) (near : List Laid) → Round outline
+    → (ps : List (List ℕ)) × (walkWith true outline (cellTable coords outline near) ≡ closed ps)
 round-closes coords outline near round =
     pick (walkWith true outline (cellTable coords outline near)) refl
     (ends true outline (inner outline near) (cellTable coords outline near) (sorted-table true coords outline near))
     (never-stuck outline (inner outline near) (cellTable coords outline near) (sorted-table true coords outline near) round)
   where
-    pick : (r : Next) → walkWith true outline (cellTable coords outline near) ≡ r → Ended r → Free (length (cellTable coords outline near)) (srcs (cellTable coords outline near)) (dsts (cellTable coords outline near)) r → (ps : List (List ℕ)) × (walkWith true outline (cellTable coords outline near) ≡ closed ps)
+    pick : (r : Next) → walkWith true outline (cellTable coords outline near) ≡ r → Ended r
+        → Free (length (cellTable coords outline near)) (srcs (cellTable coords outline near)) (dsts (cellTable coords outline near)) r
+        → (ps : List (List ℕ)) × (walkWith true outline (cellTable coords outline near) ≡ closed ps)
     pick (more s) e h f = absurd h
     pick (closed ps) e h f = (ps, e)
     pick stuck e h f = absurd f

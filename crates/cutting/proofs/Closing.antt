@@ -37,7 +37,8 @@ module _ (coords : List Float) (outline : List Edge) (near : List Laid) where
 
   -- And of the pieces as they are read from the answer and the two lists of `walk_dart_map`.
   pub read-closes-up : repeats outline ≡ false → (nodes stops : List ℕ) (k m : ℕ)
-      → let o : Outcome = ofWalk (walk outline (cellTable coords outline near)) in answer o ≡ Closed k m → ClosesUp coords outline (piecesIn 0 k (cornersIn o nodes) (endsIn o stops))
+      → let o : Outcome = ofWalk (walk outline (cellTable coords outline near)) in answer o ≡ Closed k m
+      → ClosesUp coords outline (piecesIn 0 k (cornersIn o nodes) (endsIn o stops))
   read-closes-up = cells.read-closes-up true coords outline near
 
   -- So the part of refusal 11 after the walk never fires.

@@ -10,7 +10,35 @@ use borrow.Author.Tests.{ltb-true, ltb-false, lt-ltb, eqb-true, eq-eqb}
 use Rattle.lists.specs.Gather.{tally}
 use Rattle.cutting.specs.Edges.{Edge, times}
 use Rattle.cutting.specs.Cell.{Slot, table}
-use Rattle.cutting.specs.Walk.{State, Phase, between, along, Next, more, closed, stuck, broken, run, step, go, rest, taken, popped, cross, arrive, onward, after, slot, leads, starts, walkFrom, srcs, dsts, marksOf, walkWith}
+use Rattle.cutting.specs.Walk.{
+  State,
+  Phase,
+  between,
+  along,
+  Next,
+  more,
+  closed,
+  stuck,
+  broken,
+  run,
+  step,
+  go,
+  rest,
+  taken,
+  popped,
+  cross,
+  arrive,
+  onward,
+  after,
+  slot,
+  leads,
+  starts,
+  walkFrom,
+  srcs,
+  dsts,
+  marksOf,
+  walkWith,
+}
 use Rattle.lists.proofs.Search.{many-has, many-bound}
 use Rattle.cutting.proofs.EdgeLaws.{hit-self}
 use Rattle.cutting.proofs.Rounds.{after-open, unmarked, unmarked-mark}
@@ -51,7 +79,8 @@ module _ (n : ℕ) (src dst : List ℕ) where
   Sound m broken = ⊥
 
   module _ (turning : Bool) (back : (a b : ℕ) → named n src dst a b ≡ named n src dst b a) where
-    popped-sound : (m : ℕ) (marks heap : List ℕ) (done : List (List ℕ)) (i : ℕ) (t : Bool) → eqb (getD marks i 0) 0 ≡ t → Going (suc m) marks (i ∷ heap) between → Sound m (popped turning n src dst marks heap done i t)
+    popped-sound : (m : ℕ) (marks heap : List ℕ) (done : List (List ℕ)) (i : ℕ) (t : Bool) → eqb (getD marks i 0) 0 ≡ t
+        → Going (suc m) marks (i ∷ heap) between → Sound m (popped turning n src dst marks heap done i t)
     unfolding popped
     popped-sound m marks heap done i true e k = record { long = k .long; inside = k .inside .1; stands = (k .inside .0, eqb-true (getD marks i 0) 0 e); room = omega arith }
     popped-sound m marks heap done i false e k = record { long = k .long; inside = k .inside .1; stands = tt; room = omega arith }
@@ -59,10 +88,12 @@ module _ (n : ℕ) (src dst : List ℕ) where
     rest-sound : (m : ℕ) (marks heap : List ℕ) (done : List (List ℕ)) → Going (suc m) marks heap between → Sound m (rest turning n src dst marks heap done)
     unfolding rest taken
     rest-sound m marks [] done k = tt
-    rest-sound m marks (i ∷ heap) done k = subst (λ (t : Bool). Sound m (taken turning n src dst marks heap done i t)) (sym (lt-ltb i n (k .inside .0))) (popped-sound m marks heap done i (eqb (getD marks i 0) 0) refl k)
+    rest-sound m marks (i ∷ heap) done k = subst (λ (t : Bool). Sound m (taken turning n src dst marks heap done i t)) (sym (lt-ltb i n (k .inside .0)))
+        (popped-sound m marks heap done i (eqb (getD marks i 0) 0) refl k)
 
     module _ (m : ℕ) (marks heap : List ℕ) (done : List (List ℕ)) (start : ℕ) (mid : List ℕ) (i : ℕ) (k : Going (suc m) marks heap (along start mid i)) where
-      onward-sound : (r j : ℕ) → r < n → (t : Bool) → ltb j n ≡ t → (j < n → getD (set marks i 1) j 0 ≡ 0) → Sound m (onward turning n src dst (set marks i 1) (r ∷ heap) done start (mid ++ getD dst i 0 ∷ []) j t)
+      onward-sound : (r j : ℕ) → r < n → (t : Bool) → ltb j n ≡ t → (j < n → getD (set marks i 1) j 0 ≡ 0)
+          → Sound m (onward turning n src dst (set marks i 1) (r ∷ heap) done start (mid ++ getD dst i 0 ∷ []) j t)
       unfolding onward
       onward-sound r j r< true l at =
           let j< = ltb-true j n l in
@@ -88,9 +119,16 @@ module _ (n : ℕ) (src dst : List ℕ) where
 
       back-found : slot n src dst (getD dst i 0) (getD src i 0) < n
       unfolding named
-      back-found = slot-found n src dst (getD dst i 0) (getD src i 0) (omega (arith, back (getD src i 0) (getD dst i 0), many-has (leads src dst (getD src i 0) (getD dst i 0)) n i (k .stands .0) (ap₂ (λ x y. x && y) (eq-eqb (getD src i 0) (getD src i 0) refl) (eq-eqb (getD dst i 0) (getD dst i 0) refl))))
+      back-found = slot-found n src dst (getD dst i 0) (getD src i 0)
+          (omega (
+            arith,
+            back (getD src i 0) (getD dst i 0),
+            many-has (leads src dst (getD src i 0) (getD dst i 0)) n i (k .stands .0)
+                (ap₂ (λ x y. x && y) (eq-eqb (getD src i 0) (getD src i 0) refl) (eq-eqb (getD dst i 0) (getD dst i 0) refl)),
+          ))
 
-      cross-sound : (t : Bool) → ltb (slot n src dst (getD dst i 0) (getD src i 0)) n ≡ t → Sound m (cross turning n src dst (set marks i 1) heap done start mid (getD dst i 0) (slot n src dst (getD dst i 0) (getD src i 0)) t)
+      cross-sound : (t : Bool) → ltb (slot n src dst (getD dst i 0) (getD src i 0)) n ≡ t
+          → Sound m (cross turning n src dst (set marks i 1) heap done start mid (getD dst i 0) (slot n src dst (getD dst i 0) (getD src i 0)) t)
       unfolding cross
       cross-sound true l = arrive-sound (slot n src dst (getD dst i 0) (getD src i 0)) back-found (eqb (getD dst i 0) start)
       cross-sound false l = omega (arith, back-found, ltb-false (slot n src dst (getD dst i 0) (getD src i 0)) n l)
@@ -100,7 +138,8 @@ module _ (n : ℕ) (src dst : List ℕ) where
     go-sound m between marks heap done k = rest-sound m marks heap done k
     go-sound m (along start mid i) marks heap done k = cross-sound m marks heap done start mid i k (ltb (slot n src dst (getD dst i 0) (getD src i 0)) n) refl
 
-    next-sound : (m : ℕ) → ((u : State) → Sound m (more u) → Ended (run turning n src dst m u)) → (t : Next) → Sound m t → Ended (elim t [ more u ↦ run turning n src dst m u | closed ps ↦ closed ps | stuck ↦ stuck | broken ↦ broken ])
+    next-sound : (m : ℕ) → ((u : State) → Sound m (more u) → Ended (run turning n src dst m u)) → (t : Next) → Sound m t
+        → Ended (elim t [ more u ↦ run turning n src dst m u | closed ps ↦ closed ps | stuck ↦ stuck | broken ↦ broken ])
     next-sound m again (more u) h = again u h
     next-sound m again (closed ps) h = tt
     next-sound m again stuck h = tt
@@ -117,7 +156,8 @@ unfolding walkWith walkFrom unmarked
 ends turning outline inner t sorted =
     let n = length t in
     let heap = starts n (srcs t) (dsts t) outline [] in
-    run-sound n (srcs t) (dsts t) turning (λ a b. omega (arith, named-table outline inner t sorted a b, named-table outline inner t sorted b a)) (2 * n + length heap + 1) (record { marks = marksOf t; heap = heap; done = []; phase = between }) (record {
+    run-sound n (srcs t) (dsts t) turning (λ a b. omega (arith, named-table outline inner t sorted a b, named-table outline inner t sorted b a))
+    (2 * n + length heap + 1) (record { marks = marksOf t; heap = heap; done = []; phase = between }) (record {
       long = omega (arith, length-map t (λ s. s .mark));
       inside = starts-below n (srcs t) (dsts t) outline [] (found outline inner t sorted) tt;
       stands = tt;

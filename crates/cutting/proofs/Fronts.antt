@@ -85,15 +85,20 @@ module _ (coords : List Float) (back : ℕ) (es : List Edge) (n r : ℕ) (src ds
             );
       }
 
-  module _ (a : Added coords back es n r src dst marks src′ dst′ marks′) (ls : length src′ ≡ length src) (ld : length dst′ ≡ length dst) (lm : length marks′ ≡ length marks) (room : (1024 ≤ length src) × (1024 ≤ length dst) × (1024 ≤ length marks)) where
-    lists : (b : Bool) → tooMany (n + 2 * length es) ≡ b → (src′ ≡ cond b src (front src (srcs all))) × (dst′ ≡ cond b dst (front dst (dsts all))) × (marks′ ≡ cond b marks (front marks (marksOf all)))
+  module _ (a : Added coords back es n r src dst marks src′ dst′ marks′) (ls : length src′ ≡ length src) (ld : length dst′ ≡ length dst)
+      (lm : length marks′ ≡ length marks) (room : (1024 ≤ length src) × (1024 ≤ length dst) × (1024 ≤ length marks)) where
+    lists : (b : Bool) → tooMany (n + 2 * length es) ≡ b → (src′ ≡ cond b src (front src (srcs all))) × (dst′ ≡ cond b dst (front dst (dsts all))) ×
+        (marks′ ≡ cond b marks (front marks (marksOf all)))
     lists true e = a .full (omega (arith, a .count, ltb-true 1024 (n + 2 * length es) e))
     lists false e =
         let h : r ≤ 1024 = omega (arith, a .count, ltb-false 1024 (n + 2 * length es) e) in
         let i = a .grows h in (
-          front-is src src′ r (omega (arith, h, ls, room .0)) (i .behind-src) ∙ ap (front src) (sym (slots-srcs src′ dst′ marks′ r (omega (arith, h, ls, room .0))) ∙ ap srcs (i .holds)),
-          front-is dst dst′ r (omega (arith, h, ld, room .1)) (i .behind-dst) ∙ ap (front dst) (sym (slots-dsts src′ dst′ marks′ r (omega (arith, h, ld, room .1))) ∙ ap dsts (i .holds)),
-          front-is marks marks′ r (omega (arith, h, lm, room .2)) (i .behind-marks) ∙ ap (front marks) (sym (slots-marks src′ dst′ marks′ r (omega (arith, h, lm, room .2))) ∙ ap marksOf (i .holds)),
+          front-is src src′ r (omega (arith, h, ls, room .0)) (i .behind-src) ∙ ap (front src)
+              (sym (slots-srcs src′ dst′ marks′ r (omega (arith, h, ls, room .0))) ∙ ap srcs (i .holds)),
+          front-is dst dst′ r (omega (arith, h, ld, room .1)) (i .behind-dst) ∙ ap (front dst)
+              (sym (slots-dsts src′ dst′ marks′ r (omega (arith, h, ld, room .1))) ∙ ap dsts (i .holds)),
+          front-is marks marks′ r (omega (arith, h, lm, room .2)) (i .behind-marks) ∙ ap (front marks)
+              (sym (slots-marks src′ dst′ marks′ r (omega (arith, h, lm, room .2))) ∙ ap marksOf (i .holds)),
         )
 
     pub as-table : tableIn r src′ dst′ marks′ ≡ withDarts coords back es (tableIn n src dst marks)
@@ -129,5 +134,6 @@ module _ (coords : List Float) (back : ℕ) (es : List Edge) (n r : ℕ) (outlin
   pub own-added : Equations → Added coords back es n r src dst marks src′ dst′ marks′ × Outlined es n r outline outline′
   own-added e = let a = added coords back es n r src dst marks src′ dst′ marks′ (e .0) in (a, outlined es n r outline outline′ (a .count) (e .1))
 
-  pub own-as : Added coords back es n r src dst marks src′ dst′ marks′ × Outlined es n r outline outline′ → length src′ ≡ length src → length dst′ ≡ length dst → length marks′ ≡ length marks → (1024 ≤ length src) × (1024 ≤ length dst) × (1024 ≤ length marks) → Equations
+  pub own-as : Added coords back es n r src dst marks src′ dst′ marks′ × Outlined es n r outline outline′ → length src′ ≡ length src → length dst′ ≡ length dst
+      → length marks′ ≡ length marks → (1024 ≤ length src) × (1024 ≤ length dst) × (1024 ≤ length marks) → Equations
   own-as a ls ld lm room = (as-table coords back es n r src dst marks src′ dst′ marks′ (a .0) ls ld lm room, as-outline es n r outline outline′ (a .0 .count) (a .1))

@@ -35,7 +35,8 @@ module _ (t u : List Slot) (r q : ℕ) (src dst marks src₁ dst₁ marks₁ src
     behind-marks = two .behind-marks ∙ drop-further marks₁ marks r q h (one .behind-marks);
   }
 
-pub the-same : (t u : List Slot) (r q : ℕ) (src dst marks src′ dst′ marks′ : List ℕ) → t ≡ u → r ≡ q → Inserted t r src dst marks src′ dst′ marks′ → Inserted u q src dst marks src′ dst′ marks′
+pub the-same : (t u : List Slot) (r q : ℕ) (src dst marks src′ dst′ marks′ : List ℕ) → t ≡ u → r ≡ q → Inserted t r src dst marks src′ dst′ marks′
+    → Inserted u q src dst marks src′ dst′ marks′
 the-same t u r q src dst marks src′ dst′ marks′ e f i = record {
   holds = ap (slotsOf src′ dst′ marks′) (sym f) ∙ i .holds ∙ e;
   behind-src = rw (← f) (i .behind-src);
@@ -50,7 +51,8 @@ module _ (coords : List Float) (src dst marks src₁ dst₁ marks₁ src₂ dst�
       → Inserted (insert (standsBefore coords) (record { src = b; dst = a; mark = back }) (slotsOf src₁ dst₁ marks₁ (n + 1))) (n + 1 + 1) src₁ dst₁ marks₁ src₂ dst₂ marks₂
       → Inserted (sortOnto (standsBefore coords) (slotsOf src dst marks n) (edgeSlots back ((a, b) ∷ []))) (n + 2) src dst marks src₂ dst₂ marks₂
   unfolding sortOnto edgeSlots
-  both-ways a b back one two = the-same _ _ _ _ _ _ _ _ _ _ (ap (insert (standsBefore coords) (record { src = b; dst = a; mark = back })) (one .holds)) (omega arith) (and-then _ _ (n + 1) (n + 1 + 1) _ _ _ _ _ _ _ _ _ (omega arith) one two)
+  both-ways a b back one two = the-same _ _ _ _ _ _ _ _ _ _ (ap (insert (standsBefore coords) (record { src = b; dst = a; mark = back })) (one .holds))
+      (omega arith) (and-then _ _ (n + 1) (n + 1 + 1) _ _ _ _ _ _ _ _ _ (omega arith) one two)
 
   -- an edge behind those that are in
   pub one-more : (back k : ℕ) (done : List Edge) (e : Edge)
@@ -60,7 +62,9 @@ module _ (coords : List Float) (src dst marks src₁ dst₁ marks₁ src₂ dst�
   one-more back k done e one two =
       let before = standsBefore coords in
       let t = slotsOf src dst marks n in
-      the-same _ _ _ _ _ _ _ _ _ _ (ap (λ (u : List Slot). sortOnto before u (edgeSlots back (e ∷ []))) (one .holds) ∙ sym (sortOnto-append before t (edgeSlots back done) (edgeSlots back (e ∷ []))) ∙ ap (sortOnto before t) (sym (slots-append back done (e ∷ [])))) refl (and-then _ _ k (k + 2) _ _ _ _ _ _ _ _ _ (omega arith) one two)
+      the-same _ _ _ _ _ _ _ _ _ _ (ap (λ (u : List Slot). sortOnto before u (edgeSlots back (e ∷ []))) (one .holds) ∙ sym
+      (sortOnto-append before t (edgeSlots back done) (edgeSlots back (e ∷ []))) ∙ ap (sortOnto before t) (sym (slots-append back done (e ∷ [])))) refl
+      (and-then _ _ k (k + 2) _ _ _ _ _ _ _ _ _ (omega arith) one two)
 
 -- ---- along a list of nodes
 
@@ -68,7 +72,8 @@ pub windows-next : (ns : List ℕ) (i : ℕ) → i + 1 < length ns → windows (
 unfolding hops
 windows-next ns i h =
     let next : drop (i + 1) ns ≡ getD ns (i + 1) 0 ∷ drop (suc (i + 1)) ns = drop-cons ns (i + 1) 0 h in
-    let here : drop i ns ≡ getD ns i 0 ∷ getD ns (i + 1) 0 ∷ drop (suc (i + 1)) ns = drop-cons ns i 0 (omega arith) ∙ ap (λ (j : ℕ). getD ns i 0 ∷ drop j ns) (sym (add-one i)) ∙ ap (λ (l : List ℕ). getD ns i 0 ∷ l) next in
+    let here : drop i ns ≡ getD ns i 0 ∷ getD ns (i + 1) 0 ∷ drop (suc (i + 1)) ns = drop-cons ns i 0 (omega arith) ∙ ap (λ (j : ℕ). getD ns i 0 ∷ drop j ns)
+    (sym (add-one i)) ∙ ap (λ (l : List ℕ). getD ns i 0 ∷ l) next in
     ap windows here ∙ ap (λ (es : List Edge). (getD ns i 0, getD ns (i + 1) 0) ∷ es) (sym (ap windows next))
 
 pub windows-end : (ns : List ℕ) (i : ℕ) → length ns ≤ i + 1 → windows (drop i ns) ≡ []
@@ -90,7 +95,8 @@ ends-length [] = refl
 ends-length (e ∷ es) = omega (arith, ends-length es)
 
 -- two entries behind the edges that an outline has
-pub ends-more : (w v : List ℕ) (n k a b : ℕ) (done : List Edge) (e : Edge) → n ≤ length w → k ≡ n + 2 * length done → k + 2 ≤ length w → v ≡ put w n (ends done) → a ≡ e .0 → b ≡ e .1 → set (set v k a) (k + 1) b ≡ put w n (ends (done ++ e ∷ []))
+pub ends-more : (w v : List ℕ) (n k a b : ℕ) (done : List Edge) (e : Edge) → n ≤ length w → k ≡ n + 2 * length done → k + 2 ≤ length w
+    → v ≡ put w n (ends done) → a ≡ e .0 → b ≡ e .1 → set (set v k a) (k + 1) b ≡ put w n (ends (done ++ e ∷ []))
 unfolding ends
 ends-more w v n k a b done e h l m q ea eb =
     let len = ends-length done in
@@ -101,6 +107,11 @@ ends-more w v n k a b done e h l m q ea eb =
     ∙ ap (put w n) (append-assoc (ends done) (a ∷ []) (b ∷ []) ∙ ap₂ (λ (x y : ℕ). ends done ++ x ∷ y ∷ []) ea eb ∙ sym (joined-snoc (λ e. e .0 ∷ e .1 ∷ []) done e))
 
 -- ---- an own edge's darts
+
+-- a window, turned by its two ends
+pub turned-is : (inv : Bool) (p q : ℕ) → _≡_ {A = Edge} (cond inv q p, cond inv p q) (turn inv (p, q))
+turned-is true p q = refl
+turned-is false p q = refl
 
 pub record Laying (coords : List Float) (inv : Bool) (nodes outline₀ src₀ dst₀ marks₀ : List ℕ) (n : ℕ) (outline src dst marks : List ℕ) (i k : ℕ) : Type 0 where
   pub same-outline : length outline ≡ length outline₀
@@ -133,13 +144,6 @@ module _ (coords : List Float) (inv : Bool) (nodes outline₀ src₀ dst₀ mark
   }
 
   module _ (outline src dst marks : List ℕ) (i k : ℕ) (v : Laying coords inv nodes outline₀ src₀ dst₀ marks₀ n outline src dst marks i k) where
-    turned-is : (p q : ℕ) → _≡_ {A = Edge} (cond inv q p, cond inv p q) (turn inv (p, q))
-    turned-is p q = go inv
-      where
-        go : (t : Bool) → _≡_ {A = Edge} (cond t q p, cond t p q) (turn t (p, q))
-        go true = refl
-        go false = refl
-
     pub lay-turn : (a b : ℕ) (src′ dst′ marks′ : List ℕ) → i + 1 < length nodes → k + 2 ≤ length outline₀
         → a ≡ cond inv (getD nodes (i + 1) 0) (getD nodes i 0) → b ≡ cond inv (getD nodes i 0) (getD nodes (i + 1) 0)
         → length (set (set outline k a) (k + 1) b) ≡ length outline → length src′ ≡ length src → length dst′ ≡ length dst → length marks′ ≡ length marks
@@ -147,7 +151,7 @@ module _ (coords : List Float) (inv : Bool) (nodes outline₀ src₀ dst₀ mark
         → Laying coords inv nodes outline₀ src₀ dst₀ marks₀ n (set (set outline k a) (k + 1) b) src′ dst′ marks′ (i + 1) (k + 2)
     lay-turn a b src′ dst′ marks′ h fits ea eb lo ls ld lm ins =
         let e : Edge = turn inv (getD nodes i 0, getD nodes (i + 1) 0) in
-        let is-e : _≡_ {A = Edge} (a, b) e = ap₂ (λ x y. (x, y)) ea eb ∙ turned-is (getD nodes i 0) (getD nodes (i + 1) 0) in
+        let is-e : _≡_ {A = Edge} (a, b) e = ap₂ (λ x y. (x, y)) ea eb ∙ turned-is inv (getD nodes i 0) (getD nodes (i + 1) 0) in
         record {
           same-outline = lo ∙ v .same-outline;
           same-src = ls ∙ v .same-src;
@@ -157,13 +161,22 @@ module _ (coords : List Float) (inv : Bool) (nodes outline₀ src₀ dst₀ mark
           done = v .done ++ e ∷ [];
           count = omega (arith, v .count);
           counted = omega (arith, length-append (v .done) (e ∷ []), v .counted);
-          left = append-assoc (v .done) (e ∷ []) (map (turn inv) (windows (drop (i + 1) nodes))) ∙ ap (λ (es : List Edge). v .done ++ map (turn inv) es) (sym (windows-next nodes i h)) ∙ v .left;
-          outlined = ends-more outline₀ outline n k a b (v .done) e (omega (arith, v .count)) (omega (arith, v .count, v .counted)) fits (v .outlined) (ap (λ (x : Edge). x .0) is-e) (ap (λ (x : Edge). x .1) is-e);
-          inserted = one-more coords src₀ dst₀ marks₀ src dst marks src′ dst′ marks′ n reverseMark k (v .done) e (v .inserted) (the-same _ _ _ _ _ _ _ _ _ _ (ap (λ (x : Edge). sortOnto (standsBefore coords) (slotsOf src dst marks k) (edgeSlots reverseMark (x ∷ []))) is-e) refl ins);
+          left = append-assoc (v .done) (e ∷ []) (map (turn inv) (windows (drop (i + 1) nodes))) ∙ ap (λ (es : List Edge). v .done ++ map (turn inv) es)
+              (sym (windows-next nodes i h)) ∙ v .left;
+          outlined = ends-more outline₀ outline n k a b (v .done) e (omega (arith, v .count)) (omega (arith, v .count, v .counted)) fits (v .outlined)
+              (ap (λ (x : Edge). x .0) is-e) (ap (λ (x : Edge). x .1) is-e);
+          inserted = one-more coords src₀ dst₀ marks₀ src dst marks src′ dst′ marks′ n reverseMark k (v .done) e (v .inserted)
+              (the-same _ _ _ _ _ _ _ _ _ _ (ap (λ (x : Edge). sortOnto (standsBefore coords) (slotsOf src dst marks k) (edgeSlots reverseMark (x ∷ []))) is-e) refl ins);
         }
 
-    pub lay-end : length nodes ≤ i + 1 → (outline ≡ put outline₀ n (ends (map (turn inv) (windows nodes)))) × Inserted (sortOnto (standsBefore coords) (slotsOf src₀ dst₀ marks₀ n) (edgeSlots reverseMark (map (turn inv) (windows nodes)))) (n + 2 * length (windows nodes)) src₀ dst₀ marks₀ src dst marks
+    pub lay-end : length nodes ≤ i + 1 → (outline ≡ put outline₀ n (ends (map (turn inv) (windows nodes)))) × Inserted
+        (sortOnto (standsBefore coords) (slotsOf src₀ dst₀ marks₀ n) (edgeSlots reverseMark (map (turn inv) (windows nodes)))) (n + 2 * length (windows nodes))
+        src₀ dst₀ marks₀ src dst marks
     lay-end h =
-        let all : v .done ≡ map (turn inv) (windows nodes) = sym (append-nil (v .done)) ∙ ap (λ (es : List Edge). v .done ++ map (turn inv) es) (sym (windows-end nodes i h)) ∙ v .left in
-        let len : length (v .done) ≡ length (windows nodes) = ap length all ∙ length-map (windows nodes) (turn inv) in
-        (v .outlined ∙ ap (λ (es : List Edge). put outline₀ n (ends es)) all, the-same _ _ _ _ _ _ _ _ _ _ (ap (λ (es : List Edge). sortOnto (standsBefore coords) (slotsOf src₀ dst₀ marks₀ n) (edgeSlots reverseMark es)) all) (omega (arith, v .count, v .counted, len)) (v .inserted))
+        let all : v .done ≡ map (turn inv) (windows nodes) = sym (append-nil (v .done)) ∙ ap (λ (es : List Edge). v .done ++ map (turn inv) es)
+        (sym (windows-end nodes i h)) ∙ v .left in
+        let len : length (v .done) ≡ length (windows nodes) = ap length all ∙ length-map (windows nodes) (turn inv) in (
+          v .outlined ∙ ap (λ (es : List Edge). put outline₀ n (ends es)) all,
+          the-same _ _ _ _ _ _ _ _ _ _ (ap (λ (es : List Edge). sortOnto (standsBefore coords) (slotsOf src₀ dst₀ marks₀ n) (edgeSlots reverseMark es)) all)
+              (omega (arith, v .count, v .counted, len)) (v .inserted),
+        )

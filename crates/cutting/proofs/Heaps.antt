@@ -22,7 +22,8 @@ pub pairs-drop : (xs : List ℕ) (i : ℕ) → i + 1 < length xs → pairs (drop
 unfolding pairs
 pairs-drop xs i h =
     let two : i + 2 ≡ suc (suc i) = omega arith in
-    ap pairs (drop-cons xs i 0 (omega arith) ∙ ap (λ (l : List ℕ). getD xs i 0 ∷ l) (drop-cons xs (suc i) 0 (omega arith))) ∙ ap₂ (λ (j k : ℕ). (getD xs i 0, getD xs j 0) ∷ pairs (drop k xs)) (sym (add-one i)) (sym two)
+    ap pairs (drop-cons xs i 0 (omega arith) ∙ ap (λ (l : List ℕ). getD xs i 0 ∷ l) (drop-cons xs (suc i) 0 (omega arith))) ∙ ap₂
+    (λ (j k : ℕ). (getD xs i 0, getD xs j 0) ∷ pairs (drop k xs)) (sym (add-one i)) (sym two)
 
 module _ (n : ℕ) (src dst : List ℕ) where
   pub slot-le : (a b s : ℕ) → s ≡ slot n src dst a b → s ≤ n
@@ -30,9 +31,11 @@ module _ (n : ℕ) (src dst : List ℕ) where
   slot-le a b s e = rw e (first-le (leads src dst a b) 0 n (omega arith))
 
   module _ (edges : List ℕ) (i k : ℕ) (heap target : List ℕ) (inv : starts n src dst (pairs (drop i edges)) (stacked heap k) ≡ target) where
-    pub start-turn : (s : ℕ) → i + 1 < length edges → k < length heap → s ≡ slot n src dst (getD edges i 0) (getD edges (i + 1) 0) → starts n src dst (pairs (drop (i + 2) edges)) (stacked (set heap k s) (k + 1)) ≡ target
+    pub start-turn : (s : ℕ) → i + 1 < length edges → k < length heap → s ≡ slot n src dst (getD edges i 0) (getD edges (i + 1) 0)
+        → starts n src dst (pairs (drop (i + 2) edges)) (stacked (set heap k s) (k + 1)) ≡ target
     unfolding starts
-    start-turn s h l e = ap (starts n src dst (pairs (drop (i + 2) edges))) (stacked-push heap k s l ∙ ap (λ (x : ℕ). x ∷ stacked heap k) e) ∙ sym (ap (λ (es : List Edge). starts n src dst es (stacked heap k)) (pairs-drop edges i h)) ∙ inv
+    start-turn s h l e = ap (starts n src dst (pairs (drop (i + 2) edges))) (stacked-push heap k s l ∙ ap (λ (x : ℕ). x ∷ stacked heap k) e) ∙ sym
+        (ap (λ (es : List Edge). starts n src dst es (stacked heap k)) (pairs-drop edges i h)) ∙ inv
 
     pub start-end : length edges ≤ i + 1 → stacked heap k ≡ target
     unfolding starts

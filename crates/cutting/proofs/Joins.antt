@@ -62,10 +62,12 @@ module _ (coords : List Float) where
   before = standsBefore coords
 
   -- after the own edges so far, one more
-  pub own-more : (own : List Laid) (l : Laid) → sortOnto before (sorted before (edgeSlots reverseMark (outlineDarts own))) (edgeSlots reverseMark (ownDarts l)) ≡ sorted before (edgeSlots reverseMark (outlineDarts (own ++ l ∷ [])))
+  pub own-more : (own : List Laid) (l : Laid) → sortOnto before (sorted before (edgeSlots reverseMark (outlineDarts own))) (edgeSlots reverseMark (ownDarts l))
+      ≡ sorted before (edgeSlots reverseMark (outlineDarts (own ++ l ∷ [])))
   unfolding outlineDarts
   own-more own l =
-      sym (sortOnto-append before [] (edgeSlots reverseMark (joined ownDarts own)) (edgeSlots reverseMark (ownDarts l))) ∙ ap (sorted before) (sym (slots-append reverseMark (joined ownDarts own) (ownDarts l))) ∙ ap (λ (es : List Edge). sorted before (edgeSlots reverseMark es)) (sym (joined-snoc ownDarts own l))
+      sym (sortOnto-append before [] (edgeSlots reverseMark (joined ownDarts own)) (edgeSlots reverseMark (ownDarts l))) ∙ ap (sorted before)
+      (sym (slots-append reverseMark (joined ownDarts own) (ownDarts l))) ∙ ap (λ (es : List Edge). sorted before (edgeSlots reverseMark es)) (sym (joined-snoc ownDarts own l))
 
   module _ (outline : List Edge) where
     -- with no near edges
@@ -75,22 +77,37 @@ module _ (coords : List Float) where
 
     pub cell-length : (near : List Laid) → length (cellTable coords outline near) ≡ 2 * length outline + 2 * length (inner outline near)
     unfolding cellTableWith table
-    cell-length near = omega (arith, length-sorted before (edgeSlots reverseMark outline ++ edgeSlots 0 (inner outline near)), length-append (edgeSlots reverseMark outline) (edgeSlots 0 (inner outline near)), slots-length reverseMark outline, slots-length 0 (inner outline near))
+    cell-length near = omega (
+      arith,
+      length-sorted before (edgeSlots reverseMark outline ++ edgeSlots 0 (inner outline near)),
+      length-append (edgeSlots reverseMark outline) (edgeSlots 0 (inner outline near)),
+      slots-length reverseMark outline,
+      slots-length 0 (inner outline near),
+    )
 
   -- once over 1,024 slots, always over
-  pub own-over : (own : List Laid) (l : Laid) (later near : List Laid) → 1024 < 2 * length (outlineDarts own) + 2 * length (ownDarts l) → 1024 < length (cellTable coords (outlineDarts (own ++ l ∷ later)) near)
+  pub own-over : (own : List Laid) (l : Laid) (later near : List Laid) → 1024 < 2 * length (outlineDarts own) + 2 * length (ownDarts l)
+      → 1024 < length (cellTable coords (outlineDarts (own ++ l ∷ later)) near)
   unfolding outlineDarts joined
   own-over own l later near h =
-      omega (arith, cell-length (outlineDarts (own ++ l ∷ later)) near, ap length (joined-append ownDarts own (l ∷ later)), length-append (joined ownDarts own) (ownDarts l ++ joined ownDarts later), length-append (ownDarts l) (joined ownDarts later))
+      omega (
+        arith,
+        cell-length (outlineDarts (own ++ l ∷ later)) near,
+        ap length (joined-append ownDarts own (l ∷ later)),
+        length-append (joined ownDarts own) (ownDarts l ++ joined ownDarts later),
+        length-append (ownDarts l) (joined ownDarts later),
+      )
 
 -- ---- a turn of a loop over own edges, and of one over near edges
 
 module _ (coords : List Float) (src dst marks src′ dst′ marks′ : List ℕ) (n r : ℕ) where
   pub own-turn : (own : List Laid) (l : Laid) → Added coords reverseMark (ownDarts l) n r src dst marks src′ dst′ marks′ → r ≤ 1024
-      → slotsOf src dst marks n ≡ sorted (standsBefore coords) (edgeSlots reverseMark (outlineDarts own)) → slotsOf src′ dst′ marks′ r ≡ sorted (standsBefore coords) (edgeSlots reverseMark (outlineDarts (own ++ l ∷ [])))
+      → slotsOf src dst marks n ≡ sorted (standsBefore coords) (edgeSlots reverseMark (outlineDarts own))
+      → slotsOf src′ dst′ marks′ r ≡ sorted (standsBefore coords) (edgeSlots reverseMark (outlineDarts (own ++ l ∷ [])))
   own-turn own l a h e = a .grows h .holds ∙ ap (λ (t : List Slot). sortOnto (standsBefore coords) t (edgeSlots reverseMark (ownDarts l))) e ∙ own-more coords own l
 
-  pub own-full : (own : List Laid) (l : Laid) (later near : List Laid) → Added coords reverseMark (ownDarts l) n r src dst marks src′ dst′ marks′ → 1024 < r → n ≡ 2 * length (outlineDarts own)
+  pub own-full : (own : List Laid) (l : Laid) (later near : List Laid) → Added coords reverseMark (ownDarts l) n r src dst marks src′ dst′ marks′ → 1024 < r
+      → n ≡ 2 * length (outlineDarts own)
       → 1024 < length (cellTable coords (outlineDarts (own ++ l ∷ later)) near)
   own-full own l later near a h e = own-over coords own l later near (omega (arith, a .count))
 
@@ -196,7 +213,8 @@ module _ (coords : List Float) (outline : List Edge) where
         ∙ ap (sorted (standsBefore coords)) (append-assoc (edgeSlots reverseMark outline) (edgeSlots 0 (in-of ds)) (edgeSlots 0 (e ∷ []))
         ∙ ap (λ (u : List Slot). edgeSlots reverseMark outline ++ u) (sym (slots-append 0 (in-of ds) (e ∷ []))))
 
-    step-of : (x : Bool) → isNew (slots-of t) e ≡ x → let u : Table = cond x (withDarts coords 0 (e ∷ []) t) t in (u .slots ≡ size (ds ++ e ∷ [])) × (u .slots ≤ 1024 → Holds (ds ++ e ∷ []) u)
+    step-of : (x : Bool) → isNew (slots-of t) e ≡ x → let u : Table = cond x (withDarts coords 0 (e ∷ []) t) t in (u .slots ≡ size (ds ++ e ∷ [])) ×
+        (u .slots ≤ 1024 → Holds (ds ++ e ∷ []) u)
     step-of true q =
         let u : Table = withDarts coords 0 (e ∷ []) t in
         let all : in-of (ds ++ e ∷ []) ≡ in-of ds ++ e ∷ [] = newTo-snoc (table outline []) ds e ∙ ap (λ (x : Bool). in-of ds ++ oneIf x e) (sym same-new ∙ q) in
@@ -205,17 +223,23 @@ module _ (coords : List Float) (outline : List Edge) where
           λ few. a .grows few .holds ∙ more-table ∙ ap (λ (es : List Edge). sorted (standsBefore coords) (table outline es)) (sym all),
         )
     step-of false q =
-        let all : in-of (ds ++ e ∷ []) ≡ in-of ds = newTo-snoc (table outline []) ds e ∙ ap (λ (x : Bool). in-of ds ++ oneIf x e) (sym same-new ∙ q) ∙ append-nil (in-of ds) in
-        (holds-size ds t h ∙ ap (λ (es : List Edge). 2 * length outline + 2 * length es) (sym all), λ few. h ∙ ap (λ (es : List Edge). sorted (standsBefore coords) (table outline es)) (sym all))
+        let all : in-of (ds ++ e ∷ []) ≡ in-of ds = newTo-snoc (table outline []) ds e ∙ ap (λ (x : Bool). in-of ds ++ oneIf x e) (sym same-new ∙ q) ∙ append-nil (in-of ds) in (
+          holds-size ds t h ∙ ap (λ (es : List Edge). 2 * length outline + 2 * length es) (sym all),
+          λ few. h ∙ ap (λ (es : List Edge). sorted (standsBefore coords) (table outline es)) (sym all),
+        )
 
     one-step : (withEdge coords e t .slots ≡ size (ds ++ e ∷ [])) × (withEdge coords e t .slots ≤ 1024 → Holds (ds ++ e ∷ []) (withEdge coords e t))
     unfolding withEdge
     one-step = step-of (isNew (slots-of t) e) refl
 
   -- edges one after the other: they are held, or there are over 1,024 slots in all
-  grown : (es ds : List Edge) (t : Table) → t .slots ≤ 1024 → Holds ds t → let u = withEdges coords es t in (u .slots ≤ 1024 → Holds (ds ++ es) u) × (1024 < u .slots → 1024 < size (ds ++ es))
+  grown : (es ds : List Edge) (t : Table) → t .slots ≤ 1024 → Holds ds t
+      → let u = withEdges coords es t in (u .slots ≤ 1024 → Holds (ds ++ es) u) × (1024 < u .slots → 1024 < size (ds ++ es))
   unfolding withEdges
-  grown [] ds t small h = (λ few. h ∙ ap (λ (es : List Edge). sorted (standsBefore coords) (table outline (in-of es))) (sym (append-nil ds)), λ many. absurd (omega (arith, many, small)))
+  grown [] ds t small h = (
+    λ few. h ∙ ap (λ (es : List Edge). sorted (standsBefore coords) (table outline (in-of es))) (sym (append-nil ds)),
+    λ many. absurd (omega (arith, many, small)),
+  )
   grown (e ∷ es) ds t small h = go (decLe (withEdge coords e t .slots) 1024) (λ few held. grown es (ds ++ e ∷ []) (withEdge coords e t) few held)
     where
       st : (withEdge coords e t .slots ≡ size (ds ++ e ∷ [])) × (withEdge coords e t .slots ≤ 1024 → Holds (ds ++ e ∷ []) (withEdge coords e t))
@@ -230,7 +254,8 @@ module _ (coords : List Float) (outline : List Edge) where
       go : Dec (withEdge coords e t .slots ≤ 1024)
           → (withEdge coords e t .slots ≤ 1024 → Holds (ds ++ e ∷ []) (withEdge coords e t) → Goal ((ds ++ e ∷ []) ++ es) (withEdges coords es (withEdge coords e t)))
           → Goal (ds ++ e ∷ es) (withEdges coords (e ∷ es) t)
-      go (yes few) ih = subst (Goal (ds ++ e ∷ es)) (sym (edges-next coords e es t small)) (subst (λ (l : List Edge). Goal l (withEdges coords es (withEdge coords e t))) assoc (ih few (st .1 few)))
+      go (yes few) ih = subst (Goal (ds ++ e ∷ es)) (sym (edges-next coords e es t small))
+          (subst (λ (l : List Edge). Goal l (withEdges coords es (withEdge coords e t))) assoc (ih few (st .1 few)))
       go (no many) ih =
           subst (Goal (ds ++ e ∷ es)) (sym (edges-full coords es (withEdge coords e t) (omega arith)) ∙ sym (edges-next coords e es t small)) (
             (λ few. absurd (many few)),
@@ -245,7 +270,8 @@ module _ (coords : List Float) (outline : List Edge) (src dst marks src′ dst�
       × (1024 < r → 1024 < 2 * length outline + 2 * length (newTo (table outline []) (joined nearDarts near ++ nearDarts l)))
   unfolding cellTableWith innerWith
   now-of =
-      subst (λ (u : Table). (u .slots ≤ 1024 → Holds coords outline (joined nearDarts near ++ nearDarts l) u) × (1024 < u .slots → 1024 < size coords outline (joined nearDarts near ++ nearDarts l)))
+      subst (λ (u : Table). (u .slots ≤ 1024 → Holds coords outline (joined nearDarts near ++ nearDarts l) u) ×
+      (1024 < u .slots → 1024 < size coords outline (joined nearDarts near ++ nearDarts l)))
       (sym got) (grown coords outline (nearDarts l) (joined nearDarts near) (tableIn n src dst marks) small held)
 
   pub near-turn : r ≤ 1024 → slotsOf src′ dst′ marks′ r ≡ cellTable coords outline (near ++ l ∷ [])
@@ -261,7 +287,8 @@ module _ (coords : List Float) (outline : List Edge) (src dst marks src′ dst�
         now-of .1 h,
         newTo-more (table outline []) ds (joined nearDarts later),
         cell-length coords outline (near ++ l ∷ later),
-        ap (λ (x : List Edge). length (newTo (table outline []) x)) (append-assoc (joined nearDarts near) (nearDarts l) (joined nearDarts later) ∙ sym (joined-append nearDarts near (l ∷ later))),
+        ap (λ (x : List Edge). length (newTo (table outline []) x))
+            (append-assoc (joined nearDarts near) (nearDarts l) (joined nearDarts later) ∙ sym (joined-append nearDarts near (l ∷ later))),
       )
 
 -- ---- what a cut cell comes to

@@ -39,7 +39,9 @@ module _ (n : ℕ) (src dst : List ℕ) where
   free-mark : (a b : ℕ) (marks : List ℕ) (i : ℕ) → i < n → n ≤ length marks → getD marks i 0 ≡ 0 → free a b marks ≡ bit (leads src dst a b i) + free a b (set marks i 1)
   unfolding free
   free-mark a b marks i h l e =
-      let gone = many-change (λ k. leads src dst a b k && eqb (getD marks k 0) 0) (λ k. leads src dst a b k && eqb (getD (set marks i 1) k 0) 0) i n h (λ k ne. ap (λ (v : ℕ). leads src dst a b k && eqb v 0) (sym (getD-set-other marks i k 1 0 ne))) (ap (λ (v : ℕ). leads src dst a b i && eqb v 0) (getD-set-same marks i 1 0 (omega arith)) ∙ and-false (leads src dst a b i)) in
+      let gone = many-change (λ k. leads src dst a b k && eqb (getD marks k 0) 0) (λ k. leads src dst a b k && eqb (getD (set marks i 1) k 0) 0) i n h
+      (λ k ne. ap (λ (v : ℕ). leads src dst a b k && eqb v 0) (sym (getD-set-other marks i k 1 0 ne)))
+      (ap (λ (v : ℕ). leads src dst a b i && eqb v 0) (getD-set-same marks i 1 0 (omega arith)) ∙ and-false (leads src dst a b i)) in
       omega (arith, ap (λ (v : ℕ). bit (leads src dst a b i && eqb v 0)) e, ap bit (and-true (leads src dst a b i)))
 
   -- a marked slot is none of the unmarked ones
@@ -86,7 +88,8 @@ module _ (n : ℕ) (src dst : List ℕ) where
   back-hit i r e e′ a b = ap₂ (λ x y. hit a b x y) e e′ ∙ hit-back a b (getD dst i 0) (getD src i 0)
 
   -- the darts of a path, with the dart i after them
-  path-hit : (start : ℕ) (mid : List ℕ) (i y : ℕ) → end start mid ≡ getD src i 0 → getD dst i 0 ≡ y → (a b : ℕ) → times a b (hops start (mid ++ y ∷ [])) ≡ times a b (hops start mid) + bit (leads src dst a b i)
+  path-hit : (start : ℕ) (mid : List ℕ) (i y : ℕ) → end start mid ≡ getD src i 0 → getD dst i 0 ≡ y → (a b : ℕ)
+      → times a b (hops start (mid ++ y ∷ [])) ≡ times a b (hops start mid) + bit (leads src dst a b i)
   path-hit start mid i y e e′ a b = omega (arith, times-snoc a b start mid y, ap₂ (λ x z. hit a b x z) e (sym e′))
 
   -- what holds of a walk, for the edge from a to b and its reverse: f and f′ are their unmarked slots at start, o and o′ how often the outline has them
@@ -112,7 +115,8 @@ module _ (n : ℕ) (src dst : List ℕ) where
     Fine broken = Unit {0}
 
     module _ (turning : Bool) (one : f + o′ ≤ 1) (same : f + o′ ≡ f′ + o) (single : named a b ≤ 1) (single′ : named b a ≤ 1) where
-      popped-fine : (marks heap : List ℕ) (done : List (List ℕ)) (i : ℕ) → i < n → (t : Bool) → eqb (getD marks i 0) 0 ≡ t → Kept marks (i ∷ heap) done between → Fine (popped turning n src dst marks heap done i t)
+      popped-fine : (marks heap : List ℕ) (done : List (List ℕ)) (i : ℕ) → i < n → (t : Bool) → eqb (getD marks i 0) 0 ≡ t → Kept marks (i ∷ heap) done between
+          → Fine (popped turning n src dst marks heap done i t)
       unfolding popped on times hops end
       popped-fine marks heap done i i< true e k = record {
         long = k .long;
@@ -131,7 +135,8 @@ module _ (n : ℕ) (src dst : List ℕ) where
         left′ = omega (arith, free-marked b a marks i i< e);
       }
 
-      taken-fine : (marks heap : List ℕ) (done : List (List ℕ)) (i : ℕ) (t : Bool) → ltb i n ≡ t → Kept marks (i ∷ heap) done between → Fine (taken turning n src dst marks heap done i t)
+      taken-fine : (marks heap : List ℕ) (done : List (List ℕ)) (i : ℕ) (t : Bool) → ltb i n ≡ t → Kept marks (i ∷ heap) done between
+          → Fine (taken turning n src dst marks heap done i t)
       unfolding taken
       taken-fine marks heap done i true l k = popped-fine marks heap done i (ltb-true i n l) (eqb (getD marks i 0) 0) refl k
       taken-fine marks heap done i false l k = tt
@@ -141,9 +146,11 @@ module _ (n : ℕ) (src dst : List ℕ) where
       rest-fine marks [] done k = record { once = omega arith; once′ = omega arith; even = omega arith }
       rest-fine marks (i ∷ heap) done k = taken-fine marks heap done i (ltb i n) refl k
 
-      module _ (marks heap : List ℕ) (done : List (List ℕ)) (start : ℕ) (mid : List ℕ) (i r : ℕ) (r< : r < n) (e : getD src r 0 ≡ getD dst i 0) (e′ : getD dst r 0 ≡ getD src i 0) (k : Kept marks heap done (along start mid i)) where
+      module _ (marks heap : List ℕ) (done : List (List ℕ)) (start : ℕ) (mid : List ℕ) (i r : ℕ) (r< : r < n) (e : getD src r 0 ≡ getD dst i 0)
+          (e′ : getD dst r 0 ≡ getD src i 0) (k : Kept marks heap done (along start mid i)) where
         -- the dart i is walked, and the piece goes on at the slot j
-        onward-fine : (j : ℕ) → (t : Bool) → ltb j n ≡ t → (j < n → (getD src j 0 ≡ getD dst i 0) × (getD (set marks i 1) j 0 ≡ 0)) → Fine (onward turning n src dst (set marks i 1) (r ∷ heap) done start (mid ++ getD dst i 0 ∷ []) j t)
+        onward-fine : (j : ℕ) → (t : Bool) → ltb j n ≡ t → (j < n → (getD src j 0 ≡ getD dst i 0) × (getD (set marks i 1) j 0 ≡ 0))
+            → Fine (onward turning n src dst (set marks i 1) (r ∷ heap) done start (mid ++ getD dst i 0 ∷ []) j t)
         unfolding onward on
         onward-fine j true l found =
             let j< = ltb-true j n l in
@@ -190,7 +197,9 @@ module _ (n : ℕ) (src dst : List ℕ) where
             let j = after turning n src (set marks i 1) (getD dst i 0) r in
             onward-fine j (ltb j n) refl (λ l. (after-at turning n src (set marks i 1) (getD dst i 0) r e l, after-open turning n src (set marks i 1) (getD dst i 0) r l))
 
-      cross-fine : (marks heap : List ℕ) (done : List (List ℕ)) (start : ℕ) (mid : List ℕ) (i : ℕ) → Kept marks heap done (along start mid i) → (t : Bool) → ltb (slot n src dst (getD dst i 0) (getD src i 0)) n ≡ t → Fine (cross turning n src dst (set marks i 1) heap done start mid (getD dst i 0) (slot n src dst (getD dst i 0) (getD src i 0)) t)
+      cross-fine : (marks heap : List ℕ) (done : List (List ℕ)) (start : ℕ) (mid : List ℕ) (i : ℕ) → Kept marks heap done (along start mid i) → (t : Bool)
+          → ltb (slot n src dst (getD dst i 0) (getD src i 0)) n ≡ t
+          → Fine (cross turning n src dst (set marks i 1) heap done start mid (getD dst i 0) (slot n src dst (getD dst i 0) (getD src i 0)) t)
       unfolding cross
       cross-fine marks heap done start mid i k true l =
           let r = slot n src dst (getD dst i 0) (getD src i 0) in
@@ -208,7 +217,8 @@ module _ (n : ℕ) (src dst : List ℕ) where
       unfolding step
       step-fine s k = go-fine (s .phase) (s .marks) (s .heap) (s .done) k
 
-      on-next : (m : ℕ) → ((u : State) → Fine (more u) → Fine (run turning n src dst m u)) → (t : Next) → Fine t → Fine (elim t [ more u ↦ run turning n src dst m u | closed ps ↦ closed ps | stuck ↦ stuck | broken ↦ broken ])
+      on-next : (m : ℕ) → ((u : State) → Fine (more u) → Fine (run turning n src dst m u)) → (t : Next) → Fine t
+          → Fine (elim t [ more u ↦ run turning n src dst m u | closed ps ↦ closed ps | stuck ↦ stuck | broken ↦ broken ])
       on-next m again (more u) h = again u h
       on-next m again (closed ps) h = h
       on-next m again stuck h = tt
@@ -220,7 +230,10 @@ module _ (n : ℕ) (src dst : List ℕ) where
       run-fine (suc m) s k = on-next m (λ u h. run-fine m u h) (step turning n src dst s) (step-fine s k)
 
   -- the theorem for any table: marks stand at the reverses of the outline's edges alone, the heap has a slot for each edge of the outline, and no neighbour is named twice
-  pub close : (turning : Bool) (marks heap : List ℕ) (outline : List Edge) → n ≤ length marks → ((a b : ℕ) → named a b ≤ 1) → ((a b : ℕ) → free a b marks + times b a outline ≡ named a b) → ((a b : ℕ) → named a b ≡ named b a) → ((a b : ℕ) → on a b heap ≡ times a b outline) → (m : ℕ) (ps : List (List ℕ)) → run turning n src dst m (record { marks = marks; heap = heap; done = []; phase = between }) ≡ closed ps → (a b : ℕ) → (times a b (rings ps) ≤ 1) × (times a b (rings ps) + times b a outline ≡ times b a (rings ps) + times a b outline)
+  pub close : (turning : Bool) (marks heap : List ℕ) (outline : List Edge) → n ≤ length marks → ((a b : ℕ) → named a b ≤ 1)
+      → ((a b : ℕ) → free a b marks + times b a outline ≡ named a b) → ((a b : ℕ) → named a b ≡ named b a) → ((a b : ℕ) → on a b heap ≡ times a b outline)
+      → (m : ℕ) (ps : List (List ℕ)) → run turning n src dst m (record { marks = marks; heap = heap; done = []; phase = between }) ≡ closed ps → (a b : ℕ)
+      → (times a b (rings ps) ≤ 1) × (times a b (rings ps) + times b a outline ≡ times b a (rings ps) + times a b outline)
   unfolding times rings
   close turning marks heap outline long single marked sym-named starts m ps e a b =
       let fab = free a b marks in
@@ -235,5 +248,7 @@ module _ (n : ℕ) (src dst : List ℕ) where
         left = omega (arith, starts a b, marked a b, single a b);
         left′ = omega (arith, starts b a, marked b a, single b a);
       } in
-      let fine : Balanced a b fab fba o o′ ps = subst (Fine a b fab fba o o′) e (run-fine a b fab fba o o′ turning (omega (arith, marked a b, single a b)) (omega (arith, marked a b, marked b a, sym-named a b)) (single a b) (single b a) m (record { marks = marks; heap = heap; done = []; phase = between }) start) in
+      let fine : Balanced a b fab fba o o′ ps = subst (Fine a b fab fba o o′) e
+      (run-fine a b fab fba o o′ turning (omega (arith, marked a b, single a b)) (omega (arith, marked a b, marked b a, sym-named a b)) (single a b)
+      (single b a) m (record { marks = marks; heap = heap; done = []; phase = between }) start) in
       (fine .once, fine .even)

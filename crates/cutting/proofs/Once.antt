@@ -67,7 +67,8 @@ new-single t (e ∷ es) even once a b =
     go (isNew t e) refl (new-single t es even once a b) (λ new. new-single (edgeSlots 0 (e ∷ []) ++ t) es (more-even t e even) (more-single t e even once new) a b)
   where
     go : (x : Bool) → isNew t e ≡ x → tally (names a b) t + (times a b (newTo t es) + times b a (newTo t es)) ≤ 1
-        → (isNew t e ≡ true → tally (names a b) (edgeSlots 0 (e ∷ []) ++ t) + (times a b (newTo (edgeSlots 0 (e ∷ []) ++ t) es) + times b a (newTo (edgeSlots 0 (e ∷ []) ++ t) es)) ≤ 1)
+        → (isNew t e ≡ true → tally (names a b) (edgeSlots 0 (e ∷ []) ++ t) +
+        (times a b (newTo (edgeSlots 0 (e ∷ []) ++ t) es) + times b a (newTo (edgeSlots 0 (e ∷ []) ++ t) es)) ≤ 1)
         → let fs : List Edge = elim x [ true ↦ e ∷ newTo (edgeSlots 0 (e ∷ []) ++ t) es | false ↦ newTo t es ] in tally (names a b) t + (times a b fs + times b a fs) ≤ 1
     go true h same more = omega (arith, more h, one-named 0 a b e t)
     go false h same more = same
@@ -76,7 +77,12 @@ new-single t (e ∷ es) even once a b =
 
 pub table-named : (outline inside : List Edge) (a b : ℕ) → tally (names a b) (table outline inside) ≡ times a b outline + times b a outline + (times a b inside + times b a inside)
 unfolding table
-table-named outline inside a b = omega (arith, tally-append (names a b) (edgeSlots reverseMark outline) (edgeSlots 0 inside), names-edges reverseMark a b outline, names-edges 0 a b inside)
+table-named outline inside a b = omega (
+  arith,
+  tally-append (names a b) (edgeSlots reverseMark outline) (edgeSlots 0 inside),
+  names-edges reverseMark a b outline,
+  names-edges 0 a b inside,
+)
 
 pub outline-named : (outline : List Edge) (a b : ℕ) → tally (names a b) (table outline []) ≡ times a b outline + times b a outline
 unfolding times

@@ -52,7 +52,8 @@ after-some n src marks a r r< some = late (ltb (first test (r + 1) n) n) refl
     early true e l = omega (arith, ltb-true (first test 0 r) r e)
     early false e l = back (eqb (getD marks r 0) 0) refl l (ltb-false (first test 0 r) r e)
 
-    late : (t : Bool) → ltb (first test (r + 1) n) n ≡ t → orElse t (first test (r + 1) n) (orElse (ltb (first test 0 r) r) (first test 0 r) (orElse (eqb (getD marks r 0) 0) r n)) < n
+    late : (t : Bool) → ltb (first test (r + 1) n) n ≡ t → orElse t (first test (r + 1) n)
+        (orElse (ltb (first test 0 r) r) (first test 0 r) (orElse (eqb (getD marks r 0) 0) r n)) < n
     late true e = ltb-true (first test (r + 1) n) n e
     late false e = early (ltb (first test 0 r) r) refl (ltb-false (first test (r + 1) n) n e)
 
@@ -111,7 +112,8 @@ module _ (n : ℕ) (src dst : List ℕ) where
   rest-free marks [] done k = tt
   rest-free marks (i ∷ heap) done k = taken-free marks heap done i (ltb i n) refl k
 
-  module _ (marks heap : List ℕ) (done : List (List ℕ)) (start : ℕ) (mid : List ℕ) (i r : ℕ) (r< : r < n) (e : getD src r 0 ≡ getD dst i 0) (k : Going marks (along start mid i)) where
+  module _ (marks heap : List ℕ) (done : List (List ℕ)) (start : ℕ) (mid : List ℕ) (i r : ℕ) (r< : r < n) (e : getD src r 0 ≡ getD dst i 0)
+      (k : Going marks (along start mid i)) where
     -- once the slot is walked, the other node takes its place
     moved : (a : ℕ) → out a (set marks i 1) + bit (eqb start a) ≡ into a (set marks i 1) + bit (eqb (getD dst i 0) a)
     moved a = omega (arith, k .even .2 a, out-mark a marks i (k .even .0) (k .long) (k .even .1), into-mark a marks i (k .even .0) (k .long) (k .even .1))
@@ -208,12 +210,27 @@ to-inner a (e ∷ es) = omega (arith, to-inner a es, ap bit (and-true (eqb (e .0
 module _ (outline inner : List Edge) (t : List Slot) (sorted : (p : Slot → Bool) → tally p t ≡ tally p (table outline inner)) where
   out-table : (a : ℕ) → out (length t) (srcs t) (dsts t) a (marksOf t) ≡ leaving a outline + (leaving a inner + entering a inner)
   unfolding table
-  out-table a = omega (arith, out-tally a t, sorted (opens-from a), tally-append (opens-from a) (edgeSlots reverseMark outline) (edgeSlots 0 inner), from-outline a outline, from-inner a inner)
+  out-table a = omega (
+    arith,
+    out-tally a t,
+    sorted (opens-from a),
+    tally-append (opens-from a) (edgeSlots reverseMark outline) (edgeSlots 0 inner),
+    from-outline a outline,
+    from-inner a inner,
+  )
 
   into-table : (a : ℕ) → into (length t) (srcs t) (dsts t) a (marksOf t) ≡ entering a outline + (leaving a inner + entering a inner)
   unfolding table
-  into-table a = omega (arith, into-tally a t, sorted (opens-to a), tally-append (opens-to a) (edgeSlots reverseMark outline) (edgeSlots 0 inner), to-outline a outline, to-inner a inner)
+  into-table a = omega (
+    arith,
+    into-tally a t,
+    sorted (opens-to a),
+    tally-append (opens-to a) (edgeSlots reverseMark outline) (edgeSlots 0 inner),
+    to-outline a outline,
+    to-inner a inner,
+  )
 
   pub never-stuck : ((a : ℕ) → leaving a outline ≡ entering a outline) → Free (length t) (srcs t) (dsts t) (walkWith true outline t)
   unfolding walkWith walkFrom
-  never-stuck round = run-free (length t) (srcs t) (dsts t) _ _ (record { long = omega (arith, length-map t (λ s. s .mark)); even = λ a. omega (arith, out-table a, into-table a, round a) })
+  never-stuck round = run-free (length t) (srcs t) (dsts t) _ _ (record
+      { long = omega (arith, length-map t (λ s. s .mark)); even = λ a. omega (arith, out-table a, into-table a, round a) })

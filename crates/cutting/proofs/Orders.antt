@@ -23,12 +23,15 @@ module _ (a b c d k k′ l l′ : ℕ) (ek : _≡_ {A = Edge} (k, k′) (key (a,
 module _ (coords : List Float) (a b c d : ℕ) where
   pub stands-apart : (a ≡ c → ⊥) → false ≡ stands coords a b c d
   unfolding stands
-  stands-apart h = sym (ap (λ (t : Bool). t && isLess (angles (between (pointAt coords a) (pointAt coords b) .x) (between (pointAt coords a) (pointAt coords b) .y) (between (pointAt coords c) (pointAt coords d) .x) (between (pointAt coords c) (pointAt coords d) .y))) (ne-eqb a c h))
+  stands-apart h = sym (ap (λ (t : Bool). t && isLess (angles (between (pointAt coords a) (pointAt coords b) .x)
+      (between (pointAt coords a) (pointAt coords b) .y) (between (pointAt coords c) (pointAt coords d) .x) (between (pointAt coords c) (pointAt coords d) .y))) (ne-eqb a c h))
 
   pub stands-meet : (p q s : Point) (o : Order) (r : Bool) → a ≡ c → p ≡ pointAt coords a → q ≡ pointAt coords b → s ≡ pointAt coords d
       → o ≡ angles (sub binary64 (q .x) (p .x)) (sub binary64 (q .y) (p .y)) (sub binary64 (s .x) (p .x)) (sub binary64 (s .y) (p .y)) → r ≡ isLess o → r ≡ stands coords a b c d
   unfolding stands between
   stands-meet p q s o r h ep eq es eo er =
       er ∙ ap isLess (eo ∙ λ t. angles (sub binary64 (eq t .x) (ep t .x)) (sub binary64 (eq t .y) (ep t .y)) (sub binary64 (es t .x) (ep t .x)) (sub binary64 (es t .y) (ep t .y)))
-      ∙ ap (λ (n : ℕ). isLess (angles (between (pointAt coords a) (pointAt coords b) .x) (between (pointAt coords a) (pointAt coords b) .y) (between (pointAt coords n) (pointAt coords d) .x) (between (pointAt coords n) (pointAt coords d) .y))) h
-      ∙ sym (ap (λ (t : Bool). t && isLess (angles (between (pointAt coords a) (pointAt coords b) .x) (between (pointAt coords a) (pointAt coords b) .y) (between (pointAt coords c) (pointAt coords d) .x) (between (pointAt coords c) (pointAt coords d) .y))) (eq-eqb a c h))
+      ∙ ap (λ (n : ℕ). isLess (angles (between (pointAt coords a) (pointAt coords b) .x) (between (pointAt coords a) (pointAt coords b) .y)
+      (between (pointAt coords n) (pointAt coords d) .x) (between (pointAt coords n) (pointAt coords d) .y))) h
+      ∙ sym (ap (λ (t : Bool). t && isLess (angles (between (pointAt coords a) (pointAt coords b) .x) (between (pointAt coords a) (pointAt coords b) .y)
+      (between (pointAt coords c) (pointAt coords d) .x) (between (pointAt coords c) (pointAt coords d) .y))) (eq-eqb a c h))

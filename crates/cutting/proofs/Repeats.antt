@@ -35,19 +35,35 @@ same-either d e h = go (decLe (d .0) (d .1)) (decLe (e .0) (e .1))
     go (yes p) (yes q) =
         let k = key-of (d .0) (d .1) p in
         let l = key-of (e .0) (e .1) q in
-        omega (arith, hits (d .0) (d .1) (e .0) (e .1) (sym (ap (λ (x : Edge). x .0) k) ∙ at .0 ∙ ap (λ (x : Edge). x .0) l) (sym (ap (λ (x : Edge). x .1) k) ∙ at .1 ∙ ap (λ (x : Edge). x .1) l))
+        omega (
+          arith,
+          hits (d .0) (d .1) (e .0) (e .1) (sym (ap (λ (x : Edge). x .0) k) ∙ at .0 ∙ ap (λ (x : Edge). x .0) l)
+              (sym (ap (λ (x : Edge). x .1) k) ∙ at .1 ∙ ap (λ (x : Edge). x .1) l),
+        )
     go (yes p) (no q) =
         let k = key-of (d .0) (d .1) p in
         let l = key-back (e .0) (e .1) (omega arith) in
-        omega (arith, hits (d .0) (d .1) (e .1) (e .0) (sym (ap (λ (x : Edge). x .0) k) ∙ at .0 ∙ ap (λ (x : Edge). x .0) l) (sym (ap (λ (x : Edge). x .1) k) ∙ at .1 ∙ ap (λ (x : Edge). x .1) l))
+        omega (
+          arith,
+          hits (d .0) (d .1) (e .1) (e .0) (sym (ap (λ (x : Edge). x .0) k) ∙ at .0 ∙ ap (λ (x : Edge). x .0) l)
+              (sym (ap (λ (x : Edge). x .1) k) ∙ at .1 ∙ ap (λ (x : Edge). x .1) l),
+        )
     go (no p) (yes q) =
         let k = key-back (d .0) (d .1) (omega arith) in
         let l = key-of (e .0) (e .1) q in
-        omega (arith, hits (d .0) (d .1) (e .1) (e .0) (sym (ap (λ (x : Edge). x .1) k) ∙ at .1 ∙ ap (λ (x : Edge). x .1) l) (sym (ap (λ (x : Edge). x .0) k) ∙ at .0 ∙ ap (λ (x : Edge). x .0) l))
+        omega (
+          arith,
+          hits (d .0) (d .1) (e .1) (e .0) (sym (ap (λ (x : Edge). x .1) k) ∙ at .1 ∙ ap (λ (x : Edge). x .1) l)
+              (sym (ap (λ (x : Edge). x .0) k) ∙ at .0 ∙ ap (λ (x : Edge). x .0) l),
+        )
     go (no p) (no q) =
         let k = key-back (d .0) (d .1) (omega arith) in
         let l = key-back (e .0) (e .1) (omega arith) in
-        omega (arith, hits (d .0) (d .1) (e .0) (e .1) (sym (ap (λ (x : Edge). x .1) k) ∙ at .1 ∙ ap (λ (x : Edge). x .1) l) (sym (ap (λ (x : Edge). x .0) k) ∙ at .0 ∙ ap (λ (x : Edge). x .0) l))
+        omega (
+          arith,
+          hits (d .0) (d .1) (e .0) (e .1) (sym (ap (λ (x : Edge). x .1) k) ∙ at .1 ∙ ap (λ (x : Edge). x .1) l)
+              (sym (ap (λ (x : Edge). x .0) k) ∙ at .0 ∙ ap (λ (x : Edge). x .0) l),
+        )
 
 -- and either way the key is the same
 either-same : (f e : Edge) → 0 < hit (e .0) (e .1) (f .0) (f .1) + hit (e .1) (e .0) (f .0) (f .1) → sameKey f e ≡ true

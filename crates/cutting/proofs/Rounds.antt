@@ -68,5 +68,6 @@ unmarked n marks = many (λ i. eqb (getD marks i 0) 0) n
 pub unmarked-mark : (n : ℕ) (marks : List ℕ) (i : ℕ) → i < n → n ≤ length marks → getD marks i 0 ≡ 0 → unmarked n marks ≡ 1 + unmarked n (set marks i 1)
 unfolding unmarked
 unmarked-mark n marks i h l e =
-    let gone = many-change (λ k. eqb (getD marks k 0) 0) (λ k. eqb (getD (set marks i 1) k 0) 0) i n h (λ k ne. ap (λ (v : ℕ). eqb v 0) (sym (getD-set-other marks i k 1 0 ne))) (ap (λ (v : ℕ). eqb v 0) (getD-set-same marks i 1 0 (omega arith))) in
+    let gone = many-change (λ k. eqb (getD marks k 0) 0) (λ k. eqb (getD (set marks i 1) k 0) 0) i n h
+    (λ k ne. ap (λ (v : ℕ). eqb v 0) (sym (getD-set-other marks i k 1 0 ne))) (ap (λ (v : ℕ). eqb v 0) (getD-set-same marks i 1 0 (omega arith))) in
     omega (arith, ap (λ (v : ℕ). bit (eqb v 0)) e)

@@ -12,7 +12,24 @@ use Rattle.exact.specs.Exact.{coord, mag, sign, ordered}
 use Rattle.geometry.specs.Plane.{between, pointAt}
 use Rattle.cutting.specs.Edges.{Edge, hops, ring, rings, times}
 use Rattle.cutting.specs.Setting.{Setting, base, ours}
-use Rattle.cutting.specs.Cell.{Laid, dartsAlong, ownDarts, outlineDarts, isNew, newTo, nearDarts, among, repeats, inner, innerWith, edgeSlots, table, stands, cellTableWith, doubled}
+use Rattle.cutting.specs.Cell.{
+  Laid,
+  dartsAlong,
+  ownDarts,
+  outlineDarts,
+  isNew,
+  newTo,
+  nearDarts,
+  among,
+  repeats,
+  inner,
+  innerWith,
+  edgeSlots,
+  table,
+  stands,
+  cellTableWith,
+  doubled,
+}
 use Rattle.cutting.specs.Walk.{slot, after, onward, arrive, cross, popped, taken, rest, go, step, run, starts, walkFrom, walkWith}
 use Rattle.cutting.specs.Outcome.{Outcome, refusal, pieces, closesUp, tooMany, cutOutcomeWith}
 
@@ -48,7 +65,9 @@ whole = laid 0 1 [] ∷ laid 1 2 [] ∷ laid 2 3 [] ∷ laid 3 0 [] ∷ []
 
 -- what a cell comes to by a setting, and whether it is doubled
 unfoldable cut : Setting → List Float → List Laid → List Laid → Outcome × Bool
-unfolding outlineDarts ownDarts dartsAlong joined hops isNew newTo first seek nearDarts innerWith edgeSlots table stands cellTableWith insert sortOnto angles coord mag sign ordered between pointAt sub ofBits tally doubled slot after onward arrive cross popped taken rest go step run starts walkFrom walkWith all passing times ring rings among repeats closesUp cutOutcomeWith
+unfolding outlineDarts ownDarts dartsAlong joined hops isNew newTo first seek nearDarts innerWith edgeSlots table stands cellTableWith insert sortOnto angles
+    coord mag sign ordered between pointAt sub ofBits tally doubled slot after onward arrive cross popped taken rest go step run starts walkFrom walkWith all
+    passing times ring rings among repeats closesUp cutOutcomeWith
 cut v coords own near =
     let outline = outlineDarts own in
     let t = cellTableWith (v .once) coords outline near in

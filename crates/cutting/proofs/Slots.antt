@@ -43,20 +43,30 @@ module _ (xs : List ℕ) (n k x : ℕ) (l : k ≤ n) (h : n < length xs) where
 
 -- ---- a slot put into three
 
-moved-slot : (s : Slot) (f g h : ℕ → ℕ) (k i : ℕ) → moved (λ j. record { src = f j; dst = g j; mark = h j }) s k i ≡ record { src = moved f (s .src) k i; dst = moved g (s .dst) k i; mark = moved h (s .mark) k i }
+moved-slot : (s : Slot) (f g h : ℕ → ℕ) (k i : ℕ) → moved (λ j. record { src = f j; dst = g j; mark = h j }) s k i ≡ record
+    { src = moved f (s .src) k i; dst = moved g (s .dst) k i; mark = moved h (s .mark) k i }
 unfolding moved
 moved-slot s f g h zero zero = refl
 moved-slot s f g h zero (suc i) = refl
 moved-slot s f g h (suc k) zero = refl
 moved-slot s f g h (suc k) (suc i) = moved-slot s (λ j. f (suc j)) (λ j. g (suc j)) (λ j. h (suc j)) k i
 
-module _ (coords : List Float) (src dst marks src′ dst′ marks′ : List ℕ) (n a b m k : ℕ) (at : (k ≤ n) × (k ≡ first (λ i. stands coords a b (getD src i 0) (getD dst i 0)) 0 n)) (h : n < length src) (h′ : n < length dst) (h″ : n < length marks) (e : src′ ≡ insertAt src n k a) (e′ : dst′ ≡ insertAt dst n k b) (e″ : marks′ ≡ insertAt marks n k m) where
-  put-slot : slotsOf (insertAt src n k a) (insertAt dst n k b) (insertAt marks n k m) (n + 1) ≡ insert (standsBefore coords) (record { src = a; dst = b; mark = m }) (slotsOf src dst marks n)
+module _ (coords : List Float) (src dst marks src′ dst′ marks′ : List ℕ) (n a b m k : ℕ)
+    (at : (k ≤ n) × (k ≡ first (λ i. stands coords a b (getD src i 0) (getD dst i 0)) 0 n)) (h : n < length src) (h′ : n < length dst) (h″ : n < length marks)
+    (e : src′ ≡ insertAt src n k a) (e′ : dst′ ≡ insertAt dst n k b) (e″ : marks′ ≡ insertAt marks n k m) where
+  put-slot : slotsOf (insertAt src n k a) (insertAt dst n k b) (insertAt marks n k m) (n + 1) ≡ insert (standsBefore coords)
+      (record { src = a; dst = b; mark = m }) (slotsOf src dst marks n)
   unfolding slotsOf
   put-slot =
       let s : Slot = record { src = a; dst = b; mark = m } in
       ap (λ (j : ℕ). each j (slotAt (insertAt src n k a) (insertAt dst n k b) (insertAt marks n k m))) (add-one n)
-      ∙ each-ext (suc n) (slotAt (insertAt src n k a) (insertAt dst n k b) (insertAt marks n k m)) (moved (slotAt src dst marks) s k) (λ i il. (λ t. record { src = put-at src n k a (at .0) h i il t; dst = put-at dst n k b (at .0) h′ i il t; mark = put-at marks n k m (at .0) h″ i il t }) ∙ sym (moved-slot s (λ j. getD src j 0) (λ j. getD dst j 0) (λ j. getD marks j 0) k i))
+      ∙ each-ext (suc n) (slotAt (insertAt src n k a) (insertAt dst n k b) (insertAt marks n k m)) (moved (slotAt src dst marks) s k)
+      (λ i il. (λ t. record {
+        src = put-at src n k a (at .0) h i il t;
+        dst = put-at dst n k b (at .0) h′ i il t;
+        mark = put-at marks n k m (at .0) h″ i il
+            t;
+      }) ∙ sym (moved-slot s (λ j. getD src j 0) (λ j. getD dst j 0) (λ j. getD marks j 0) k i))
       ∙ ap (λ (j : ℕ). each (suc n) (moved (slotAt src dst marks) s j)) (at .1) ∙ sym (insert-each (standsBefore coords) s n (slotAt src dst marks))
 
   pub slot-put : Inserted (insert (standsBefore coords) (record { src = a; dst = b; mark = m }) (slotsOf src dst marks n)) (n + 1) src dst marks src′ dst′ marks′

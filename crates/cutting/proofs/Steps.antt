@@ -87,16 +87,21 @@ module _ (turning : Bool) (n : ℕ) (src dst marks heap : List ℕ) (done : List
     unfolding step go rest taken
     step-missing e = ap (taken turning n src dst marks heap done i) e
 
-    pub step-skip : ltb i n ≡ true → eqb (getD marks i 0) 0 ≡ false → step turning n src dst (record { marks = marks; heap = i ∷ heap; done = done; phase = between }) ≡ more (record { marks = marks; heap = heap; done = done; phase = between })
+    pub step-skip : ltb i n ≡ true → eqb (getD marks i 0) 0 ≡ false
+        → step turning n src dst (record { marks = marks; heap = i ∷ heap; done = done; phase = between }) ≡ more
+        (record { marks = marks; heap = heap; done = done; phase = between })
     unfolding step go rest taken popped
     step-skip l e = ap (taken turning n src dst marks heap done i) l ∙ ap (popped turning n src dst marks heap done i) e
 
-    pub step-open : ltb i n ≡ true → eqb (getD marks i 0) 0 ≡ true → step turning n src dst (record { marks = marks; heap = i ∷ heap; done = done; phase = between }) ≡ more (record { marks = marks; heap = heap; done = done; phase = along (getD src i 0) [] i })
+    pub step-open : ltb i n ≡ true → eqb (getD marks i 0) 0 ≡ true
+        → step turning n src dst (record { marks = marks; heap = i ∷ heap; done = done; phase = between }) ≡ more
+        (record { marks = marks; heap = heap; done = done; phase = along (getD src i 0) [] i })
     unfolding step go rest taken popped
     step-open l e = ap (taken turning n src dst marks heap done i) l ∙ ap (popped turning n src dst marks heap done i) e
 
   module _ (start : ℕ) (mid : List ℕ) (i y r : ℕ) (ey : y ≡ getD dst i 0) (er : r ≡ slot n src dst y (getD src i 0)) where
-    at-slot : step turning n src dst (record { marks = marks; heap = heap; done = done; phase = along start mid i }) ≡ cross turning n src dst (set marks i 1) heap done start mid y r (ltb r n)
+    at-slot : step turning n src dst (record { marks = marks; heap = heap; done = done; phase = along start mid i }) ≡ cross turning n src dst (set marks i 1)
+        heap done start mid y r (ltb r n)
     unfolding step go
     at-slot = rw (er, ey)
 
@@ -110,7 +115,8 @@ module _ (turning : Bool) (n : ℕ) (src dst marks heap : List ℕ) (done : List
       unfolding cross
       over = at-slot ∙ ap (cross turning n src dst (set marks i 1) heap done start mid y r) in-range
 
-      pub step-close : eqb y start ≡ true → step turning n src dst (record { marks = marks; heap = heap; done = done; phase = along start mid i }) ≡ more (record { marks = set marks i 1; heap = r ∷ heap; done = done ++ (start ∷ mid) ∷ []; phase = between })
+      pub step-close : eqb y start ≡ true → step turning n src dst (record { marks = marks; heap = heap; done = done; phase = along start mid i }) ≡ more
+          (record { marks = set marks i 1; heap = r ∷ heap; done = done ++ (start ∷ mid) ∷ []; phase = between })
       unfolding arrive
       step-close e = over ∙ ap (arrive turning n src dst (set marks i 1) (r ∷ heap) done start mid y r) e
 
@@ -118,9 +124,11 @@ module _ (turning : Bool) (n : ℕ) (src dst marks heap : List ℕ) (done : List
         past : step turning n src dst (record { marks = marks; heap = heap; done = done; phase = along start mid i })
             ≡ onward turning n src dst (set marks i 1) (r ∷ heap) done start (mid ++ y ∷ []) j (ltb j n)
         unfolding arrive
-        past = over ∙ ap (arrive turning n src dst (set marks i 1) (r ∷ heap) done start mid y r) apart ∙ ap (λ (k : ℕ). onward turning n src dst (set marks i 1) (r ∷ heap) done start (mid ++ y ∷ []) k (ltb k n)) (sym ej)
+        past = over ∙ ap (arrive turning n src dst (set marks i 1) (r ∷ heap) done start mid y r) apart ∙ ap
+            (λ (k : ℕ). onward turning n src dst (set marks i 1) (r ∷ heap) done start (mid ++ y ∷ []) k (ltb k n)) (sym ej)
 
-        pub step-onward : ltb j n ≡ true → step turning n src dst (record { marks = marks; heap = heap; done = done; phase = along start mid i }) ≡ more (record { marks = set marks i 1; heap = r ∷ heap; done = done; phase = along start (mid ++ y ∷ []) j })
+        pub step-onward : ltb j n ≡ true → step turning n src dst (record { marks = marks; heap = heap; done = done; phase = along start mid i }) ≡ more
+            (record { marks = set marks i 1; heap = r ∷ heap; done = done; phase = along start (mid ++ y ∷ []) j })
         unfolding onward
         step-onward e = past ∙ ap (onward turning n src dst (set marks i 1) (r ∷ heap) done start (mid ++ y ∷ []) j) e
 

@@ -31,7 +31,8 @@ unfolding times without
 times-without a b [] h x y = absurd (omega arith)
 times-without a b (e ∷ es) h x y = pick (eqb (e .0) a && eqb (e .1) b) refl (λ l. times-without a b es l x y)
   where
-    pick : (t : Bool) → (eqb (e .0) a && eqb (e .1) b) ≡ t → (1 ≤ times a b es → times x y es ≡ hit x y a b + times x y (without a b es)) → times x y (e ∷ es) ≡ hit x y a b + times x y (elim t [ true ↦ es | false ↦ e ∷ without a b es ])
+    pick : (t : Bool) → (eqb (e .0) a && eqb (e .1) b) ≡ t → (1 ≤ times a b es → times x y es ≡ hit x y a b + times x y (without a b es))
+        → times x y (e ∷ es) ≡ hit x y a b + times x y (elim t [ true ↦ es | false ↦ e ∷ without a b es ])
     pick true q tail = let at = both (e .0) a (e .1) b q in omega (arith, ap₂ (λ u v. hit x y u v) (at .0) (at .1))
     pick false q tail = let rest = tail (omega (arith, ap bit q)) in omega arith
 
@@ -68,7 +69,8 @@ module _ (w : ℕ → ℕ → ℤ) where
   sum-without a b [] h = absurd (omega arith)
   sum-without a b (e ∷ es) h = pick (eqb (e .0) a && eqb (e .1) b) refl (λ l. sum-without a b es l)
     where
-      pick : (t : Bool) → (eqb (e .0) a && eqb (e .1) b) ≡ t → (1 ≤ times a b es → sum es ≡ w a b +ℤ sum (without a b es)) → sum (e ∷ es) ≡ w a b +ℤ sum (elim t [ true ↦ es | false ↦ e ∷ without a b es ])
+      pick : (t : Bool) → (eqb (e .0) a && eqb (e .1) b) ≡ t → (1 ≤ times a b es → sum es ≡ w a b +ℤ sum (without a b es))
+          → sum (e ∷ es) ≡ w a b +ℤ sum (elim t [ true ↦ es | false ↦ e ∷ without a b es ])
       pick true q tail = let at = both (e .0) a (e .1) b q in ap₂ (λ u v. w u v +ℤ sum es) (at .0) (at .1)
       pick false q tail = ap (λ (z : ℤ). w (e .0) (e .1) +ℤ z) (tail (omega (arith, ap bit q))) ∙ swap-front (w (e .0) (e .1)) (w a b) (sum (without a b es))
 
@@ -78,7 +80,8 @@ module _ (w : ℕ → ℕ → ℤ) where
   sum-same [] fs h = ap sum (sym (none fs (λ a b. sym (h a b))))
   sum-same (e ∷ es) fs h =
       let some : 1 ≤ times (e .0) (e .1) fs = omega (arith, h (e .0) (e .1), hit-self (e .0) (e .1)) in
-      ap (λ (z : ℤ). w (e .0) (e .1) +ℤ z) (sum-same es (without (e .0) (e .1) fs) (λ a b. omega (arith, h a b, times-without (e .0) (e .1) fs some a b))) ∙ sym (sum-without (e .0) (e .1) fs some)
+      ap (λ (z : ℤ). w (e .0) (e .1) +ℤ z) (sum-same es (without (e .0) (e .1) fs) (λ a b. omega (arith, h a b, times-without (e .0) (e .1) fs some a b))) ∙
+      sym (sum-without (e .0) (e .1) fs some)
 
   module _ (odd : (a b : ℕ) → w a b ≡ negℤ (w b a)) where
     sum-flip : (es : List Edge) → sum (flip es) ≡ negℤ (sum es)
@@ -90,5 +93,14 @@ module _ (w : ℕ → ℕ → ℤ) where
     pub sum-even : (es outline : List Edge) → ((a b : ℕ) → times a b es + times b a outline ≡ times b a es + times a b outline) → sum es ≡ sum outline
     sum-even es outline h =
         let all = es ++ flip outline in
-        let turned : sum all ≡ negℤ (sum all) = sum-same all (flip all) (λ a b. omega (arith, h a b, times-flip a b all, times-append a b es (flip outline), times-append b a es (flip outline), times-flip a b outline, times-flip b a outline)) ∙ sum-flip all in
+        let turned : sum all ≡ negℤ (sum all) = sum-same all (flip all)
+        (λ a b. omega (
+          arith,
+          h a b,
+          times-flip a b all,
+          times-append a b es (flip outline),
+          times-append b a es (flip outline),
+          times-flip a b outline,
+          times-flip b a outline,
+        )) ∙ sum-flip all in
         cancel (sum es) (sum outline) (ap (λ (z : ℤ). sum es +ℤ z) (sym (sum-flip outline)) ∙ sym (sum-append es (flip outline)) ∙ double-zero (sum all) turned)

@@ -24,7 +24,8 @@ map-each g (suc n) f = ap (map g) (each-head n f) ∙ ap (λ l. g (f zero) ∷ l
 
 each-take : (n : ℕ) (xs : List ℕ) → n ≤ length xs → each n (λ i. getD xs i 0) ≡ take n xs
 each-take n xs h =
-    each-ext n (λ i. getD xs i 0) (λ i. getD (take n xs) i 0) (λ i l. sym (getD-take n xs i 0 l)) ∙ ap (λ (k : ℕ). each k (λ i. getD (take n xs) i 0)) (sym (length-take-le n xs h)) ∙ each-getD (take n xs) 0
+    each-ext n (λ i. getD xs i 0) (λ i. getD (take n xs) i 0) (λ i l. sym (getD-take n xs i 0 l)) ∙ ap (λ (k : ℕ). each k (λ i. getD (take n xs) i 0))
+    (sym (length-take-le n xs h)) ∙ each-getD (take n xs) 0
 
 module _ (src dst marks : List ℕ) (n : ℕ) where
   pub slots-length : length (slotsOf src dst marks n) ≡ n
@@ -46,7 +47,8 @@ module _ (src dst marks : List ℕ) (n : ℕ) where
   -- the entries behind the slots don't matter
   pub slots-take : slotsOf (take n src) (take n dst) (take n marks) n ≡ slotsOf src dst marks n
   unfolding slotsOf
-  slots-take = each-ext n (slotAt (take n src) (take n dst) (take n marks)) (slotAt src dst marks) (λ i l. λ t. record { src = getD-take n src i 0 l t; dst = getD-take n dst i 0 l t; mark = getD-take n marks i 0 l t })
+  slots-take = each-ext n (slotAt (take n src) (take n dst) (take n marks)) (slotAt src dst marks)
+      (λ i l. λ t. record { src = getD-take n src i 0 l t; dst = getD-take n dst i 0 l t; mark = getD-take n marks i 0 l t })
 
   module _ (ls : length src ≡ n) (ld : length dst ≡ n) (lm : length marks ≡ n) where
     pub own-is : (own : List ℕ) → n ≤ 1024 → own ≡ copied (replicate 1024 0) 0 marks → take n own ≡ marks
@@ -64,7 +66,8 @@ module _ (src dst marks : List ℕ) (n : ℕ) where
         ap₂ (λ (m h : List ℕ). walkFrom true n src dst m h) eo eh
         ∙ sym (λ t. walkFrom true (slots-length t) (es t) (ed t) (em t) (starts (slots-length t) (es t) (ed t) (pairs outline) []))
 
-pub walked-as : (r s : Next) (w : Walked) (nodes₀ stops₀ nodes stops′ : List ℕ) → r ≡ s → (w ≡ answer (ofWalk r)) × Written (ofWalk r) nodes₀ stops₀ nodes stops′ → (w ≡ answer (ofWalk s)) × Written (ofWalk s) nodes₀ stops₀ nodes stops′
+pub walked-as : (r s : Next) (w : Walked) (nodes₀ stops₀ nodes stops′ : List ℕ) → r ≡ s
+    → (w ≡ answer (ofWalk r)) × Written (ofWalk r) nodes₀ stops₀ nodes stops′ → (w ≡ answer (ofWalk s)) × Written (ofWalk s) nodes₀ stops₀ nodes stops′
 walked-as r s w nodes₀ stops₀ nodes stops′ e h = subst (λ (t : Next). (w ≡ answer (ofWalk t)) × Written (ofWalk t) nodes₀ stops₀ nodes stops′) e h
 
 -- ---- what the public function makes of the outcome
@@ -79,7 +82,8 @@ module _ (outline src dst marks : List ℕ) (n : ℕ) (w : Walked) (nodes₀ sto
   same : part ≡ whole
   same = ap (λ (t : List Slot). ofWalk (walk (pairs outline) t)) (slots-take src dst marks n)
 
-  pub as-closed : (k m : ℕ) → (w ≡ answer part) × Written part nodes₀ stops₀ nodes stops′ → w ≡ Closed k m → (w ≡ answer whole) × (nodes ≡ cornersIn whole nodes₀) × (stops′ ≡ endsIn whole stops₀)
+  pub as-closed : (k m : ℕ) → (w ≡ answer part) × Written part nodes₀ stops₀ nodes stops′ → w ≡ Closed k m
+      → (w ≡ answer whole) × (nodes ≡ cornersIn whole nodes₀) × (stops′ ≡ endsIn whole stops₀)
   unfolding cornersIn endsIn
   as-closed k m h e = go whole (subst (λ (o : Outcome). (w ≡ answer o) × Written o nodes₀ stops₀ nodes stops′) same h)
     where
@@ -87,7 +91,8 @@ module _ (outline src dst marks : List ℕ) (n : ℕ) (w : Walked) (nodes₀ sto
       go (pieces ps) (f, g) = (f, g .0, g .1)
       go (refusal c) (f, g) = let z : _≡_ {A = ℕ} 0 1 = cc in absurd (omega arith)
 
-  pub as-refused : (c : ℕ) (nodes″ stops″ : List ℕ) → (w ≡ answer part) × Written part nodes₀ stops₀ nodes stops′ → w ≡ Refused c → nodes″ ≡ zeros (length nodes) → stops″ ≡ zeros (length stops′) → length nodes ≡ length nodes₀ → length stops′ ≡ length stops₀
+  pub as-refused : (c : ℕ) (nodes″ stops″ : List ℕ) → (w ≡ answer part) × Written part nodes₀ stops₀ nodes stops′ → w ≡ Refused c
+      → nodes″ ≡ zeros (length nodes) → stops″ ≡ zeros (length stops′) → length nodes ≡ length nodes₀ → length stops′ ≡ length stops₀
       → (w ≡ answer whole) × (nodes″ ≡ cornersIn whole nodes₀) × (stops″ ≡ endsIn whole stops₀)
   unfolding cornersIn endsIn
   as-refused c nodes″ stops″ h e zn zs ln ls = go whole (h .0 ∙ ap answer same)

@@ -45,7 +45,13 @@ opens-outline a b (e ∷ es) = omega (arith, opens-outline a b es, ap bit (and-t
 opens-inner : (a b : ℕ) (es : List Edge) → tally (opens a b) (edgeSlots 0 es) ≡ times a b es + times b a es
 unfolding tally edgeSlots times
 opens-inner a b [] = omega arith
-opens-inner a b (e ∷ es) = omega (arith, opens-inner a b es, hit-back a b (e .1) (e .0), ap bit (and-true (eqb (e .0) a && eqb (e .1) b)), ap bit (and-true (eqb (e .1) a && eqb (e .0) b)))
+opens-inner a b (e ∷ es) = omega (
+  arith,
+  opens-inner a b es,
+  hit-back a b (e .1) (e .0),
+  ap bit (and-true (eqb (e .0) a && eqb (e .1) b)),
+  ap bit (and-true (eqb (e .1) a && eqb (e .0) b)),
+)
 
 pub single : (t : List Slot) → doubled t ≡ false → (a b : ℕ) → tally (names a b) t ≤ 1
 unfolding doubled tally
@@ -55,7 +61,11 @@ single (s ∷ t) e a b = pick (names a b s) refl (single t (or-false (ltb 0 (tal
     pick : (x : Bool) → names a b s ≡ x → tally (names a b) t ≤ 1 → bit x + tally (names a b) t ≤ 1
     pick true q tail =
         let at = both (s .src) a (s .dst) b q in
-        omega (arith, ltb-false 0 (tally (names (s .src) (s .dst)) t) (or-false (ltb 0 (tally (names (s .src) (s .dst)) t)) (doubled t) e .0), ap₂ (λ x y. tally (names x y) t) (at .0) (at .1))
+        omega (
+          arith,
+          ltb-false 0 (tally (names (s .src) (s .dst)) t) (or-false (ltb 0 (tally (names (s .src) (s .dst)) t)) (doubled t) e .0),
+          ap₂ (λ x y. tally (names x y) t) (at .0) (at .1),
+        )
     pick false q tail = omega arith
 
 -- a doubled table names some neighbour twice
@@ -84,7 +94,8 @@ module _ (n : ℕ) (src dst : List ℕ) where
       let at = many-some (leads src dst a b) n h in
       omega (arith, first-some (leads src dst a b) 0 n (at .0) (omega arith) (at .1) (at .2), at .1)
 
-  starts-on : (es : List Edge) (heap : List ℕ) → ((a b : ℕ) → 0 < times a b es → slot n src dst a b < n) → (a b : ℕ) → on n src dst a b (starts n src dst es heap) ≡ times a b es + on n src dst a b heap
+  starts-on : (es : List Edge) (heap : List ℕ) → ((a b : ℕ) → 0 < times a b es → slot n src dst a b < n) → (a b : ℕ)
+      → on n src dst a b (starts n src dst es heap) ≡ times a b es + on n src dst a b heap
   unfolding starts times on
   starts-on [] heap h a b = omega arith
   starts-on (e ∷ es) heap h a b =
@@ -94,11 +105,25 @@ module _ (n : ℕ) (src dst : List ℕ) where
 module _ (outline inner : List Edge) (t : List Slot) (sorted : (p : Slot → Bool) → tally p t ≡ tally p (table outline inner)) where
   pub named-table : (a b : ℕ) → named (length t) (srcs t) (dsts t) a b ≡ times a b outline + times b a outline + (times a b inner + times b a inner)
   unfolding table
-  named-table a b = omega (arith, named-tally a b t, sorted (names a b), tally-append (names a b) (edgeSlots reverseMark outline) (edgeSlots 0 inner), names-edges reverseMark a b outline, names-edges 0 a b inner)
+  named-table a b = omega (
+    arith,
+    named-tally a b t,
+    sorted (names a b),
+    tally-append (names a b) (edgeSlots reverseMark outline) (edgeSlots 0 inner),
+    names-edges reverseMark a b outline,
+    names-edges 0 a b inner,
+  )
 
   free-table : (a b : ℕ) → free (length t) (srcs t) (dsts t) a b (marksOf t) ≡ times a b outline + (times a b inner + times b a inner)
   unfolding table
-  free-table a b = omega (arith, free-tally a b t, sorted (opens a b), tally-append (opens a b) (edgeSlots reverseMark outline) (edgeSlots 0 inner), opens-outline a b outline, opens-inner a b inner)
+  free-table a b = omega (
+    arith,
+    free-tally a b t,
+    sorted (opens a b),
+    tally-append (opens a b) (edgeSlots reverseMark outline) (edgeSlots 0 inner),
+    opens-outline a b outline,
+    opens-inner a b inner,
+  )
 
   pub found : (a b : ℕ) → 0 < times a b outline → slot (length t) (srcs t) (dsts t) a b < length t
   found a b h = slot-found (length t) (srcs t) (dsts t) a b (omega (arith, named-table a b))
@@ -107,7 +132,10 @@ module _ (outline inner : List Edge) (t : List Slot) (sorted : (p : Slot → Boo
     pub even : (a b : ℕ) → (times a b (rings ps) ≤ 1) × (times a b (rings ps) + times b a outline ≡ times b a (rings ps) + times a b outline)
     unfolding walkWith walkFrom on
     even =
-        close (length t) (srcs t) (dsts t) turning (marksOf t) (starts (length t) (srcs t) (dsts t) outline []) outline (omega (arith, length-map t (λ s. s .mark))) (λ a b. omega (arith, named-tally a b t, single t clean a b)) (λ a b. omega (arith, named-table a b, free-table a b)) (λ a b. omega (arith, named-table a b, named-table b a)) (λ a b. omega (arith, starts-on (length t) (srcs t) (dsts t) outline [] found a b)) (2 * length t + length (starts (length t) (srcs t) (dsts t) outline []) + 1) ps ends
+        close (length t) (srcs t) (dsts t) turning (marksOf t) (starts (length t) (srcs t) (dsts t) outline []) outline
+        (omega (arith, length-map t (λ s. s .mark))) (λ a b. omega (arith, named-tally a b t, single t clean a b))
+        (λ a b. omega (arith, named-table a b, free-table a b)) (λ a b. omega (arith, named-table a b, named-table b a))
+        (λ a b. omega (arith, starts-on (length t) (srcs t) (dsts t) outline [] found a b)) (2 * length t + length (starts (length t) (srcs t) (dsts t) outline []) + 1) ps ends
 
     -- each edge of the outline exactly once, its reverse never, and any other edge exactly once each way or not at all
     pub closes : (a b : ℕ) → Closes outline ps a b

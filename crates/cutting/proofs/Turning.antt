@@ -38,7 +38,8 @@ after-same n src marks a r l = late (ltb (first test (r + 1) n) n) l
     early false l = absurd (omega arith)
 
     late : (t : Bool) → orElse t (first test (r + 1) n) (orElse (ltb (first test 0 r) r) (first test 0 r) n) < n
-        → orElse t (first test (r + 1) n) (orElse (ltb (first test 0 r) r) (first test 0 r) last) ≡ orElse t (first test (r + 1) n) (orElse (ltb (first test 0 r) r) (first test 0 r) n)
+        → orElse t (first test (r + 1) n) (orElse (ltb (first test 0 r) r) (first test 0 r) last) ≡ orElse t (first test (r + 1) n)
+        (orElse (ltb (first test 0 r) r) (first test 0 r) n)
     late true l = refl
     late false l = early (ltb (first test 0 r) r) l
 
@@ -111,7 +112,8 @@ module _ (outline : List Edge) (t : List Slot) where
   walk-agrees = run-agrees _ _ _ _ _
 
   -- A cell that isn't refused 11 without a turn back comes to the same with it.
-  pub outcome-turned : (once : Bool) → let by : Bool → Outcome = λ turning. cutOutcomeWith (record { turning = turning; once = once }) outline t in (by false ≡ refusal 11) ⊎ (by true ≡ by false)
+  pub outcome-turned : (once : Bool) → let by : Bool → Outcome = λ turning. cutOutcomeWith (record { turning = turning; once = once }) outline t in
+      (by false ≡ refusal 11) ⊎ (by true ≡ by false)
   unfolding cutOutcomeWith
   outcome-turned once = go (once && repeats outline) (tooMany (length t)) (walkWith false outline t) (walkWith true outline t) walk-agrees
     where

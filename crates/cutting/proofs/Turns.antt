@@ -15,12 +15,34 @@ use Rattle.cutting.proofs.Rounds.{after-open, unmarked, unmarked-mark}
 use Rattle.cutting.specs.Walk.{Phase, between, along, Next, run, after, slot, walkFrom}
 use Rattle.cutting.specs.Outcome.{ofWalk, flat, stops}
 use Rattle.cutting.specs.Lent.{stacked, Room, closedWith, answer, Written}
-use Rattle.cutting.proofs.Steps.{length-stacked, stacked-push, stacked-pop, take-push, drop-push, flat-snoc, stops-snoc, stops-length, run-more, run-closed, run-stuck, run-broken, step-closed, step-missing, step-skip, step-open, step-lost, step-close, step-onward, step-stuck}
+use Rattle.cutting.proofs.Steps.{
+  length-stacked,
+  stacked-push,
+  stacked-pop,
+  take-push,
+  drop-push,
+  flat-snoc,
+  stops-snoc,
+  stops-length,
+  run-more,
+  run-closed,
+  run-stuck,
+  run-broken,
+  step-closed,
+  step-missing,
+  step-skip,
+  step-open,
+  step-lost,
+  step-close,
+  step-onward,
+  step-stuck,
+}
 
 -- the walk's own place, as the code holds it
 abbrev Shape : ℕ → List ℕ → List ℕ → ℕ → ℕ → ℕ → ℕ → List (List ℕ) → Phase → Type 0
 Shape n marks nodes at start m k done between = (at ≡ n) × (take m nodes ≡ flat done) × (m + unmarked n marks ≤ n) × (k ≤ m)
-Shape n marks nodes at start m k done (along first mid i) = (at ≡ i) × (i < n) × (getD marks i 0 ≡ 0) × (start ≡ first) × (take m nodes ≡ flat done ++ first ∷ mid) × (m + unmarked n marks ≤ n + 1) × (k < m)
+Shape n marks nodes at start m k done (along first mid i) = (at ≡ i) × (i < n) × (getD marks i 0 ≡ 0) × (start ≡ first) ×
+    (take m nodes ≡ flat done ++ first ∷ mid) × (m + unmarked n marks ≤ n + 1) × (k < m)
 
 pub record Inv (n top : ℕ) (src dst : List ℕ) (r : Next) (marks₀ heap₀ nodes₀ ends₀ marks heap nodes ends : List ℕ) (sp at start m k : ℕ) : Type 0 where
   pub same-marks : length marks ≡ length marks₀
@@ -113,7 +135,8 @@ module _ {n top : ℕ} {src dst marks₀ heap₀ nodes₀ ends₀ : List ℕ} (r
           from : (p : Phase) → Shape n marks nodes at start m k (v .done) p → Runs p → (Refused 11 ≡ answer (ofWalk r)) × Written (ofWalk r) nodes₀ ends₀ nodes ends
           from (along first mid j) sh st = absurd (omega arith)
           from between sh st =
-              let e = run-broken true n src dst r (v .fuel) _ (omega (arith, v .enough)) (off st) (step-missing true n src dst marks (stacked heap (sp - 1)) (v .done) i (le-ltb i n out)) in
+              let e = run-broken true n src dst r (v .fuel) _ (omega (arith, v .enough)) (off st)
+              (step-missing true n src dst marks (stacked heap (sp - 1)) (v .done) i (le-ltb i n out)) in
               (ap (λ (t : Next). answer (ofWalk t)) e, subst (λ (t : Next). Written (ofWalk t) nodes₀ ends₀ nodes ends) e tt)
 
       pub turn-skip : i < n → (getD marks i 0 ≡ 0 → ⊥) → Again marks heap nodes ends (sp - 1) at start m k
@@ -136,7 +159,8 @@ module _ {n top : ℕ} {src dst marks₀ heap₀ nodes₀ ends₀ : List ℕ} (r
             counted = v .counted;
             ended = v .ended;
             shape = sh;
-            still = run-more true n src dst r (v .fuel) _ (omega (arith, v .enough)) (off st) _ (step-skip true n src dst marks (stacked heap (sp - 1)) (v .done) i (lt-ltb i n i<) (ne-eqb (getD marks i 0) 0 marked));
+            still = run-more true n src dst r (v .fuel) _ (omega (arith, v .enough)) (off st) _
+                (step-skip true n src dst marks (stacked heap (sp - 1)) (v .done) i (lt-ltb i n i<) (ne-eqb (getD marks i 0) 0 marked));
           }
 
       module _ (i< : i < n) (openAt-i : getD marks i 0 ≡ 0) where
@@ -163,7 +187,8 @@ module _ {n top : ℕ} {src dst marks₀ heap₀ nodes₀ ends₀ : List ℕ} (r
               counted = v .counted;
               ended = v .ended;
               shape = (refl, i<, openAt-i, refl, take-push nodes m (getD src i 0) corner-fits ∙ ap (λ (l : List ℕ). l ++ getD src i 0 ∷ []) (sh .1), omega arith, omega arith);
-              still = run-more true n src dst r (v .fuel) _ (omega (arith, v .enough)) (off st) _ (step-open true n src dst marks (stacked heap (sp - 1)) (v .done) i (lt-ltb i n i<) (eq-eqb (getD marks i 0) 0 openAt-i));
+              still = run-more true n src dst r (v .fuel) _ (omega (arith, v .enough)) (off st) _
+                  (step-open true n src dst marks (stacked heap (sp - 1)) (v .done) i (lt-ltb i n i<) (eq-eqb (getD marks i 0) 0 openAt-i));
             }
 
     -- the heap is empty
@@ -176,8 +201,14 @@ module _ {n top : ℕ} {src dst marks₀ heap₀ nodes₀ ends₀ : List ℕ} (r
         from between sh st =
             let bare : run true n src dst (v .fuel) (record { marks = marks; heap = []; done = v .done; phase = between }) ≡ r = unfold stacked in (rw empty at st) in
             let e = run-closed true n src dst r (v .fuel) _ (omega (arith, v .enough)) bare (v .done) (step-closed true n src dst marks [] (v .done)) in
-            let len : length (flat (v .done)) ≡ m = sym (ap length (sh .1)) ∙ length-take-le m nodes (omega (arith, room .corners, v .same-nodes)) in
-            (ap₂ closedWith (sym (v .counted)) (sym len) ∙ ap (λ (t : Next). answer (ofWalk t)) e, subst (λ (t : Next). Written (ofWalk t) nodes₀ ends₀ nodes ends) e (sym (take-append-drop m nodes) ∙ ap₂ (λ (a b : List ℕ). a ++ b) (sh .1) (v .rest-nodes ∙ ap (λ (x : ℕ). drop x nodes₀) (sym len)), sym (take-append-drop k ends) ∙ ap₂ (λ (a b : List ℕ). a ++ b) (v .ended) (v .rest-ends ∙ ap (λ (x : ℕ). drop x ends₀) (sym (stops-length 0 (v .done) ∙ v .counted)))))
+            let len : length (flat (v .done)) ≡ m = sym (ap length (sh .1)) ∙ length-take-le m nodes (omega (arith, room .corners, v .same-nodes)) in (
+              ap₂ closedWith (sym (v .counted)) (sym len) ∙ ap (λ (t : Next). answer (ofWalk t)) e,
+              subst (λ (t : Next). Written (ofWalk t) nodes₀ ends₀ nodes ends) e (
+                sym (take-append-drop m nodes) ∙ ap₂ (λ (a b : List ℕ). a ++ b) (sh .1) (v .rest-nodes ∙ ap (λ (x : ℕ). drop x nodes₀) (sym len)),
+                sym (take-append-drop k ends) ∙ ap₂ (λ (a b : List ℕ). a ++ b) (v .ended)
+                    (v .rest-ends ∙ ap (λ (x : ℕ). drop x ends₀) (sym (stops-length 0 (v .done) ∙ v .counted))),
+              ),
+            )
 
     -- the slot `at` is walked; q is its reverse
     module _ (h : at < n) (y q : ℕ) (ey : y ≡ getD dst at 0) (eq : q ≡ slot n src dst y (getD src at 0)) where
@@ -190,7 +221,8 @@ module _ {n top : ℕ} {src dst marks₀ heap₀ nodes₀ ends₀ : List ℕ} (r
           from : (p : Phase) → Shape n marks nodes at start m k (v .done) p → Runs p → (Refused 11 ≡ answer (ofWalk r)) × Written (ofWalk r) nodes₀ ends₀ nodes ends
           from between sh st = absurd (omega arith)
           from (along first mid i) sh st =
-              let e = run-broken true n src dst r (v .fuel) _ (omega (arith, v .enough)) (on first mid i (sh .0) (sh .3) st) (step-lost true n src dst marks (stacked heap sp) (v .done) start mid at y q ey eq (le-ltb q n out)) in
+              let e = run-broken true n src dst r (v .fuel) _ (omega (arith, v .enough)) (on first mid i (sh .0) (sh .3) st)
+              (step-lost true n src dst marks (stacked heap sp) (v .done) start mid at y q ey eq (le-ltb q n out)) in
               (ap (λ (t : Next). answer (ofWalk t)) e, subst (λ (t : Next). Written (ofWalk t) nodes₀ ends₀ nodes ends) e tt)
 
       module _ (q< : q < n) where
@@ -210,7 +242,8 @@ module _ {n top : ℕ} {src dst marks₀ heap₀ nodes₀ ends₀ : List ℕ} (r
             from between sh st = absurd (omega arith)
             from (along first mid i) sh st =
                 let corners : take m nodes ≡ flat (v .done) ++ start ∷ mid = sh .4 ∙ ap (λ (x : ℕ). flat (v .done) ++ x ∷ mid) (sym (sh .3)) in
-                let len : length (flat (v .done) ++ start ∷ mid) ≡ m = sym (ap length corners) ∙ length-take-le m nodes (omega (arith, (on-slot h) .low, (on-slot h) .some, room .corners, v .same-nodes)) in
+                let len : length (flat (v .done) ++ start ∷ mid) ≡ m = sym (ap length corners) ∙ length-take-le m nodes
+                (omega (arith, (on-slot h) .low, (on-slot h) .some, room .corners, v .same-nodes)) in
                 record {
                   same-marks = length-set marks at 1 ∙ v .same-marks;
                   same-heap = length-set heap sp q ∙ v .same-heap;
@@ -226,7 +259,9 @@ module _ {n top : ℕ} {src dst marks₀ heap₀ nodes₀ ends₀ : List ℕ} (r
                   counted = omega (arith, length-append (v .done) ((start ∷ mid) ∷ []), v .counted);
                   ended = take-push ends k m stop-fits ∙ ap₂ (λ (l : List ℕ) (x : ℕ). l ++ x ∷ []) (v .ended) (omega (arith, len)) ∙ sym (stops-snoc 0 (v .done) (start ∷ mid));
                   shape = (refl, corners ∙ sym (flat-snoc (v .done) (start ∷ mid)), omega (arith, sh .5, fewer), omega (arith, sh .6));
-                  still = rw (stacked-push heap sp q push-fits) (run-more true n src dst r (v .fuel) _ (omega (arith, v .enough)) (on first mid i (sh .0) (sh .3) st) _ (step-close true n src dst marks (stacked heap sp) (v .done) start mid at y q ey eq (lt-ltb q n q<) (eq-eqb y start back)));
+                  still = rw (stacked-push heap sp q push-fits) (run-more true n src dst r (v .fuel) _ (omega (arith, v .enough))
+                      (on first mid i (sh .0) (sh .3) st) _ (step-close true n src dst marks (stacked heap sp) (v .done) start mid at y q ey eq (lt-ltb q n q<)
+                      (eq-eqb y start back)));
                 }
 
         module _ (apart : y ≡ start → ⊥) (j : ℕ) (ej : j ≡ after true n src (set marks at 1) y q) where
@@ -236,7 +271,8 @@ module _ {n top : ℕ} {src dst marks₀ heap₀ nodes₀ ends₀ : List ℕ} (r
               from : (p : Phase) → Shape n marks nodes at start m k (v .done) p → Runs p → (Refused 11 ≡ answer (ofWalk r)) × Written (ofWalk r) nodes₀ ends₀ nodes ends
               from between sh st = absurd (omega arith)
               from (along first mid i) sh st =
-                  let e = run-stuck true n src dst r (v .fuel) _ (omega (arith, v .enough)) (on first mid i (sh .0) (sh .3) st) (step-stuck true n src dst marks (stacked heap sp) (v .done) start mid at y q ey eq (lt-ltb q n q<) (ne-eqb y start apart) j ej (le-ltb j n out)) in
+                  let e = run-stuck true n src dst r (v .fuel) _ (omega (arith, v .enough)) (on first mid i (sh .0) (sh .3) st)
+                  (step-stuck true n src dst marks (stacked heap sp) (v .done) start mid at y q ey eq (lt-ltb q n q<) (ne-eqb y start apart) j ej (le-ltb j n out)) in
                   (ap (λ (t : Next). answer (ofWalk t)) e, subst (λ (t : Next). Written (ofWalk t) nodes₀ ends₀ nodes ends) e tt)
 
           module _ (j< : j < n) where
@@ -265,6 +301,17 @@ module _ {n top : ℕ} {src dst marks₀ heap₀ nodes₀ ends₀ : List ℕ} (r
                   phase = along start (mid ++ y ∷ []) j;
                   counted = v .counted;
                   ended = v .ended;
-                  shape = (refl, j<, open-there, refl, take-push nodes m y next-fits ∙ ap (λ (l : List ℕ). l ++ y ∷ []) (sh .4 ∙ ap (λ (x : ℕ). flat (v .done) ++ x ∷ mid) (sym (sh .3))) ∙ append-assoc (flat (v .done)) (start ∷ mid) (y ∷ []), omega (arith, sh .5, fewer), omega (arith, sh .6));
-                  still = rw (stacked-push heap sp q push-fits) (run-more true n src dst r (v .fuel) _ (omega (arith, v .enough)) (on first mid i (sh .0) (sh .3) st) _ (step-onward true n src dst marks (stacked heap sp) (v .done) start mid at y q ey eq (lt-ltb q n q<) (ne-eqb y start apart) j ej (lt-ltb j n j<)));
+                  shape = (
+                    refl,
+                    j<,
+                    open-there,
+                    refl,
+                    take-push nodes m y next-fits ∙ ap (λ (l : List ℕ). l ++ y ∷ [])
+                        (sh .4 ∙ ap (λ (x : ℕ). flat (v .done) ++ x ∷ mid) (sym (sh .3))) ∙ append-assoc (flat (v .done)) (start ∷ mid) (y ∷ []),
+                    omega (arith, sh .5, fewer),
+                    omega (arith, sh .6),
+                  );
+                  still = rw (stacked-push heap sp q push-fits) (run-more true n src dst r (v .fuel) _ (omega (arith, v .enough))
+                      (on first mid i (sh .0) (sh .3) st) _ (step-onward true n src dst marks (stacked heap sp) (v .done) start mid at y q ey eq
+                      (lt-ltb q n q<) (ne-eqb y start apart) j ej (lt-ltb j n j<)));
                 }

@@ -15,7 +15,7 @@ use Rattle.cutting.specs.Edges.{Edge, sameKey, turn}
 use Rattle.cutting.specs.Cell.{windows, orEnds, dartsAlong, ownDarts, among, repeats}
 use Rattle.cutting.specs.Lent.{ends, pairs}
 use Rattle.outlines.specs.Meets.{meets}
-use Rattle.cutting.proofs.Grow.{windows-next, windows-end, ends-more}
+use Rattle.cutting.proofs.Grow.{windows-next, windows-end, ends-more, turned-is}
 use Rattle.cutting.proofs.Heaps.{pairs-short, pairs-drop}
 
 -- ---- `lay_along`
@@ -39,19 +39,12 @@ module _ (inv : Bool) (nodes list₀ : List ℕ) where
   laying-start = record { same = refl; low = omega arith; done = []; count = omega arith; counted = refl; left = refl; held = sym (put-none list₀ 0) }
 
   module _ (list : List ℕ) (i k : ℕ) (v : Laying inv nodes list₀ list i k) where
-    turned-is : (p q : ℕ) → _≡_ {A = Edge} (cond inv q p, cond inv p q) (turn inv (p, q))
-    turned-is p q = go inv
-      where
-        go : (t : Bool) → _≡_ {A = Edge} (cond t q p, cond t p q) (turn t (p, q))
-        go true = refl
-        go false = refl
-
     pub laying-turn : (a b : ℕ) → i + 1 < length nodes → k + 2 ≤ length list₀
         → a ≡ cond inv (getD nodes (i + 1) 0) (getD nodes i 0) → b ≡ cond inv (getD nodes i 0) (getD nodes (i + 1) 0)
         → Laying inv nodes list₀ (set (set list k a) (k + 1) b) (i + 1) (k + 2)
     laying-turn a b h fits ea eb =
         let e : Edge = turn inv (getD nodes i 0, getD nodes (i + 1) 0) in
-        let is-e : _≡_ {A = Edge} (a, b) e = ap₂ (λ x y. (x, y)) ea eb ∙ turned-is (getD nodes i 0) (getD nodes (i + 1) 0) in
+        let is-e : _≡_ {A = Edge} (a, b) e = ap₂ (λ x y. (x, y)) ea eb ∙ turned-is inv (getD nodes i 0) (getD nodes (i + 1) 0) in
         record {
           same = length-set (set list k a) (k + 1) b ∙ length-set list k a ∙ v .same;
           low = omega arith;

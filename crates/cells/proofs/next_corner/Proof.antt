@@ -5,39 +5,24 @@ use Rattle.cells.proofs.next_corner.Tie as tie
 use Rattle.cells.proofs.next_corner.Reads as reads
 use Rattle.cells.proofs.next_corner.Lts as lts
 
--- src/lib.rt:52:13
-add-j : tie.Need-add-j
-add-j c = search needs
+-- places of the code, each counted once
+abbrev entry-at-returns : tie.After-shared-slice-known → tie.Start
+entry-at-returns c = c .before .before
 
--- src/lib.rt:54:16
-mul-result : tie.Need-mul-result
-mul-result c = search needs
-
--- src/lib.rt:54:16
-shared-slice-read-result : tie.Need-shared-slice-read-result
-shared-slice-read-result c = search needs
+abbrev entry-at-returns-2 : tie.After-shared-slice-known2 → tie.Start
+entry-at-returns-2 c = c .before .before
 
 -- src/lib.rt:54:9
 returns : tie.Need-returns
 returns c =
-    next-inside (c .before .before .args .cell .now) (c .before .before .args .i) (c .before .if1 .taken)
-
--- src/lib.rt:56:5
-shared-slice-read-result-2 : tie.Need-shared-slice-read-result-2
-shared-slice-read-result-2 c = search needs
+    let at-entry = entry-at-returns c in
+    next-inside (at-entry .args .cell .now) (at-entry .args .i) (c .before .if1 .taken)
 
 -- src/lib.rt:48:1
 returns-2 : tie.Need-returns-2
 returns-2 c =
-    next-last (c .before .before .args .cell .now) (c .before .before .args .i) (c .before .before .pre) (c .before .if1 .left)
+    let at-entry = entry-at-returns-2 c in
+    next-last (at-entry .args .cell .now) (at-entry .args .i) (at-entry .pre) (c .before .if1 .left)
 
 pub next-corner-spec : {M : Type 1} → statement M
-next-corner-spec =
-    tie.close
-    (tie.spec
-    add-j
-    mul-result
-    shared-slice-read-result
-    returns
-    shared-slice-read-result-2
-    returns-2)
+next-corner-spec = tie.close (tie.spec (λ c. search needs) (λ c. search needs) (λ c. search needs) returns (λ c. search needs) returns-2)

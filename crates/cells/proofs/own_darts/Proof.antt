@@ -12,129 +12,113 @@ use Rattle.cells.proofs.add_own.Reads as add-own-reads
 use Rattle.cells.proofs.next_corner.Reads as next-corner-reads
 
 abbrev Inv-loop : tie.InvT-loop
-Inv-loop coords subject cutter met links cell outline₀ src₀ dst₀ marks₀ n₀ i₀ outline src dst marks n i = Outlining coords (pairs subject) (pairs cutter) met cell outline₀ src₀ dst₀ marks₀ outline src dst marks n i
+Inv-loop coords subject cutter met links cell outline₀ src₀ dst₀ marks₀ n₀ i₀ outline src dst marks n i = Outlining coords (pairs subject) (pairs cutter) met
+    cell outline₀ src₀ dst₀ marks₀ outline src dst marks n i
 
 abbrev μ-loop : tie.MeasureT-loop
 μ-loop coords subject cutter met links cell outline₀ src₀ dst₀ marks₀ n₀ i₀ outline src dst marks n i = length cell - i
 
+-- places of the code, each counted once
+abbrev entry-at-loop-holds : tie.After-slice-known4 Inv-loop μ-loop → tie.Start Inv-loop μ-loop
+entry-at-loop-holds c = c .before .before .before .before .before .before .before .before .before .before
+
+abbrev entry-of-loop : tie.At-loop Inv-loop μ-loop → tie.Start Inv-loop μ-loop
+entry-of-loop c = c .before .before .before .before .before .before .before .before .before .before .before
+
+abbrev loop-at-returns-2 : tie.After-loop Inv-loop μ-loop → tie.At-loop Inv-loop μ-loop
+loop-at-returns-2 c = c .before
+
+abbrev loop-of-in-loop : tie.In-loop Inv-loop μ-loop → tie.At-loop Inv-loop μ-loop
+loop-of-in-loop c = c .before
+
+abbrev in-loop : tie.After-next-corner Inv-loop μ-loop → tie.In-loop Inv-loop μ-loop
+in-loop c = c .before .before
+
+abbrev next-corner-at-add-own-requires : tie.After-add-own-arg4 Inv-loop μ-loop → tie.After-next-corner Inv-loop μ-loop
+next-corner-at-add-own-requires c = c .before .before .before .before
+
+abbrev next-corner-of-add-own : tie.After-add-own Inv-loop μ-loop → tie.After-next-corner Inv-loop μ-loop
+next-corner-of-add-own c = c .before .before .before .before .before
+
+abbrev add-own-at-add-i : tie.Else1 Inv-loop μ-loop → tie.After-add-own Inv-loop μ-loop
+add-own-at-add-i c = c .before .before .before .before .before .before .before .before .before
+
+abbrev add-own-at-returns : tie.Then1 Inv-loop μ-loop → tie.After-add-own Inv-loop μ-loop
+add-own-at-returns c = c .before .before .before .before .before .before .before .before .before
+
 -- src/lib.rt:101:5
 loop-holds : tie.Need-loop-holds Inv-loop μ-loop
 loop-holds c =
-    let s = c .before .before .before .before .before .before .before .before .before .before in
-    let a = s .args in
+    let a = entry-at-loop-holds c .args in
     outline-start (a .coords .now) (pairs (a .subject .now)) (pairs (a .cutter .now)) (a .met .now) (a .cell .now) (a .outline .now) (a .src .now) (a .dst .now) (a .marks .now)
-
--- src/lib.rt:102:17
-mul-a : tie.Need-mul-a Inv-loop μ-loop
-mul-a c = search needs
-
--- src/lib.rt:102:17
-shared-slice-read-a : tie.Need-shared-slice-read-a Inv-loop μ-loop
-shared-slice-read-a c = search needs
-
--- src/lib.rt:103:13
-next-corner-requires : tie.Need-next-corner-requires Inv-loop μ-loop
-next-corner-requires c κs = search needs
 
 -- src/lib.rt:104:9
 add-own-requires : tie.Need-add-own-requires Inv-loop μ-loop
 add-own-requires c κs =
-    let s = c .before .before .before .before .before .before .before .before .before .before .before .before .before .before .before .before .before .before in
-    let a = s .args in
-    let l = c .before .before .before .before .before .before .before .loop in
-    let x = c .before .before .before .before .next-corner in
-    (s .pre .0 .linked, own-few (a .coords .now) (pairs (a .subject .now)) (pairs (a .cutter .now)) (a .met .now) (a .cell .now) (a .outline .now) (a .src .now) (a .dst .now) (a .marks .now) (l .outline) (l .src) (l .dst) (l .marks) (l .n) (l .i) (l .inv) (x .result) (c .before .before .before .before .before .before .loop-test .taken) (x .ensures) (a .links .now) (s .pre .0), l .inv .small, omega (arith, l .inv .same-outline, s .pre .1), omega (arith, l .inv .same-src, s .pre .2), omega (arith, l .inv .same-dst, s .pre .3), omega (arith, l .inv .same-marks, s .pre .4))
-
--- src/lib.rt:106:13
-same-length : tie.Need-same-length Inv-loop μ-loop
-same-length c = search needs
-
--- src/lib.rt:106:13
-same-length-2 : tie.Need-same-length-2 Inv-loop μ-loop
-same-length-2 c = search needs
-
--- src/lib.rt:106:13
-same-length-3 : tie.Need-same-length-3 Inv-loop μ-loop
-same-length-3 c = search needs
-
--- src/lib.rt:106:13
-same-length-4 : tie.Need-same-length-4 Inv-loop μ-loop
-same-length-4 c = search needs
+    let at-in-loop = in-loop (next-corner-at-add-own-requires c) in
+    let at-entry = entry-of-loop (loop-of-in-loop at-in-loop) in
+    let a = at-entry .args in
+    let l = loop-of-in-loop at-in-loop .loop in
+    let x = next-corner-at-add-own-requires c .next-corner in (
+      at-entry .pre .0 .linked,
+      own-few (a .coords .now) (pairs (a .subject .now)) (pairs (a .cutter .now)) (a .met .now) (a .cell .now) (a .outline .now)
+          (a .src .now) (a .dst .now) (a .marks .now) (l .outline) (l .src) (l .dst) (l .marks) (l .n) (l .i) (l .inv) (x .result) (at-in-loop .loop-test .taken)
+          (x .ensures) (a .links .now) (at-entry .pre .0),
+      l .inv .small,
+      omega (arith, l .inv .same-outline, at-entry .pre .1),
+      omega (arith, l .inv .same-src, at-entry .pre .2),
+      omega (arith, l .inv .same-dst, at-entry .pre .3),
+      omega (arith, l .inv .same-marks, at-entry .pre .4),
+    )
 
 -- src/lib.rt:106:13
 returns : tie.Need-returns Inv-loop μ-loop
 returns c =
-    let s = c .before .before .before .before .before .before .before .before .before .before .before .before .before .before .before .before .before .before .before .before .before .before .before .before .before .before .before .before in
-    let a = s .args in
-    let l = c .before .before .before .before .before .before .before .before .before .before .before .before .before .before .before .before .before .loop in
-    let x = c .before .before .before .before .before .before .before .before .before .before .before .before .before .before .next-corner in
-    let e = c .before .before .before .before .before .before .before .before .before .add-own in
-    outline-over (a .coords .now) (pairs (a .subject .now)) (pairs (a .cutter .now)) (a .met .now) (a .cell .now) (a .outline .now) (a .src .now) (a .dst .now) (a .marks .now) (l .outline) (l .src) (l .dst) (l .marks) (l .n) (l .i) (l .inv) (x .result) (c .before .before .before .before .before .before .before .before .before .before .before .before .before .before .before .before .loop-test .taken) (x .ensures) (e .result) (e .last .1 .1 .1 .1 .1 .1 .1 .0) (e .last .1 .1 .1 .1 .1 .1 .1 .1 .0) (e .last .1 .1 .1 .1 .1 .1 .1 .1 .1 .0) (e .last .1 .1 .1 .1 .1 .1 .1 .1 .1 .1 .0) (e .ensures) (c .if1 .taken)
+    let at-next-corner = next-corner-of-add-own (add-own-at-returns c) in
+    let at-loop = loop-of-in-loop (in-loop at-next-corner) in
+    let a = entry-of-loop at-loop .args in
+    let l = at-loop .loop in
+    let x = at-next-corner .next-corner in
+    let e = add-own-at-returns c .add-own in
+    outline-over (a .coords .now) (pairs (a .subject .now)) (pairs (a .cutter .now)) (a .met .now) (a .cell .now) (a .outline .now) (a .src .now) (a .dst .now)
+    (a .marks .now) (l .outline) (l .src) (l .dst) (l .marks) (l .n) (l .i) (l .inv) (x .result) (in-loop at-next-corner .loop-test .taken) (x .ensures)
+    (e .result) (e .last .1 .1 .1 .1 .1 .1 .1 .0) (e .last .1 .1 .1 .1 .1 .1 .1 .1 .0) (e .last .1 .1 .1 .1 .1 .1 .1 .1 .1 .0)
+    (e .last .1 .1 .1 .1 .1 .1 .1 .1 .1 .1 .0) (e .ensures) (c .if1 .taken)
 
 -- src/lib.rt:108:9
 add-i : tie.Need-add-i Inv-loop μ-loop
 add-i c =
-    omega (arith, c .before .before .before .before .before .before .before .before .before .before .before .before .before .before .before .before .loop-test .taken, c .before .before .before .before .before .before .before .before .before .before .before .before .before .before .before .before .before .before .before .before .before .before .before .before .before .before .before .before .good .1 .1 .1 .1 .1 .0)
-
--- src/lib.rt:101:5
-loop-less : tie.Need-loop-less Inv-loop μ-loop
-loop-less c = search needs
+    let at-in-loop = in-loop (next-corner-of-add-own (add-own-at-add-i c)) in
+    let at-entry = entry-of-loop (loop-of-in-loop at-in-loop) in
+    let cell-good = at-entry .good .1 .1 .1 .1 .1 .0 in
+    omega (arith, at-in-loop .loop-test .taken, cell-good)
 
 -- src/lib.rt:101:5
 loop-again : tie.Need-loop-again Inv-loop μ-loop
 loop-again c =
-    let s = c .before .before .before .before .before .before .before .before .before .before .before .before .before .before .before .before .before .before .before .before .before .before .before .before .before .before .before .before in
-    let a = s .args in
-    let l = c .before .before .before .before .before .before .before .before .before .before .before .before .before .before .before .before .before .loop in
-    let x = c .before .before .before .before .before .before .before .before .before .before .before .before .before .before .next-corner in
-    let e = c .before .before .before .before .before .before .before .before .before .add-own in
-    outline-turn (a .coords .now) (pairs (a .subject .now)) (pairs (a .cutter .now)) (a .met .now) (a .cell .now) (a .outline .now) (a .src .now) (a .dst .now) (a .marks .now) (l .outline) (l .src) (l .dst) (l .marks) (l .n) (l .i) (l .inv) (x .result) (c .before .before .before .before .before .before .before .before .before .before .before .before .before .before .before .before .loop-test .taken) (x .ensures) (e .result) (e .last .1 .1 .1 .1 .1 .1 .1 .0) (e .last .1 .1 .1 .1 .1 .1 .1 .1 .0) (e .last .1 .1 .1 .1 .1 .1 .1 .1 .1 .0) (e .last .1 .1 .1 .1 .1 .1 .1 .1 .1 .1 .0) (e .ensures) (c .if1 .left) (s .pre .1) (e .kept .1 .1 .1 .1 .1 .1 .1 .0) (e .kept .1 .1 .1 .1 .1 .1 .1 .1 .0) (e .kept .1 .1 .1 .1 .1 .1 .1 .1 .1 .0) (e .kept .1 .1 .1 .1 .1 .1 .1 .1 .1 .1 .0)
-
--- src/lib.rt:84:1
-same-length-5 : tie.Need-same-length-5 Inv-loop μ-loop
-same-length-5 c = search needs
-
--- src/lib.rt:84:1
-same-length-6 : tie.Need-same-length-6 Inv-loop μ-loop
-same-length-6 c = search needs
-
--- src/lib.rt:84:1
-same-length-7 : tie.Need-same-length-7 Inv-loop μ-loop
-same-length-7 c = search needs
-
--- src/lib.rt:84:1
-same-length-8 : tie.Need-same-length-8 Inv-loop μ-loop
-same-length-8 c = search needs
+    let at-next-corner = next-corner-of-add-own (add-own-at-add-i c) in
+    let at-loop = loop-of-in-loop (in-loop at-next-corner) in
+    let at-entry = entry-of-loop at-loop in
+    let a = at-entry .args in
+    let l = at-loop .loop in
+    let x = at-next-corner .next-corner in
+    let e = add-own-at-add-i c .add-own in
+    outline-turn (a .coords .now) (pairs (a .subject .now)) (pairs (a .cutter .now)) (a .met .now) (a .cell .now) (a .outline .now) (a .src .now) (a .dst .now)
+    (a .marks .now) (l .outline) (l .src) (l .dst) (l .marks) (l .n) (l .i) (l .inv) (x .result) (in-loop at-next-corner .loop-test .taken) (x .ensures)
+    (e .result) (e .last .1 .1 .1 .1 .1 .1 .1 .0) (e .last .1 .1 .1 .1 .1 .1 .1 .1 .0) (e .last .1 .1 .1 .1 .1 .1 .1 .1 .1 .0)
+    (e .last .1 .1 .1 .1 .1 .1 .1 .1 .1 .1 .0) (e .ensures) (c .if1 .left) (at-entry .pre .1) (e .kept .1 .1 .1 .1 .1 .1 .1 .0)
+    (e .kept .1 .1 .1 .1 .1 .1 .1 .1 .0) (e .kept .1 .1 .1 .1 .1 .1 .1 .1 .1 .0) (e .kept .1 .1 .1 .1 .1 .1 .1 .1 .1 .1 .0)
 
 -- src/lib.rt:84:1
 returns-2 : tie.Need-returns-2 Inv-loop μ-loop
 returns-2 c =
-    let s = c .before .before .before .before .before .before .before .before .before .before .before .before in
-    let a = s .args in
+    let at-entry = entry-of-loop (loop-at-returns-2 c) in
+    let a = at-entry .args in
     let l = c .before .loop in
-    outline-end (a .coords .now) (pairs (a .subject .now)) (pairs (a .cutter .now)) (a .met .now) (a .cell .now) (a .outline .now) (a .src .now) (a .dst .now) (a .marks .now) (l .outline) (l .src) (l .dst) (l .marks) (l .n) (l .i) (l .inv) (c .loop-test .left)
+    outline-end (a .coords .now) (pairs (a .subject .now)) (pairs (a .cutter .now)) (a .met .now) (a .cell .now) (a .outline .now) (a .src .now) (a .dst .now)
+    (a .marks .now) (l .outline) (l .src) (l .dst) (l .marks) (l .n) (l .i) (l .inv) (c .loop-test .left)
 
 pub own-darts-spec : {M : Type 1} → statement M
-own-darts-spec =
-    tie.close
-    (tie.spec
-    Inv-loop
-    μ-loop
-    loop-holds
-    mul-a
-    shared-slice-read-a
-    next-corner-requires
-    add-own-requires
-    same-length
-    same-length-2
-    same-length-3
-    same-length-4
-    returns
-    add-i
-    loop-less
-    loop-again
-    same-length-5
-    same-length-6
-    same-length-7
-    same-length-8
-    returns-2)
+own-darts-spec = tie.close (tie.spec Inv-loop μ-loop loop-holds (λ c. search needs) (λ c. search needs) (λ c κs. search needs) add-own-requires
+    (λ c. search needs) (λ c. search needs) (λ c. search needs) (λ c. search needs) returns add-i (λ c. search needs) loop-again (λ c. search needs)
+    (λ c. search needs) (λ c. search needs) (λ c. search needs) returns-2)

@@ -15,71 +15,48 @@ Inv-loop coords inv nodes outline₀ src₀ dst₀ marks₀ n i₀ k₀ outline 
 abbrev μ-loop : tie.MeasureT-loop
 μ-loop coords inv nodes outline₀ src₀ dst₀ marks₀ n i₀ k₀ outline src dst marks i k = length nodes - i
 
+-- places of the code, each counted once
+abbrev entry : tie.At-loop Inv-loop μ-loop → tie.Start Inv-loop μ-loop
+entry c = c .before .before .before .before .before .before .before
+
+abbrev loop-of-in-loop : tie.In-loop Inv-loop μ-loop → tie.At-loop Inv-loop μ-loop
+loop-of-in-loop c = c .before
+
+abbrev in-loop : tie.After-either Inv-loop μ-loop → tie.In-loop Inv-loop μ-loop
+in-loop c = c .before .before .before
+
+abbrev either-of-either2 : tie.After-either2 Inv-loop μ-loop → tie.After-either Inv-loop μ-loop
+either-of-either2 c = c .before
+
+abbrev either2-of-add-dart : tie.After-add-dart Inv-loop μ-loop → tie.After-either2 Inv-loop μ-loop
+either2-of-add-dart c = c .before .before .before .before
+
+abbrev add-dart-at-loop-again : tie.After-slice-known7 Inv-loop μ-loop → tie.After-add-dart Inv-loop μ-loop
+add-dart-at-loop-again c = c .before .before .before .before .before .before
+
 loop-holds : tie.Need-loop-holds Inv-loop μ-loop
 loop-holds c = lay-start _ _ _ _ _ _ _ _
 
-add-loop : tie.Need-add-loop Inv-loop μ-loop
-add-loop c = search needs
-
-mul-p : tie.Need-mul-p Inv-loop μ-loop
-mul-p c = search needs
-
-shared-slice-read-p : tie.Need-shared-slice-read-p Inv-loop μ-loop
-shared-slice-read-p c = search needs
-
-add-q : tie.Need-add-q Inv-loop μ-loop
-add-q c = search needs
-
-mul-q : tie.Need-mul-q Inv-loop μ-loop
-mul-q c = search needs
-
-shared-slice-read-q : tie.Need-shared-slice-read-q Inv-loop μ-loop
-shared-slice-read-q c = search needs
-
-either-requires : tie.Need-either-requires Inv-loop μ-loop
-either-requires c κs = search needs
-
-either-requires-2 : tie.Need-either-requires-2 Inv-loop μ-loop
-either-requires-2 c κs = search needs
-
-mul-outline : tie.Need-mul-outline Inv-loop μ-loop
-mul-outline c = search needs
-
-slice-write-outline : tie.Need-slice-write-outline Inv-loop μ-loop
-slice-write-outline c = search needs
-
-add-outline : tie.Need-add-outline Inv-loop μ-loop
-add-outline c = search needs
-
-mul-outline-2 : tie.Need-mul-outline-2 Inv-loop μ-loop
-mul-outline-2 c = search needs
-
 slice-write-outline-2 : tie.Need-slice-write-outline-2 Inv-loop μ-loop
 slice-write-outline-2 c =
-    let l = c .before .before .before .before .before .loop in
-    omega (arith, length-set (l .outline) (l .k) (c .before .either .result), l .inv .same-outline, l .inv .count, c .before .before .before .before .before .before .before .before .before .before .before .before .pre, c .before .before .before .before .loop-test .taken)
-
-add-dart-requires : tie.Need-add-dart-requires Inv-loop μ-loop
-add-dart-requires c κs = search needs
-
-add-k : tie.Need-add-k Inv-loop μ-loop
-add-k c = search needs
-
-add-i : tie.Need-add-i Inv-loop μ-loop
-add-i c = search needs
-
-loop-less : tie.Need-loop-less Inv-loop μ-loop
-loop-less c = search needs
+    let at-in-loop = in-loop (either-of-either2 c) in
+    let at-entry = entry (loop-of-in-loop at-in-loop) in
+    let l = loop-of-in-loop at-in-loop .loop in
+    omega (arith, length-set (l .outline) (l .k) (c .before .either .result), l .inv .same-outline, l .inv .count, at-entry .pre, at-in-loop .loop-test .taken)
 
 loop-again : tie.Need-loop-again Inv-loop μ-loop
 loop-again c =
-    let s = c .before .before .before .before .before .before .before .before .before .before .before .before .before .before .before .before .before .before .before .before .before .before in
-    let l = c .before .before .before .before .before .before .before .before .before .before .before .before .before .before .before .loop in
-    let a = c .before .before .before .before .before .before .before .before .before .before .before .either in
-    let b = c .before .before .before .before .before .before .before .before .before .before .either2 in
-    let d = c .before .before .before .before .before .before .add-dart in
-    let t = c .before .before .before .before .before .before .before .before .before .before .before .before .before .before .loop-test .taken in
-    lay-turn _ _ _ _ _ _ _ _ _ _ _ _ _ _ (l .inv) (a .result) (b .result) _ _ _ t (omega (arith, s .pre, l .inv .count, t)) (a .ensures) (b .ensures) (length-set (set (l .outline) (l .k) (a .result)) _ (b .result) ∙ length-set (l .outline) (l .k) (a .result)) (d .kept .1 .1 .1 .1 .0) (d .kept .1 .1 .1 .1 .1 .0) (d .kept .1 .1 .1 .1 .1 .1 .0) (d .ensures)
+    let at-either2 = either2-of-add-dart (add-dart-at-loop-again c) in
+    let at-in-loop = in-loop (either-of-either2 at-either2) in
+    let at-entry = entry (loop-of-in-loop at-in-loop) in
+    let l = loop-of-in-loop at-in-loop .loop in
+    let a = either-of-either2 at-either2 .either in
+    let b = at-either2 .either2 in
+    let d = add-dart-at-loop-again c .add-dart in
+    let t = at-in-loop .loop-test .taken in
+    lay-turn _ _ _ _ _ _ _ _ _ _ _ _ _ _ (l .inv) (a .result) (b .result) _ _ _ t (omega (arith, at-entry .pre, l .inv .count, t)) (a .ensures) (b .ensures)
+    (length-set (set (l .outline) (l .k) (a .result)) _ (b .result) ∙ length-set (l .outline) (l .k) (a .result)) (d .kept .1 .1 .1 .1 .0)
+    (d .kept .1 .1 .1 .1 .1 .0) (d .kept .1 .1 .1 .1 .1 .1 .0) (d .ensures)
 
 same-length : tie.Need-same-length Inv-loop μ-loop
 same-length c = c .before .loop .inv .same-outline
@@ -97,32 +74,7 @@ returns : tie.Need-returns Inv-loop μ-loop
 returns c = lay-end _ _ _ _ _ _ _ _ _ _ _ _ _ _ (c .before .loop .inv) (c .loop-test .left)
 
 pub add-along-spec : {M : Type 1} → statement M
-add-along-spec =
-    tie.close
-    (tie.spec
-    Inv-loop
-    μ-loop
-    loop-holds
-    add-loop
-    mul-p
-    shared-slice-read-p
-    add-q
-    mul-q
-    shared-slice-read-q
-    either-requires
-    either-requires-2
-    mul-outline
-    slice-write-outline
-    add-outline
-    mul-outline-2
-    slice-write-outline-2
-    add-dart-requires
-    add-k
-    add-i
-    loop-less
-    loop-again
-    same-length
-    same-length-2
-    same-length-3
-    same-length-4
-    returns)
+add-along-spec = tie.close (tie.spec Inv-loop μ-loop loop-holds (λ c. search needs) (λ c. search needs) (λ c. search needs) (λ c. search needs)
+    (λ c. search needs) (λ c. search needs) (λ c κs. search needs) (λ c κs. search needs) (λ c. search needs) (λ c. search needs) (λ c. search needs)
+    (λ c. search needs) slice-write-outline-2 (λ c κs. search needs) (λ c. search needs) (λ c. search needs) (λ c. search needs) loop-again same-length
+    same-length-2 same-length-3 same-length-4 returns)

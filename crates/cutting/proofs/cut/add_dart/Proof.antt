@@ -5,37 +5,42 @@ use borrow.Author.Needs.{needs}
 use Rattle.cutting.proofs.cut.add_dart.Statement.{statement}
 use Rattle.cutting.proofs.cut.add_dart.Tie as tie
 
-insert-slot-requires : tie.Need-insert-slot-requires
-insert-slot-requires c κs = search needs
+-- places of the code, each counted once
+abbrev entry : tie.After-insert-slot → tie.Start
+entry c = c .before .before .before .before .before .before .before .before
 
-add-insert-slot : tie.Need-add-insert-slot
-add-insert-slot c = search needs
+abbrev insert-slot-of-insert-slot2 : tie.After-insert-slot2 → tie.After-insert-slot
+insert-slot-of-insert-slot2 c = c .before .before .before .before .before .before .before .before .before .before
 
-insert-slot-requires-2 : tie.Need-insert-slot-requires-2
-insert-slot-requires-2 c κs = search needs
+abbrev insert-slot2-at-same-length : tie.After-slice-known9 → tie.After-insert-slot2
+insert-slot2-at-same-length c = c .before .before .before .before .before .before
 
 same-length : tie.Need-same-length
-same-length c = c .before .before .before .before .before .before .insert-slot2 .kept .1 .0 ∙ c .before .before .before .before .before .before .before .before .before .before .before .before .before .before .before .before .insert-slot .kept .1 .0
+same-length c =
+    let at-insert-slot = insert-slot-of-insert-slot2 (insert-slot2-at-same-length c) in
+    let src-kept-by-insert-slot2 = insert-slot2-at-same-length c .insert-slot2 .kept .1 .0 in
+    let src-kept-by-insert-slot = at-insert-slot .insert-slot .kept .1 .0 in
+    src-kept-by-insert-slot2 ∙ src-kept-by-insert-slot
 
 same-length-2 : tie.Need-same-length-2
-same-length-2 c = c .before .before .before .before .before .before .insert-slot2 .kept .1 .1 .0 ∙ c .before .before .before .before .before .before .before .before .before .before .before .before .before .before .before .before .insert-slot .kept .1 .1 .0
+same-length-2 c =
+    let at-insert-slot = insert-slot-of-insert-slot2 (insert-slot2-at-same-length c) in
+    let dst-kept-by-insert-slot2 = insert-slot2-at-same-length c .insert-slot2 .kept .1 .1 .0 in
+    let dst-kept-by-insert-slot = at-insert-slot .insert-slot .kept .1 .1 .0 in
+    dst-kept-by-insert-slot2 ∙ dst-kept-by-insert-slot
 
 same-length-3 : tie.Need-same-length-3
-same-length-3 c = c .before .before .before .before .before .before .insert-slot2 .kept .1 .1 .1 .0 ∙ c .before .before .before .before .before .before .before .before .before .before .before .before .before .before .before .before .insert-slot .kept .1 .1 .1 .0
+same-length-3 c =
+    let at-insert-slot = insert-slot-of-insert-slot2 (insert-slot2-at-same-length c) in
+    let marks-kept-by-insert-slot2 = insert-slot2-at-same-length c .insert-slot2 .kept .1 .1 .1 .0 in
+    let marks-kept-by-insert-slot = at-insert-slot .insert-slot .kept .1 .1 .1 .0 in
+    marks-kept-by-insert-slot2 ∙ marks-kept-by-insert-slot
 
 returns : tie.Need-returns
 returns c =
-    let g = c .before .before .before .before .before .before .before .before .before .before .before .before .before .before .before .before .before .before .before .before .before .before .before .before .args in
-    both-ways _ _ _ _ _ _ _ _ _ _ _ (g .a) (g .b) (g .back) (c .before .before .before .before .before .before .before .before .before .before .before .before .before .before .before .before .insert-slot .ensures) (c .before .before .before .before .before .before .insert-slot2 .ensures)
+    let at-insert-slot = insert-slot-of-insert-slot2 (insert-slot2-at-same-length c) in
+    let g = entry at-insert-slot .args in
+    both-ways _ _ _ _ _ _ _ _ _ _ _ (g .a) (g .b) (g .back) (at-insert-slot .insert-slot .ensures) (insert-slot2-at-same-length c .insert-slot2 .ensures)
 
 pub add-dart-spec : {M : Type 1} → statement M
-add-dart-spec =
-    tie.close
-    (tie.spec
-    insert-slot-requires
-    add-insert-slot
-    insert-slot-requires-2
-    same-length
-    same-length-2
-    same-length-3
-    returns)
+add-dart-spec = tie.close (tie.spec (λ c κs. search needs) (λ c. search needs) (λ c κs. search needs) same-length same-length-2 same-length-3 returns)

@@ -18,58 +18,31 @@ Inv-loop outline src dst n heap₀ i₀ k₀ heap i k =
 abbrev μ-loop : tie.MeasureT-loop
 μ-loop outline src dst n heap₀ i₀ k₀ heap i k = length outline - i
 
+-- places of the code, each counted once
+abbrev entry : tie.At-loop Inv-loop μ-loop → tie.Start Inv-loop μ-loop
+entry c = c .before .before .before .before .before
+
+abbrev loop-of-in-loop : tie.In-loop Inv-loop μ-loop → tie.At-loop Inv-loop μ-loop
+loop-of-in-loop c = c .before
+
+abbrev in-loop : tie.After-find-slot Inv-loop μ-loop → tie.In-loop Inv-loop μ-loop
+in-loop c = c .before .before .before
+
 loop-holds : tie.Need-loop-holds Inv-loop μ-loop
 unfolding stacked
 loop-holds c = (refl, search needs, search needs, refl)
 
-add-loop : tie.Need-add-loop Inv-loop μ-loop
-add-loop c = search needs
-
-mul-a : tie.Need-mul-a Inv-loop μ-loop
-mul-a c = search needs
-
-shared-slice-read-a : tie.Need-shared-slice-read-a Inv-loop μ-loop
-shared-slice-read-a c = search needs
-
-add-b : tie.Need-add-b Inv-loop μ-loop
-add-b c = search needs
-
-mul-b : tie.Need-mul-b Inv-loop μ-loop
-mul-b c = search needs
-
-shared-slice-read-b : tie.Need-shared-slice-read-b Inv-loop μ-loop
-shared-slice-read-b c = search needs
-
-find-slot-requires : tie.Need-find-slot-requires Inv-loop μ-loop
-find-slot-requires c κs = search needs
-
 cast-heap : tie.Need-cast-heap Inv-loop μ-loop
-cast-heap c = omega (arith, slot-le _ _ _ _ _ _ (c .find-slot .ensures), c .before .before .before .before .before .before .before .before .before .pre)
-
-mul-heap : tie.Need-mul-heap Inv-loop μ-loop
-mul-heap c = search needs
-
-slice-write-heap : tie.Need-slice-write-heap Inv-loop μ-loop
-slice-write-heap c = search needs
-
-add-k : tie.Need-add-k Inv-loop μ-loop
-add-k c = search needs
-
-add-i : tie.Need-add-i Inv-loop μ-loop
-add-i c = search needs
-
-loop-less : tie.Need-loop-less Inv-loop μ-loop
-loop-less c = search needs
+cast-heap c =
+    let at-entry = entry (loop-of-in-loop (in-loop c)) in
+    omega (arith, slot-le _ _ _ _ _ _ (c .find-slot .ensures), at-entry .pre)
 
 loop-again : tie.Need-loop-again Inv-loop μ-loop
 loop-again c =
-    let l = c .before .before .before .before in
-    let v = l .loop .inv in
-    let t = c .before .before .before .loop-test .taken in
-    (simp length-set (v .0), omega arith, omega arith, start-turn _ _ _ _ _ _ _ _ (v .3) _ t (omega (arith, c .before .before .before .before .before .before .before .before .before .pre)) (c .find-slot .ensures))
-
-same-length : tie.Need-same-length Inv-loop μ-loop
-same-length c = search needs
+    let at-loop = loop-of-in-loop (in-loop c) in
+    let v = at-loop .loop .inv in
+    let t = in-loop c .loop-test .taken in
+    (simp length-set (v .0), omega arith, omega arith, start-turn _ _ _ _ _ _ _ _ (v .3) _ t (omega (arith, entry at-loop .pre)) (c .find-slot .ensures))
 
 returns : tie.Need-returns Inv-loop μ-loop
 returns c =
@@ -77,25 +50,6 @@ returns c =
     (omega arith, start-end _ _ _ _ _ _ _ _ (v .3) (c .loop-test .left))
 
 pub fill-heap-spec : {M : Type 1} → statement M
-fill-heap-spec =
-    tie.close
-    (tie.spec
-    Inv-loop
-    μ-loop
-    loop-holds
-    add-loop
-    mul-a
-    shared-slice-read-a
-    add-b
-    mul-b
-    shared-slice-read-b
-    find-slot-requires
-    cast-heap
-    mul-heap
-    slice-write-heap
-    add-k
-    add-i
-    loop-less
-    loop-again
-    same-length
-    returns)
+fill-heap-spec = tie.close (tie.spec Inv-loop μ-loop loop-holds (λ c. search needs) (λ c. search needs) (λ c. search needs) (λ c. search needs)
+    (λ c. search needs) (λ c. search needs) (λ c κs. search needs) cast-heap (λ c. search needs) (λ c. search needs) (λ c. search needs) (λ c. search needs)
+    (λ c. search needs) loop-again (λ c. search needs) returns)

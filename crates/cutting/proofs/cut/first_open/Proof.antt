@@ -16,57 +16,43 @@ Inv-loop src marks a k n i₀ i = first (openAt src marks a) i n ≡ first (open
 abbrev μ-loop : tie.MeasureT-loop
 μ-loop src marks a k n i₀ i = n - i
 
+-- places of the code, each counted once
+abbrev entry : tie.At-loop Inv-loop μ-loop → tie.Start Inv-loop μ-loop
+entry c = c .before
+
+abbrev loop-of-in-loop : tie.In-loop Inv-loop μ-loop → tie.At-loop Inv-loop μ-loop
+loop-of-in-loop c = c .before
+
+abbrev in-loop-at-loop-again : tie.Joined1 Inv-loop μ-loop → tie.In-loop Inv-loop μ-loop
+in-loop-at-loop-again c = c .before .before
+
+abbrev in-loop-of-then1 : tie.Then1 Inv-loop μ-loop → tie.In-loop Inv-loop μ-loop
+in-loop-of-then1 c = c .before .before
+
+abbrev then1 : tie.Then2 Inv-loop μ-loop → tie.Then1 Inv-loop μ-loop
+then1 c = c .before .before
+
 loop-holds : tie.Need-loop-holds Inv-loop μ-loop
 loop-holds c = refl
 
-mul-if1 : tie.Need-mul-if1 Inv-loop μ-loop
-mul-if1 c = search needs
-
-shared-slice-read-if1 : tie.Need-shared-slice-read-if1 Inv-loop μ-loop
-shared-slice-read-if1 c = search needs
-
-mul-if2 : tie.Need-mul-if2 Inv-loop μ-loop
-mul-if2 c = search needs
-
-shared-slice-read-if2 : tie.Need-shared-slice-read-if2 Inv-loop μ-loop
-shared-slice-read-if2 c = search needs
-
 returns : tie.Need-returns Inv-loop μ-loop
 returns c =
-    let turn = c .before .before .before .before in
-    let at = turn .before in
-    sym (first-here _ (at .loop .i) _ (turn .loop-test .taken) (both-true _ _ _ _ (c .before .before .if1 .taken) (c .if2 .taken))) ∙ at .loop .inv
-
-add-i : tie.Need-add-i Inv-loop μ-loop
-add-i c = search needs
-
-loop-less : tie.Need-loop-less Inv-loop μ-loop
-loop-less c = search needs
+    let at-in-loop = in-loop-of-then1 (then1 c) in
+    let at-loop = loop-of-in-loop at-in-loop in
+    sym (first-here _ (at-loop .loop .i) _ (at-in-loop .loop-test .taken) (both-true _ _ _ _ (then1 c .if1 .taken) (c .if2 .taken))) ∙ at-loop .loop .inv
 
 loop-again : tie.Need-loop-again Inv-loop μ-loop
 loop-again c =
-    let at = c .before .before .before in
-    let g = at .before .args in
-    let x = getD (g .src .now) (at .loop .i) 0 in
-    let y = getD (g .marks .now) (at .loop .i) 0 in
-    first-on _ (at .loop .i) _ (c .before .before .loop-test .taken) (⊎-elim (λ w. right-false x (g .a) y 0 (w .2 .left)) (λ w. left-false x (g .a) y 0 (w .left)) (c .if1 .came)) ∙ at .loop .inv
+    let at-loop = loop-of-in-loop (in-loop-at-loop-again c) in
+    let g = entry at-loop .args in
+    let x = getD (g .src .now) (at-loop .loop .i) 0 in
+    let y = getD (g .marks .now) (at-loop .loop .i) 0 in
+    first-on _ (at-loop .loop .i) _ (in-loop-at-loop-again c .loop-test .taken)
+    (⊎-elim (λ w. right-false x (g .a) y 0 (w .2 .left)) (λ w. left-false x (g .a) y 0 (w .left)) (c .if1 .came)) ∙ at-loop .loop .inv
 
 returns-2 : tie.Need-returns-2 Inv-loop μ-loop
 returns-2 c = sym (first-end _ (c .before .loop .i) _ (c .loop-test .left)) ∙ c .before .loop .inv
 
 pub first-open-spec : {M : Type 1} → statement M
-first-open-spec =
-    tie.close
-    (tie.spec
-    Inv-loop
-    μ-loop
-    loop-holds
-    mul-if1
-    shared-slice-read-if1
-    mul-if2
-    shared-slice-read-if2
-    returns
-    add-i
-    loop-less
-    loop-again
-    returns-2)
+first-open-spec = tie.close (tie.spec Inv-loop μ-loop loop-holds (λ c. search needs) (λ c. search needs) (λ c. search needs) (λ c. search needs) returns
+    (λ c. search needs) (λ c. search needs) loop-again returns-2)

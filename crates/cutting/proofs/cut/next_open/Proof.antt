@@ -5,34 +5,47 @@ use Rattle.cutting.proofs.Rounds.{after-late, after-early, after-back, 
 use Rattle.cutting.proofs.cut.next_open.Statement.{statement}
 use Rattle.cutting.proofs.cut.next_open.Tie as tie
 
-add-first-open : tie.Need-add-first-open
-add-first-open c = search needs
+-- places of the code, each counted once
+abbrev first-open-of-else1 : tie.Else1 → tie.After-first-open
+first-open-of-else1 c = c .before
 
-first-open-requires : tie.Need-first-open-requires
-first-open-requires c κs = search needs
+abbrev else1 : tie.After-first-open2 → tie.Else1
+else1 c = c .before
+
+abbrev first-open2-of-else2 : tie.Else2 → tie.After-first-open2
+first-open2-of-else2 c = c .before
+
+abbrev first-open2-at-returns-2 : tie.Then2 → tie.After-first-open2
+first-open2-at-returns-2 c = c .before
+
+abbrev else2-at-returns-4 : tie.Else3 → tie.Else2
+else2-at-returns-4 c = c .before .before
+
+abbrev else2-at-returns-3 : tie.Then3 → tie.Else2
+else2-at-returns-3 c = c .before .before
 
 returns : tie.Need-returns
 returns c = after-late _ _ _ _ _ _ _ (c .before .first-open .ensures) (c .if1 .taken)
 
-first-open-requires-2 : tie.Need-first-open-requires-2
-first-open-requires-2 c κs = search needs
-
 returns-2 : tie.Need-returns-2
-returns-2 c = after-early _ _ _ _ _ _ _ (c .before .before .before .first-open .ensures) (c .before .before .if1 .left) _ (c .before .first-open2 .ensures) (c .if2 .taken)
-
-mul-if3 : tie.Need-mul-if3
-mul-if3 c = search needs
-
-shared-slice-read-if3 : tie.Need-shared-slice-read-if3
-shared-slice-read-if3 c = search needs
+returns-2 c =
+    let at-else1 = else1 (first-open2-at-returns-2 c) in
+    after-early _ _ _ _ _ _ _ (first-open-of-else1 at-else1 .first-open .ensures) (at-else1 .if1 .left) _ (c .before .first-open2 .ensures) (c .if2 .taken)
 
 returns-3 : tie.Need-returns-3
-returns-3 c = after-back _ _ _ _ _ _ _ (c .before .before .before .before .before .first-open .ensures) (c .before .before .before .before .if1 .left) _ (c .before .before .before .first-open2 .ensures) (c .before .before .if2 .left) refl (c .if3 .taken)
+returns-3 c =
+    let at-first-open2 = first-open2-of-else2 (else2-at-returns-3 c) in
+    let at-first-open = first-open-of-else1 (else1 at-first-open2) in
+    after-back _ _ _ _ _ _ _ (at-first-open .first-open .ensures) (else1 at-first-open2 .if1 .left) _ (at-first-open2 .first-open2 .ensures)
+    (else2-at-returns-3 c .if2 .left) refl (c .if3 .taken)
 
 returns-4 : tie.Need-returns-4
-returns-4 c = after-none _ _ _ _ _ _ _ (c .before .before .before .before .before .first-open .ensures) (c .before .before .before .before .if1 .left) _ (c .before .before .before .first-open2 .ensures) (c .before .before .if2 .left) (c .if3 .left)
+returns-4 c =
+    let at-first-open2 = first-open2-of-else2 (else2-at-returns-4 c) in
+    let at-first-open = first-open-of-else1 (else1 at-first-open2) in
+    after-none _ _ _ _ _ _ _ (at-first-open .first-open .ensures) (else1 at-first-open2 .if1 .left) _ (at-first-open2 .first-open2 .ensures)
+    (else2-at-returns-4 c .if2 .left) (c .if3 .left)
 
 pub next-open-spec : {M : Type 1} → statement M
-next-open-spec =
-    tie.close
-    (tie.spec add-first-open first-open-requires returns first-open-requires-2 returns-2 mul-if3 shared-slice-read-if3 returns-3 returns-4)
+next-open-spec = tie.close (tie.spec (λ c. search needs) (λ c κs. search needs) returns (λ c κs. search needs) returns-2 (λ c. search needs)
+    (λ c. search needs) returns-3 returns-4)

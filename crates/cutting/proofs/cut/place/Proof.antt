@@ -16,57 +16,32 @@ Inv-loop coords src dst n a b i₀ i =
 abbrev μ-loop : tie.MeasureT-loop
 μ-loop coords src dst n a b i₀ i = n - i
 
+-- places of the code, each counted once
+abbrev loop-of-in-loop : tie.In-loop Inv-loop μ-loop → tie.At-loop Inv-loop μ-loop
+loop-of-in-loop c = c .before
+
+abbrev in-loop-at-loop-again : tie.Else1 Inv-loop μ-loop → tie.In-loop Inv-loop μ-loop
+in-loop-at-loop-again c = c .before .before .before .before
+
+abbrev in-loop-at-returns : tie.Then1 Inv-loop μ-loop → tie.In-loop Inv-loop μ-loop
+in-loop-at-returns c = c .before .before .before .before
+
 loop-holds : tie.Need-loop-holds Inv-loop μ-loop
 loop-holds c = (search needs, refl)
 
-mul-stands : tie.Need-mul-stands Inv-loop μ-loop
-mul-stands c = search needs
-
-shared-slice-read-stands : tie.Need-shared-slice-read-stands Inv-loop μ-loop
-shared-slice-read-stands c = search needs
-
-mul-stands-2 : tie.Need-mul-stands-2 Inv-loop μ-loop
-mul-stands-2 c = search needs
-
-shared-slice-read-stands-2 : tie.Need-shared-slice-read-stands-2 Inv-loop μ-loop
-shared-slice-read-stands-2 c = search needs
-
-stands-requires : tie.Need-stands-requires Inv-loop μ-loop
-stands-requires c κs = search needs
-
 returns : tie.Need-returns Inv-loop μ-loop
 returns c =
-    let l = c .before .before .before .before .before in
-    (search needs, sym (first-here _ (l .loop .i) _ (c .before .before .before .before .loop-test .taken) (sym (c .before .stands .ensures) ∙ c .if1 .taken)) ∙ l .loop .inv .1)
-
-add-i : tie.Need-add-i Inv-loop μ-loop
-add-i c = search needs
-
-loop-less : tie.Need-loop-less Inv-loop μ-loop
-loop-less c = search needs
+    let at-loop = loop-of-in-loop (in-loop-at-returns c) in
+    (search needs, sym (first-here _ (at-loop .loop .i) _ (in-loop-at-returns c .loop-test .taken) (sym (c .before .stands .ensures) ∙ c .if1 .taken)) ∙ at-loop .loop .inv .1)
 
 loop-again : tie.Need-loop-again Inv-loop μ-loop
 loop-again c =
-    let l = c .before .before .before .before .before in
-    (search needs, first-on _ (l .loop .i) _ (c .before .before .before .before .loop-test .taken) (sym (c .before .stands .ensures) ∙ c .if1 .left) ∙ l .loop .inv .1)
+    let at-loop = loop-of-in-loop (in-loop-at-loop-again c) in
+    (search needs, first-on _ (at-loop .loop .i) _ (in-loop-at-loop-again c .loop-test .taken) (sym (c .before .stands .ensures) ∙ c .if1 .left) ∙ at-loop .loop .inv .1)
 
 returns-2 : tie.Need-returns-2 Inv-loop μ-loop
 returns-2 c = (search needs, sym (first-end _ (c .before .loop .i) _ (c .loop-test .left)) ∙ c .before .loop .inv .1)
 
 pub place-spec : {M : Type 1} → statement M
-place-spec =
-    tie.close
-    (tie.spec
-    Inv-loop
-    μ-loop
-    loop-holds
-    mul-stands
-    shared-slice-read-stands
-    mul-stands-2
-    shared-slice-read-stands-2
-    stands-requires
-    returns
-    add-i
-    loop-less
-    loop-again
-    returns-2)
+place-spec = tie.close (tie.spec Inv-loop μ-loop loop-holds (λ c. search needs) (λ c. search needs) (λ c. search needs) (λ c. search needs)
+    (λ c κs. search needs) returns (λ c. search needs) (λ c. search needs) loop-again returns-2)
