@@ -1,4 +1,5 @@
--- What each step of a walk keeps. A walk that ends uses each edge of the outline once, its reverse never, and any other edge as often as its reverse, at most once, unless the table names a neighbour twice at a node.
+-- What each step of a walk keeps. A walk that ends uses each edge of the outline once, its reverse never, and any other edge as often as its reverse, at most
+-- once, unless the table names a neighbour twice at a node.
 -- Assumes nothing.
 use mathlib.Core.Path.{_≡_, refl, sym, ap, _∙_, subst, ap₂}
 use mathlib.Core.Bool.{Bool, true, false, _&&_, and-true, and-false}

@@ -76,7 +76,8 @@ module _ (es : List Event) (ps : List Piece) (p : Listed) (on oe ok of : List �
 
     pub listed-fit : (p .count + length ps ≤ room oe ok of) × (p .entries + length (flat ks) ≤ length on)
     listed-fit =
-        let f = fits ks 0 0 (room oe ok of - p .count) (length on - p .entries) (ap (firstRefusal 0 0 (room oe ok of - p .count) (length on - p .entries)) (sym (one .placed z)) ∙ sym (one .code 0 0) ∙ z) in
+        let f = fits ks 0 0 (room oe ok of - p .count) (length on - p .entries)
+        (ap (firstRefusal 0 0 (room oe ok of - p .count) (length on - p .entries)) (sym (one .placed z)) ∙ sym (one .code 0 0) ∙ z) in
         (omega (arith, hc, f .0, long), omega (arith, he, f .1))
 
     in-oe : p .count + length ps ≤ length oe
@@ -114,7 +115,8 @@ module _ (es : List Event) (ps : List Piece) (p : Listed) (on oe ok of : List �
         → put w₁ (q .count) (map g qs) ≡ put w (p .count) (map g (ps ++ qs))
     filled g w w₁ qs e h =
         let l = length-map ps g in
-        put-on w w₁ (map g ps) (map g qs) (p .count) (q .count) e (one .counted z ∙ ap (λ (n : ℕ). p .count + n) (sym l)) (omega (arith, h, l)) ∙ ap (put w (p .count)) (sym (map-append g ps qs))
+        put-on w w₁ (map g ps) (map g qs) (p .count) (q .count) e (one .counted z ∙ ap (λ (n : ℕ). p .count + n) (sym l)) (omega (arith, h, l)) ∙ ap
+        (put w (p .count)) (sym (map-append g ps qs))
 
     pub listed-more : (fs : List Event) (qs : List Piece) (r : Listed) (on₂ oe₂ ok₂ of₂ : List ℕ) → ListedBehind fs qs q on₁ oe₁ ok₁ of₁ r on₂ oe₂ ok₂ of₂
         → ListedBehind (es ++ fs) (ps ++ qs) p on oe ok of r on₂ oe₂ ok₂ of₂
@@ -131,16 +133,20 @@ module _ (es : List Event) (ps : List Piece) (p : Listed) (on oe ok of : List �
         record {
           code = λ m s.
               two .code m s ∙ ap₂ (λ (a b : ℕ). firstRefusal m s a b fs) left rest
-              ∙ sym (behind ks fs m s (room oe ok of - p .count) (length on - p .entries) (below (room oe ok of) (p .count) (length ks) hc (subst (λ (n : ℕ). p .count + n ≤ room oe ok of) (sym long) (f .0))) (below (length on) (p .entries) (length (flat ks)) he (f .1)))
+              ∙ sym (behind ks fs m s (room oe ok of - p .count) (length on - p .entries)
+              (below (room oe ok of) (p .count) (length ks) hc (subst (λ (n : ℕ). p .count + n ≤ room oe ok of) (sym long) (f .0)))
+              (below (length on) (p .entries) (length (flat ks)) he (f .1)))
               ∙ ap (λ (xs : List Event). firstRefusal m s (room oe ok of - p .count) (length on - p .entries) (xs ++ fs)) (sym (one .placed z));
           uncounted = two .uncounted;
           placed = λ y. ap₂ (λ (xs ys : List Event). xs ++ ys) (one .placed z) (two .placed y) ∙ sym (map-append (λ k. piece (length k)) ks ls) ∙ ap events (sym names);
           counted = λ y. omega (arith, two .counted y, c, length-append ps qs);
           entered = λ y. omega (arith, two .entered y, e, ap (λ (l : List (List ℕ)). length (flat l)) names, ap length (flat-append ks ls), length-append (flat ks) (flat ls));
-          corners = λ y. two .corners y ∙ put-on on on₁ (flat ks) (flat ls) (p .entries) (q .entries) (one .corners z) e (f .1) ∙ ap (put on (p .entries)) (sym (flat-append ks ls) ∙ ap flat (sym names));
+          corners = λ y. two .corners y ∙ put-on on on₁ (flat ks) (flat ls) (p .entries) (q .entries) (one .corners z) e (f .1) ∙ ap (put on (p .entries))
+              (sym (flat-append ks ls) ∙ ap flat (sym names));
           ends = λ y.
               two .ends y ∙ ap (λ (a : ℕ). put oe₁ (q .count) (stops a ls)) e
-              ∙ put-on oe oe₁ (stops (p .entries) ks) (stops (p .entries + length (flat ks)) ls) (p .count) (q .count) (one .ends z) (c ∙ ap (λ (n : ℕ). p .count + n) (sym long-stops)) (omega (arith, in-oe, long-stops))
+              ∙ put-on oe oe₁ (stops (p .entries) ks) (stops (p .entries + length (flat ks)) ls) (p .count) (q .count) (one .ends z)
+              (c ∙ ap (λ (n : ℕ). p .count + n) (sym long-stops)) (omega (arith, in-oe, long-stops))
               ∙ ap (put oe (p .count)) (sym (stops-append (p .entries) ks ls) ∙ ap (stops (p .entries)) (sym names));
           kinds = λ y. two .kinds y ∙ filled (λ x. x .kind) ok ok₁ qs (one .kinds z) in-ok;
           families = λ y. two .families y ∙ filled (λ x. x .family) of of₁ qs (one .families z) in-of;

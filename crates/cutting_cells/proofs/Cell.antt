@@ -42,7 +42,8 @@ use Rattle.cutting_cells.specs.Listed.{cutIn, SceneIn, CellIn, cellEvent
 
 -- ---- cell i of a scene, where k is its first candidate
 
-module _ (sc : Scene) (w : Side) (i k : ℕ) (at : k ≡ first (meets (sc .coords) (netOf sc (other w) .edges) (boxOf (sc .coords) (cellOf sc w i))) 0 (length (netOf sc (other w) .edges))) where
+module _ (sc : Scene) (w : Side) (i k : ℕ) (at : k ≡ first (meets (sc .coords) (netOf sc (other w) .edges) (boxOf (sc .coords) (cellOf sc w i))) 0
+    (length (netOf sc (other w) .edges))) where
   abbrev es : List Edge
   es = netOf sc (other w) .edges
 
@@ -93,11 +94,13 @@ ready-as (pieces ps) r e =
     record {
       corners = x .nodes-fit;
       pieces = x .stops-fit;
-      rise = subst (λ (l : List ℕ). Rising l (length (take (r .entries) (r .nodes)))) (sym (x .stops)) (subst (λ (l : List ℕ). Rising (Outcome.stops 0 ps) (length l)) (sym (x .nodes)) (stops-rise ps));
+      rise = subst (λ (l : List ℕ). Rising l (length (take (r .entries) (r .nodes)))) (sym (x .stops))
+          (subst (λ (l : List ℕ). Rising (Outcome.stops 0 ps) (length l)) (sym (x .nodes)) (stops-rise ps));
     }
 ready-as (refusal c) r e = subst Ready (sym e) (record { corners = omega arith; pieces = omega arith; rise = λ i h. absurd (omega (arith, h)) })
 
-pub ready : (coords : List Float) (subject cutter : List Edge) (met : List ℕ) (es : List Edge) (cell : List ℕ) (b : Bounds) (k : ℕ) (r : CutCell) → r ≡ cutIn coords subject cutter met es cell b k → Ready r
+pub ready : (coords : List Float) (subject cutter : List Edge) (met : List ℕ) (es : List Edge) (cell : List ℕ) (b : Bounds) (k : ℕ) (r : CutCell)
+    → r ≡ cutIn coords subject cutter met es cell b k → Ready r
 ready coords subject cutter met es cell b k r e = let x = some-outcome coords subject cutter met es cell b k in ready-as (x .0) r (e ∙ x .1)
 
 -- ---- `overlay_cell`

@@ -81,9 +81,11 @@ unfolding cutAs flat Outcome.stops
 whole-as cell nodes small e =
     let long : length (zeros 1024) ≡ 1024 = length-replicate {A = ℕ} 1024 0 in
     let flat-is : cell ≡ cell ++ [] = sym (append-nil cell) in
-    let en : nodes ≡ front (zeros 1024) (cell ++ []) = e ∙ copied-fits (zeros 1024) 0 cell (omega (arith, small, long)) ∙ front-put (zeros 1024) cell ∙ ap (front (zeros 1024)) flat-is in
+    let en : nodes ≡ front (zeros 1024) (cell ++ []) = e ∙ copied-fits (zeros 1024) 0 cell (omega (arith, small, long)) ∙ front-put (zeros 1024) cell ∙ ap
+    (front (zeros 1024)) flat-is in
     let es : set (zeros 1024) 0 (length cell) ≡ front (zeros 1024) ((0 + length cell) ∷ []) =
-    front-store (zeros 1024) (zeros 1024) [] 0 (length cell) 0 refl (omega (arith, long)) (front-none (zeros 1024)) ∙ ap (λ (k : ℕ). front (zeros 1024) (k ∷ [])) (sym (zero-add (length cell))) in
+    front-store (zeros 1024) (zeros 1024) [] 0 (length cell) 0 refl (omega (arith, long)) (front-none (zeros 1024)) ∙ ap
+    (λ (k : ℕ). front (zeros 1024) (k ∷ [])) (sym (zero-add (length cell))) in
     λ s. record { code = 0; pieces = 1; entries = length (flat-is s); nodes = en s; stops = es s }
   where
     front-none : (w : List ℕ) → w ≡ front w []

@@ -63,8 +63,17 @@ module _ (op : ℕ) (cutter : Bool) (coords : List Float) (subject cut met near 
   module _ (hc : p .count ≤ room oe₀ ok₀ of₀) (he : p .entries ≤ length on₀) where
     pub start₀ : p .code ≡ 0 → Going on₀ oe₀ ok₀ of₀ p 0 0
     unfolding prior gathered
-    start₀ z =
-        (omega arith, refl, z, refl, refl, refl, refl, record { pieces = hc; corners = he; fewPieces = omega arith; fewCorners = omega arith }, λ sc s m. listed-none p on₀ oe₀ ok₀ of₀ z)
+    start₀ z = (
+      omega arith,
+      refl,
+      z,
+      refl,
+      refl,
+      refl,
+      refl,
+      record { pieces = hc; corners = he; fewPieces = omega arith; fewCorners = omega arith },
+      λ sc s m. listed-none p on₀ oe₀ ok₀ of₀ z,
+    )
 
     module _ (on oe ok of : List ℕ) (q : Listed) (start i : ℕ) (inv : Going on oe ok of q start i) where
       -- what is asked of the lists for one cell more
@@ -78,7 +87,8 @@ module _ (op : ℕ) (cutter : Bool) (coords : List Float) (subject cut met near 
               omega (arith, f .fewCorners, h, a),
             )
 
-        pub cell-uncrowded : (s c : List Edge) (ms ls : List ℕ) → Uncrowded s c ms ls (ring (getD (runsOf own stops) i [])) → Uncrowded s c ms ls (ring (take (getD stops i 0 - start) (drop start own)))
+        pub cell-uncrowded : (s c : List Edge) (ms ls : List ℕ) → Uncrowded s c ms ls (ring (getD (runsOf own stops) i []))
+            → Uncrowded s c ms ls (ring (take (getD stops i 0 - start) (drop start own)))
         cell-uncrowded s c ms ls u = subst (λ (l : List ℕ). Uncrowded s c ms ls (ring l)) (part-cell own stops start i (inv .1) h) u
 
         pub cell-short : Rising stops (length own) → cellSize stops i ≤ 256 → length (take (getD stops i 0 - start) (drop start own)) ≤ 256
@@ -86,7 +96,8 @@ module _ (op : ℕ) (cutter : Bool) (coords : List Float) (subject cut met near 
 
       module _ (h : i < length stops) (r : Listed) (on′ oe′ ok′ of′ : List ℕ)
           (got : (r .code ≡ 0 → Fits 1 q on oe ok of r)
-          × ((sc : Scene) (j : ℕ) → SceneIn sc (sideOf cutter) coords subject cut met near nodes ends → CellIn sc (sideOf cutter) j (take (getD stops i 0 - start) (drop start own)) (getD kinds i 0) (getD families i 0)
+          × ((sc : Scene) (j : ℕ) → SceneIn sc (sideOf cutter) coords subject cut met near nodes ends
+          → CellIn sc (sideOf cutter) j (take (getD stops i 0 - start) (drop start own)) (getD kinds i 0) (getD families i 0)
           → ListedBehind (cellEvents op sc (sideOf cutter) j) (kept sc (sideOf cutter) op j) q on oe ok of r on′ oe′ ok′ of′)) where
         step : ListedTo (i + 1) r on′ oe′ ok′ of′
         step sc s m =
@@ -97,7 +108,8 @@ module _ (op : ℕ) (cutter : Bool) (coords : List Float) (subject cut met near 
             subst (λ (x : List Event). ListedBehind x (gathered (i + 1) k) p on₀ oe₀ ok₀ of₀ r on′ oe′ ok′ of′) (sym (gathered-more i e))
             (subst (λ (x : List Piece). ListedBehind (gathered i e ++ e i) x p on₀ oe₀ ok₀ of₀ r on′ oe′ ok′ of′) (sym (gathered-more i k)) all)
 
-        pub turn : r .code ≡ 0 → length on′ ≡ length on → length oe′ ≡ length oe → length ok′ ≡ length ok → length of′ ≡ length of → Going on′ oe′ ok′ of′ r (getD stops i 0) (i + 1)
+        pub turn : r .code ≡ 0 → length on′ ≡ length on → length oe′ ≡ length oe → length ok′ ≡ length ok → length of′ ≡ length of
+            → Going on′ oe′ ok′ of′ r (getD stops i 0) (i + 1)
         turn z ln le lk lf =
             let f = inv .7 in
             let g = got .0 z in (

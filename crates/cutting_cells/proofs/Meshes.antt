@@ -25,7 +25,8 @@ recast es es′ ps ps′ p on oe ok of r on′ oe′ ok′ of′ ee ep x =
 cells-long : (sc : Scene) (w : Side) (nodes ends kinds families : List ℕ) → MeshIn sc w nodes ends kinds families → length ends ≡ length (netOf sc w .cells)
 cells-long sc w nodes ends kinds families m = sym (ap length (m .cells) ∙ length-runs nodes ends)
 
-module _ {A : Type 0} (op : ℕ) (sc : Scene) (sn se sk sf cn ce ck cf : List ℕ) (f : Side → ℕ → List A) (ms : MeshIn sc theSubject sn se sk sf) (mc : MeshIn sc theCutter cn ce ck cf) where
+module _ {A : Type 0} (op : ℕ) (sc : Scene) (sn se sk sf cn ce ck cf : List ℕ) (f : Side → ℕ → List A) (ms : MeshIn sc theSubject sn se sk sf)
+    (mc : MeshIn sc theCutter cn ce ck cf) where
   subject-over : gathered (length se) (f theSubject) ≡ overCells op sc theSubject (f theSubject)
   subject-over = ap (λ (n : ℕ). gathered n (f theSubject)) (cells-long sc theSubject sn se sk sf ms)
 
@@ -96,7 +97,8 @@ module _ (op : ℕ) (coords : List Float) (subject cut met sn se sk sf cn ce ck 
             z,
           )
 
-      pub both-listed : cuts op theCutter ≡ true → (r : Listed) (on₂ oe₂ ok₂ of₂ : List ℕ) → OneCut theCutter subject sn se cn ce ck cf p on₁ oe₁ ok₁ of₁ r on₂ oe₂ ok₂ of₂ → BothCut r on₂ oe₂ ok₂ of₂
+      pub both-listed : cuts op theCutter ≡ true → (r : Listed) (on₂ oe₂ ok₂ of₂ : List ℕ)
+          → OneCut theCutter subject sn se cn ce ck cf p on₁ oe₁ ok₁ of₁ r on₂ oe₂ ok₂ of₂ → BothCut r on₂ oe₂ ok₂ of₂
       both-listed e r on₂ oe₂ ok₂ of₂ two =
           let f = one .0 z in (
             λ y. let g = two .0 y in

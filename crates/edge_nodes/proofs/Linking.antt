@@ -38,7 +38,8 @@ module _ (w₀ : List ℕ) (b n v : ℕ) (fits : b + n ≤ length w₀) where
       let l : length (each i (λ _. v)) ≡ i = length-each i (λ _. v) in (
         omega arith,
         length-set w (b + i) v ∙ inv .1,
-        ap₂ (λ (u : List ℕ) (k : ℕ). set u (b + k) v) (inv .2) (sym l) ∙ put-store w₀ b (omega arith) (each i (λ _. v)) v 0 (omega (arith, l)) ∙ ap (put w₀ b) (sym (each-more i (λ _. v))),
+        ap₂ (λ (u : List ℕ) (k : ℕ). set u (b + k) v) (inv .2) (sym l) ∙ put-store w₀ b (omega arith) (each i (λ _. v)) v 0 (omega (arith, l)) ∙ ap (put w₀ b)
+            (sym (each-more i (λ _. v))),
       )
 
   pub fill-end : (i : ℕ) (w : List ℕ) → Filling w₀ b n v i w → n ≤ i → w ≡ put w₀ b (each n (λ _. v))
@@ -144,7 +145,8 @@ module _ (h : ℕ) (es : List Edge) (met : List ℕ) (which heads nexts : ℕ) (
 abbrev pub Linking : ℕ → List ℕ → (from s base met which heads nexts q : ℕ) → List ℕ → Type 0
 Linking h w₀ from s base met which heads nexts q w = (q ≤ met) × Chained h (pairs (run w₀ from (2 * s))) (run w₀ base (5 * met)) which heads nexts q w₀ w
 
-module _ (h : ℕ) (w₀ : List ℕ) (from s base met which heads nexts : ℕ) (edges : from + 2 * s ≤ heads) (meets : base + 5 * met ≤ heads) (apart : heads + h ≤ nexts) (fits : nexts + met ≤ length w₀) where
+module _ (h : ℕ) (w₀ : List ℕ) (from s base met which heads nexts : ℕ) (edges : from + 2 * s ≤ heads) (meets : base + 5 * met ≤ heads)
+    (apart : heads + h ≤ nexts) (fits : nexts + met ≤ length w₀) where
   abbrev esIn : List ℕ → List Edge
   esIn w = pairs (run w from (2 * s))
 
@@ -172,7 +174,8 @@ module _ (h : ℕ) (w₀ : List ℕ) (from s base met which heads nexts : ℕ) (
       )
 
 -- the heads were filled first: f is w₀ with these
-module _ (h : ℕ) (w₀ f : List ℕ) (from s base met which heads nexts : ℕ) (edges : from + 2 * s ≤ heads) (meets : base + 5 * met ≤ heads) (apart : heads + h ≤ nexts) (fits : nexts + met ≤ length w₀)
+module _ (h : ℕ) (w₀ f : List ℕ) (from s base met which heads nexts : ℕ) (edges : from + 2 * s ≤ heads) (meets : base + 5 * met ≤ heads)
+    (apart : heads + h ≤ nexts) (fits : nexts + met ≤ length w₀)
     (f-is : f ≡ put w₀ heads (each h (λ _. met))) where
   abbrev none : List ℕ
   none = each h (λ _. met)
@@ -197,7 +200,8 @@ module _ (h : ℕ) (w₀ f : List ℕ) (from s base met which heads nexts : ℕ)
       kind-start h f from s base met which heads nexts edges meets apart (omega (arith, f-long))
       (λ c b. at (heads + c) ∙ put-in w₀ heads (omega arith) none c 0 (omega (arith, length-none)) ∙ getD-each h (λ _. met) c 0 b)
 
-  pub filled-end : (q : ℕ) (w : List ℕ) → Linking h f from s base met which heads nexts q w → q ≤ 0 → Chained h (pairs (run w₀ from (2 * s))) (run w₀ base (5 * met)) which heads nexts 0 w₀ w
+  pub filled-end : (q : ℕ) (w : List ℕ) → Linking h f from s base met which heads nexts q w → q ≤ 0
+      → Chained h (pairs (run w₀ from (2 * s))) (run w₀ base (5 * met)) which heads nexts 0 w₀ w
   filled-end q w inv l =
       let z : 0 ≡ q = omega arith in
       let a : run w₀ from (2 * s) ≡ run f from (2 * s) = sym (same-run w₀ f heads from (2 * s) f-long f-before edges (omega arith)) in
@@ -233,13 +237,15 @@ module _ (h : ℕ) (subject cutter : List Edge) (met : List ℕ) (to n : ℕ) (w
       let k : ℕ = j - 2 * h in
       let e : j ≡ 2 * h + k = omega arith in
       let f : to + j ≡ to + 2 * h + k = omega arith in
-      two .between (to + j) (omega arith) (omega arith) ∙ ap (λ (i : ℕ). getD w₁ i 0) f ∙ one .next k (omega arith) (omega (arith, n-is)) ∙ sym (subject-next h subject cutter met k (omega (arith, n-is)))
+      two .between (to + j) (omega arith) (omega arith) ∙ ap (λ (i : ℕ). getD w₁ i 0) f ∙ one .next k (omega arith) (omega (arith, n-is)) ∙ sym
+      (subject-next h subject cutter met k (omega (arith, n-is)))
       ∙ ap (λ (i : ℕ). getD links i 0) (sym e)
   place j l (no a) (no b) (no c) =
       let k : ℕ = j - (2 * h + n) in
       let e : j ≡ 2 * h + length met / 5 + k = omega (arith, n-is) in
       let f : to + j ≡ to + 2 * h + n + k = omega arith in
-      ap (λ (i : ℕ). getD w₂ i 0) f ∙ two .next k (omega arith) (omega (arith, n-is)) ∙ sym (cutter-next h subject cutter met k (omega (arith, n-is))) ∙ ap (λ (i : ℕ). getD links i 0) (sym e)
+      ap (λ (i : ℕ). getD w₂ i 0) f ∙ two .next k (omega arith) (omega (arith, n-is)) ∙ sym (cutter-next h subject cutter met k (omega (arith, n-is))) ∙ ap
+      (λ (i : ℕ). getD links i 0) (sym e)
 
   long : length links ≡ 2 * h + 2 * n
   long = omega (arith, length-links h subject cutter met, n-is)
@@ -250,13 +256,15 @@ module _ (h : ℕ) (subject cutter : List Edge) (met : List ℕ) (to n : ℕ) (w
       let j : ℕ = i - to in
       let e : i ≡ to + j = omega arith in
       let l : j < 2 * h + 2 * n = omega (arith, long) in
-      ap (λ (k : ℕ). getD w₂ k 0) e ∙ place j l (decLt j h) (decLt j (2 * h)) (decLt j (2 * h + n)) ∙ sym (put-in w₀ to (omega arith) links j 0 (omega (arith, long))) ∙ ap (λ (k : ℕ). getD (put w₀ to links) k 0) (sym e)
+      ap (λ (k : ℕ). getD w₂ k 0) e ∙ place j l (decLt j h) (decLt j (2 * h)) (decLt j (2 * h + n)) ∙ sym
+      (put-in w₀ to (omega arith) links j 0 (omega (arith, long))) ∙ ap (λ (k : ℕ). getD (put w₀ to links) k 0) (sym e)
   every-place i (no a) (no b) =
       two .behind i (omega (arith, long, n-is)) ∙ one .behind i (omega (arith, long, n-is)) ∙ sym (put-behind w₀ to (omega arith) links i 0 (omega arith))
 
   pub both-kinds : w₂ ≡ put w₀ to (linksOf h subject cutter met)
   both-kinds =
-      ext-getD 0 w₂ (put w₀ to links) (two .long ∙ one .long ∙ sym (length-put w₀ to (omega arith) links (omega (arith, long)))) (λ i l. every-place i (decLt i to) (decLt i (to + length links)))
+      ext-getD 0 w₂ (put w₀ to links) (two .long ∙ one .long ∙ sym (length-put w₀ to (omega arith) links (omega (arith, long))))
+      (λ i l. every-place i (decLt i to) (decLt i (to + length links)))
 
 -- the second pass reads what the first has left as it was
 pub links-made : (h from s at c base met to : ℕ) (w₀ w₁ w₂ : List ℕ) → from + 2 * s ≤ to → at + 2 * c ≤ to → base + 5 * met ≤ to → to + 2 * h + 2 * met ≤ length w₀

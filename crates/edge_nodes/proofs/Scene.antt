@@ -78,7 +78,8 @@ numbers-stored ms met n at few =
       count = omega (arith, n);
       subject-at = λ q h. let z : 5 * q ≡ 5 * q + 0 = omega arith in ap (λ (k : ℕ). getD met k 0) z ∙ at q 0 h (omega arith);
       cutter-at = λ q h. at q 1 h (omega arith);
-      nodes-at = λ q h. ap₂ (λ (c : ℕ) (ns : List ℕ). take c ns) (at q 2 h (omega arith)) (ap₂ (λ (v w : ℕ). v ∷ w ∷ []) (at q 3 h (omega arith)) (at q 4 h (omega arith))) ∙ read-back (getD ms q noMet .nodes) (few q h);
+      nodes-at = λ q h. ap₂ (λ (c : ℕ) (ns : List ℕ). take c ns) (at q 2 h (omega arith))
+          (ap₂ (λ (v w : ℕ). v ∷ w ∷ []) (at q 3 h (omega arith)) (at q 4 h (omega arith))) ∙ read-back (getD ms q noMet .nodes) (few q h);
     }
 
 module _ (ms : List Met) (met : List ℕ) (stored : Stored ms met) where
@@ -123,5 +124,6 @@ module _ (sc : Scene) (met : List ℕ) (stored : Stored (sc .met) met) where
 pub within : (es subject cutter : List Edge) (met : List ℕ) (n i : ℕ) (e : Edge) → has (crowdedAt es subject cutter met) n ≡ false → i < n → sameKey e (edgeAt es i) ≡ true
     → length (collectedIn subject cutter met e) ≤ 256
 within es subject cutter met n i e none h same =
-    let few : length (collectedIn subject cutter met (edgeAt es i)) ≤ 256 = ltb-false 256 (length (collectedIn subject cutter met (edgeAt es i))) (has-none (crowdedAt es subject cutter met) n i none h) in
+    let few : length (collectedIn subject cutter met (edgeAt es i)) ≤ 256 = ltb-false 256 (length (collectedIn subject cutter met (edgeAt es i)))
+    (has-none (crowdedAt es subject cutter met) n i none h) in
     omega (arith, few, ap length (same-collected e (edgeAt es i) same subject cutter met))

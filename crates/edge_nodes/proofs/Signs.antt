@@ -14,7 +14,8 @@ up-pos : (e : ℤ) → 0 < up e
 up-pos (pos k) = pow-pos k
 up-pos (negsuc k) = omega arith
 
-pub negative-is : (x : Float) → lt x (ofBits binary64 0) || (eq x (ofBits binary64 0) && lt (div binary64 (ofBits binary64 0x3ff0_0000_0000_0000) x) (ofBits binary64 0)) ≡ negative x
+pub negative-is : (x : Float) → lt x (ofBits binary64 0) || (eq x (ofBits binary64 0) && lt (div binary64 (ofBits binary64 0x3ff0_0000_0000_0000) x)
+    (ofBits binary64 0)) ≡ negative x
 unfolding lt eq div ofBits
 negative-is nan = refl
 negative-is (inf false) = refl

@@ -95,11 +95,18 @@ module _ (nodes : List ℕ) (short : length nodes ≤ 257) where
       let s = length-slim eqb (take (i + 1) nodes) in
       let l₁ : length (take (i + 1) nodes) ≡ i + 1 = length-take-le (i + 1) nodes (omega arith) in
       let r-is : r ≡ length (slim eqb (take (i + 1) nodes)) = p .0 ∙ ap (λ (z : List ℕ). length (slim eqb z)) next in
-      let y-is : ys ≡ front (zeros 258) (slim eqb (take (i + 1) nodes)) = p .1 ∙ ap (λ (z : List ℕ). front (zeros 258) (slim eqb z)) next in
-      (omega arith, omega arith, ap length y-is ∙ length-front (zeros 258) (slim eqb (take (i + 1) nodes)) (omega (arith, length-replicate {A = ℕ} 258 0)) ∙ length-replicate {A = ℕ} 258 0, r-is, y-is)
+      let y-is : ys ≡ front (zeros 258) (slim eqb (take (i + 1) nodes)) = p .1 ∙ ap (λ (z : List ℕ). front (zeros 258) (slim eqb z)) next in (
+        omega arith,
+        omega arith,
+        ap length y-is ∙ length-front (zeros 258) (slim eqb (take (i + 1) nodes)) (omega (arith, length-replicate {A = ℕ} 258 0)) ∙
+            length-replicate {A = ℕ} 258 0,
+        r-is,
+        y-is,
+      )
 
   pub slim-end : (out ys : List ℕ) (k i r last : ℕ) → Slimmed nodes out k i → length nodes ≤ i
-      → (r ≡ length (pushed (take k out) last)) × (ys ≡ front out (pushed (take k out) last)) → (r ≡ length (slim eqb (nodes ++ last ∷ []))) × (ys ≡ front (zeros 258) (slim eqb (nodes ++ last ∷ [])))
+      → (r ≡ length (pushed (take k out) last)) × (ys ≡ front out (pushed (take k out) last))
+      → (r ≡ length (slim eqb (nodes ++ last ∷ []))) × (ys ≡ front (zeros 258) (slim eqb (nodes ++ last ∷ [])))
   slim-end out ys k i r last inv h got =
       let all : take i nodes ≡ nodes = take-all i nodes h in
       let p = onto (take i nodes) out ys k r last (omega (arith, ap length all)) (inv .3) (inv .4) got in

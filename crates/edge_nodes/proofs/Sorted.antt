@@ -46,8 +46,10 @@ module _ (coords : List Float) (subject cutter : List Edge) (met : List ℕ) (e 
   place = projected coords (key e)
 
   module _ (n m : ℕ) (xs ys zs : List Projected)
-      (by-subject : (n ≡ 1 + length (under (length met / 5) subject met 0 e)) × (ys ≡ sortOnto byProjection xs (map (projected coords (key e)) (under (length met / 5) subject met 0 e))))
-      (by-cutter : (m ≡ n + length (under (length met / 5) cutter met 1 e)) × (zs ≡ sortOnto byProjection ys (map (projected coords (key e)) (under (length met / 5) cutter met 1 e)))) where
+      (by-subject : (n ≡ 1 + length (under (length met / 5) subject met 0 e)) ×
+      (ys ≡ sortOnto byProjection xs (map (projected coords (key e)) (under (length met / 5) subject met 0 e))))
+      (by-cutter : (m ≡ n + length (under (length met / 5) cutter met 1 e)) ×
+      (zs ≡ sortOnto byProjection ys (map (projected coords (key e)) (under (length met / 5) cutter met 1 e)))) where
     pub no-nodes : m ≡ 1 → record { count = 0; nodes = zeros 258 } ≡ filled (sortedIn coords subject cutter met e)
     unfolding sortedIn filled front
     no-nodes h =
@@ -60,7 +62,8 @@ module _ (coords : List Float) (subject cutter : List Edge) (met : List ℕ) (e 
     unfolding listed gathered insert sortOnto collectedIn
     all-sorted along nodes k k-is x-is =
         let start : xs ≡ place (key e .0) ∷ [] = x-is ∙ ap (λ (c : ℕ). place c ∷ []) k-is in
-        by-cutter .1 ∙ ap (λ (l : List Projected). sortOnto byProjection l (map place byCutter)) (by-subject .1 ∙ ap (λ (l : List Projected). sortOnto byProjection l (map place bySubject)) start)
+        by-cutter .1 ∙ ap (λ (l : List Projected). sortOnto byProjection l (map place byCutter))
+        (by-subject .1 ∙ ap (λ (l : List Projected). sortOnto byProjection l (map place bySubject)) start)
         ∙ sym (sortOnto-append byProjection (place (key e .0) ∷ []) (map place bySubject) (map place byCutter))
         ∙ sym (ap (sortOnto byProjection (place (key e .0) ∷ [])) (map-append place bySubject byCutter))
 

@@ -29,7 +29,8 @@ module _ (met links : List ℕ) where
   head-first zero v c z e = ap (λ (i : ℕ). getD links i 0) e
   head-first (suc k) v c z e = absurd (omega (arith, z))
 
-  pub head-second : (which v c : ℕ) → (which ≡ 0 → ⊥) → c ≡ chainOf (length links / 2 - length met / 5) v → getD links (length links / 2 - length met / 5 + c) 0 ≡ headIn met links which v
+  pub head-second : (which v c : ℕ) → (which ≡ 0 → ⊥) → c ≡ chainOf (length links / 2 - length met / 5) v
+      → getD links (length links / 2 - length met / 5 + c) 0 ≡ headIn met links which v
   unfolding headIn
   head-second zero v c z e = absurd (z refl)
   head-second (suc k) v c z e = ap (λ (i : ℕ). getD links (h + i) 0) e

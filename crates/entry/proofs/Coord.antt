@@ -60,7 +60,14 @@ unfolding lt neg eq ofBits coordOk
 between nan a b z = refl
 between (inf false) a b z = absurd (no (sym a))
 between (inf true) a b z = absurd (no (sym b))
-between (fin false m e) a b z = rw (eq-eqb (m * up e * down e) (m * up e * down e) refl, le-leb (m * up e) (2 ^ 40 * down e) (rw mul-one at (ltb-false (2 ^ 40 * down e) (m * up e * 1) a)))
+between (fin false m e) a b z = rw (
+  eq-eqb (m * up e * down e) (m * up e * down e) refl,
+  le-leb (m * up e) (2 ^ 40 * down e) (rw mul-one at (ltb-false (2 ^ 40 * down e) (m * up e * 1) a)),
+)
 between (fin true zero e) a b z = let t : eq (fin true 0 e) (ofBits binary64 0) ≡ true = simp zero-mul in absurd (no (sym z ∙ t))
 between (fin true (suc m) e) a b z =
-    rw (eq-eqb (suc m * up e * down e) (suc m * up e * down e) refl, le-leb (suc m * up e) (2 ^ 40 * down e) (rw mul-one at (ltb-false (2 ^ 40 * down e) (suc m * up e * 1) b)), ne-eqb (suc m) 0 (suc-ne-zero m))
+    rw (
+      eq-eqb (suc m * up e * down e) (suc m * up e * down e) refl,
+      le-leb (suc m * up e) (2 ^ 40 * down e) (rw mul-one at (ltb-false (2 ^ 40 * down e) (suc m * up e * 1) b)),
+      ne-eqb (suc m) 0 (suc-ne-zero m),
+    )

@@ -27,7 +27,8 @@ pub shape-parts : (m : Mesh) → shapeOk m ≡ true
     × (nodeCount m ≤ 16384) × (length (m .ends) ≤ 16384) × (length (m .nodes) ≤ 65536)
 unfolding shapeOk
 shape-parts m h =
-    let p = parts (eqb (length (m .coords) % 2) 0) (endsOk (m .ends) (length (m .nodes))) (eqb (length (m .kinds)) (length (m .ends))) (eqb (length (m .families)) (length (m .ends)))
+    let p = parts (eqb (length (m .coords) % 2) 0) (endsOk (m .ends) (length (m .nodes))) (eqb (length (m .kinds)) (length (m .ends)))
+    (eqb (length (m .families)) (length (m .ends)))
     (leb (nodeCount m) 16384) (leb (length (m .ends)) 16384) (leb (length (m .nodes)) 65536) h in (
       eqb-true (length (m .coords) % 2) 0 (p .0),
       p .1,
@@ -148,9 +149,12 @@ module _ (lines : Bool) (m : Mesh) (shape : shapeOk m ≡ true) (coords : coords
         mostEntries = p .6;
         placed = λ i h. placed-of (getD (m .coords) i nan) (coord-at i h);
         kindsRise = λ i h. kind-at i h .0;
-        lineKind = λ i h e. line-kind (getD (m .kinds) i 0) (cellSize (m .ends) i) (ap (λ (t : Bool). kindOk t (getD (m .kinds) i 0) (cellSize (m .ends) i)) (sym e) ∙ kind-at i h .1);
-        cellKind = λ i h e. cell-kind (getD (m .kinds) i 0) (cellSize (m .ends) i) (ap (λ (t : Bool). kindOk t (getD (m .kinds) i 0) (cellSize (m .ends) i)) (sym e) ∙ kind-at i h .1);
-        cellLeast = λ i h e. least (getD (m .kinds) i 0) (cellSize (m .ends) i) (cell-kind (getD (m .kinds) i 0) (cellSize (m .ends) i) (ap (λ (t : Bool). kindOk t (getD (m .kinds) i 0) (cellSize (m .ends) i)) (sym e) ∙ kind-at i h .1));
+        lineKind = λ i h e. line-kind (getD (m .kinds) i 0) (cellSize (m .ends) i)
+            (ap (λ (t : Bool). kindOk t (getD (m .kinds) i 0) (cellSize (m .ends) i)) (sym e) ∙ kind-at i h .1);
+        cellKind = λ i h e. cell-kind (getD (m .kinds) i 0) (cellSize (m .ends) i)
+            (ap (λ (t : Bool). kindOk t (getD (m .kinds) i 0) (cellSize (m .ends) i)) (sym e) ∙ kind-at i h .1);
+        cellLeast = λ i h e. least (getD (m .kinds) i 0) (cellSize (m .ends) i)
+            (cell-kind (getD (m .kinds) i 0) (cellSize (m .ends) i) (ap (λ (t : Bool). kindOk t (getD (m .kinds) i 0) (cellSize (m .ends) i)) (sym e) ∙ kind-at i h .1));
         cellMost = λ i h. most lines (getD (m .kinds) i 0) (cellSize (m .ends) i) (kind-at i h .1);
         number = number-at;
         once = once-at;

@@ -29,7 +29,8 @@ module _ (W x M : ℕ) (h : 0 < M) where
   digits =
       ap (λ (n : ℕ). n + x * M) (sym (div-add-mod' W M)) ∙ swap (W / M * M) (W % M) (x * M) ∙ ap (λ (n : ℕ). n + W % M) (sym (add-mul x (W / M) M))
       ∙ ap (λ (n : ℕ). n * M + W % M) (sym (div-add-mod' (x + W / M) (2 ^ 32)))
-      ∙ ap (λ (n : ℕ). n + W % M) (add-mul ((x + W / M) / 2 ^ 32 * 2 ^ 32) ((x + W / M) % 2 ^ 32) M ∙ ap (λ (n : ℕ). n + (x + W / M) % 2 ^ 32 * M) (mul-assoc ((x + W / M) / 2 ^ 32) (2 ^ 32) M))
+      ∙ ap (λ (n : ℕ). n + W % M) (add-mul ((x + W / M) / 2 ^ 32 * 2 ^ 32) ((x + W / M) % 2 ^ 32) M ∙ ap (λ (n : ℕ). n + (x + W / M) % 2 ^ 32 * M)
+      (mul-assoc ((x + W / M) / 2 ^ 32) (2 ^ 32) M))
       ∙ add-assoc ((x + W / M) / 2 ^ 32 * (2 ^ 32 * M)) ((x + W / M) % 2 ^ 32 * M) (W % M)
     where
       swap : (a b c : ℕ) → a + b + c ≡ c + a + b

@@ -2,7 +2,35 @@
 use mathlib.Core.Path.{_≡_, refl, sym, ap, ap₂, _∙_, subst}
 use mathlib.Core.Logic.{_⊎_, inl, inr}
 use Prim.Native.Nat.{ℕ, suc, _+_, _-_, _*_, _/_, _%_, _^_, _≤_, _<_}
-use native.Mathlib.Nat.{le-trans, le-of-eq, lt-of-lt-of-le, lt-of-le-of-lt, le-add-right, add-comm, add-mul, mul-assoc, mul-left-comm, mul-right-comm, mul-le-mul-right, mul-lt-mul-of-pos-right, lt-of-mul-lt-mul-right, mod-eq-of-lt, mul-div-mul-right, zero-mul, mul-pos, eq-zero-or-pos, sub-add-cancel, not-le-of-lt, one-mul, mul-one, suc-add, le-add-left, add-zero, zero-add, mul-mul-mul-comm}
+use native.Mathlib.Nat.{
+  le-trans,
+  le-of-eq,
+  lt-of-lt-of-le,
+  lt-of-le-of-lt,
+  le-add-right,
+  add-comm,
+  add-mul,
+  mul-assoc,
+  mul-left-comm,
+  mul-right-comm,
+  mul-le-mul-right,
+  mul-lt-mul-of-pos-right,
+  lt-of-mul-lt-mul-right,
+  mod-eq-of-lt,
+  mul-div-mul-right,
+  zero-mul,
+  mul-pos,
+  eq-zero-or-pos,
+  sub-add-cancel,
+  not-le-of-lt,
+  one-mul,
+  mul-one,
+  suc-add,
+  le-add-left,
+  add-zero,
+  zero-add,
+  mul-mul-mul-comm,
+}
 use native.Mathlib.Omega.{arith}
 use lib.Dec.{lit<}
 use lib.Count.{leadingZeros, leading-top, leading-of-zero}
@@ -40,7 +68,8 @@ module _ (hi lo k : ℕ) (room : (hi * 2 ^ 64 + lo) * 2 ^ k < 2 ^ 128) where
 
     pub shifted-fits : hi * 2 ^ k % 2 ^ 64 + lo / 2 ^ (64 - k) < 2 ^ 64
     shifted-fits =
-        lt-of-mul-lt-mul-right (2 ^ 64) (lt-of-le-of-lt (le-add-right ((hi * 2 ^ k % 2 ^ 64 + lo / 2 ^ (64 - k)) * 2 ^ 64) (lo * 2 ^ k % 2 ^ 64)) (lt-of-le-of-lt (le-of-eq shifted) room))
+        lt-of-mul-lt-mul-right (2 ^ 64) (lt-of-le-of-lt (le-add-right ((hi * 2 ^ k % 2 ^ 64 + lo / 2 ^ (64 - k)) * 2 ^ 64) (lo * 2 ^ k % 2 ^ 64))
+        (lt-of-le-of-lt (le-of-eq shifted) room))
 
   -- ---- and by a word or more: the upper word is empty
   module _ (large : 64 ≤ k) where

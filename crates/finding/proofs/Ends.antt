@@ -202,7 +202,8 @@ module _ (op m : ℕ) (sc cc : List Float) (sn se cn ce : List ℕ) (fs : Fit fa
     unfolding regionsOf sceneOf
     met-are =
         ap (λ (x : Regions). meetingsAt oc₁ w₁ placed (x .from) (x .subject) (x .at) (x .cutter)) re
-        ∙ ap (λ (l : List Float). meetings l (netOn (pairs (run w₁ (subjectAt s c) (2 * length subjects)))) (netOn (pairs (run w₁ (cond lines (length cc / 2) (cutterAt s c)) (2 * length cutters)))))
+        ∙ ap (λ (l : List Float). meetings l (netOn (pairs (run w₁ (subjectAt s c) (2 * length subjects))))
+        (netOn (pairs (run w₁ (cond lines (length cc / 2) (cutterAt s c)) (2 * length cutters)))))
         (ap (take placed) oe ∙ take-front-of oc (sc ++ cc) placed len)
         ∙ ap₂ (λ (es fs : List Edge). meetings (sc ++ cc) (netOn es) (netOn fs)) subjects-read cutters-read
         ∙ sym (by-edges (sc ++ cc) (subjectNet s) (cutterNet lines s c))
@@ -271,7 +272,8 @@ module _ (op m : ℕ) (sc cc : List Float) (sn se cn ce : List ℕ) (fs : Fit fa
 
       -- what `link_meetings` asks
       pub links-asked : (h : ℕ) → h ≡ placed / 2 + 1
-          → (r .from + 2 * r .subject ≤ r .base + 5 * k) × (r .at + 2 * r .cutter ≤ r .base + 5 * k) × (r .base + 5 * k ≤ r .base + 5 * k) × (r .base + 5 * k + 2 * h + 2 * k ≤ length w₁)
+          → (r .from + 2 * r .subject ≤ r .base + 5 * k) × (r .at + 2 * r .cutter ≤ r .base + 5 * k) × (r .base + 5 * k ≤ r .base + 5 * k) ×
+          (r .base + 5 * k + 2 * h + 2 * k ≤ length w₁)
           × (0 < h) × (k ≤ 65536)
       unfolding regionsOf
       links-asked h e =
@@ -297,8 +299,10 @@ module _ (op m : ℕ) (sc cc : List Float) (sn se cn ce : List ℕ) (fs : Fit fa
         work-with =
             let base : metAt s c ≤ length (netted lines s c w₀) = omega (arith, room, length-held lines sc cc sn se cn ce fs fc w₀ room₀) in
             let end : r .base + 5 * k ≡ metAt s c + length (booked (scene .met)) = rw re (omega (arith, booked-long)) in
-            let fit : metAt s c + length (booked (scene .met)) ≤ length (netted lines s c w₀) = omega (arith, booked-long, few, room, length-held lines sc cc sn se cn ce fs fc w₀ room₀) in
-            let then : w₂ ≡ put (netted lines s c w₀) (metAt s c) (booked (scene .met)) = work-then ∙ ap (put (netted lines s c w₀) (metAt s c)) (append-nil (booked (scene .met))) in
+            let fit : metAt s c + length (booked (scene .met)) ≤ length (netted lines s c w₀) = omega
+            (arith, booked-long, few, room, length-held lines sc cc sn se cn ce fs fc w₀ room₀) in
+            let then : w₂ ≡ put (netted lines s c w₀) (metAt s c) (booked (scene .met)) = work-then ∙ ap (put (netted lines s c w₀) (metAt s c))
+            (append-nil (booked (scene .met))) in
             le ∙ ap₂ (λ (i : ℕ) (ls : List ℕ). put w₂ i ls) end links-are ∙ ap (λ (w : List ℕ). put w (metAt s c + length (booked (scene .met))) (linksIn op s c)) then
             ∙ put-append (netted lines s c w₀) (metAt s c) base (booked (scene .met)) (linksIn op s c) fit
 
@@ -314,8 +318,18 @@ module _ (op m : ℕ) (sc cc : List Float) (sn se cn ce : List ℕ) (fs : Fit fa
             × Linked (pairs (run w₃ (r .from) (2 * r .subject))) (pairs (run w₃ (r .at) (2 * r .cutter))) (run w₃ (r .base) (5 * k)) (run w₃ (r .base + 5 * k) (2 * (h + k)))
         crowded-asks =
             let a = links-asked h he in
-            let long : 2 * (h + k) ≡ length (linksIn op s c) = omega (arith, chains-are, links-long op sc cc sn se cn ce fs fc w₀ room₀, told .1 z .0, ap length met-are) in
-            (asked .3, asked .5, omega (arith, a .3), a .5, rw (subjects-lent w₃ (linksIn op s c) work-with, cutters-lent w₃ (linksIn op s c) work-with, met-lent w₃ (linksIn op s c) work-with, behind-lent w₃ (linksIn op s c) work-with (2 * (h + k)) long) lent-linked)
+            let long : 2 * (h + k) ≡ length (linksIn op s c) = omega (arith, chains-are, links-long op sc cc sn se cn ce fs fc w₀ room₀, told .1 z .0, ap length met-are) in (
+              asked .3,
+              asked .5,
+              omega (arith, a .3),
+              a .5,
+              rw (
+                subjects-lent w₃ (linksIn op s c) work-with,
+                cutters-lent w₃ (linksIn op s c) work-with,
+                met-lent w₃ (linksIn op s c) work-with,
+                behind-lent w₃ (linksIn op s c) work-with (2 * (h + k)) long,
+              ) lent-linked,
+            )
 
       stored : Stored (scene .met) (booked (scene .met))
       unfolding sceneOf
@@ -343,7 +357,8 @@ module _ (op m : ℕ) (sc cc : List Float) (sn se cn ce : List ℕ) (fs : Fit fa
       answer-is h he =
           let all : h ≡ chains s c = omega (arith, he, fs .even, fc .even) in
           let half : next ≡ length (sc ++ cc ++ addedBy (scene .met)) / 2 =
-          told .1 z .1 ∙ ap₂ (λ (i : ℕ) (ms : List Met). (i + length (addedBy ms)) / 2) (sym len) met-are ∙ ap (λ (i : ℕ). i / 2) (sym (length-append (sc ++ cc) (addedBy (scene .met)))) in
+          told .1 z .1 ∙ ap₂ (λ (i : ℕ) (ms : List Met). (i + length (addedBy ms)) / 2) (sym len) met-are ∙ ap (λ (i : ℕ). i / 2)
+          (sym (length-append (sc ++ cc) (addedBy (scene .met)))) in
           ap₂ (λ (x : Regions) (l : ℕ). foundWith x k next l) re all ∙ ap₂ (λ (i j : ℕ). foundWith (regionsOf lines s c) i j (chains s c)) (told .1 z .0 ∙ ap length met-are) half
 
       coords-are : oc₂ ≡ front oc (scene .coords)

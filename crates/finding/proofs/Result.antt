@@ -69,7 +69,8 @@ module _ (op m : ℕ) (s c : Mesh) where
         go (no h) e = absurd (omega (arith, sym (points-over points (joined ofMeeting (scene .met)) m p q n (omega (arith, h))) ∙ e))
 
   -- the contract of `find`, for the meshes without kinds and families as it has them
-  module _ (most : m ≤ 65536) (fs : Fit false (bare s)) (fc : Fit (eqb op 5) (bare c)) (w₀ : List ℕ) (room : Room m (bare s) (bare c) (length w₀)) (oc oc′ : List Float) (w′ : List ℕ) (r : Found)
+  module _ (most : m ≤ 65536) (fs : Fit false (bare s)) (fc : Fit (eqb op 5) (bare c)) (w₀ : List ℕ) (room : Room m (bare s) (bare c) (length w₀))
+      (oc oc′ : List Float) (w′ : List ℕ) (r : Found)
       (told : ((q n : ℕ) → r .code ≡ firstRefusal m (length oc / 2) q n (foundEvents op (bare s) (bare c))) × ((r .code ≡ 0 → ⊥) → r ≡ refusedAs (r .code))
       × (r .code ≡ 0 → (r ≡ foundAs op (bare s) (bare c)) × (oc′ ≡ front oc (sceneFor op (bare s) (bare c) .coords)) × (w′ ≡ worked op (bare s) (bare c) w₀))) where
     pub code-is : (q n : ℕ) → r .code ≡ firstRefusal m (length oc / 2) q n (foundEvents op s c)
@@ -104,17 +105,27 @@ module _ (op m : ℕ) (s c : Mesh) where
       unfolding foundAs regionsOf sceneOf
       held =
           record {
-            entries = entries-found op (s .coords) (c .coords) (s .nodes) (s .ends) (c .nodes) (c .ends) fs fc w₀ room₀ (linksIn op (bare s) (bare c)) ∙ ap (λ (ws : List ℕ). map (λ n. getD ws n 0) (c .nodes)) (weld-bare (eqb op 5) s c);
-            subject = subjects-found op (s .coords) (c .coords) (s .nodes) (s .ends) (c .nodes) (c .ends) fs fc w₀ room₀ (linksIn op (bare s) (bare c)) ∙ ap ends (subjects-bare (eqb op 5) s c);
-            cutter = cutters-found op (s .coords) (c .coords) (s .nodes) (s .ends) (c .nodes) (c .ends) fs fc w₀ room₀ (linksIn op (bare s) (bare c)) ∙ ap ends (cutters-bare (eqb op 5) s c);
+            entries = entries-found op (s .coords) (c .coords) (s .nodes) (s .ends) (c .nodes) (c .ends) fs fc w₀ room₀ (linksIn op (bare s) (bare c)) ∙ ap
+                (λ (ws : List ℕ). map (λ n. getD ws n 0) (c .nodes)) (weld-bare (eqb op 5) s c);
+            subject = subjects-found op (s .coords) (c .coords) (s .nodes) (s .ends) (c .nodes) (c .ends) fs fc w₀ room₀ (linksIn op (bare s) (bare c)) ∙ ap
+                ends (subjects-bare (eqb op 5) s c);
+            cutter = cutters-found op (s .coords) (c .coords) (s .nodes) (s .ends) (c .nodes) (c .ends) fs fc w₀ room₀ (linksIn op (bare s) (bare c)) ∙ ap ends
+                (cutters-bare (eqb op 5) s c);
             met = met-found op (s .coords) (c .coords) (s .nodes) (s .ends) (c .nodes) (c .ends) fs fc w₀ room₀ (linksIn op (bare s) (bare c)) ∙ ap booked (met-bare op s c);
             links =
-                ap (run (with op (s .coords) (c .coords) (s .nodes) (s .ends) (c .nodes) (c .ends) fs fc w₀ room₀ (linksIn op (bare s) (bare c))) _) (sym (links-long op (s .coords) (c .coords) (s .nodes) (s .ends) (c .nodes) (c .ends) fs fc w₀ room₀))
+                ap (run (with op (s .coords) (c .coords) (s .nodes) (s .ends) (c .nodes) (c .ends) fs fc w₀ room₀ (linksIn op (bare s) (bare c))) _)
+                (sym (links-long op (s .coords) (c .coords) (s .nodes) (s .ends) (c .nodes) (c .ends) fs fc w₀ room₀))
                 ∙ behind-found op (s .coords) (c .coords) (s .nodes) (s .ends) (c .nodes) (c .ends) fs fc w₀ room₀ (linksIn op (bare s) (bare c)) ∙ links-bare;
             entries-fit = omega arith;
             subject-fits = subjects-before (eqb op 5) (s .coords) (c .coords) (s .nodes) (s .ends) (c .nodes) (c .ends) fs fc w₀ room₀ .0;
             cutter-fits = cutters-before (eqb op 5) (s .coords) (c .coords) (s .nodes) (s .ends) (c .nodes) (c .ends) fs fc w₀ room₀ .0;
-            links-fit = omega (arith, room, few, ap length (worked-with op (s .coords) (c .coords) (s .nodes) (s .ends) (c .nodes) (c .ends) fs fc w₀ room₀), length-worked op (s .coords) (c .coords) (s .nodes) (s .ends) (c .nodes) (c .ends) fs fc w₀ room₀ m room few);
+            links-fit = omega (
+              arith,
+              room,
+              few,
+              ap length (worked-with op (s .coords) (c .coords) (s .nodes) (s .ends) (c .nodes) (c .ends) fs fc w₀ room₀),
+              length-worked op (s .coords) (c .coords) (s .nodes) (s .ends) (c .nodes) (c .ends) fs fc w₀ room₀ m room few,
+            );
             met-few = omega (arith, few, most);
           }
 

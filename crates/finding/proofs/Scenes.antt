@@ -51,14 +51,22 @@ module _ (lines : Bool) (s c : Mesh) where
   pub regions-bare : regionsOf lines (bare s) (bare c) ≡ regionsOf lines s c
   unfolding regionsOf
   regions-bare =
-      ap₂ (λ (es fs : List Edge). record { entries = nodeCount c; from = subjectAt s c; subject = length es; at = cond lines (nodeCount c) (cutterAt s c); cutter = length fs; base = metAt s c })
+      ap₂ (λ (es fs : List Edge). record {
+        entries = nodeCount c;
+        from = subjectAt s c;
+        subject = length es;
+        at = cond lines (nodeCount c) (cutterAt s c);
+        cutter = length fs;
+        base = metAt s c;
+      })
       subjects-bare cutters-bare
 
   pub netted-bare : (w : List ℕ) → netted lines (bare s) (bare c) w ≡ netted lines s c w
   unfolding netted
   netted-bare w =
       let filled : List ℕ → List Edge → List Edge → List ℕ =
-      λ ws es fs. put (put (put (put (put (front w (ws ++ zeros (nodeCount s))) (nodeCount c) (map (λ n. getD ws n 0) (c .nodes))) (copiedAt s c) (s .nodes)) (subjectAt s c) (ends es)) (cutterAt s c)
+      λ ws es fs. put (put (put (put (put (front w (ws ++ zeros (nodeCount s))) (nodeCount c) (map (λ n. getD ws n 0) (c .nodes))) (copiedAt s c) (s .nodes))
+      (subjectAt s c) (ends es)) (cutterAt s c)
       (cond lines [] (ends fs))) (metAt s c) (zeros (chainRoom s c)) in
       ap (λ (ws : List ℕ). filled ws (subjectNet (bare s) .edges) (cutterNet lines (bare s) (bare c) .edges)) weld-bare ∙ ap₂ (filled (weld s c)) subjects-bare cutters-bare
 
@@ -91,8 +99,22 @@ module _ (op : ℕ) (s c : Mesh) where
   pub found-bare : foundAs op (bare s) (bare c) ≡ foundAs op s c
   unfolding foundAs
   found-bare =
-      ap (λ (r : Regions). record { code = 0; regions = r; met = length (sceneFor op (bare s) (bare c) .met); next = length (sceneFor op (bare s) (bare c) .coords) / 2; chains = chains s c }) (regions-bare (eqb op 5) s c)
-      ∙ ap₂ (λ (ms : List Met) (xs : List Float). record { code = 0; regions = regionsOf (eqb op 5) s c; met = length ms; next = length xs / 2; chains = chains s c }) met-bare coords-bare
+      ap (λ (r : Regions). record {
+        code = 0;
+        regions = r;
+        met = length (sceneFor op (bare s) (bare c) .met);
+        next = length
+            (sceneFor op (bare s) (bare c) .coords) / 2;
+        chains = chains s c;
+      }) (regions-bare (eqb op 5) s c)
+      ∙ ap₂ (λ (ms : List Met) (xs : List Float). record {
+        code = 0;
+        regions = regionsOf (eqb op 5) s c;
+        met = length ms;
+        next = length xs / 2;
+        chains = chains
+            s c;
+      }) met-bare coords-bare
 
   -- the course begins with what is found, and then come the cells
   pub course-is : let sc : Scene = sceneFor op s c in

@@ -140,12 +140,14 @@ module _ (lines : Bool) (sc cc : List Float) (sn se cn ce : List ℕ) where
       length-clear = length-replicate {A = ℕ} (chainRoom s c) 0
 
       length-three : length three ≡ length w₀
-      length-three = layers.length-three numbers entries sn (ends subjects) behind (nodeCount c) (copiedAt s c) (subjectAt s c) (cutterAt s c) h₁ (omega arith) h₃ (h₄ behind few-behind) ∙ length-numbers
+      length-three = layers.length-three numbers entries sn (ends subjects) behind (nodeCount c) (copiedAt s c) (subjectAt s c) (cutterAt s c) h₁ (omega arith)
+          h₃ (h₄ behind few-behind) ∙ length-numbers
 
       module _ (w₁ w₂ w₃ w₄ : List ℕ) (k : ℕ) (d₁ : w₁ ≡ front w₀ (weld (mesh sc sn [] [] []) (mesh cc cn [] [] []) ++ zeros (length sc / 2)))
           (d₂ : w₂ ≡ put w₁ (nodeCount c) (map (λ n. getD w₁ n 0) cn)) (d₃ : w₃ ≡ copied w₂ (copiedAt s c) sn)
           (d₄ : (k ≡ length (computeDescending (cellsOf (mesh [] (run w₃ (copiedAt s c) (length sn)) se [] []))))
-          × (w₄ ≡ put (put w₃ (subjectAt s c) (ends (computeDescending (cellsOf (mesh [] (run w₃ (copiedAt s c) (length sn)) se [] []))))) (metAt s c) (zeros (chainRoom s c)))) where
+          × (w₄ ≡ put (put w₃ (subjectAt s c) (ends (computeDescending (cellsOf (mesh [] (run w₃ (copiedAt s c) (length sn)) se [] []))))) (metAt s c)
+          (zeros (chainRoom s c)))) where
         one-is : w₁ ≡ numbers
         one-is = d₁ ∙ ap (λ (l : List ℕ). front w₀ (l ++ zeros (nodeCount s))) (sym (weld-lists sc cc sn cn se ce [] [] [] []))
 
@@ -156,8 +158,10 @@ module _ (lines : Bool) (sc cc : List Float) (sn se cn ce : List ℕ) where
 
         three-is : w₃ ≡ two
         three-is =
-            let len = layers.length-one numbers entries sn (ends subjects) behind (nodeCount c) (copiedAt s c) (subjectAt s c) (cutterAt s c) h₁ (omega arith) h₃ (h₄ behind few-behind) in
-            d₃ ∙ ap (λ (w : List ℕ). copied w (copiedAt s c) sn) two-is ∙ copied-fits (put numbers (nodeCount c) entries) (copiedAt s c) sn (omega (arith, len, room, length-numbers))
+            let len = layers.length-one numbers entries sn (ends subjects) behind (nodeCount c) (copiedAt s c) (subjectAt s c) (cutterAt s c) h₁ (omega arith)
+            h₃ (h₄ behind few-behind) in
+            d₃ ∙ ap (λ (w : List ℕ). copied w (copiedAt s c) sn) two-is ∙ copied-fits (put numbers (nodeCount c) entries) (copiedAt s c) sn
+            (omega (arith, len, room, length-numbers))
 
         subject-read : run w₃ (copiedAt s c) (length sn) ≡ sn
         subject-read =
@@ -184,7 +188,8 @@ module _ (lines : Bool) (sc cc : List Float) (sn se cn ce : List ℕ) where
         again : put (put (put three (metAt s c) clear) (cutterAt s c) (ends cutters)) (metAt s c) clear ≡ put (put three (cutterAt s c) (ends cutters)) (metAt s c) clear
         again =
             let few : cutterAt s c + length (ends cutters) ≤ metAt s c = omega (arith, ends-length cutters, few-cutters) in
-            let long : length (put three (cutterAt s c) (ends cutters)) ≡ length w₀ = length-put three (cutterAt s c) (omega (arith, room, length-three)) (ends cutters) (omega (arith, few, room, length-three)) ∙ length-three in
+            let long : length (put three (cutterAt s c) (ends cutters)) ≡ length w₀ = length-put three (cutterAt s c) (omega (arith, room, length-three))
+            (ends cutters) (omega (arith, few, room, length-three)) ∙ length-three in
             ap (λ (w : List ℕ). put w (metAt s c) clear) (put-swap three (cutterAt s c) (metAt s c) (ends cutters) clear few (omega (arith, room, length-three, length-clear)))
             ∙ put-put (put three (cutterAt s c) (ends cutters)) (metAt s c) (omega (arith, room, long)) clear clear (omega arith)
 
@@ -195,7 +200,8 @@ module _ (lines : Bool) (sc cc : List Float) (sn se cn ce : List ℕ) where
         lines-end e = (
           regions-are (nodeCount c) (length cn / 2) (sym (ap (λ (t : Bool). cond t (nodeCount c) (cutterAt s c)) e))
               (omega (arith, ap length (cutters-lines e), pairs-length entries, length-entries)),
-          four-is ∙ ap (λ (w : List ℕ). put w (metAt s c) clear) (sym (put-none three (cutterAt s c)) ∙ ap (λ (t : Bool). put three (cutterAt s c) (cond t [] (ends cutters))) (sym e)),
+          four-is ∙ ap (λ (w : List ℕ). put w (metAt s c) clear) (sym (put-none three (cutterAt s c)) ∙ ap
+              (λ (t : Bool). put three (cutterAt s c) (cond t [] (ends cutters))) (sym e)),
         )
 
         -- of cells
@@ -226,7 +232,8 @@ module _ (lines : Bool) (sc cc : List Float) (sn se cn ce : List ℕ) where
       four = layers.four numbers entries sn (ends subjects) behind (nodeCount c) (copiedAt s c) (subjectAt s c) (cutterAt s c)
 
       length-four : length four ≡ length w₀
-      length-four = layers.length-four numbers entries sn (ends subjects) behind (nodeCount c) (copiedAt s c) (subjectAt s c) (cutterAt s c) h₁ (omega arith) h₃ (h₄ behind few-behind) ∙ length-numbers
+      length-four = layers.length-four numbers entries sn (ends subjects) behind (nodeCount c) (copiedAt s c) (subjectAt s c) (cutterAt s c) h₁ (omega arith)
+          h₃ (h₄ behind few-behind) ∙ length-numbers
 
       pub length-held : length held ≡ length w₀
       unfolding netted
@@ -237,7 +244,8 @@ module _ (lines : Bool) (sc cc : List Float) (sn se cn ce : List ℕ) where
       before a n h = run-before four (metAt s c) (omega (arith, room, length-four)) clear a n h
 
       entries-whole : run held (nodeCount c) (length entries) ≡ entries
-      entries-whole = before (nodeCount c) (length entries) (omega (arith, length-entries)) ∙ layers.first-four numbers entries sn (ends subjects) behind (nodeCount c) (copiedAt s c) (subjectAt s c) (cutterAt s c) h₁ (omega arith) h₃ (h₄ behind few-behind)
+      entries-whole = before (nodeCount c) (length entries) (omega (arith, length-entries)) ∙ layers.first-four numbers entries sn (ends subjects) behind
+          (nodeCount c) (copiedAt s c) (subjectAt s c) (cutterAt s c) h₁ (omega arith) h₃ (h₄ behind few-behind)
 
       pub entries-held : run held (nodeCount c) (length cn) ≡ entries
       entries-held = ap (run held (nodeCount c)) (sym length-entries) ∙ entries-whole
@@ -248,7 +256,8 @@ module _ (lines : Bool) (sc cc : List Float) (sn se cn ce : List ℕ) where
           ∙ layers.third-four numbers entries sn (ends subjects) behind (nodeCount c) (copiedAt s c) (subjectAt s c) (cutterAt s c) h₁ (omega arith) h₃ (h₄ behind few-behind)
 
       behind-held : run held (cutterAt s c) (length behind) ≡ behind
-      behind-held = before (cutterAt s c) (length behind) (omega (arith, few-behind)) ∙ layers.fourth-four numbers entries sn (ends subjects) behind (nodeCount c) (copiedAt s c) (subjectAt s c) (cutterAt s c) h₁ (omega arith) h₃ (h₄ behind few-behind)
+      behind-held = before (cutterAt s c) (length behind) (omega (arith, few-behind)) ∙ layers.fourth-four numbers entries sn (ends subjects) behind
+          (nodeCount c) (copiedAt s c) (subjectAt s c) (cutterAt s c) h₁ (omega arith) h₃ (h₄ behind few-behind)
 
       pub cutters-held : run held (cond lines (nodeCount c) (cutterAt s c)) (2 * length cutters) ≡ ends cutters
       cutters-held = go lines refl

@@ -2,7 +2,22 @@
 use mathlib.Core.Logic.{_⊎_, inl, inr}
 use mathlib.Core.Path.{_≡_, refl, sym, ap, ap₂, _∙_}
 use mathlib.Core.Bool.{Bool, true, false, _&&_, cond, true≢false}
-use mathlib.Core.List.{List, [], _∷_, _++_, append-nil, append-assoc, List·Memᴰ, List·Memᴰ·head, List·Memᴰ·tail, List·Memᴰ·not-nil, List·Memᴰ·cases-cons, List·Memᴰ·append-cases, Memᴰ·append-left, Memᴰ·append-right}
+use mathlib.Core.List.{
+  List,
+  [],
+  _∷_,
+  _++_,
+  append-nil,
+  append-assoc,
+  List·Memᴰ,
+  List·Memᴰ·head,
+  List·Memᴰ·tail,
+  List·Memᴰ·not-nil,
+  List·Memᴰ·cases-cons,
+  List·Memᴰ·append-cases,
+  Memᴰ·append-left,
+  Memᴰ·append-right,
+}
 use Prim.Native.Nat.{ℕ, zero, suc, _+_, _-_, _≤_, _<_}
 use native.Mathlib.Nat.{not-suc-le-zero}
 use native.Mathlib.Numerals.{add-one}
@@ -64,7 +79,8 @@ module _ {A : Type 0} where
   all-append p [] ys h = refl
   all-append p (x ∷ xs) ys h = go (p x) (λ e. all-append p xs ys e) h
     where
-      go : (t : Bool) → (all p xs ≡ true → all p (xs ++ ys) ≡ all p ys) → elim t [ true ↦ all p xs | false ↦ false ] ≡ true → elim t [ true ↦ all p (xs ++ ys) | false ↦ false ] ≡ all p ys
+      go : (t : Bool) → (all p xs ≡ true → all p (xs ++ ys) ≡ all p ys) → elim t [ true ↦ all p xs | false ↦ false ] ≡ true
+          → elim t [ true ↦ all p (xs ++ ys) | false ↦ false ] ≡ all p ys
       go true ih e = ih e
       go false ih e = absurd (true≢false (sym e))
 
@@ -96,7 +112,8 @@ module _ {A : Type 0} where
   all-at p [] i d h l = absurd (not-suc-le-zero l)
   all-at p (x ∷ xs) i d h l = go (p x) refl i l (λ k m. all-at p xs k d m) h
     where
-      go : (t : Bool) → p x ≡ t → (i : ℕ) → i < length (x ∷ xs) → ((k : ℕ) → all p xs ≡ true → k < length xs → p (getD xs k d) ≡ true) → elim t [ true ↦ all p xs | false ↦ false ] ≡ true → p (getD (x ∷ xs) i d) ≡ true
+      go : (t : Bool) → p x ≡ t → (i : ℕ) → i < length (x ∷ xs) → ((k : ℕ) → all p xs ≡ true → k < length xs → p (getD xs k d) ≡ true)
+          → elim t [ true ↦ all p xs | false ↦ false ] ≡ true → p (getD (x ∷ xs) i d) ≡ true
       go false e i l ih h = absurd (true≢false (sym h))
       go true e zero l ih h = e
       go true e (suc i) l ih h = ih i h (omega arith)
@@ -107,7 +124,8 @@ module _ {A : Type 0} where
   passing-append p (x ∷ xs) ys = go (p x) (passing-append p xs ys)
     where
       go : (t : Bool) → passing p (xs ++ ys) ≡ passing p xs ++ passing p ys
-          → (let l : List A = elim t [ true ↦ x ∷ passing p (xs ++ ys) | false ↦ passing p (xs ++ ys) ] in l ≡ elim t [ true ↦ x ∷ passing p xs | false ↦ passing p xs ] ++ passing p ys)
+          → (let l : List A = elim t [ true ↦ x ∷ passing p (xs ++ ys) | false ↦ passing p (xs ++ ys) ] in l ≡ elim t
+          [ true ↦ x ∷ passing p xs | false ↦ passing p xs ] ++ passing p ys)
       go true ih = ap (λ (l : List A). x ∷ l) ih
       go false ih = ih
 
@@ -284,7 +302,8 @@ module _ {A : Type 0} where
       found e ih (inl q) = (List·Memᴰ·head q, ap p q ∙ e)
       found e ih (inr k) = let r = ih k in (List·Memᴰ·tail (r .0), r .1)
 
-      go : (t : Bool) → p y ≡ t → (List·Memᴰ x (passing p ys) → List·Memᴰ x ys × (p x ≡ true)) → List·Memᴰ x (elim t [ true ↦ y ∷ passing p ys | false ↦ passing p ys ]) → List·Memᴰ x (y ∷ ys) × (p x ≡ true)
+      go : (t : Bool) → p y ≡ t → (List·Memᴰ x (passing p ys) → List·Memᴰ x ys × (p x ≡ true))
+          → List·Memᴰ x (elim t [ true ↦ y ∷ passing p ys | false ↦ passing p ys ]) → List·Memᴰ x (y ∷ ys) × (p x ≡ true)
       go true e ih k = found e ih (List·Memᴰ·cases-cons k)
       go false e ih k = let r = ih k in (List·Memᴰ·tail (r .0), r .1)
 
@@ -315,7 +334,8 @@ module _ {A : Type 0} where
   mem-at [] x h = absurd (List·Memᴰ·not-nil h)
   mem-at (y ∷ ys) x h = go (λ k. mem-at ys x k) (List·Memᴰ·cases-cons h)
     where
-      go : (List·Memᴰ x ys → (k : ℕ) × (k < length ys) × ((d : A) → getD ys k d ≡ x)) → (x ≡ y) ⊎ List·Memᴰ x ys → (k : ℕ) × (k < length (y ∷ ys)) × ((d : A) → getD (y ∷ ys) k d ≡ x)
+      go : (List·Memᴰ x ys → (k : ℕ) × (k < length ys) × ((d : A) → getD ys k d ≡ x)) → (x ≡ y) ⊎ List·Memᴰ x ys
+          → (k : ℕ) × (k < length (y ∷ ys)) × ((d : A) → getD (y ∷ ys) k d ≡ x)
       go ih (inl e) = (zero, omega arith, λ d. sym e)
       go ih (inr m) = let r = ih m in (suc (r .0), omega (arith, r .1), r .2)
 
@@ -366,7 +386,8 @@ unfolding gathered
 places-at p zero k h = absurd (not-suc-le-zero h)
 places-at p (suc n) k h = go (p n) refl (λ l. places-at p n k l) h
   where
-    here : p n ≡ true → (k < length (places p n) → (getD (places p n) k 0 < n) × (p (getD (places p n) k 0) ≡ true)) → k < length (places p n ++ n ∷ []) → Dec (k < length (places p n))
+    here : p n ≡ true → (k < length (places p n) → (getD (places p n) k 0 < n) × (p (getD (places p n) k 0) ≡ true)) → k < length (places p n ++ n ∷ [])
+        → Dec (k < length (places p n))
         → (getD (places p n ++ n ∷ []) k 0 < suc n) × (p (getD (places p n ++ n ∷ []) k 0) ≡ true)
     here e ih l (yes m) =
         let r = ih m in

@@ -124,7 +124,8 @@ module _ {A : Type 0} where
     shift-down i l m =
         let up : i ≡ suc (i - 1) = omega arith in
         let cut : take i w ≡ take (i - 1) w ++ getD w (i - 1) d ∷ [] = ap (λ (j : ℕ). take j w) up ∙ take-suc w (i - 1) d (omega arith) in
-        let rest : slice (i - 1) n w ≡ getD w (i - 1) d ∷ slice i n w = slice-cons (i - 1) n w d (omega arith) (omega arith) ∙ ap (λ (j : ℕ). getD w (i - 1) d ∷ slice j n w) (sym up) in
+        let rest : slice (i - 1) n w ≡ getD w (i - 1) d ∷ slice i n w = slice-cons (i - 1) n w d (omega arith) (omega arith) ∙ ap
+        (λ (j : ℕ). getD w (i - 1) d ∷ slice j n w) (sym up) in
         rw (cut, rest) (append-assoc (take (i - 1) w) (getD w (i - 1) d ∷ []) _)
 
     pub shift-turn : (ys : List A) (i : ℕ) (v : A) → ys ≡ shifted w n i v → 0 < i → i ≤ n → set ys i (getD ys (i - 1) d) ≡ shifted w n (i - 1) (getD w (i - 1) d)

@@ -9,7 +9,26 @@ use native.Mathlib.Decide.{decLe}
 use native.Mathlib.Omega.{arith}
 use lib.Dec.{leb}
 use lib.ListN.{length, getD, set, take, drop, length-append, length-drop, take-append-drop, drop-of-length-le, List·getD-append}
-use lib.Seq.{length-take-le, take-append-seam, drop-append-add, drop-drop, drop-cons, set-at, append-snoc, getD-take, getD-drop, getD-append-add, take-all, take-at, drop-at, take-take, take-add, take-append-le, drop-append-le, take-suc}
+use lib.Seq.{
+  length-take-le,
+  take-append-seam,
+  drop-append-add,
+  drop-drop,
+  drop-cons,
+  set-at,
+  append-snoc,
+  getD-take,
+  getD-drop,
+  getD-append-add,
+  take-all,
+  take-at,
+  drop-at,
+  take-take,
+  take-add,
+  take-append-le,
+  drop-append-le,
+  take-suc,
+}
 use borrow.Author.Tests.{le-leb, lt-leb}
 use Rattle.lists.specs.Regions.{run, front, put, copied}
 
@@ -186,9 +205,11 @@ module _ {A : Type 0} where
         let m : length (take b w ++ xs) ≡ b + length xs = simp (length-append, l) in
         let whole : put w b xs ≡ take b w ++ xs ++ drop (length xs) (drop b w) = sym (append-assoc (take b w) xs (drop (length xs) (drop b w))) in
         let low : take (b + length xs) (put w b xs) ≡ take b w ++ xs = ap (take (b + length xs)) whole ∙ take-at (take b w ++ xs) (drop (length xs) (drop b w)) (b + length xs) m in
-        let high : drop (b + length xs) (put w b xs) ≡ drop (length xs) (drop b w) = ap (drop (b + length xs)) whole ∙ drop-at (take b w ++ xs) (drop (length xs) (drop b w)) (b + length xs) m in
+        let high : drop (b + length xs) (put w b xs) ≡ drop (length xs) (drop b w) = ap (drop (b + length xs)) whole ∙ drop-at (take b w ++ xs)
+        (drop (length xs) (drop b w)) (b + length xs) m in
         rw (low, high) (append-assoc (take b w) xs _ ∙ ap (λ (t : List A). take b w ++ t)
-        (sym (append-assoc xs ys _) ∙ ap (λ (t : List A). xs ++ ys ++ t) (drop-drop (length ys) (length xs) (drop b w) ∙ ap (λ (k : ℕ). drop k (drop b w)) (sym (length-append xs ys)))))
+        (sym (append-assoc xs ys _) ∙ ap (λ (t : List A). xs ++ ys ++ t)
+        (drop-drop (length ys) (length xs) (drop b w) ∙ ap (λ (k : ℕ). drop k (drop b w)) (sym (length-append xs ys)))))
 
   pub front-put : (w xs : List A) → put w 0 xs ≡ front w xs
   unfolding put

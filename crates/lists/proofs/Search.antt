@@ -93,7 +93,8 @@ unfolding seek
 seek-hit p k zero h = absurd (omega arith)
 seek-hit p k (suc m) h = go (p k) refl (λ l. seek-hit p (suc k) m l) h
   where
-    go : (t : Bool) → p k ≡ t → (seek p (suc k) m < suc k + m → p (seek p (suc k) m) ≡ true) → let r : ℕ = elim t [ true ↦ k | false ↦ seek p (suc k) m ] in r < k + suc m → p r ≡ true
+    go : (t : Bool) → p k ≡ t → (seek p (suc k) m < suc k + m → p (seek p (suc k) m) ≡ true)
+        → let r : ℕ = elim t [ true ↦ k | false ↦ seek p (suc k) m ] in r < k + suc m → p r ≡ true
     go true e ih l = e
     go false e ih l = ih (omega arith)
 
@@ -115,7 +116,8 @@ unfolding seek
 seek-shift p k zero = refl
 seek-shift p k (suc m) = go (p (suc k)) (seek-shift p (suc k) m)
   where
-    go : (t : Bool) → seek p (suc (suc k)) m ≡ suc (seek (λ i. p (suc i)) (suc k) m) → let r : ℕ = elim t [ true ↦ suc k | false ↦ seek p (suc (suc k)) m ] in r ≡ suc (elim t [ true ↦ k | false ↦ seek (λ i. p (suc i)) (suc k) m ])
+    go : (t : Bool) → seek p (suc (suc k)) m ≡ suc (seek (λ i. p (suc i)) (suc k) m)
+        → let r : ℕ = elim t [ true ↦ suc k | false ↦ seek p (suc (suc k)) m ] in r ≡ suc (elim t [ true ↦ k | false ↦ seek (λ i. p (suc i)) (suc k) m ])
     go true ih = refl
     go false ih = ih
 

@@ -25,7 +25,8 @@ module _ {A : Type 0} (before : A → A → Bool) where
   length-insert x [] = refl
   length-insert x (y ∷ ys) = go (before x y) (length-insert x ys)
     where
-      go : (t : Bool) → length (insert before x ys) ≡ length ys + 1 → (let l : List A = elim t [ true ↦ x ∷ y ∷ ys | false ↦ y ∷ insert before x ys ] in length l ≡ length (y ∷ ys) + 1)
+      go : (t : Bool) → length (insert before x ys) ≡ length ys + 1
+          → (let l : List A = elim t [ true ↦ x ∷ y ∷ ys | false ↦ y ∷ insert before x ys ] in length l ≡ length (y ∷ ys) + 1)
       go true ih = omega arith
       go false ih = omega arith
 
@@ -72,7 +73,8 @@ module _ {A : Type 0} (before : A → A → Bool) where
   insert-tally p x [] = refl
   insert-tally p x (y ∷ ys) = go (before x y) (insert-tally p x ys)
     where
-      go : (t : Bool) → tally p (insert before x ys) ≡ bit (p x) + tally p ys → tally p (elim t [ true ↦ x ∷ y ∷ ys | false ↦ y ∷ insert before x ys ]) ≡ bit (p x) + tally p (y ∷ ys)
+      go : (t : Bool) → tally p (insert before x ys) ≡ bit (p x) + tally p ys
+          → tally p (elim t [ true ↦ x ∷ y ∷ ys | false ↦ y ∷ insert before x ys ]) ≡ bit (p x) + tally p (y ∷ ys)
       go true ih = refl
       go false ih = omega arith
 

@@ -110,7 +110,11 @@ module _ (m base : ℕ) (oc : List Float) (w : List ℕ) (met next : ℕ) where
         go : Dec (m ≤ met) → Answered m base oc w met next (known ∷ []) oc w′ g
         go (yes l) =
             let full : m - met ≡ 0 = omega arith in
-            record { grown = λ z. absurd (omega (arith, e .0 l, z)); refused = λ z q n. e .0 l ∙ ap (λ (x : ℕ). firstRefusal x room q n (joined ofMeeting (known ∷ []))) (sym full) }
+            record {
+              grown = λ z. absurd (omega (arith, e .0 l, z));
+              refused = λ z q n. e .0 l ∙ ap
+                  (λ (x : ℕ). firstRefusal x room q n (joined ofMeeting (known ∷ []))) (sym full);
+            }
         go (no l) =
             let r = e .1 (omega arith) in
             record { grown = λ z. grown-known w′ g (omega arith) k z (r .1) (r .2) (r .3); refused = λ z. absurd (z (r .0)) }
@@ -140,7 +144,8 @@ module _ (m base : ℕ) (oc : List Float) (w : List ℕ) (met next : ℕ) where
 
     pub answered-new : (oc′ : List Float) (w′ : List ℕ) (g : Found) → met ≤ m
         → (m ≤ met → g .code ≡ 8) × (met < m → length oc < 2 * next + 2 → g .code ≡ 12)
-        × (met < m → 2 * next + 2 ≤ length oc → (g .code ≡ 0) × (g .met ≡ met + 1) × (g .next ≡ next + 1) × (oc′ ≡ put oc (2 * next) (x ∷ y ∷ [])) × (w′ ≡ put w (base + 5 * met) (bookOf new)))
+        × (met < m → 2 * next + 2 ≤ length oc → (g .code ≡ 0) × (g .met ≡ met + 1) × (g .next ≡ next + 1) × (oc′ ≡ put oc (2 * next) (x ∷ y ∷ [])) ×
+        (w′ ≡ put w (base + 5 * met) (bookOf new)))
         → Answered m base oc w met next (new ∷ []) oc′ w′ g
     unfolding joined firstRefusal
     answered-new oc′ w′ g h e = go (decLe m met) (decLe (2 * next + 2) (length oc))
@@ -177,7 +182,8 @@ module _ (m base : ℕ) (oc : List Float) (w : List ℕ) (met next : ℕ) where
     events : (more : List Met) → joined ofMeeting (ms ++ more) ≡ joined ofMeeting ms ++ joined ofMeeting more
     events more = joined-append ofMeeting ms more
 
-    pub grown-then : (more : List Met) (oc₂ : List Float) (w₂ : List ℕ) (h : Found) → Grown m base oc₁ w₁ (g .met) (g .next) more oc₂ w₂ h → Grown m base oc w met next (ms ++ more) oc₂ w₂ h
+    pub grown-then : (more : List Met) (oc₂ : List Float) (w₂ : List ℕ) (h : Found) → Grown m base oc₁ w₁ (g .met) (g .next) more oc₂ w₂ h
+        → Grown m base oc w met next (ms ++ more) oc₂ w₂ h
     grown-then more oc₂ w₂ h then =
         let len = length-append ms more in
         let added = length-added ms more in
@@ -201,7 +207,8 @@ module _ (m base : ℕ) (oc : List Float) (w : List ℕ) (met next : ℕ) where
               ∙ ap (λ (k : ℕ). firstRefusal (m - h .met) (k - h .next) q n es) half;
         }
 
-    pub answered-then : (more : List Met) (oc₂ : List Float) (w₂ : List ℕ) (h : Found) → Answered m base oc₁ w₁ (g .met) (g .next) more oc₂ w₂ h → Answered m base oc w met next (ms ++ more) oc₂ w₂ h
+    pub answered-then : (more : List Met) (oc₂ : List Float) (w₂ : List ℕ) (h : Found) → Answered m base oc₁ w₁ (g .met) (g .next) more oc₂ w₂ h
+        → Answered m base oc w met next (ms ++ more) oc₂ w₂ h
     answered-then more oc₂ w₂ h then =
         let half : length oc₁ / 2 ≡ length oc / 2 = ap (λ (k : ℕ). k / 2) length-points in
         record {
@@ -211,7 +218,8 @@ module _ (m base : ℕ) (oc : List Float) (w : List ℕ) (met next : ℕ) where
         }
 
   -- a refusal ends it, whatever comes behind
-  pub answered-stop : (ms more : List Met) (oc₁ : List Float) (w₁ : List ℕ) (g : Found) (oc₂ : List Float) (w₂ : List ℕ) → Answered m base oc w met next ms oc₁ w₁ g → (g .code ≡ 0 → ⊥)
+  pub answered-stop : (ms more : List Met) (oc₁ : List Float) (w₁ : List ℕ) (g : Found) (oc₂ : List Float) (w₂ : List ℕ)
+      → Answered m base oc w met next ms oc₁ w₁ g → (g .code ≡ 0 → ⊥)
       → Answered m base oc w met next (ms ++ more) oc₂ w₂ g
   answered-stop ms more oc₁ w₁ g oc₂ w₂ a z =
       record {
@@ -219,7 +227,8 @@ module _ (m base : ℕ) (oc : List Float) (w : List ℕ) (met next : ℕ) where
         refused = λ _ q n. stops (g .code) z q n (a .refused z q n) ∙ ap (firstRefusal (m - met) room q n) (sym (joined-append ofMeeting ms more));
       }
     where
-      stops : (c : ℕ) → (c ≡ 0 → ⊥) → (q n : ℕ) → c ≡ firstRefusal (m - met) room q n (joined ofMeeting ms) → c ≡ firstRefusal (m - met) room q n (joined ofMeeting ms ++ joined ofMeeting more)
+      stops : (c : ℕ) → (c ≡ 0 → ⊥) → (q n : ℕ) → c ≡ firstRefusal (m - met) room q n (joined ofMeeting ms)
+          → c ≡ firstRefusal (m - met) room q n (joined ofMeeting ms ++ joined ofMeeting more)
       stops zero k q n e = absurd (k refl)
       stops (suc c) k q n e = sym (refused-first (joined ofMeeting ms) (joined ofMeeting more) (m - met) room q n c (sym e))
 
@@ -242,7 +251,8 @@ module _ (m base : ℕ) (oc : List Float) (w : List ℕ) (met next : ℕ) where
         → (m ≤ met → g .code ≡ 8) × (met < m → (g .code ≡ 0) × (g .met ≡ met + 1) × (g .next ≡ next) × (w′ ≡ put w (base + 5 * met) (i ∷ j ∷ 1 ∷ u ∷ 0 ∷ [])))
         → Answered m base oc w met next (metOf coords i j next e f) oc w′ g
     at-one w′ g p u t v r =
-        onto (metOf coords i j next e f) (known i j (u ∷ []) ∷ []) oc w′ g (told (Existing p) t ∙ ap (λ (n : ℕ). known i j (n ∷ []) ∷ []) (sym v)) (answered-known i j (u ∷ []) w′ g h k r)
+        onto (metOf coords i j next e f) (known i j (u ∷ []) ∷ []) oc w′ g (told (Existing p) t ∙ ap (λ (n : ℕ). known i j (n ∷ []) ∷ []) (sym v))
+        (answered-known i j (u ∷ []) w′ g h k r)
 
     pub at-two : (w′ : List ℕ) (g : Found) (p q : PointId) (u v : ℕ) → x ≡ Overlap p q → u ≡ nodeOf e f p → v ≡ nodeOf e f q
         → (m ≤ met → g .code ≡ 8) × (met < m → (g .code ≡ 0) × (g .met ≡ met + 1) × (g .next ≡ next) × (w′ ≡ put w (base + 5 * met) (i ∷ j ∷ 2 ∷ u ∷ v ∷ [])))
@@ -253,6 +263,7 @@ module _ (m base : ℕ) (oc : List Float) (w : List ℕ) (met next : ℕ) where
 
     pub at-new : (oc′ : List Float) (w′ : List ℕ) (g : Found) (a b : Float) → x ≡ New a b
         → (m ≤ met → g .code ≡ 8) × (met < m → length oc < 2 * next + 2 → g .code ≡ 12)
-        × (met < m → 2 * next + 2 ≤ length oc → (g .code ≡ 0) × (g .met ≡ met + 1) × (g .next ≡ next + 1) × (oc′ ≡ put oc (2 * next) (a ∷ b ∷ [])) × (w′ ≡ put w (base + 5 * met) (i ∷ j ∷ 1 ∷ next ∷ 0 ∷ [])))
+        × (met < m → 2 * next + 2 ≤ length oc → (g .code ≡ 0) × (g .met ≡ met + 1) × (g .next ≡ next + 1) × (oc′ ≡ put oc (2 * next) (a ∷ b ∷ [])) ×
+        (w′ ≡ put w (base + 5 * met) (i ∷ j ∷ 1 ∷ next ∷ 0 ∷ [])))
         → Answered m base oc w met next (metOf coords i j next e f) oc′ w′ g
     at-new oc′ w′ g a b t r = onto (metOf coords i j next e f) (new i j a b ∷ []) oc′ w′ g (told (New a b) t) (answered-new i j a b oc′ w′ g h r)

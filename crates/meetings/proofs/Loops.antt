@@ -87,8 +87,16 @@ module _ (oc : List Float) (w : List ℕ) (placed base m met next : ℕ) (ready 
     ready-on =
         let a = gr .met-is in
         let b = gr .next-is in
-        let f = gr .few in
-        (omega (arith, oc-same, ready .0), ready .1, omega (arith, w-same, ready .2), ready .3, gr .met-fits, omega (arith, b, ready .5), omega (arith, oc-same, gr .next-fits), omega (arith, a, b, f, ready .7))
+        let f = gr .few in (
+          omega (arith, oc-same, ready .0),
+          ready .1,
+          omega (arith, w-same, ready .2),
+          ready .3,
+          gr .met-fits,
+          omega (arith, b, ready .5),
+          omega (arith, oc-same, gr .next-fits),
+          omega (arith, a, b, f, ready .7),
+        )
 
     pub coords-kept : take placed oc′ ≡ take placed oc
     unfolding run
@@ -98,7 +106,8 @@ module _ (oc : List Float) (w : List ℕ) (placed base m met next : ℕ) (ready 
     edge-kept at k h =
         let there : base + 5 * met ≤ length w = omega (arith, ready .2, ready .4) in
         ap (λ (l : List ℕ). edgeIn l at k) (gr .numbers)
-        ∙ ap₂ (λ (a b : ℕ). (a, b)) (put-before w (base + 5 * met) there (booked ms) (at + 2 * k) 0 (omega arith)) (put-before w (base + 5 * met) there (booked ms) (at + 2 * k + 1) 0 (omega arith))
+        ∙ ap₂ (λ (a b : ℕ). (a, b)) (put-before w (base + 5 * met) there (booked ms) (at + 2 * k) 0 (omega arith))
+        (put-before w (base + 5 * met) there (booked ms) (at + 2 * k + 1) 0 (omega arith))
 
     pub edges-kept : (at n : ℕ) → at + 2 * n ≤ base → edgesIn w′ at n ≡ edgesIn w at n
     edges-kept at n h =
@@ -198,7 +207,8 @@ module _ (oc : List Float) (w : List ℕ) (placed se ce cn base m i met next : �
       unfolding metFrom
       left =
           let below : j < length fs₀ = omega (arith, count-in w ce cn there) in
-          inv .4 ∙ ap (λ (js : List ℕ). done ++ metFrom (take placed oc) i e₀ fs₀ (g .next) js) (places-next (meets (take placed oc) fs₀ box₀) (inv .0) (length fs₀) j (sym (inv .2)) below)
+          inv .4 ∙ ap (λ (js : List ℕ). done ++ metFrom (take placed oc) i e₀ fs₀ (g .next) js)
+          (places-next (meets (take placed oc) fs₀ box₀) (inv .0) (length fs₀) j (sym (inv .2)) below)
           ∙ sym (append-assoc done one _)
 
       pub walk-stop : (h .code ≡ 0 → ⊥) → Answered m base oc w met next whole oc₂ w₂ h
@@ -210,7 +220,8 @@ module _ (oc : List Float) (w : List ℕ) (placed se ce cn base m i met next : �
       pub cover-turn : h .code ≡ 0 → (boxes : List Float) → Covered (take placed oc) fs₀ boxes → Covered (take placed oc₂) (pairs (take (ce + 2 * cn - ce) (drop ce w₂))) boxes
       cover-turn z boxes c =
           let both = grown-then m base oc w met next (enough oc w placed base m met next ready) done oc₁ w₁ g (inv .3) one oc₂ w₂ h (found .grown z) in
-          cover boxes oc₂ w₂ (coords-kept oc w placed base m met next ready (done ++ one) oc₂ w₂ h both) (edges-kept oc w placed base m met next ready (done ++ one) oc₂ w₂ h both ce cn hc) c
+          cover boxes oc₂ w₂ (coords-kept oc w placed base m met next ready (done ++ one) oc₂ w₂ h both)
+          (edges-kept oc w placed base m met next ready (done ++ one) oc₂ w₂ h both ce cn hc) c
 
       pub walk-turn : h .code ≡ 0 → (b : Bounds) (j′ : ℕ) → b ≡ box₀ → Sought oc₂ w₂ b (j + 1) j′ → Walked oc₂ w₂ h j′
       walk-turn z b j′ kb s =
@@ -219,7 +230,8 @@ module _ (oc : List Float) (w : List ℕ) (placed se ce cn base m i met next : �
           let on : g .next + length (addedBy one) / 2 ≡ h .next = omega (arith, step .next-is) in (
             j + 1,
             done ++ one,
-            sought oc₂ w₂ b (j + 1) j′ (coords-kept oc w placed base m met next ready (done ++ one) oc₂ w₂ h both) (edges-kept oc w placed base m met next ready (done ++ one) oc₂ w₂ h both ce cn hc) kb s,
+            sought oc₂ w₂ b (j + 1) j′ (coords-kept oc w placed base m met next ready (done ++ one) oc₂ w₂ h both)
+                (edges-kept oc w placed base m met next ready (done ++ one) oc₂ w₂ h both ce cn hc) kb s,
             both,
             left ∙ ap (λ (n : ℕ). (done ++ one) ++ from n (j + 1)) on,
             ready-on oc w placed base m met next ready (done ++ one) oc₂ w₂ h both,
@@ -232,7 +244,8 @@ module _ (oc : List Float) (w : List ℕ) (placed se ce cn base m i met next : �
     walk-end oc₁ w₁ g j inv l =
         let past : length fs₀ ≤ near (inv .0) = omega (arith, inv .2, count-in w ce cn (omega (arith, ready .2))) in
         let all : whole ≡ inv .1 =
-        inv .4 ∙ ap (λ (js : List ℕ). inv .1 ++ metFrom (take placed oc) i e₀ fs₀ (g .next) js) (places-end (meets (take placed oc) fs₀ box₀) (inv .0) (length fs₀) past) ∙ append-nil (inv .1) in
+        inv .4 ∙ ap (λ (js : List ℕ). inv .1 ++ metFrom (take placed oc) i e₀ fs₀ (g .next) js)
+        (places-end (meets (take placed oc) fs₀ box₀) (inv .0) (length fs₀) past) ∙ append-nil (inv .1) in
         onto m base oc w met next whole (inv .1) oc₁ w₁ g all (answered m base oc w met next (inv .1) oc₁ w₁ g (inv .3))
 
 -- ---- `compute_intersections`
@@ -260,7 +273,8 @@ module _ (oc : List Float) (w : List ℕ) (placed se sn ce cn base m : ℕ) wher
       × (r .code ≡ 0 → (r .met ≡ length allMet) × (r .next ≡ (placed + length (addedBy allMet)) / 2)
       × (oc′ ≡ put oc placed (addedBy allMet)) × (w′ ≡ put w base (booked allMet)))
 
-  module _ (pre : (placed ≤ length oc) × (2 * (placed / 2) ≡ placed) × (placed ≤ 65536) × (se + 2 * sn ≤ base) × (sn ≤ 65536) × (ce + 2 * cn ≤ base) × (cn ≤ 65536) × (base + 5 * m ≤ length w) × (m ≤ 65536)) where
+  module _ (pre : (placed ≤ length oc) × (2 * (placed / 2) ≡ placed) × (placed ≤ 65536) × (se + 2 * sn ≤ base) × (sn ≤ 65536) × (ce + 2 * cn ≤ base) ×
+      (cn ≤ 65536) × (base + 5 * m ≤ length w) × (m ≤ 65536)) where
     ready₀ : Ready oc w placed base m 0 (placed / 2)
     ready₀ = (pre .0, pre .2, pre .7, pre .8, omega arith, omega (arith, pre .1), omega (arith, pre .0, pre .1), omega (arith, pre .1))
 
@@ -280,11 +294,16 @@ module _ (oc : List Float) (w : List ℕ) (placed se sn ce cn base m : ℕ) wher
         lists : Grown m base oc w 0 (placed / 2) allMet oc′ w′ r
             → (r .met ≡ length allMet) × (r .next ≡ (placed + length (addedBy allMet)) / 2) × (oc′ ≡ put oc placed (addedBy allMet)) × (w′ ≡ put w base (booked allMet))
         lists g =
-            let at : base + 5 * 0 ≡ base = omega arith in
-            (omega (arith, g .met-is), omega (arith, g .next-is, pre .1), g .points ∙ ap (λ (k : ℕ). put oc k (addedBy allMet)) (pre .1), g .numbers ∙ ap (λ (k : ℕ). put w k (booked allMet)) at)
+            let at : base + 5 * 0 ≡ base = omega arith in (
+              omega (arith, g .met-is),
+              omega (arith, g .next-is, pre .1),
+              g .points ∙ ap (λ (k : ℕ). put oc k (addedBy allMet)) (pre .1),
+              g .numbers ∙ ap (λ (k : ℕ). put w k (booked allMet)) at,
+            )
 
     -- the boxes that `block_bounds` makes
-    pub covered-by : (w₀ boxes : List Float) → boxes ≡ front w₀ (blockBoxes (take placed oc) (take (ce + 2 * cn - ce) (drop ce w)) (length w₀ / 4)) → Covered (take placed oc) (edgesIn w ce cn) boxes
+    pub covered-by : (w₀ boxes : List Float) → boxes ≡ front w₀ (blockBoxes (take placed oc) (take (ce + 2 * cn - ce) (drop ce w)) (length w₀ / 4))
+        → Covered (take placed oc) (edgesIn w ce cn) boxes
     unfolding run
     covered-by w₀ boxes e =
         let n : ce + 2 * cn - ce ≡ 2 * cn = omega arith in
@@ -300,7 +319,10 @@ module _ (oc : List Float) (w : List ℕ) (placed se sn ce cn base m : ℕ) wher
     pub covers : (oc₁ : List Float) (w₁ : List ℕ) (f : Found) (i : ℕ) (boxes : List Float) → Through oc₁ w₁ f i → Covered (take placed oc) (edgesIn w ce cn) boxes
         → Covered (take placed oc₁) (edgesIn w₁ ce cn) boxes
     covers oc₁ w₁ f i boxes inv c =
-        rw (coords-kept oc w placed base m 0 (placed / 2) ready₀ (metTo i) oc₁ w₁ f (inv .1), edges-kept oc w placed base m 0 (placed / 2) ready₀ (metTo i) oc₁ w₁ f (inv .1) ce cn (pre .5)) c
+        rw (
+          coords-kept oc w placed base m 0 (placed / 2) ready₀ (metTo i) oc₁ w₁ f (inv .1),
+          edges-kept oc w placed base m 0 (placed / 2) ready₀ (metTo i) oc₁ w₁ f (inv .1) ce cn (pre .5),
+        ) c
 
     module _ (oc₁ : List Float) (w₁ : List ℕ) (f : Found) (i : ℕ) (inv : Through oc₁ w₁ f i) (l : i < sn) (oc₂ : List Float) (w₂ : List ℕ) (h : Found)
         (ans : Answered m base oc₁ w₁ (f .met) (f .next) (metWith (take placed oc₁) i (edgeIn w₁ se i) (edgesIn w₁ ce cn) (f .next)) oc₂ w₂ h) where

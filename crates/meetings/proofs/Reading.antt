@@ -92,7 +92,8 @@ module _ (coords : List Float) (s c : Net) where
       let f : Edge = edgeAt (c .edges) j in
       fit-append ms _ a (fit-recorded i j ((length coords + length (addedBy ms)) / 2) e f (meeting (segmentOf coords e) (segmentOf coords f)) hi hj)
 
-  fit-all : (i : ℕ) (js : List ℕ) (ms : List Met) → i < length (s .edges) → ((k : ℕ) → k < length js → getD js k 0 < length (c .edges)) → AllFit ms → AllFit (metAll coords s c i js ms)
+  fit-all : (i : ℕ) (js : List ℕ) (ms : List Met) → i < length (s .edges) → ((k : ℕ) → k < length js → getD js k 0 < length (c .edges)) → AllFit ms
+      → AllFit (metAll coords s c i js ms)
   unfolding metAll
   fit-all i [] ms hi hj a = a
   fit-all i (j ∷ js) ms hi hj a = fit-all i js (metPair coords s c i j ms) hi (λ k l. hj (suc k) (omega arith)) (fit-pair i j ms hi (hj 0 (omega arith)) a)

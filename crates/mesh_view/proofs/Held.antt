@@ -1,4 +1,5 @@
--- What a proof has at exit of an `OutputView` that was passed by value, in a signature of four lifetimes of which it has the third: the body has given the borrows up for good, as by passing them on to a callee, and has only what says their last lists.
+-- What a proof has at exit of an `OutputView` that was passed by value, in a signature of four lifetimes of which it has the third: the body has given the
+-- borrows up for good, as by passing them on to a callee, and has only what says their last lists.
 --     output-gave          what is had.        output-gave-goes      the law for it
 -- The law takes `Given`. The rest assumes nothing.
 use mathlib.Core.List.{List, [], _∷_}
@@ -26,14 +27,27 @@ abbrev OutputS : Slot 4
 OutputS = plain (λ κs. O.the-row (namedLft 4 2 tt κs))
 
 abbrev gives : Fields slots yes
-gives = (gave-slice (2 ∷ []) tt (plain (λ _. f64)), (gave-slice (2 ∷ []) tt (plain (λ _. u32)), (gave-slice (2 ∷ []) tt (plain (λ _. u32)), (gave-slice (2 ∷ []) tt (plain (λ _. u8)), (gave-slice (2 ∷ []) tt (plain (λ _. u32)), tt)))))
+gives = (
+  gave-slice (2 ∷ []) tt (plain (λ _. f64)),
+  (
+    gave-slice (2 ∷ []) tt (plain (λ _. u32)),
+    (gave-slice (2 ∷ []) tt (plain (λ _. u32)), (gave-slice (2 ∷ []) tt (plain (λ _. u8)), (gave-slice (2 ∷ []) tt (plain (λ _. u32)), tt))),
+  ),
+)
 
 abbrev pub output-gave : Stay OutputS yes
-output-gave = stay-declared (structAt name (named 2 ∷ []) slots) yes (stay-struct-at name (named 2 ∷ []) slots yes gives) OutputView (λ κs. O.the-type (namedLft 4 2 tt κs) .to) (λ κs. O.the-type (namedLft 4 2 tt κs) .to-one)
+output-gave = stay-declared (structAt name (named 2 ∷ []) slots) yes (stay-struct-at name (named 2 ∷ []) slots yes gives) OutputView
+    (λ κs. O.the-type (namedLft 4 2 tt κs) .to) (λ κs. O.the-type (namedLft 4 2 tt κs) .to-one)
 
 module _ {M : Type 1} (𝓤 : URA M) (H : Heap 𝓤) (A : Atoms 𝓤) (W : Given 𝓤 H A) where
   pub output-gave-goes : Goes 𝓤 H A W 4 OutputS yes output-gave
   output-gave-goes =
-      goes-declared 𝓤 H A W 4 (structAt name (named 2 ∷ []) slots) yes (stay-struct-at name (named 2 ∷ []) slots yes gives) OutputView (λ κs. O.the-type (namedLft 4 2 tt κs) .to) (λ κs. O.the-type (namedLft 4 2 tt κs) .to-one)
-      (goes-struct-at 𝓤 H A W 4 name (named 2 ∷ []) slots yes gives
-      (goes-gave-slice 𝓤 H A W 4 2 tt (plain (λ _. f64)), (goes-gave-slice 𝓤 H A W 4 2 tt (plain (λ _. u32)), (goes-gave-slice 𝓤 H A W 4 2 tt (plain (λ _. u32)), (goes-gave-slice 𝓤 H A W 4 2 tt (plain (λ _. u8)), (goes-gave-slice 𝓤 H A W 4 2 tt (plain (λ _. u32)), tt))))))
+      goes-declared 𝓤 H A W 4 (structAt name (named 2 ∷ []) slots) yes (stay-struct-at name (named 2 ∷ []) slots yes gives) OutputView
+      (λ κs. O.the-type (namedLft 4 2 tt κs) .to) (λ κs. O.the-type (namedLft 4 2 tt κs) .to-one)
+      (goes-struct-at 𝓤 H A W 4 name (named 2 ∷ []) slots yes gives (
+        goes-gave-slice 𝓤 H A W 4 2 tt (plain (λ _. f64)),
+        (
+          goes-gave-slice 𝓤 H A W 4 2 tt (plain (λ _. u32)),
+          (goes-gave-slice 𝓤 H A W 4 2 tt (plain (λ _. u32)), (goes-gave-slice 𝓤 H A W 4 2 tt (plain (λ _. u8)), (goes-gave-slice 𝓤 H A W 4 2 tt (plain (λ _. u32)), tt))),
+        ),
+      ))

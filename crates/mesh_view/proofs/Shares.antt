@@ -40,12 +40,17 @@ module _ {M : Type 1} (𝓤 : URA M) (H : Heap 𝓤) (A : Atoms 𝓤) (W : Given
       qed W (‵ (flft κ q) ∷ []) ∵
       use1 W (‵ (flft κ (PosShare·left q)) ⊛ ‵ (flft κ (PosShare·right q))) (W .lfts .lft-split κ q) $ split ! $
       use1 W (‵ (flft κ (PosShare·left (PosShare·left q))) ⊛ ‵ (flft κ (PosShare·right (PosShare·left q)))) (W .lfts .lft-split κ (PosShare·left q)) $ split ! $
-      use1 W (‵ (flft κ (PosShare·left (PosShare·left (PosShare·left q)))) ⊛ ‵ (flft κ (PosShare·right (PosShare·left (PosShare·left q))))) (W .lfts .lft-split κ (PosShare·left (PosShare·left q))) $
-      split ! $ use1 W (‵ (flft κ (PosShare·left (PosShare·left (PosShare·left (PosShare·left q))))) ⊛ ‵ (flft κ (PosShare·right (PosShare·left (PosShare·left (PosShare·left q)))))) (W .lfts .lft-split κ (PosShare·left (PosShare·left (PosShare·left q)))) $ split ! $ move ! (4 ∷ 3 ∷ 2 ∷ 1 ∷ 0 ∷ []) $ done !
+      use1 W (‵ (flft κ (PosShare·left (PosShare·left (PosShare·left q)))) ⊛ ‵ (flft κ (PosShare·right (PosShare·left (PosShare·left q)))))
+      (W .lfts .lft-split κ (PosShare·left (PosShare·left q))) $
+      split ! $ use1 W (‵ (flft κ (PosShare·left (PosShare·left (PosShare·left (PosShare·left q))))) ⊛ ‵
+      (flft κ (PosShare·right (PosShare·left (PosShare·left (PosShare·left q)))))) (W .lfts .lft-split κ (PosShare·left (PosShare·left (PosShare·left q))))
+      $ split ! $ move ! (4 ∷ 3 ∷ 2 ∷ 1 ∷ 0 ∷ []) $ done !
 
   pub mend : (q : Share) → ent 𝓤 (all-five q) (tok q)
   mend q =
       qed W (‵ (flft κ (s₁ q)) ∷ ‵ (flft κ (s₂ q)) ∷ ‵ (flft κ (s₃ q)) ∷ ‵ (flft κ (s₄ q)) ∷ ‵ (flft κ (s₅ q)) ∷ []) ∵
-      move ! (4 ∷ 3 ∷ 2 ∷ 1 ∷ 0 ∷ []) $ use2 W (‵ (flft κ (PosShare·left (PosShare·left (PosShare·left q))))) (W .lfts .lft-join κ (PosShare·left (PosShare·left (PosShare·left q)))) $
-      use2 W (‵ (flft κ (PosShare·left (PosShare·left q)))) (W .lfts .lft-join κ (PosShare·left (PosShare·left q))) $ use2 W (‵ (flft κ (PosShare·left q))) (W .lfts .lft-join κ (PosShare·left q)) $
+      move ! (4 ∷ 3 ∷ 2 ∷ 1 ∷ 0 ∷ []) $ use2 W (‵ (flft κ (PosShare·left (PosShare·left (PosShare·left q)))))
+      (W .lfts .lft-join κ (PosShare·left (PosShare·left (PosShare·left q)))) $
+      use2 W (‵ (flft κ (PosShare·left (PosShare·left q)))) (W .lfts .lft-join κ (PosShare·left (PosShare·left q))) $ use2 W (‵ (flft κ (PosShare·left q)))
+      (W .lfts .lft-join κ (PosShare·left q)) $
       use2 W (‵ (flft κ q)) (W .lfts .lft-join κ q) $ done !

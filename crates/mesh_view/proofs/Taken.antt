@@ -41,10 +41,12 @@ OwnOutput α o = O.the-row α .own o (O′.lowered o ∷ [])
 
 -- What their slices own, before P. What a slice owns doesn't say its lifetime's name: it may be any, ℓ 0 to ℓ 4
 abbrev pub shrs : (ℕ → Lifetime) → Lft → MeshView → Fml → Fml
-shrs ℓ κ d P = fsep (shr (ℓ 0) κ f64 (d .coords)) (fsep (shr (ℓ 1) κ u32 (d .nodes)) (fsep (shr (ℓ 2) κ u32 (d .ends)) (fsep (shr (ℓ 3) κ u8 (d .kinds)) (fsep (shr (ℓ 4) κ u32 (d .families)) P))))
+shrs ℓ κ d P = fsep (shr (ℓ 0) κ f64 (d .coords)) (fsep (shr (ℓ 1) κ u32 (d .nodes))
+    (fsep (shr (ℓ 2) κ u32 (d .ends)) (fsep (shr (ℓ 3) κ u8 (d .kinds)) (fsep (shr (ℓ 4) κ u32 (d .families)) P))))
 
 abbrev pub muts : (ℕ → Lifetime) → Lft → OutputView → Fml → Fml
-muts ℓ κ o P = fsep (mut (ℓ 0) κ f64 (o .coords)) (fsep (mut (ℓ 1) κ u32 (o .nodes)) (fsep (mut (ℓ 2) κ u32 (o .ends)) (fsep (mut (ℓ 3) κ u8 (o .kinds)) (fsep (mut (ℓ 4) κ u32 (o .families)) P))))
+muts ℓ κ o P = fsep (mut (ℓ 0) κ f64 (o .coords)) (fsep (mut (ℓ 1) κ u32 (o .nodes))
+    (fsep (mut (ℓ 2) κ u32 (o .ends)) (fsep (mut (ℓ 3) κ u8 (o .kinds)) (fsep (mut (ℓ 4) κ u32 (o .families)) P))))
 
 module _ {M : Type 1} (𝓤 : URA M) (H : Heap 𝓤) (A : Atoms 𝓤) (W : Given 𝓤 H A) where
   -- five formulas before one, and apart from it
@@ -54,13 +56,15 @@ module _ {M : Type 1} (𝓤 : URA M) (H : Heap 𝓤) (A : Atoms 𝓤) (W : Given
 
     onto : ent 𝓤 (sep 𝓤 (sem 𝓤 H A (row ftrue)) (sem 𝓤 H A P)) (sem 𝓤 H A (row P))
     onto =
-        qed W (‵ (row ftrue) ∷ ‵ P ∷ []) ∵ fsplit ! $ move ! (1 ∷ []) $ fsplit ! $ move ! (1 ∷ []) $ fsplit ! $ move ! (1 ∷ []) $ fsplit ! $ move ! (1 ∷ []) $ fsplit ! $ move ! (1 ∷ []) $ drop ! $
+        qed W (‵ (row ftrue) ∷ ‵ P ∷ []) ∵ fsplit ! $ move ! (1 ∷ []) $ fsplit ! $ move ! (1 ∷ []) $ fsplit ! $ move ! (1 ∷ []) $ fsplit ! $ move ! (1 ∷ []) $
+        fsplit ! $ move ! (1 ∷ []) $ drop ! $
         -- [F₄; F₃; F₂; F₁; F₀; P]
         move ! (0 ∷ 5 ∷ []) $ fjoin ! $ move ! (1 ∷ 0 ∷ []) $ fjoin ! $ move ! (1 ∷ 0 ∷ []) $ fjoin ! $ move ! (1 ∷ 0 ∷ []) $ fjoin ! $ move ! (1 ∷ 0 ∷ []) $ fjoin ! $ done !
 
     off : ent 𝓤 (sem 𝓤 H A (row P)) (sep 𝓤 (sem 𝓤 H A (row ftrue)) (sem 𝓤 H A P))
     off =
-        qed W (‵ (row P) ∷ []) ∵ fsplit ! $ move ! (1 ∷ []) $ fsplit ! $ move ! (1 ∷ []) $ fsplit ! $ move ! (1 ∷ []) $ fsplit ! $ move ! (1 ∷ []) $ fsplit ! $ nothing ! $ move ! (1 ∷ 0 ∷ 3 ∷ 4 ∷ 5 ∷ 6 ∷ 2 ∷ []) $
+        qed W (‵ (row P) ∷ []) ∵ fsplit ! $ move ! (1 ∷ []) $ fsplit ! $ move ! (1 ∷ []) $ fsplit ! $ move ! (1 ∷ []) $ fsplit ! $ move ! (1 ∷ []) $ fsplit ! $
+        nothing ! $ move ! (1 ∷ 0 ∷ 3 ∷ 4 ∷ 5 ∷ 6 ∷ 2 ∷ []) $
         -- [F₄; true; F₃; F₂; F₁; F₀; P]
         fjoin ! $ move ! (1 ∷ 0 ∷ []) $ fjoin ! $ move ! (1 ∷ 0 ∷ []) $ fjoin ! $ move ! (1 ∷ 0 ∷ []) $ fjoin ! $ move ! (1 ∷ 0 ∷ []) $ fjoin ! $ done !
 
@@ -85,7 +89,8 @@ module _ {M : Type 1} (𝓤 : URA M) (H : Heap 𝓤) (A : Atoms 𝓤) (W : Given
     pub view-open : (d : MeshView) → ent 𝓤 (sem 𝓤 H A (OwnView α d)) (sem 𝓤 H A (shrs ℓ (α .lft) d ftrue))
     view-open d =
         qed W (‵ (OwnView α d) ∷ []) ∵
-        use1 W (given (T′.lowered d ∷ [] ≡ T′.lowered d ∷ []) (‵ (shrs ℓ (α .lft) d ftrue))) (own-open 𝓤 H A W (T.the-type α) (T′.the-laws α) (T.the-type α .to d) (T′.lowered d)) $ learn ! (λ _. done !)
+        use1 W (given (T′.lowered d ∷ [] ≡ T′.lowered d ∷ []) (‵ (shrs ℓ (α .lft) d ftrue)))
+        (own-open 𝓤 H A W (T.the-type α) (T′.the-laws α) (T.the-type α .to d) (T′.lowered d)) $ learn ! (λ _. done !)
 
     pub output-shut : (o : OutputView) → ent 𝓤 (sem 𝓤 H A (muts ℓ (α .lft) o ftrue)) (sem 𝓤 H A (OwnOutput α o))
     output-shut o = own-shut 𝓤 H A W (O.the-type α) (O′.the-laws α) (O.the-type α .to o)
@@ -93,7 +98,8 @@ module _ {M : Type 1} (𝓤 : URA M) (H : Heap 𝓤) (A : Atoms 𝓤) (W : Given
     pub output-open : (o : OutputView) → ent 𝓤 (sem 𝓤 H A (OwnOutput α o)) (sem 𝓤 H A (muts ℓ (α .lft) o ftrue))
     output-open o =
         qed W (‵ (OwnOutput α o) ∷ []) ∵
-        use1 W (given (O′.lowered o ∷ [] ≡ O′.lowered o ∷ []) (‵ (muts ℓ (α .lft) o ftrue))) (own-open 𝓤 H A W (O.the-type α) (O′.the-laws α) (O.the-type α .to o) (O′.lowered o)) $ learn ! (λ _. done !)
+        use1 W (given (O′.lowered o ∷ [] ≡ O′.lowered o ∷ []) (‵ (muts ℓ (α .lft) o ftrue)))
+        (own-open 𝓤 H A W (O.the-type α) (O′.the-laws α) (O.the-type α .to o) (O′.lowered o)) $ learn ! (λ _. done !)
 
     -- a view is Copy
     pub view-twice : (d : MeshView) → ent 𝓤 (sem 𝓤 H A (OwnView α d)) (sep 𝓤 (sem 𝓤 H A (OwnView α d)) (sem 𝓤 H A (OwnView α d)))
@@ -106,7 +112,8 @@ module _ {M : Type 1} (𝓤 : URA M) (H : Heap 𝓤) (A : Atoms 𝓤) (W : Given
         move ! (0 ∷ 2 ∷ []) $ use2 W (‵ (shrs ℓ (α .lft) d P)) (onto-shrs ℓ (α .lft) P d) $ done !
 
     pub output-apart : (P : Fml) (o : OutputView) → ent 𝓤 (sep 𝓤 (sem 𝓤 H A (OwnOutput α o)) (sem 𝓤 H A P)) (sem 𝓤 H A (muts ℓ (α .lft) o P))
-    output-apart P o = qed W (‵ (OwnOutput α o) ∷ ‵ P ∷ []) ∵ use1 W (‵ (muts ℓ (α .lft) o ftrue)) (output-open o) $ use2 W (‵ (muts ℓ (α .lft) o P)) (onto-muts ℓ (α .lft) P o) $ done !
+    output-apart P o = qed W (‵ (OwnOutput α o) ∷ ‵ P ∷ []) ∵ use1 W (‵ (muts ℓ (α .lft) o ftrue)) (output-open o) $ use2 W (‵ (muts ℓ (α .lft) o P))
+        (onto-muts ℓ (α .lft) P o) $ done !
 
     -- the slices of a view are had twice
     pub shrs-twice : (d : MeshView) → ent 𝓤 (sem 𝓤 H A (shrs ℓ (α .lft) d ftrue)) (sep 𝓤 (sem 𝓤 H A (shrs ℓ (α .lft) d ftrue)) (sem 𝓤 H A (shrs ℓ (α .lft) d ftrue)))

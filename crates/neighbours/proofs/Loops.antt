@@ -217,7 +217,8 @@ Written w₀ cells at total base scratch h n w k start i =
     (i ≤ length cells) × (start ≡ prior cells i) × (start ≤ total) × (k ≤ start) × (length w ≡ length w₀)
     × (k ≡ length (descendingTo i (cellsIn (run w₀ at total) cells))) × Threaded h n base scratch w₀ (descendingTo i (cellsIn (run w₀ at total) cells)) w
 
-module _ (w₀ cells : List ℕ) (at total base scratch h n : ℕ) (h₁ : at + total ≤ base) (h₂ : base + 2 * total ≤ scratch) (h₃ : scratch + (h + n) ≤ length w₀) (up : Rising cells total) where
+module _ (w₀ cells : List ℕ) (at total base scratch h n : ℕ) (h₁ : at + total ≤ base) (h₂ : base + 2 * total ≤ scratch) (h₃ : scratch + (h + n) ≤ length w₀)
+    (up : Rising cells total) where
   abbrev nodes : List ℕ
   nodes = run w₀ at total
 
@@ -255,7 +256,8 @@ module _ (w₀ cells : List ℕ) (at total base scratch h n : ℕ) (h₁ : at + 
         ap₂ (λ (l : List Edge) (q : List ℕ). addedAll l (ring q)) (read-edges h n base scratch w₀ h₃ ds w (inv .6) space k (inv .5)) (cell ∙ sym (cell-is i more))
         ∙ sym (descending-more i (cellsIn nodes cells)) in
         let corners : length (ring (run nodes s c)) ≡ c =
-        ap length (ring-each (run nodes s c)) ∙ length-each (length (run nodes s c)) (side (run nodes s c)) ∙ length-run nodes s c (omega (arith, length-run w₀ at total (omega arith))) in
+        ap length (ring-each (run nodes s c)) ∙ length-each (length (run nodes s c)) (side (run nodes s c)) ∙ length-run nodes s c
+        (omega (arith, length-run w₀ at total (omega arith))) in
         let g = length-addedAll (ring (run nodes s c)) ds in
         let gl : length gs ≡ length (addedAll ds (ring (run nodes s c))) =
         ap length (descending-more i (cellsIn nodes cells)) ∙ ap (λ (q : List ℕ). length (addedAll ds (ring q))) (cell-is i more) in
@@ -271,7 +273,8 @@ module _ (w₀ cells : List ℕ) (at total base scratch h n : ℕ) (h₁ : at + 
           threaded-on h n base scratch w₀ h₃ ds w (inv .6) space gs w′ t long (omega (arith, gl, g)) (omega (arith, few, r-is, b)),
         )
 
-    pub end : length cells ≤ i → (k ≡ length (computeDescending (cellsIn (run w₀ at total) cells))) × Threaded h n base scratch w₀ (computeDescending (cellsIn (run w₀ at total) cells)) w × (k ≤ total)
+    pub end : length cells ≤ i → (k ≡ length (computeDescending (cellsIn (run w₀ at total) cells))) × Threaded h n base scratch w₀
+        (computeDescending (cellsIn (run w₀ at total) cells)) w × (k ≤ total)
     unfolding cellsOf
     end past =
         let e : i ≡ length (cellsIn nodes cells) = le-antisymm (inv .0) past ∙ sym (length-each (length cells) (cellAt (mesh [] nodes cells [] []))) in

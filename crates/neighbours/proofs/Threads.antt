@@ -112,7 +112,8 @@ module _ (h n base scratch : ℕ) (w₀ : List ℕ) (fits : scratch + (h + n) �
     ready k e = rw (read-edges k e) (t .chained)
 
     -- more edges
-    pub threaded-on : (gs : List Edge) (w′ : List ℕ) → Threaded h n base scratch w gs w′ → length w′ ≡ length w → length es ≤ length gs → base + 2 * length gs ≤ scratch → Threaded h n base scratch w₀ gs w′
+    pub threaded-on : (gs : List Edge) (w′ : List ℕ) → Threaded h n base scratch w gs w′ → length w′ ≡ length w → length es ≤ length gs
+        → base + 2 * length gs ≤ scratch → Threaded h n base scratch w₀ gs w′
     threaded-on gs w′ u long more room′ =
         let xs : List ℕ = ends es in
         let ys : List ℕ = ends gs in

@@ -35,7 +35,8 @@ module _ (on oe ok of : List ℕ) (count entries : ℕ) (q : List ℕ) (l : ℕ)
 
     pub stored : (kind family : ℕ) → t ≡ true
         → (true ≡ ltb count (room oe ok of) && leb (entries + length q) (length on)) × (on′ ≡ put on entries q)
-        × (set oe count (entries + length q) ≡ put oe count ((entries + length q) ∷ [])) × (set ok count kind ≡ put ok count (kind ∷ [])) × (set of count family ≡ put of count (family ∷ []))
+        × (set oe count (entries + length q) ≡ put oe count ((entries + length q) ∷ [])) × (set ok count kind ≡ put ok count (kind ∷ [])) ×
+        (set of count family ≡ put of count (family ∷ []))
     stored kind family y =
         let in-on : leb (entries + length q) (length on) ≡ true = sym (got .0) ∙ y in (
           sym (ap₂ _&&_ below-room in-on),
@@ -65,7 +66,8 @@ put-on w w₁ xs ys b b₁ e f h = ap₂ (λ v c. put v c ys) e f ∙ put-append
 
 module _ (kind family : ℕ) where
   -- no piece
-  pub placed-none : (count entries : ℕ) (on oe ok of : List ℕ) → PlacedBehind count entries kind family [] on oe ok of (record { code = 0; count = count; entries = entries }) on oe ok of
+  pub placed-none : (count entries : ℕ) (on oe ok of : List ℕ) → PlacedBehind count entries kind family [] on oe ok of
+      (record { code = 0; count = count; entries = entries }) on oe ok of
   unfolding firstRefusal flat stops
   placed-none count entries on oe ok of =
       record {
@@ -189,12 +191,15 @@ module _ (kind family : ℕ) where
           let c = one .counted z in
           let e = one .entered z in
           let f = fit in
-          let left : room oe₁ ok₁ of₁ - r .count ≡ room oe ok of - count - length ks = ap (λ (a : ℕ). a - r .count) room-is ∙ left-over (room oe ok of) count (r .count) (length ks) c in
-          let rest : length on₁ - r .entries ≡ length on - entries - length (flat ks) = ap (λ (a : ℕ). a - r .entries) same-on ∙ left-over (length on) entries (r .entries) (length (flat ks)) e in
+          let left : room oe₁ ok₁ of₁ - r .count ≡ room oe ok of - count - length ks = ap (λ (a : ℕ). a - r .count) room-is ∙ left-over (room oe ok of) count
+          (r .count) (length ks) c in
+          let rest : length on₁ - r .entries ≡ length on - entries - length (flat ks) = ap (λ (a : ℕ). a - r .entries) same-on ∙ left-over (length on) entries
+          (r .entries) (length (flat ks)) e in
           record {
             code = λ m p.
                 two .code m p ∙ ap₂ (λ (a b : ℕ). firstRefusal m p a b (events ls)) left rest
-                ∙ sym (behind ks (events ls) m p (room oe ok of - count) (length on - entries) (below (room oe ok of) count (length ks) hc (f .0)) (below (length on) entries (length (flat ks)) he (f .1)))
+                ∙ sym (behind ks (events ls) m p (room oe ok of - count) (length on - entries) (below (room oe ok of) count (length ks) hc (f .0))
+                (below (length on) entries (length (flat ks)) he (f .1)))
                 ∙ ap (firstRefusal m p (room oe ok of - count) (length on - entries)) (sym (map-append (λ q. piece (length q)) ks ls));
             uncounted = two .uncounted;
             counted = λ y. omega (arith, two .counted y, c, length-append ks ls);
@@ -202,7 +207,8 @@ module _ (kind family : ℕ) where
             corners = λ y. two .corners y ∙ put-on on on₁ (flat ks) (flat ls) entries (r .entries) (one .corners z) e (f .1) ∙ ap (put on entries) (sym (flat-append ks ls));
             ends = λ y.
                 two .ends y ∙ ap (λ (a : ℕ). put oe₁ (r .count) (stops a ls)) e
-                ∙ put-on oe oe₁ (stops entries ks) (stops (entries + length (flat ks)) ls) count (r .count) (one .ends z) (c ∙ ap (λ (n : ℕ). count + n) (sym (stops-length entries ks))) (rw stops-length in-oe)
+                ∙ put-on oe oe₁ (stops entries ks) (stops (entries + length (flat ks)) ls) count (r .count) (one .ends z)
+                (c ∙ ap (λ (n : ℕ). count + n) (sym (stops-length entries ks))) (rw stops-length in-oe)
                 ∙ ap (put oe count) (sym (stops-append entries ks ls));
             kinds = λ y. two .kinds y ∙ filled kind ok ok₁ ls (one .kinds z) in-ok;
             families = λ y. two .families y ∙ filled family of of₁ ls (one .families z) in-of;
@@ -219,13 +225,15 @@ unfolding passing
 kept-no f q h = rw (h, passing)
 
 module _ (kind family : ℕ) (f : List ℕ → Bool) (on oe ok of : List ℕ) (count entries : ℕ) (q : List ℕ) where
-  pub skipped : (k : Bool) → k ≡ f q → k ≡ false → PlacedBehind count entries kind family (passing f (q ∷ [])) on oe ok of (record { code = 0; count = count; entries = entries }) on oe ok of
+  pub skipped : (k : Bool) → k ≡ f q → k ≡ false → PlacedBehind count entries kind family (passing f (q ∷ [])) on oe ok of
+      (record { code = 0; count = count; entries = entries }) on oe ok of
   skipped k e h = rw (kept-no f q (sym e ∙ h)) (placed-none kind family count entries on oe ok of)
 
   module _ (k : Bool) (e : k ≡ f q) (kept : k ≡ true) (t : Bool) (on′ oe′ ok′ of′ : List ℕ)
       (got : (t ≡ ltb count (room oe ok of) && leb (entries + length q) (length on)) × (on′ ≡ cond t (put on entries q) on)
       × (oe′ ≡ cond t (put oe count ((entries + length q) ∷ [])) oe) × (ok′ ≡ cond t (put ok count (kind ∷ [])) ok) × (of′ ≡ cond t (put of count (family ∷ [])) of)) where
-    pub laid : t ≡ true → PlacedBehind count entries kind family (passing f (q ∷ [])) on oe ok of (record { code = 0; count = count + 1; entries = entries + length q }) on′ oe′ ok′ of′
+    pub laid : t ≡ true → PlacedBehind count entries kind family (passing f (q ∷ [])) on oe ok of
+        (record { code = 0; count = count + 1; entries = entries + length q }) on′ oe′ ok′ of′
     laid y =
         rw (
           kept-yes f q (sym e ∙ kept),
@@ -236,5 +244,6 @@ module _ (kind family : ℕ) (f : List ℕ → Bool) (on oe ok of : List ℕ) (c
         )
         (placed-one kind family count entries q on oe ok of (sym (got .0) ∙ y))
 
-    pub unlaid : entries ≤ length on → t ≡ false → PlacedBehind count entries kind family (passing f (q ∷ [])) on oe ok of (record { code = 12; count = 0; entries = 0 }) on′ oe′ ok′ of′
+    pub unlaid : entries ≤ length on → t ≡ false → PlacedBehind count entries kind family (passing f (q ∷ [])) on oe ok of
+        (record { code = 12; count = 0; entries = 0 }) on′ oe′ ok′ of′
     unlaid h n = rw (kept-yes f q (sym e ∙ kept)) (placed-not kind family count entries q on oe ok of h (sym (got .0) ∙ n) on′ oe′ ok′ of′)

@@ -56,7 +56,8 @@ module _ (sc : Scene) (op : ℕ) (cutter : Bool) (i : ℕ) where
   all = each (length (piecesOf sc w i)) (pieceAt sc w i)
 
   -- the corners of the pieces of cell i that the operation keeps, their kinds and families
-  pub kept-nodes : map (λ p. p .nodes) (kept sc (sideOf cutter) op i) ≡ passing (isKept op cutter (sc .coords) (netOf sc (other (sideOf cutter)) .cells)) (piecesOf sc (sideOf cutter) i)
+  pub kept-nodes : map (λ p. p .nodes) (kept sc (sideOf cutter) op i) ≡ passing (isKept op cutter (sc .coords) (netOf sc (other (sideOf cutter)) .cells))
+      (piecesOf sc (sideOf cutter) i)
   unfolding keptWith inside pieceWith
   kept-nodes =
       let ps : List (List ℕ) = piecesOf sc w i in

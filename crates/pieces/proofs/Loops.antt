@@ -33,7 +33,8 @@ module _ (f : List ℕ → Bool) (runs ends : List ℕ) (up : Rising ends (lengt
         → (p .count ≤ room oe ok of) × (p .entries ≤ length on) × (p .entries + length (take (getD ends i 0 - start) (drop start runs)) < 2 ^ 32)
     ready more h =
         let b = up i more in
-        let l : length (take (getD ends i 0 - start) (drop start runs)) ≡ getD ends i 0 - prior ends i = ap length (part-is runs ends start i (inv .1)) ∙ length-cell runs ends i (b .0) (b .1) in
+        let l : length (take (getD ends i 0 - start) (drop start runs)) ≡ getD ends i 0 - prior ends i = ap length (part-is runs ends start i (inv .1)) ∙
+        length-cell runs ends i (b .0) (b .1) in
         (inv .5, inv .4, rw l (omega (arith, h, b .0, b .1, inv .1, inv .3)))
 
     module _ (more : i < length ends) (r : Placed) (on′ oe′ ok′ of′ : List ℕ)
@@ -42,7 +43,8 @@ module _ (f : List ℕ → Bool) (runs ends : List ℕ) (up : Rising ends (lengt
       step =
           let part = part-is runs ends start i (inv .1) in
           rw (kept-more f runs ends i, ← part)
-          (placed-more kind family count entries (keptTo f runs ends i) on₀ oe₀ ok₀ of₀ p on oe ok of (inv .10) hc he (inv .2) (passing f (take (getD ends i 0 - start) (drop start runs) ∷ [])) r on′ oe′ ok′ of′ got)
+          (placed-more kind family count entries (keptTo f runs ends i) on₀ oe₀ ok₀ of₀ p on oe ok of (inv .10) hc he (inv .2)
+          (passing f (take (getD ends i 0 - start) (drop start runs) ∷ [])) r on′ oe′ ok′ of′ got)
 
       pub turn : r .code ≡ 0 → Going f runs ends count entries kind family on₀ oe₀ ok₀ of₀ on′ oe′ ok′ of′ r (getD ends i 0) (i + 1)
       turn z =

@@ -66,7 +66,8 @@ stops-at k (p ∷ ps) (suc j) h =
       omega (arith, at, ih .0),
       ih .1 ∙ ap (λ (a : ℕ). a + length (getD ps j [])) (sym at),
       omega (arith, ih .2, length-append p (flat ps)),
-      ap (λ (a : ℕ). take (length (getD ps j [])) (drop a (p ++ flat ps))) off ∙ ap (take (length (getD ps j []))) (drop-append-add p (flat ps) (start k′ (stops k′ ps) j - k′)) ∙ ih .3,
+      ap (λ (a : ℕ). take (length (getD ps j [])) (drop a (p ++ flat ps))) off ∙ ap (take (length (getD ps j [])))
+          (drop-append-add p (flat ps) (start k′ (stops k′ ps) j - k′)) ∙ ih .3,
     )
 
 cell-back : (ps : List (List ℕ)) (j : ℕ) → j < length ps → cellAt (mesh [] (flat ps) (stops 0 ps) [] []) j ≡ getD ps j []
@@ -123,7 +124,8 @@ flat-passing f q = go (f q)
     go true = omega (arith, length-append q [])
     go false = omega arith
 
-pub length-cell : (runs ends : List ℕ) (i : ℕ) → prior ends i ≤ getD ends i 0 → getD ends i 0 ≤ length runs → length (cellAt (mesh [] runs ends [] []) i) ≡ getD ends i 0 - prior ends i
+pub length-cell : (runs ends : List ℕ) (i : ℕ) → prior ends i ≤ getD ends i 0 → getD ends i 0 ≤ length runs
+    → length (cellAt (mesh [] runs ends [] []) i) ≡ getD ends i 0 - prior ends i
 unfolding cellAt
 length-cell runs ends i h k = length-run runs (prior ends i) (getD ends i 0 - prior ends i) (omega (arith, h, k))
 
@@ -138,7 +140,16 @@ module _ (f : List ℕ → Bool) (runs ends : List ℕ) (up : Rising ends (lengt
       let b = up i h in
       let s : flat (keptTo f runs ends (i + 1)) ≡ flat (keptTo f runs ends i) ++ flat (passing f (cell ∷ [])) =
       ap flat (kept-more f runs ends i) ∙ flat-append (keptTo f runs ends i) (passing f (cell ∷ [])) in
-      omega (arith, ih, b .0, ap length s, length-append (flat (keptTo f runs ends i)) (flat (passing f (cell ∷ []))), flat-passing f cell, length-cell runs ends i (b .0) (b .1), prior-more ends i)
+      omega (
+        arith,
+        ih,
+        b .0,
+        ap length s,
+        length-append (flat (keptTo f runs ends i)) (flat (passing f (cell ∷ []))),
+        flat-passing f cell,
+        length-cell runs ends i (b .0) (b .1),
+        prior-more ends i,
+      )
 
   zero-prior : prior ends 0 ≤ length runs
   unfolding prior

@@ -89,7 +89,8 @@ written-from : (o : List ℕ) (p : ℕ) (t : List ℕ) → p ≤ length o → wr
 written-from o p [] h = written-nil (page (At p) o) ∙ from-nil o p h
 written-from o p (b ∷ t) h = go (λ l. written-from (set o p b) (p + 1) t l) (ltb p (length o)) refl
   where
-    go : (p + 1 ≤ length (set o p b) → written (page (At (p + 1)) (set o p b)) t ≡ from (set o p b) (p + 1) t) → (x : Bool) → ltb p (length o) ≡ x → written (page (At p) o) (b ∷ t) ≡ from o p (b ∷ t)
+    go : (p + 1 ≤ length (set o p b) → written (page (At (p + 1)) (set o p b)) t ≡ from (set o p b) (p + 1) t) → (x : Bool) → ltb p (length o) ≡ x
+        → written (page (At p) o) (b ∷ t) ≡ from o p (b ∷ t)
     go ih true e =
         let l : p < length o = ltb-true p (length o) e in
         cons-fits o p b t l ∙ ih (rw length-set (omega arith)) ∙ from-turn o p b t l

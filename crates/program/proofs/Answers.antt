@@ -73,7 +73,8 @@ module _ (op m : ℕ) (s c : Mesh) where
       go (success e f) = let same = succeeds ours op m s c lists e f in rw same (success-few same)
 
   module _ (n code p q d : ℕ) (cs : List Float) (ns es ks fs ws : List ℕ)
-      (same : result code p q d (lentLists cs ns es ks fs ws) ≡ overlayOf op m s c (lentLists (fzeros 4096) (zeros 8192) (zeros 2048) (zeros 2048) (zeros 2048) (zeros 16384))) where
+      (same : result code p q d (lentLists cs ns es ks fs ws) ≡ overlayOf op m s c
+      (lentLists (fzeros 4096) (zeros 8192) (zeros 2048) (zeros 2048) (zeros 2048) (zeros 16384))) where
     pub nodes-fit : n ≤ 1024 → n + q ≤ 4294967295
     nodes-fit h = omega (arith, h, points-few, ap (λ (r : Result). r .points) same)
 
@@ -115,7 +116,8 @@ module _ (s : List ℕ) where
   pub read-printed : (op m n : ℕ) (f g : Counts) (sc : List Float) (sn se sk sf : List ℕ) (cc₁ : List Float) (cn ce ck cf out out₁ : List ℕ) (r : Put)
       → got (record { first = record { op = op; m = m }; subject = meshSeen f sc sn se sk sf; cutter = meshSeen g cc₁ cn ce ck cf }) [] ≡ readOf
       → 2 * f .points ≤ length sc → 2 * g .points ≤ length cc₁ → n ≡ f .points + g .points
-      → (r ≡ room (length out) (answerText (told n (overlayOf op m (lent (meshSeen f sc sn se sk sf)) (lent (meshSeen g cc₁ cn ce ck cf)) blank)))) × (out₁ ≡ laid out (answerText (told n (overlayOf op m (lent (meshSeen f sc sn se sk sf)) (lent (meshSeen g cc₁ cn ce ck cf)) blank))))
+      → (r ≡ room (length out) (answerText (told n (overlayOf op m (lent (meshSeen f sc sn se sk sf)) (lent (meshSeen g cc₁ cn ce ck cf)) blank)))) ×
+      (out₁ ≡ laid out (answerText (told n (overlayOf op m (lent (meshSeen f sc sn se sk sf)) (lent (meshSeen g cc₁ cn ce ck cf)) blank))))
       → (r ≡ room (length out) (answerTo s)) × (out₁ ≡ laid out (answerTo s))
   unfolding answered
   read-printed op m n f g sc sn se sk sf cc₁ cn ce ck cf out out₁ r e h k z (a, b) =

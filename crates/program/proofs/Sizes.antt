@@ -54,7 +54,8 @@ module _ (op m : ℕ) (s c : Mesh) where
   success-rises same z =
       let runs = map (λ (p : Piece). p .nodes) (listing op s c) in
       let fits = accepted-fits op m s c blank z .nodes in
-      let ends = ap (take (succeeded op s c blank .pieces)) ends-of ∙ take-front-of (blank .ends) (stops 0 runs) _ (stops-length 0 runs ∙ length-map (listing op s c) (λ (p : Piece). p .nodes) ∙ sym pieces-of) in
+      let ends = ap (take (succeeded op s c blank .pieces)) ends-of ∙ take-front-of (blank .ends) (stops 0 runs) _
+      (stops-length 0 runs ∙ length-map (listing op s c) (λ (p : Piece). p .nodes) ∙ sym pieces-of) in
       rw ends (stops-rise 8192 0 runs (omega (arith, fits)))
 
   rises : r .code ≡ 0 → Rising 8192 0 (take (r .pieces) (r .lists .ends))
@@ -81,7 +82,9 @@ module _ (op m : ℕ) (s c : Mesh) where
   unfolding told
   told-size n = go (eqb (r .code) 0) refl
     where
-      go : (b : Bool) → eqb (r .code) 0 ≡ b → length (answerText (cond b (overlay (bitsOf (take (2 * (n + r .points)) (r .lists .coords)) (r .lists .nodes) (take (r .pieces) (r .lists .ends)) (r .lists .kinds) (r .lists .families)) (r .pieces) (r .points) (r .doubled)) (refused (r .code)))) ≤ 233524
+      go : (b : Bool) → eqb (r .code) 0 ≡ b → length (answerText (cond b
+          (overlay (bitsOf (take (2 * (n + r .points)) (r .lists .coords)) (r .lists .nodes) (take (r .pieces) (r .lists .ends)) (r .lists .kinds)
+          (r .lists .families)) (r .pieces) (r .points) (r .doubled)) (refused (r .code)))) ≤ 233524
       go true e = overlay-size _ (r .pieces) (r .points) (r .doubled) (coords-few (2 * (n + r .points))) (ends-few (r .pieces)) (rises (eqb-true (r .code) 0 e))
       go false e = omega (arith, refused-size (r .code))
 

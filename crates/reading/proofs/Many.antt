@@ -8,7 +8,31 @@ use lib.ListN.{length, getD, set, take, drop, length-set}
 use lib.Seq.{take-suc-set, length-take-le}
 use lib.Ieee.{Float}
 use Rattle.text.specs.Text.{nodeWord, cellWord, space}
-use Rattle.text.specs.Read.{Rest, no, past, Parsed, none, got, andThen, after, wordOf, repeated, nodeOf, nodeStep, nodesOf, decimalOf, entryStep, entriesOf, Heading, Cell, Cells, cellOf, addCell, cellStep, cellsOf}
+use Rattle.text.specs.Read.{
+  Rest,
+  no,
+  past,
+  Parsed,
+  none,
+  got,
+  andThen,
+  after,
+  wordOf,
+  repeated,
+  nodeOf,
+  nodeStep,
+  nodesOf,
+  decimalOf,
+  entryStep,
+  entriesOf,
+  Heading,
+  Cell,
+  Cells,
+  cellOf,
+  addCell,
+  cellStep,
+  cellsOf,
+}
 use Rattle.text.proofs.Repeats.{repeated-stop, repeated-end, repeated-bad, repeated-step}
 
 module _ {A : Type 0} where

@@ -14,7 +14,8 @@ use Rattle.reading.specs.declared.Counts.{Counts}
 
 module _ {A : Type 0} (v : A) (w : List A) (b : ℕ) (h : b ≤ length w) where
   -- the list, of which the part from b on was lent and came back as zeros
-  pub came-back : (ys : List A) → ys ≡ replicate (length (take (length w - b) (drop b w))) v → take b w ++ (ys ++ drop (length w - b) (drop b w)) ≡ take b w ++ replicate (length w - b) v
+  pub came-back : (ys : List A) → ys ≡ replicate (length (take (length w - b) (drop b w))) v
+      → take b w ++ (ys ++ drop (length w - b) (drop b w)) ≡ take b w ++ replicate (length w - b) v
   came-back ys e =
       let l : length (drop b w) ≤ length w - b = simp length-drop (le-refl (length w - b)) in
       rw (e, take-all (length w - b) (drop b w) l, drop-of-length-le (drop b w) l, length-drop, append-nil)
@@ -41,7 +42,13 @@ module _ (c : Counts) (cs : List Float) (ns es ks fs : List ℕ) (cs′ : List F
   seen : meshSeen c cs′ ns′ es′ ks′ fs′ ≡ meshSeen c cs ns es ks fs
   seen =
       rw (e .0, e .1, e .2, e .3, e .4)
-      (rw (take-front cs (2 * c .points) (h .0) (fzeros (length cs - 2 * c .points)), take-front ns (c .entries) (h .1) (zeros (length ns - c .entries)), take-front es (c .cells) (h .2) (zeros (length es - c .cells)), take-front ks (c .cells) (h .3) (zeros (length ks - c .cells)), take-front fs (c .cells) (h .4) (zeros (length fs - c .cells))))
+      (rw (
+        take-front cs (2 * c .points) (h .0) (fzeros (length cs - 2 * c .points)),
+        take-front ns (c .entries) (h .1) (zeros (length ns - c .entries)),
+        take-front es (c .cells) (h .2) (zeros (length es - c .cells)),
+        take-front ks (c .cells) (h .3) (zeros (length ks - c .cells)),
+        take-front fs (c .cells) (h .4) (zeros (length fs - c .cells)),
+      ))
 
   rest : {a b d k f : ℕ} → length cs ≡ a → length ns ≡ b → length es ≡ d → length ks ≡ k → length fs ≡ f → MeshRest c a b d k f cs′ ns′ es′ ks′ fs′
   rest la lb ld lk lf =

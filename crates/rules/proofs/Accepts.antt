@@ -201,7 +201,8 @@ module _ (v : Setting) (op : ℕ) (s c : Mesh) where
   abbrev cut : Side → ℕ → List Event
   cut w i = ofCell (outcomeWith v sc w i) (keptWith v sc w op i)
 
-  without-over : (k : ℕ) (w : Side) (t : Bool) → (t ≡ true → (i : ℕ) → i < length (netOf sc w .cells) → Without k (cut w i)) → Without k (cond t (gathered (length (netOf sc w .cells)) (cut w)) [])
+  without-over : (k : ℕ) (w : Side) (t : Bool) → (t ≡ true → (i : ℕ) → i < length (netOf sc w .cells) → Without k (cut w i))
+      → Without k (cond t (gathered (length (netOf sc w .cells)) (cut w)) [])
   without-over k w true h = without-gathered k (length (netOf sc w .cells)) (cut w) (h refl)
   without-over k w false h = tt
 
@@ -237,8 +238,10 @@ module _ (v : Setting) (op : ℕ) (s c : Mesh) where
   all-made m l h w e i k = made-cell (outcomeWith v sc w i) (keptWith v sc w op i) (go w e k)
     where
       cells : Calm (overCells op sc theSubject (cut theSubject) ++ overCells op sc theCutter (cut theCutter))
-      cells = calm-right (replicate (length (s .coords ++ c .coords) / 2) point ++ joined ofMeeting (sc .met) ++ cond (crowded sc) (stop 9 ∷ []) []) (overCells op sc theSubject (cut theSubject) ++ overCells op sc theCutter (cut theCutter)) (calm-course m l h)
+      cells = calm-right (replicate (length (s .coords ++ c .coords) / 2) point ++ joined ofMeeting (sc .met) ++ cond (crowded sc) (stop 9 ∷ []) [])
+          (overCells op sc theSubject (cut theSubject) ++ overCells op sc theCutter (cut theCutter)) (calm-course m l h)
 
       go : (v : Side) → cuts op v ≡ true → i < length (netOf sc v .cells) → Calm (cut v i)
-      go theSubject f j = made-over theSubject (cuts op theSubject) f (calm-left (overCells op sc theSubject (cut theSubject)) (overCells op sc theCutter (cut theCutter)) cells) i j
+      go theSubject f j = made-over theSubject (cuts op theSubject) f
+          (calm-left (overCells op sc theSubject (cut theSubject)) (overCells op sc theCutter (cut theCutter)) cells) i j
       go theCutter f j = made-over theCutter (cuts op theCutter) f (calm-right (overCells op sc theSubject (cut theSubject)) (overCells op sc theCutter (cut theCutter)) cells) i j

@@ -138,7 +138,8 @@ triangles = lent (iii ∷ iii ∷ iv ∷ iii ∷ iv ∷ iv ∷ o ∷ o ∷ ii �
 abbrev lines : ℕ → Mesh
 lines k =
     let n = 42 + k in
-    lent (o ∷ o ∷ ii ∷ o ∷ i ∷ -i ∷ i ∷ quarter ∷ []) (joined {A = ℕ} (λ j. 0 ∷ 1 ∷ []) (replicate 42 0) ++ joined {A = ℕ} (λ j. 2 ∷ 3 ∷ []) (replicate k 0)) (each n (λ j. 2 * j + 2)) (replicate n 1) (replicate n 0)
+    lent (o ∷ o ∷ ii ∷ o ∷ i ∷ -i ∷ i ∷ quarter ∷ []) (joined {A = ℕ} (λ j. 0 ∷ 1 ∷ []) (replicate 42 0) ++ joined {A = ℕ} (λ j. 2 ∷ 3 ∷ []) (replicate k 0))
+    (each n (λ j. 2 * j + 2)) (replicate n 1) (replicate n 0)
 
 -- lists with 5 in each place and 2.0 for each coordinate; and all zero
 abbrev fives : ℕ → ℕ → ℕ → ℕ → ℕ → ℕ → Lists
@@ -160,7 +161,8 @@ cut-coords = square-coords ++ i ∷ -i ∷ iii ∷ -i ∷ iii ∷ iii ∷ i ∷ 
 rows : List Row
 rows =
     -- K1, with one place more in each list than its answer takes
-    overlay (case 0 9 square strip (fives 21 9 3 3 3 500) (result 0 2 2 0 (onLists (cut-coords ++ ii ∷ []) (3 ∷ 0 ∷ 8 ∷ 9 ∷ 9 ∷ 8 ∷ 1 ∷ 2 ∷ 5 ∷ []) (4 ∷ 8 ∷ 5 ∷ []) (11 ∷ 11 ∷ 5 ∷ []) (7 ∷ 7 ∷ 5 ∷ []) (replicate 500 0))))
+    overlay (case 0 9 square strip (fives 21 9 3 3 3 500) (result 0 2 2 0
+    (onLists (cut-coords ++ ii ∷ []) (3 ∷ 0 ∷ 8 ∷ 9 ∷ 9 ∷ 8 ∷ 1 ∷ 2 ∷ 5 ∷ []) (4 ∷ 8 ∷ 5 ∷ []) (11 ∷ 11 ∷ 5 ∷ []) (7 ∷ 7 ∷ 5 ∷ []) (replicate 500 0))))
     -- K2 to K7
     ∷ meeting-of (seg o o ii o) (seg i iii i -i) (2 ∷ i ∷ o ∷ [])
     ∷ meeting-of (seg o o ii o) (seg i o iii o) (3 ∷ 3 ∷ 2 ∷ [])
@@ -207,7 +209,8 @@ rows =
     -- boxes that only touch meet
     ∷ near-box (o ∷ o ∷ i ∷ i ∷ i ∷ i ∷ ii ∷ ii ∷ []) (0, 1) (2, 3) (0 ∷ [])
     -- K1 with room for it and no more; with one number, one node entry, or one place for a piece less; with a working list too short
-    ∷ overlay (case 0 2 square strip (fives 20 8 2 2 2 352) (result 0 2 2 0 (onLists cut-coords (3 ∷ 0 ∷ 8 ∷ 9 ∷ 9 ∷ 8 ∷ 1 ∷ 2 ∷ []) (4 ∷ 8 ∷ []) (11 ∷ 11 ∷ []) (7 ∷ 7 ∷ []) (replicate 352 0))))
+    ∷ overlay (case 0 2 square strip (fives 20 8 2 2 2 352) (result 0 2 2 0
+    (onLists cut-coords (3 ∷ 0 ∷ 8 ∷ 9 ∷ 9 ∷ 8 ∷ 1 ∷ 2 ∷ []) (4 ∷ 8 ∷ []) (11 ∷ 11 ∷ []) (7 ∷ 7 ∷ []) (replicate 352 0))))
     ∷ overlay (case 0 2 square strip (fives 19 8 2 2 2 352) (refused 12 (noughts 19 8 2 2 2 352)))
     ∷ overlay (case 0 2 square strip (fives 20 7 2 2 2 352) (refused 12 (noughts 20 7 2 2 2 352)))
     ∷ overlay (case 0 2 square strip (fives 20 8 1 2 2 352) (refused 12 (noughts 20 8 1 2 2 352)))
@@ -224,15 +227,19 @@ rows =
     ∷ forward-of square strip theSubject true
     ∷ forward-of square strip theCutter true
     -- K1's meshes under Union, Intersection, Difference and SymmetricDifference
-    ∷ overlay (case 1 9 square strip (fives 20 16 3 3 3 500) (result 0 3 2 0 (onLists cut-coords (3 ∷ 0 ∷ 8 ∷ 9 ∷ 9 ∷ 8 ∷ 1 ∷ 2 ∷ 7 ∷ 9 ∷ 2 ∷ 1 ∷ 8 ∷ 4 ∷ 5 ∷ 6 ∷ []) (4 ∷ 8 ∷ 16 ∷ []) (11 ∷ 11 ∷ 11 ∷ []) (7 ∷ 7 ∷ 0 ∷ []) (replicate 500 0))))
+    ∷ overlay (case 1 9 square strip (fives 20 16 3 3 3 500) (result 0 3 2 0
+    (onLists cut-coords (3 ∷ 0 ∷ 8 ∷ 9 ∷ 9 ∷ 8 ∷ 1 ∷ 2 ∷ 7 ∷ 9 ∷ 2 ∷ 1 ∷ 8 ∷ 4 ∷ 5 ∷ 6 ∷ []) (4 ∷ 8 ∷ 16 ∷ []) (11 ∷ 11 ∷ 11 ∷ []) (7 ∷ 7 ∷ 0 ∷ []) (replicate 500 0))))
     ∷ overlay (case 2 9 square strip (fives 20 4 1 1 1 500) (result 0 1 2 0 (onLists cut-coords (9 ∷ 8 ∷ 1 ∷ 2 ∷ []) (4 ∷ []) (11 ∷ []) (7 ∷ []) (replicate 500 0))))
     ∷ overlay (case 3 9 square strip (fives 20 4 1 1 1 500) (result 0 1 2 0 (onLists cut-coords (3 ∷ 0 ∷ 8 ∷ 9 ∷ []) (4 ∷ []) (11 ∷ []) (7 ∷ []) (replicate 500 0))))
-    ∷ overlay (case 4 9 square strip (fives 20 12 2 2 2 500) (result 0 2 2 0 (onLists cut-coords (3 ∷ 0 ∷ 8 ∷ 9 ∷ 7 ∷ 9 ∷ 2 ∷ 1 ∷ 8 ∷ 4 ∷ 5 ∷ 6 ∷ []) (4 ∷ 12 ∷ []) (11 ∷ 11 ∷ []) (7 ∷ 0 ∷ []) (replicate 500 0))))
+    ∷ overlay (case 4 9 square strip (fives 20 12 2 2 2 500) (result 0 2 2 0
+    (onLists cut-coords (3 ∷ 0 ∷ 8 ∷ 9 ∷ 7 ∷ 9 ∷ 2 ∷ 1 ∷ 8 ∷ 4 ∷ 5 ∷ 6 ∷ []) (4 ∷ 12 ∷ []) (11 ∷ 11 ∷ []) (7 ∷ 0 ∷ []) (replicate 500 0))))
     -- two cells, both cut; a cell copied; lines aren't made unique, but an edge is in a table once
     ∷ overlay (case 0 9 squares strip (fives 28 16 4 4 4 572) (result 0 4 4 0 (onLists
     (o ∷ o ∷ ii ∷ o ∷ iv ∷ o ∷ iv ∷ ii ∷ ii ∷ ii ∷ o ∷ ii ∷ i ∷ -i ∷ iii ∷ -i ∷ iii ∷ iii ∷ i ∷ iii ∷ i ∷ o ∷ i ∷ ii ∷ iii ∷ o ∷ iii ∷ ii ∷ [])
     (5 ∷ 0 ∷ 10 ∷ 11 ∷ 11 ∷ 10 ∷ 1 ∷ 4 ∷ 4 ∷ 1 ∷ 12 ∷ 13 ∷ 13 ∷ 12 ∷ 2 ∷ 3 ∷ []) (4 ∷ 8 ∷ 12 ∷ 16 ∷ []) (11 ∷ 11 ∷ 11 ∷ 11 ∷ []) (7 ∷ 7 ∷ 9 ∷ 9 ∷ []) (replicate 572 0))))
-    ∷ overlay (case 1 9 square away (fives 14 7 2 2 2 500) (result 0 2 0 0 (onLists (o ∷ o ∷ ii ∷ o ∷ ii ∷ ii ∷ o ∷ ii ∷ iii ∷ iii ∷ iv ∷ iii ∷ iv ∷ iv ∷ []) (0 ∷ 1 ∷ 2 ∷ 3 ∷ 4 ∷ 5 ∷ 6 ∷ []) (4 ∷ 7 ∷ []) (8 ∷ 5 ∷ []) (7 ∷ 3 ∷ []) (replicate 500 0))))
+    ∷ overlay (case 1 9 square away (fives 14 7 2 2 2 500) (result 0 2 0 0
+    (onLists (o ∷ o ∷ ii ∷ o ∷ ii ∷ ii ∷ o ∷ ii ∷ iii ∷ iii ∷ iv ∷ iii ∷ iv ∷ iv ∷ []) (0 ∷ 1 ∷ 2 ∷ 3 ∷ 4 ∷ 5 ∷ 6 ∷ []) (4 ∷ 7 ∷ []) (8 ∷ 5 ∷ [])
+    (7 ∷ 3 ∷ []) (replicate 500 0))))
     ∷ overlay (case 5 9 square twice (fives 20 8 1 1 1 500) (result 0 1 4 0 (onLists
     (square-coords ++ i ∷ -i ∷ i ∷ iii ∷ i ∷ o ∷ i ∷ o ∷ i ∷ ii ∷ i ∷ ii ∷ []) (3 ∷ 0 ∷ 6 ∷ 7 ∷ 1 ∷ 2 ∷ 8 ∷ 9 ∷ []) (8 ∷ []) (11 ∷ []) (7 ∷ []) (replicate 500 0))))
     ∷ set-to base (case 5 9 square twice (fives 20 8 1 1 1 500) (result 0 1 4 1 (onLists

@@ -65,7 +65,8 @@ entriesIn (point ∷ es) = entriesIn es
 entriesIn (piece k ∷ es) = k + entriesIn es
 entriesIn (stop r ∷ es) = entriesIn es
 
-pub goes-on : (es fs : List Event) (m p q n : ℕ) → Calm es → firstRefusal (meetingsIn es + m) (pointsIn es + p) (piecesIn es + q) (entriesIn es + n) (es ++ fs) ≡ firstRefusal m p q n fs
+pub goes-on : (es fs : List Event) (m p q n : ℕ) → Calm es → firstRefusal (meetingsIn es + m) (pointsIn es + p) (piecesIn es + q) (entriesIn es + n) (es ++ fs)
+    ≡ firstRefusal m p q n fs
 unfolding firstRefusal meetingsIn pointsIn piecesIn entriesIn
 goes-on [] fs m p q n h = rw (zero-add m, zero-add p, zero-add q, zero-add n)
 goes-on (meeting ∷ es) fs m p q n h = rw suc-add (goes-on es fs m p q n h)

@@ -46,7 +46,8 @@ module _ (u v : Setting) (op m : ℕ) (s c : Mesh) (l : Lists) where
       by x = passing (λ p. keeps op w (inside sc w p)) (each (length (outcomePieces x)) (at x))
 
   -- and so does what happens in it
-  cut-as : (w : Side) (i : ℕ) → outcomeWith u sc w i ≡ outcomeWith v sc w i → ofCell (outcomeWith u sc w i) (keptWith u sc w op i) ≡ ofCell (outcomeWith v sc w i) (keptWith v sc w op i)
+  cut-as : (w : Side) (i : ℕ) → outcomeWith u sc w i ≡ outcomeWith v sc w i
+      → ofCell (outcomeWith u sc w i) (keptWith u sc w op i) ≡ ofCell (outcomeWith v sc w i) (keptWith v sc w op i)
   cut-as w i e = ap₂ (λ (x : Outcome) (ps : List Piece). ofCell x ps) e (kept-as w i e)
 
   module _ (same : (w : Side) → cuts op w ≡ true → (i : ℕ) → i < length (netOf sc w .cells) → outcomeWith u sc w i ≡ outcomeWith v sc w i) where
@@ -133,7 +134,8 @@ until-gathered zero f g h = inl refl
 until-gathered (suc n) f g h = until-append (gathered n f) (gathered n g) (f n) (g n) (until-gathered n f g h) (h n)
 
 -- what is refused before a stop 11 is refused whatever comes in its place
-first-before : (ds bs cs : List Event) (m p q n : ℕ) → (firstRefusal m p q n (ds ++ stop 11 ∷ bs) ≡ 11 → ⊥) → firstRefusal m p q n (ds ++ cs) ≡ firstRefusal m p q n (ds ++ stop 11 ∷ bs)
+first-before : (ds bs cs : List Event) (m p q n : ℕ) → (firstRefusal m p q n (ds ++ stop 11 ∷ bs) ≡ 11 → ⊥)
+    → firstRefusal m p q n (ds ++ cs) ≡ firstRefusal m p q n (ds ++ stop 11 ∷ bs)
 unfolding firstRefusal
 first-before [] bs cs m p q n h = absurd (h refl)
 first-before (meeting ∷ ds) bs cs zero p q n h = refl

@@ -87,7 +87,12 @@ entriesOf ps = length (flat (map (λ p. p .nodes) ps))
 entries-append : (ps qs : List Piece) → entriesOf (ps ++ qs) ≡ entriesOf ps + entriesOf qs
 unfolding flat
 entries-append [] qs = omega arith
-entries-append (p ∷ ps) qs = omega (arith, entries-append ps qs, length-append (p .nodes) (flat (map (λ (q : Piece). q .nodes) (ps ++ qs))), length-append (p .nodes) (flat (map (λ (q : Piece). q .nodes) ps)))
+entries-append (p ∷ ps) qs = omega (
+  arith,
+  entries-append ps qs,
+  length-append (p .nodes) (flat (map (λ (q : Piece). q .nodes) (ps ++ qs))),
+  length-append (p .nodes) (flat (map (λ (q : Piece). q .nodes) ps)),
+)
 
 -- events that take up what pieces take
 record Takes (es : List Event) (ps : List Piece) : Type 0 where
@@ -172,7 +177,14 @@ met-points : (ms : List Met) → Pairs ms → length (addedBy ms) ≡ 2 * total 
 unfolding joined total
 met-points [] h = refl
 met-points (m ∷ ms) h =
-    omega (arith, h .0, met-points ms (h .1), length-append (m .point) (addedBy ms), points-of (length (m .point) / 2), total-append aPoint (replicate (length (m .point) / 2) point) (joined ofMeeting ms))
+    omega (
+      arith,
+      h .0,
+      met-points ms (h .1),
+      length-append (m .point) (addedBy ms),
+      points-of (length (m .point) / 2),
+      total-append aPoint (replicate (length (m .point) / 2) point) (joined ofMeeting ms),
+    )
 
 met-takes : (ms : List Met) → Takes (joined ofMeeting ms) []
 unfolding joined total flat
@@ -201,14 +213,17 @@ module _ (op : ℕ) (s c : Mesh) where
   abbrev cells : List Event
   cells = overCells op sc theSubject (cut theSubject) ++ overCells op sc theCutter (cut theCutter)
 
-  over-takes : (w : Side) (t : Bool) → let n = length (netOf sc w .cells) in Calm (cond t (gathered n (cut w)) []) → Takes (cond t (gathered n (cut w)) []) (cond t (gathered n (kept sc w op)) [])
-  over-takes w true h = takes-gathered (length (netOf sc w .cells)) (cut w) (kept sc w op) (λ i k. takes-cell (outcomeOf sc w i) (kept sc w op i) (calm-gathered (length (netOf sc w .cells)) (cut w) h i k))
+  over-takes : (w : Side) (t : Bool) → let n = length (netOf sc w .cells) in Calm (cond t (gathered n (cut w)) [])
+      → Takes (cond t (gathered n (cut w)) []) (cond t (gathered n (kept sc w op)) [])
+  over-takes w true h = takes-gathered (length (netOf sc w .cells)) (cut w) (kept sc w op)
+      (λ i k. takes-cell (outcomeOf sc w i) (kept sc w op i) (calm-gathered (length (netOf sc w .cells)) (cut w) h i k))
   over-takes w false h = takes-none
 
   before-takes : Takes before []
   before-takes =
       takes-append (replicate (length (s .coords ++ c .coords) / 2) point ++ joined ofMeeting (sc .met)) (cond (crowded sc) (stop 9 ∷ []) []) [] []
-      (takes-append (replicate (length (s .coords ++ c .coords) / 2) point) (joined ofMeeting (sc .met)) [] [] (no-pieces-of (length (s .coords ++ c .coords) / 2)) (met-takes (sc .met)))
+      (takes-append (replicate (length (s .coords ++ c .coords) / 2) point) (joined ofMeeting (sc .met)) [] []
+      (no-pieces-of (length (s .coords ++ c .coords) / 2)) (met-takes (sc .met)))
       (nine-takes (crowded sc))
 
   course-takes : Calm (course op s c) → Takes (course op s c) (listing op s c)
@@ -216,7 +231,8 @@ module _ (op : ℕ) (s c : Mesh) where
   course-takes h =
       let rest = calm-right before cells h in
       takes-append before cells [] (overCells op sc theSubject (kept sc theSubject op) ++ overCells op sc theCutter (kept sc theCutter op)) before-takes
-      (takes-append (overCells op sc theSubject (cut theSubject)) (overCells op sc theCutter (cut theCutter)) (overCells op sc theSubject (kept sc theSubject op)) (overCells op sc theCutter (kept sc theCutter op))
+      (takes-append (overCells op sc theSubject (cut theSubject)) (overCells op sc theCutter (cut theCutter))
+      (overCells op sc theSubject (kept sc theSubject op)) (overCells op sc theCutter (kept sc theCutter op))
       (over-takes theSubject (cuts op theSubject) (calm-left (overCells op sc theSubject (cut theSubject)) (overCells op sc theCutter (cut theCutter)) rest))
       (over-takes theCutter (cuts op theCutter) (calm-right (overCells op sc theSubject (cut theSubject)) (overCells op sc theCutter (cut theCutter)) rest)))
 
@@ -248,7 +264,14 @@ length-stops k (p ∷ ps) = ap suc (length-stops (k + length p) ps)
 
 cleared-lengths : (l : Lists) → SameLengths (cleared l) l
 unfolding cleared
-cleared-lengths l = record { coords = length-replicate _ _; nodes = length-replicate _ _; ends = length-replicate _ _; kinds = length-replicate _ _; families = length-replicate _ _; work = length-replicate _ _ }
+cleared-lengths l = record {
+  coords = length-replicate _ _;
+  nodes = length-replicate _ _;
+  ends = length-replicate _ _;
+  kinds = length-replicate _ _;
+  families = length-replicate _ _;
+  work = length-replicate _ _;
+}
 
 -- what an accepted overlay answers, and the room there was for it
 pub record Fits (op : ℕ) (s c : Mesh) (l : Lists) : Type 0 where
@@ -290,7 +313,8 @@ accepted-fits op m s c l h =
         sum,
         points,
         whole-points (length (s .coords)) (length (c .coords)) (total aPoint (joined ofMeeting (sceneFor op s c .met))) (total aPoint (course op s c)) (length (l .coords))
-            (entry .subject .even) (entry .cutter .even) (subst (λ (x : ℕ). x / 2 + total aPoint (joined ofMeeting (sceneFor op s c .met)) ≤ total aPoint (course op s c)) sum (course-points op s c)) (r .0),
+            (entry .subject .even) (entry .cutter .even) (subst (λ (x : ℕ). x / 2 + total aPoint (joined ofMeeting (sceneFor op s c .met)) ≤ total aPoint
+            (course op s c)) sum (course-points op s c)) (r .0),
       );
       nodes = omega (arith, r .2, takes .nodes);
       ends = omega (arith, r .1, takes .places, left);

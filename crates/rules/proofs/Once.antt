@@ -54,7 +54,8 @@ once-at : (l : List Piece) → Once l → (k k′ : ℕ) → k < length l → k�
 once-at [] h k k′ b b′ d s = absurd (omega (arith, b))
 once-at (x ∷ xs) h zero zero b b′ d s = refl
 once-at (x ∷ xs) h zero (suc k′) b b′ d s = absurd (h .0 (getD xs k′ d) (in-list xs k′ (omega (arith, b′)) d) s)
-once-at (x ∷ xs) h (suc k) zero b b′ d s = absurd (h .0 (getD xs k d) (in-list xs k (omega (arith, b)) d) (record { mesh = sym (s .mesh); cell = sym (s .cell); place = sym (s .place) }))
+once-at (x ∷ xs) h (suc k) zero b b′ d s = absurd (h .0 (getD xs k d) (in-list xs k (omega (arith, b)) d)
+    (record { mesh = sym (s .mesh); cell = sym (s .cell); place = sym (s .place) }))
 once-at (x ∷ xs) h (suc k) (suc k′) b b′ d s = ap suc (once-at xs (h .1) k k′ (omega (arith, b)) (omega (arith, b′)) d s)
 
 -- ---- a cell's pieces differ in place, those of two cells in cell, those of two meshes in mesh
@@ -74,7 +75,8 @@ module _ (sc : Scene) (op : ℕ) (w : Side) where
       (ap (λ (q : Piece). q .mesh) (r .1) ∙ known i (r .0) .0, ap (λ (q : Piece). q .cell) (r .1) ∙ known i (r .0) .1)
 
   once-each : (i n : ℕ) → Once (each n (pieceAt sc w i))
-  once-each i n = once-gathered n (λ j. pieceAt sc w i j ∷ []) (λ j. (λ q m s. List·Memᴰ·not-nil m, tt)) (λ a b h p q m k s. go a b h p q (List·Memᴰ·cases-cons m) (List·Memᴰ·cases-cons k) s)
+  once-each i n = once-gathered n (λ j. pieceAt sc w i j ∷ []) (λ j. (λ q m s. List·Memᴰ·not-nil m, tt))
+      (λ a b h p q m k s. go a b h p q (List·Memᴰ·cases-cons m) (List·Memᴰ·cases-cons k) s)
     where
       go : (a b : ℕ) → a < b → (p q : Piece) → (p ≡ pieceAt sc w i a) ⊎ List·Memᴰ p [] → (q ≡ pieceAt sc w i b) ⊎ List·Memᴰ q [] → SamePiece p q → ⊥
       go a b h p q (inr m) k s = List·Memᴰ·not-nil m
@@ -90,7 +92,8 @@ module _ (sc : Scene) (op : ℕ) (w : Side) where
   once-kept i = once-passing (λ q. keeps op w (inside sc w q)) (each (length (piecesOf sc w i)) (pieceAt sc w i)) (once-each i (length (piecesOf sc w i)))
 
   once-over : (t : Bool) → Once (cond t (gathered (length (netOf sc w .cells)) (kept sc w op)) [])
-  once-over true = once-gathered (length (netOf sc w .cells)) (kept sc w op) once-kept (λ a b h p q m k s. let z : a ≡ b = sym (of-kept a p m .1) ∙ s .cell ∙ of-kept b q k .1 in omega (arith, h, z))
+  once-over true = once-gathered (length (netOf sc w .cells)) (kept sc w op) once-kept
+      (λ a b h p q m k s. let z : a ≡ b = sym (of-kept a p m .1) ∙ s .cell ∙ of-kept b q k .1 in omega (arith, h, z))
   once-over false = tt
 
   of-over : (t : Bool) (p : Piece) → List·Memᴰ p (cond t (gathered (length (netOf sc w .cells)) (kept sc w op)) []) → p .mesh ≡ w

@@ -17,7 +17,8 @@ use Rattle.lists.proofs.Gather.{in-list}
 -- ---- one mesh's part of a listing
 
 module _ (sc : Scene) (op : ℕ) (w : Side) where
-  pieceAt-kept : (i j : ℕ) → cuts op w ≡ true → i < length (netOf sc w .cells) → j < length (piecesOf sc w i) → keeps op w (inside sc w (pieceAt sc w i j)) ≡ true → Kept sc op (pieceAt sc w i j)
+  pieceAt-kept : (i j : ℕ) → cuts op w ≡ true → i < length (netOf sc w .cells) → j < length (piecesOf sc w i)
+      → keeps op w (inside sc w (pieceAt sc w i j)) ≡ true → Kept sc op (pieceAt sc w i j)
   unfolding pieceWith
   pieceAt-kept i j c h k e = record { cut = c; cell = h; place = k; same = refl; passes = e }
 
@@ -31,12 +32,14 @@ module _ (sc : Scene) (op : ℕ) (w : Side) where
       let e = each-at (length (piecesOf sc w i)) (pieceAt sc w i) p (pass .0) in
       rw (e .2) (pieceAt-kept i (e .0) c (at .1) (e .1) (ap (λ (q : Piece). keeps op w (inside sc w q)) (sym (e .2)) ∙ pass .1))
 
-  kept-over : (t : Bool) → t ≡ true → (i j : ℕ) → i < length (netOf sc w .cells) → j < length (piecesOf sc w i) → keeps op w (inside sc w (pieceAt sc w i j)) ≡ true → List·Memᴰ (pieceAt sc w i j) (cond t (gathered (length (netOf sc w .cells)) (kept sc w op)) [])
+  kept-over : (t : Bool) → t ≡ true → (i j : ℕ) → i < length (netOf sc w .cells) → j < length (piecesOf sc w i)
+      → keeps op w (inside sc w (pieceAt sc w i j)) ≡ true → List·Memᴰ (pieceAt sc w i j) (cond t (gathered (length (netOf sc w .cells)) (kept sc w op)) [])
   unfolding keptWith
   kept-over false c i j h k e = absurd (false≢true c)
   kept-over true c i j h k e =
       in-gathered (length (netOf sc w .cells)) (kept sc w op) (pieceAt sc w i j) i h
-      (in-passing (λ q. keeps op w (inside sc w q)) (each (length (piecesOf sc w i)) (pieceAt sc w i)) (pieceAt sc w i j) (in-each (length (piecesOf sc w i)) (pieceAt sc w i) j k) e)
+      (in-passing (λ q. keeps op w (inside sc w q)) (each (length (piecesOf sc w i)) (pieceAt sc w i)) (pieceAt sc w i j)
+      (in-each (length (piecesOf sc w i)) (pieceAt sc w i) j k) e)
 
 -- ---- listed is kept, and kept is listed
 
@@ -63,9 +66,11 @@ module _ (op : ℕ) (s c : Mesh) where
 
   kept-among : (p : Piece) → Kept sc op p → Among p
   unfolding listingWith
-  kept-among p k = Memᴰ·cast (k .same) (go (p .mesh) (k .cut) (kept-over sc op (p .mesh) (cuts op (p .mesh)) (k .cut) (p .cell) (p .place) (k .cell) (k .place) (ap (λ (q : Piece). keeps op (p .mesh) (inside sc (p .mesh) q)) (sym (k .same)) ∙ k .passes)))
+  kept-among p k = Memᴰ·cast (k .same) (go (p .mesh) (k .cut) (kept-over sc op (p .mesh) (cuts op (p .mesh)) (k .cut) (p .cell) (p .place) (k .cell) (k .place)
+      (ap (λ (q : Piece). keeps op (p .mesh) (inside sc (p .mesh) q)) (sym (k .same)) ∙ k .passes)))
     where
-      go : (w : Side) → cuts op w ≡ true → List·Memᴰ (pieceAt sc (p .mesh) (p .cell) (p .place)) (overCells op sc w (kept sc w op)) → List·Memᴰ (pieceAt sc (p .mesh) (p .cell) (p .place)) (overCells op sc theSubject (kept sc theSubject op) ++ overCells op sc theCutter (kept sc theCutter op))
+      go : (w : Side) → cuts op w ≡ true → List·Memᴰ (pieceAt sc (p .mesh) (p .cell) (p .place)) (overCells op sc w (kept sc w op))
+          → List·Memᴰ (pieceAt sc (p .mesh) (p .cell) (p .place)) (overCells op sc theSubject (kept sc theSubject op) ++ overCells op sc theCutter (kept sc theCutter op))
       go theSubject c m = Memᴰ·append-left (overCells op sc theCutter (kept sc theCutter op)) m
       go theCutter c m = Memᴰ·append-right (overCells op sc theSubject (kept sc theSubject op)) m
 
@@ -111,5 +116,6 @@ module _ (s c : Mesh) where
       go false e = inr (kept-listed 3 s c p (in-op 3 (same-cut (p .mesh) (k .cut) .1) (ap not e)), λ q l f. not-in 2 (λ g. true≢false (sym g ∙ e)) q (listed-kept 2 s c q l) f)
 
   -- Imprint drops none
-  pub drops-none : (i : ℕ) → i < length (sceneOf false s c .subject .cells) → (j : ℕ) → j < length (piecesOf (sceneOf false s c) theSubject i) → Listed (pieceAt (sceneOf false s c) theSubject i j) 0 s c
+  pub drops-none : (i : ℕ) → i < length (sceneOf false s c .subject .cells) → (j : ℕ) → j < length (piecesOf (sceneOf false s c) theSubject i)
+      → Listed (pieceAt (sceneOf false s c) theSubject i j) 0 s c
   drops-none i h j k = kept-listed 0 s c (pieceAt (sceneOf false s c) theSubject i j) (pieceAt-kept (sceneOf false s c) 0 theSubject i j refl h k refl)

@@ -27,7 +27,8 @@ use Rattle.rules.specs.Forward.{forwardEdge}
 along-forward : (coords : List Float) (k : Edge) (ns : List ℕ) → all (λ n. not (byProjection (projected coords k n) (projected coords k (k .0)))) ns ≡ true
     → alongEdge coords k ns ≡ k .0 ∷ slimAfter eqb (k .0) (map (λ p. p .node) (sorted byProjection (map (projected coords k) ns)) ++ k .1 ∷ [])
 unfolding alongEdge slim
-along-forward coords k ns h = ap (λ (l : List Projected). slim eqb (map (λ p. p .node) l ++ k .1 ∷ [])) (sorted-head byProjection (projected coords k (k .0)) (projected coords k) ns h)
+along-forward coords k ns h = ap (λ (l : List Projected). slim eqb (map (λ p. p .node) l ++ k .1 ∷ []))
+    (sorted-head byProjection (projected coords k (k .0)) (projected coords k) ns h)
 
 -- turned or not, and also where both its ends are one node
 pub edge-leads : (sc : Scene) (e : Edge) → forwardEdge sc e ≡ true → Leads (e .0) (e .1) (ownDarts (laid sc e))

@@ -17,7 +17,23 @@ use Rattle.geometry.specs.Corners as Corners
 use Rattle.geometry.specs.Inside as Polygon
 use Rattle.geometry.specs.Interior.{heights, passed, climb, widest, widestIn, crossed, crossings, lowest, strictInteriorPoint}
 use Rattle.cutting.specs.Edges.{hops, ring, rings, times}
-use Rattle.cutting.specs.Cell.{dartsAlong, ownDarts, outlineDarts, nearDarts, among, repeats, isNew, newTo, innerWith, edgeSlots, table, stands, cellTableWith, copiedTable, doubled}
+use Rattle.cutting.specs.Cell.{
+  dartsAlong,
+  ownDarts,
+  outlineDarts,
+  nearDarts,
+  among,
+  repeats,
+  isNew,
+  newTo,
+  innerWith,
+  edgeSlots,
+  table,
+  stands,
+  cellTableWith,
+  copiedTable,
+  doubled,
+}
 use Rattle.cutting.specs.Walk.{slot, after, onward, arrive, cross, popped, taken, rest, go, step, run, starts, walkFrom, walkWith}
 use Rattle.cutting.specs.Outcome.{closesUp, cutOutcomeWith, flat, stops}
 use Rattle.entry.specs.Mesh.{Mesh, mesh, prior}
@@ -62,7 +78,8 @@ same (x ∷ xs) (y ∷ ys) = both (eqb x y) (same xs ys)
 unfoldable pub sameLists : Lists → Lists → Bool
 sameLists l l′ =
     both (same (map (toBits binary64) (l .coords)) (map (toBits binary64) (l′ .coords)))
-    (both (same (l .nodes) (l′ .nodes)) (both (same (l .ends) (l′ .ends)) (both (same (l .kinds) (l′ .kinds)) (both (same (l .families) (l′ .families)) (same (l .work) (l′ .work))))))
+    (both (same (l .nodes) (l′ .nodes)) (both (same (l .ends) (l′ .ends))
+    (both (same (l .kinds) (l′ .kinds)) (both (same (l .families) (l′ .families)) (same (l .work) (l′ .work))))))
 
 unfoldable pub sameResult : Result → Result → Bool
 sameResult r r′ =
@@ -70,6 +87,16 @@ sameResult r r′ =
 
 -- an overlay gives the answers of the cases
 unfoldable pub rightBy : (ℕ → ℕ → Mesh → Mesh → Lists → Result) → List Case → Bool
-unfolding both same sameLists sameResult add sub mul div neg lt le eq ofBits toBits seek first gathered all passing tally slimAfter slim joined insert sortOnto Regions.run Regions.front coord mag sign ordered angles orientation magnitude larger scale between along tolerance pointAt parameters inOrder leads ofOrder colinear near settled crossing meeting Corners.cornerAt Corners.after Corners.previous Corners.oriented Corners.term Corners.doubledTo Corners.doubled Corners.signedArea2 Corners.turned Corners.intoCcw2 Polygon.orient2d2 Polygon.clamped Polygon.orthoDist2 Polygon.settle Polygon.nearer Polygon.nearestTo Polygon.nearest Polygon.leftOf Polygon.reflex Polygon.atCorner Polygon.containsStable Polygon.inside heights passed climb widest widestIn crossed crossings lowest strictInteriorPoint hops ring rings times dartsAlong ownDarts outlineDarts nearDarts among repeats isNew newTo innerWith edgeSlots table stands cellTableWith copiedTable doubled slot after onward arrive cross popped taken rest go step run starts walkFrom walkWith closesUp cutOutcomeWith flat stops every prior endsOk coordOk coordsOk kindOk kindsOk nodesOk absent cellOk cellsOk shapeOk callOk workOk meshOf lower entryOf cellAt cellsOf usedNodes sortedIndicesFor nearestTo closestWithin weld added addedAll descendingTo subjectNet cutterNet boxTo boxesMeet boxHolds candidates metPair metAll meetingsTo meetings sceneOf collected crowded alongEdge sortedNodes dartsOf nearOf outlineOf tableWith outcomeWith kindOf someHolds pointInside pieceWith inside keptWith listingWith doubledCells courseWith firstRefusal cleared written answeredWith stateWith overlayWith
+unfolding both same sameLists sameResult add sub mul div neg lt le eq ofBits toBits seek first gathered all passing tally slimAfter slim joined insert sortOnto
+    Regions.run Regions.front coord mag sign ordered angles orientation magnitude larger scale between along tolerance pointAt parameters inOrder leads ofOrder
+    colinear near settled crossing meeting Corners.cornerAt Corners.after Corners.previous Corners.oriented Corners.term Corners.doubledTo Corners.doubled
+    Corners.signedArea2 Corners.turned Corners.intoCcw2 Polygon.orient2d2 Polygon.clamped Polygon.orthoDist2 Polygon.settle Polygon.nearer Polygon.nearestTo
+    Polygon.nearest Polygon.leftOf Polygon.reflex Polygon.atCorner Polygon.containsStable Polygon.inside heights passed climb widest widestIn crossed crossings
+    lowest strictInteriorPoint hops ring rings times dartsAlong ownDarts outlineDarts nearDarts among repeats isNew newTo innerWith edgeSlots table stands
+    cellTableWith copiedTable doubled slot after onward arrive cross popped taken rest go step run starts walkFrom walkWith closesUp cutOutcomeWith flat stops
+    every prior endsOk coordOk coordsOk kindOk kindsOk nodesOk absent cellOk cellsOk shapeOk callOk workOk meshOf lower entryOf cellAt cellsOf usedNodes
+    sortedIndicesFor nearestTo closestWithin weld added addedAll descendingTo subjectNet cutterNet boxTo boxesMeet boxHolds candidates metPair metAll
+    meetingsTo meetings sceneOf collected crowded alongEdge sortedNodes dartsOf nearOf outlineOf tableWith outcomeWith kindOf someHolds pointInside pieceWith
+    inside keptWith listingWith doubledCells courseWith firstRefusal cleared written answeredWith stateWith overlayWith
 rightBy overlay [] = true
 rightBy overlay (case op m s c l r ∷ cs) = both (sameResult (overlay op m s c l) r) (rightBy overlay cs)

@@ -13,7 +13,8 @@ use Rattle.rules.specs.SpatialIndex.{stretched, boxTo, edgeBox, candidat
 use Rattle.rules.specs.Meetings.{Met, metPair, metAll, meetingsTo}
 use Rattle.geometry.specs.declared.segment.Point.{Point}
 
-pub nearestTo-more : (k : ℕ) (coords : List Float) (ns : List ℕ) (p : Point) → nearestTo (k + 1) coords ns p ≡ nearer (distance2 p (pointAt coords (getD ns k 0))) (getD ns k 0) (nearestTo k coords ns p)
+pub nearestTo-more : (k : ℕ) (coords : List Float) (ns : List ℕ) (p : Point)
+    → nearestTo (k + 1) coords ns p ≡ nearer (distance2 p (pointAt coords (getD ns k 0))) (getD ns k 0) (nearestTo k coords ns p)
 unfolding nearestTo
 nearestTo-more k coords ns p = ap (λ (j : ℕ). nearestTo j coords ns p) (add-one k)
 
@@ -25,7 +26,8 @@ pub boxTo-more : (i : ℕ) (coords : List Float) (ns : List ℕ) → boxTo (i + 
 unfolding boxTo
 boxTo-more i coords ns = ap (λ (k : ℕ). boxTo k coords ns) (add-one i)
 
-pub meetingsTo-more : (coords : List Float) (s c : Net) (i : ℕ) → meetingsTo coords s c (i + 1) ≡ metAll coords s c i (candidates coords (c .edges) (edgeBox coords (edgeAt (s .edges) i))) (meetingsTo coords s c i)
+pub meetingsTo-more : (coords : List Float) (s c : Net) (i : ℕ) → meetingsTo coords s c (i + 1) ≡ metAll coords s c i
+    (candidates coords (c .edges) (edgeBox coords (edgeAt (s .edges) i))) (meetingsTo coords s c i)
 unfolding meetingsTo
 meetingsTo-more coords s c i = ap (λ (k : ℕ). meetingsTo coords s c k) (add-one i)
 
@@ -34,7 +36,8 @@ unfolding addedAll
 addedAll-snoc es [] f = refl
 addedAll-snoc es (g ∷ gs) f = addedAll-snoc (added es g) gs f
 
-pub metAll-snoc : (coords : List Float) (s c : Net) (i : ℕ) (js : List ℕ) (j : ℕ) (ms : List Met) → metAll coords s c i (js ++ j ∷ []) ms ≡ metPair coords s c i j (metAll coords s c i js ms)
+pub metAll-snoc : (coords : List Float) (s c : Net) (i : ℕ) (js : List ℕ) (j : ℕ) (ms : List Met)
+    → metAll coords s c i (js ++ j ∷ []) ms ≡ metPair coords s c i j (metAll coords s c i js ms)
 unfolding metAll
 metAll-snoc coords s c i [] j ms = refl
 metAll-snoc coords s c i (k ∷ ks) j ms = metAll-snoc coords s c i ks j (metPair coords s c i k ms)

@@ -45,7 +45,8 @@ module _ (coords : List Float) (s : Spot) where
 
 module _ (coords : List Float) (outline : List Edge) (ps : List (List ℕ)) where
   -- each edge is used as often as its reverse, but for the outline's darts
-  balance : ((a b : ℕ) → Closes outline ps a b) → ((a b : ℕ) → times a b outline ≤ 1) → (a b : ℕ) → times a b (rings ps) + times b a outline ≡ times b a (rings ps) + times a b outline
+  balance : ((a b : ℕ) → Closes outline ps a b) → ((a b : ℕ) → times a b outline ≤ 1) → (a b : ℕ)
+      → times a b (rings ps) + times b a outline ≡ times b a (rings ps) + times a b outline
   balance close single a b = go (decLe 1 (times a b outline)) (decLe 1 (times b a outline))
     where
       go : Dec (1 ≤ times a b outline) → Dec (1 ≤ times b a outline) → times a b (rings ps) + times b a outline ≡ times b a (rings ps) + times a b outline
@@ -60,8 +61,10 @@ module _ (coords : List Float) (outline : List Edge) (ps : List (List ℕ)) wher
       ∙ sym (winding-sum coords s outline)
 
 -- so about every point the pieces of a cell that gives no refusal wind together as often as the outline as cut, whether the cell is cut
-pub accepted-winds-up : (coords : List Float) (outline : List Edge) (near : List Laid) (ps : List (List ℕ)) → cutOutcome outline (cellTable coords outline near) ≡ pieces ps → WindsUp coords outline ps
-accepted-winds-up coords outline near ps e = windings-add coords outline ps (accepted-once outline (cellTable coords outline near) ps e) (accepted-closes-up coords outline near ps e)
+pub accepted-winds-up : (coords : List Float) (outline : List Edge) (near : List Laid) (ps : List (List ℕ))
+    → cutOutcome outline (cellTable coords outline near) ≡ pieces ps → WindsUp coords outline ps
+accepted-winds-up coords outline near ps e = windings-add coords outline ps (accepted-once outline (cellTable coords outline near) ps e)
+    (accepted-closes-up coords outline near ps e)
 
 -- or copied
 pub copy-winds-up : (coords : List Float) (cell : List ℕ) (ps : List (List ℕ)) → copiedOutcome cell ≡ pieces ps → WindsUp coords (ring cell) ps
@@ -117,7 +120,8 @@ module _ (coords : List Float) (s : Spot) where
       let none : a .0 + b .0 ≡ 0 = counted (sym (pos-+ℤ-pos (a .0) (b .0)) ∙ sym (ap₂ (λ (y z : ℤ). y +ℤ z) (a .1) (b .1)) ∙ e) in
       at (a .1 ∙ ap pos (omega arith)) (nothing ps (tail p ps h) (b .1 ∙ ap pos (omega arith))) j k
     where
-      at : windingOf coords s p ≡ pos 0 → ((i : ℕ) → i < length ps → windingOf coords s (getD ps i []) ≡ pos 0) → (j : ℕ) → j < length (p ∷ ps) → windingOf coords s (getD (p ∷ ps) j []) ≡ pos 0
+      at : windingOf coords s p ≡ pos 0 → ((i : ℕ) → i < length ps → windingOf coords s (getD ps i []) ≡ pos 0) → (j : ℕ) → j < length (p ∷ ps)
+          → windingOf coords s (getD (p ∷ ps) j []) ≡ pos 0
       at here later zero k = here
       at here later (suc i) k = later i (omega arith)
 

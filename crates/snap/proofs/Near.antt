@@ -36,7 +36,8 @@ module _ (coords : List Float) (order : List ℕ) (p : Point) (other : ℕ) wher
       ce ∙ ap₂ (λ (e : Float) (a : Nearest). closer e (getD order i 0) a) dist be
       ∙ closer-held other (distance2 p (pointAt coords (getD order i 0))) (getD order i 0) (nearestTo i coords order p) ∙ rw add-one
 
-  pub near-end : (b : Nearest) (i : ℕ) → b ≡ held other (nearestTo i coords order p) → i ≤ length order → length order ≤ i → b .node ≡ orShifted other (closestWithin coords order p)
+  pub near-end : (b : Nearest) (i : ℕ) → b ≡ held other (nearestTo i coords order p) → i ≤ length order → length order ≤ i
+      → b .node ≡ orShifted other (closestWithin coords order p)
   unfolding closestWithin
   near-end b i be l m =
       ap (λ (a : Nearest). a .node) be ∙ ap (λ (k : ℕ). orShifted other (nearestTo k coords order p .node)) (le-antisymm {n = i} {m = length order} l m)

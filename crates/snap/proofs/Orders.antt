@@ -89,8 +89,11 @@ module _ (coords : List Float) (marks : List ℕ) where
           let one : orderTo (i + 1) coords marks ≡ insert (before coords) i xs = next ∙ rw e (sortOnto-snoc (before coords) [] (places (marked marks) i) i) in
           let held : take k s ≡ xs = ap (take k) se ∙ take-front-of marks xs k (sym ke) in
           let longer : length xs ≤ length (insert (before coords) i xs) = omega (arith, length-insert (before coords) i xs) in
-          let count : r ≡ k + 1 = rw on at re in
-          (omega (arith, ap length one, length-insert (before coords) i xs), te ∙ rw on (ap₂ (λ (l m : List ℕ). front l (insert (before coords) i m)) se held ∙ front-front marks xs (insert (before coords) i xs) longer ∙ ap (front marks) (sym one)))
+          let count : r ≡ k + 1 = rw on at re in (
+            omega (arith, ap length one, length-insert (before coords) i xs),
+            te ∙ rw on (ap₂ (λ (l m : List ℕ). front l (insert (before coords) i m)) se held ∙ front-front marks xs (insert (before coords) i xs) longer ∙ ap
+                (front marks) (sym one)),
+          )
 
   pub order-end : (s : List ℕ) (k i : ℕ) → i ≤ length marks → length marks ≤ i → k ≡ length (orderTo i coords marks) → s ≡ front marks (orderTo i coords marks)
       → (k ≡ length (inOrder coords marks)) × (s ≡ front marks (inOrder coords marks))

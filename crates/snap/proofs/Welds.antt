@@ -55,7 +55,8 @@ order-below s = sorted-below (before (s .coords)) (nodeCount s) (usedNodes s) (�
 
 -- ---- so each number is that of a node of one of the meshes
 
-orShifted-below : (m other : ℕ) → other < m → (coords : List Float) (order : List ℕ) (p : Point) → Below m order → (k : ℕ) → k ≤ length order → orShifted other (nearestTo k coords order p .node) < m
+orShifted-below : (m other : ℕ) → other < m → (coords : List Float) (order : List ℕ) (p : Point) → Below m order → (k : ℕ) → k ≤ length order
+    → orShifted other (nearestTo k coords order p .node) < m
 unfolding nearestTo
 orShifted-below m other o coords order p b zero h = o
 orShifted-below m other o coords order p b (suc k) h =

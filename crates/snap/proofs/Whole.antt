@@ -28,7 +28,8 @@ use Rattle.snap.proofs.Numbers.{numberIn}
 order-is : (sc : List Float) (sn : List ℕ) (k : ℕ) → k ≡ length sc / 2 → inOrder sc (used sn k) ≡ sortedIndicesFor (mesh sc sn [] [] [])
 unfolding inOrder sortedIndicesFor usedNodes
 order-is sc sn k e =
-    ap (sorted (before sc)) (ap (places (marked (used sn k))) (length-used sn k) ∙ places-ext (marked (used sn k)) (named sn) k (λ i h. marked-used sn k i h) ∙ ap (places (named sn)) e)
+    ap (sorted (before sc)) (ap (places (marked (used sn k))) (length-used sn k) ∙ places-ext (marked (used sn k)) (named sn) k (λ i h. marked-used sn k i h) ∙
+    ap (places (named sn)) e)
 
 order-le : (sc : List Float) (sn : List ℕ) (k : ℕ) → length (inOrder sc (used sn k)) ≤ k
 unfolding inOrder
@@ -121,5 +122,6 @@ module _ (sc cc : List Float) (sn cn w₀ : List ℕ) (n k : ℕ) (fits : n + k 
         let z-is : z ≡ zeros k = ze ∙ ap zeros (length-part n k x (omega arith)) in
         let lz : length (zeros k) ≡ k = length-replicate {A = ℕ} k 0 in
         let both : length (a ++ s) ≤ length (welded ++ zeros k) = omega (arith, length-append a s, length-append welded (zeros k), la, ls) in
-        ap (mid n k x) z-is ∙ part-back x (zeros k) n k lz ∙ ap (λ (w : List ℕ). put w n (zeros k)) x-is ∙ put-front n (front w₀ (a ++ s)) welded (zeros k) lw (omega (arith, length-third))
+        ap (mid n k x) z-is ∙ part-back x (zeros k) n k lz ∙ ap (λ (w : List ℕ). put w n (zeros k)) x-is ∙ put-front n (front w₀ (a ++ s)) welded (zeros k) lw
+        (omega (arith, length-third))
         ∙ front-front w₀ (a ++ s) (welded ++ zeros k) both ∙ ap (λ (i : ℕ). front w₀ (welded ++ zeros i)) ke

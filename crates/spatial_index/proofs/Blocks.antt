@@ -51,7 +51,8 @@ module _ (coords : List Float) (xs : List ℕ) where
         go (yes h) (no l) = absurd (omega (arith, here .2 (omega arith)))
         go (no h) (yes l) =
             let e = last (omega arith) in
-            take-all (to - at) (drop at xs) (omega (arith, e, length-drop at xs)) ∙ sym (take-all 128 (drop at xs) (omega (arith, length-drop at xs))) ∙ ap (λ (i : ℕ). take 128 (drop i xs)) (here .1 l)
+            take-all (to - at) (drop at xs) (omega (arith, e, length-drop at xs)) ∙ sym (take-all 128 (drop at xs) (omega (arith, length-drop at xs))) ∙ ap
+            (λ (i : ℕ). take 128 (drop i xs)) (here .1 l)
         go (no h) (no l) =
             let e = last (omega arith) in
             let s = here .2 (omega arith) in
@@ -68,8 +69,10 @@ module _ (coords : List Float) (xs : List ℕ) where
     unfolding gathered
     blocks-none = sym (put-none w 0) ∙ front-put w []
 
-    pub blocks-turn : (v u : List Float) (k at to : ℕ) (b : Bounds) → Begins k at → to ≤ length xs → (at + 128 ≤ length xs → to ≡ at + 128) → (length xs < at + 128 → to ≡ length xs) → 4 * k + 4 ≤ length w
-        → v ≡ front w (blockBoxes coords xs k) → b ≡ boxOf coords (take (to - at) (drop at xs)) → u ≡ put v (4 * k) (fourOf b) → (length u ≡ length w) × (u ≡ front w (blockBoxes coords xs (k + 1)))
+    pub blocks-turn : (v u : List Float) (k at to : ℕ) (b : Bounds) → Begins k at → to ≤ length xs → (at + 128 ≤ length xs → to ≡ at + 128)
+        → (length xs < at + 128 → to ≡ length xs) → 4 * k + 4 ≤ length w
+        → v ≡ front w (blockBoxes coords xs k) → b ≡ boxOf coords (take (to - at) (drop at xs)) → u ≡ put v (4 * k) (fourOf b)
+        → (length u ≡ length w) × (u ≡ front w (blockBoxes coords xs (k + 1)))
     blocks-turn v u k at to b here within whole last h e be ue =
         let n = length-blocks k in
         let is : b ≡ blockBox coords xs k = be ∙ ap (boxOf coords) (block-part k at to here within whole last) in

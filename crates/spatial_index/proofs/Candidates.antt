@@ -39,7 +39,8 @@ among-next p k zero h = absurd (omega arith)
 among-next p k (suc m) h = go (p k) (λ l. among-next p (suc k) m l) h
   where
     go : (t : Bool) → (seek p (suc k) m < suc k + m → placesAmong p (suc k) m ≡ seek p (suc k) m ∷ placesAmong p (seek p (suc k) m + 1) (suc k + m - (seek p (suc k) m + 1)))
-        → let r : ℕ = elim t [ true ↦ k | false ↦ seek p (suc k) m ] in r < k + suc m → cond t (k ∷ []) [] ++ placesAmong p (suc k) m ≡ r ∷ placesAmong p (r + 1) (k + suc m - (r + 1))
+        → let r : ℕ = elim t [ true ↦ k | false ↦ seek p (suc k) m ] in r < k + suc m
+        → cond t (k ∷ []) [] ++ placesAmong p (suc k) m ≡ r ∷ placesAmong p (r + 1) (k + suc m - (r + 1))
     go true ih l =
         let one : suc k ≡ k + 1 = omega arith in
         let left : m ≡ k + suc m - (k + 1) = omega arith in

@@ -149,7 +149,8 @@ module _ (coords : List Float) (ns : List ℕ) where
   unfolding boxTo
   wider-two i =
       let a = pointAt coords (getD ns i 0) in
-      wider-both (stretched (boxTo i coords ns) a) (stretched none a) (pointAt coords (getD ns (suc i) 0)) (wider-none (suc i)) (wider-both (boxTo i coords ns) none a (wider-none i) (wider-none i))
+      wider-both (stretched (boxTo i coords ns) a) (stretched none a) (pointAt coords (getD ns (suc i) 0)) (wider-none (suc i))
+      (wider-both (boxTo i coords ns) none a (wider-none i) (wider-none i))
 
   -- the box of the first n nodes is no narrower than that of an edge between two of them, one right behind the other
   pub box-wider : (i n : ℕ) → suc (suc i) ≤ n → Wider (boxTo n coords ns) (edgeBox coords (getD ns i 0, getD ns (suc i) 0))
@@ -157,7 +158,8 @@ module _ (coords : List Float) (ns : List ℕ) where
   box-wider i zero h = absurd (omega arith)
   box-wider i (suc n) h = go (decLe (suc (suc i)) n) (λ l. box-wider i n l)
     where
-      go : Dec (suc (suc i) ≤ n) → (suc (suc i) ≤ n → Wider (boxTo n coords ns) (edgeBox coords (getD ns i 0, getD ns (suc i) 0))) → Wider (boxTo (suc n) coords ns) (edgeBox coords (getD ns i 0, getD ns (suc i) 0))
+      go : Dec (suc (suc i) ≤ n) → (suc (suc i) ≤ n → Wider (boxTo n coords ns) (edgeBox coords (getD ns i 0, getD ns (suc i) 0)))
+          → Wider (boxTo (suc n) coords ns) (edgeBox coords (getD ns i 0, getD ns (suc i) 0))
       go (yes l) ih = wider-more (boxTo n coords ns) _ (pointAt coords (getD ns n 0)) (ih l)
       go (no l) ih =
           let e : n ≡ suc i = omega arith in

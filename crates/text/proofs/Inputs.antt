@@ -8,8 +8,48 @@ use borrow.Author.Tests.{le-leb, eq-eqb}
 use lib.ListN.{length, take, drop}
 use lib.Seq.{take-length, take-all}
 use lib.Ieee.{Float}
-use Rattle.text.specs.Text.{space, close, newline, nodeWord, cellWord, meshWord, overlayWord, decimal, nodesText, cellText, cellsText, Bits, bodyText, meshText, firstText, inputText}
-use Rattle.text.specs.Read.{Rest, no, past, Parsed, none, got, andThen, after, wordOf, coordinate, nodesOf, Cells, cellsOf, Limits, Mesh, meshOf, First, firstOf, Given, inputOf, decimalOf, empty}
+use Rattle.text.specs.Text.{
+  space,
+  close,
+  newline,
+  nodeWord,
+  cellWord,
+  meshWord,
+  overlayWord,
+  decimal,
+  nodesText,
+  cellText,
+  cellsText,
+  Bits,
+  bodyText,
+  meshText,
+  firstText,
+  inputText,
+}
+use Rattle.text.specs.Read.{
+  Rest,
+  no,
+  past,
+  Parsed,
+  none,
+  got,
+  andThen,
+  after,
+  wordOf,
+  coordinate,
+  nodesOf,
+  Cells,
+  cellsOf,
+  Limits,
+  Mesh,
+  meshOf,
+  First,
+  firstOf,
+  Given,
+  inputOf,
+  decimalOf,
+  empty,
+}
 use Rattle.text.proofs.Inverse.{word-self}
 use Rattle.text.specs.Inputs.{Rises, no-cells, cell, Fine, read, Within, Input, textOf, given, Readable}
 use Rattle.text.proofs.Lines.{nodes-read, cells-read, so-far, before-stop, stop-space, stop-newline}
@@ -58,10 +98,17 @@ pub first-apart : (op m : ℕ) (t : List ℕ) → firstText op m ++ t ≡ overla
 unfolding firstText
 first-apart op m t = simp append-assoc
 
-first-line : (op m : ℕ) (t : List ℕ) → op ≤ 4294967295 → m ≤ 4294967295 → firstOf (overlayWord ++ (decimal op ++ (space ++ (decimal m ++ (newline ++ t))))) ≡ got (record { op = op; m = m }) t
+first-line : (op m : ℕ) (t : List ℕ) → op ≤ 4294967295 → m ≤ 4294967295
+    → firstOf (overlayWord ++ (decimal op ++ (space ++ (decimal m ++ (newline ++ t))))) ≡ got (record { op = op; m = m }) t
 unfolding firstOf andThen after
 first-line op m t h g =
-    rw (word-self overlayWord (decimal op ++ (space ++ (decimal m ++ (newline ++ t)))), before-stop op (space ++ (decimal m ++ (newline ++ t))) h (stop-space (decimal m ++ (newline ++ t))), word-self space (decimal m ++ (newline ++ t)), before-stop m (newline ++ t) g (stop-newline t), word-self newline t)
+    rw (
+      word-self overlayWord (decimal op ++ (space ++ (decimal m ++ (newline ++ t)))),
+      before-stop op (space ++ (decimal m ++ (newline ++ t))) h (stop-space (decimal m ++ (newline ++ t))),
+      word-self space (decimal m ++ (newline ++ t)),
+      before-stop m (newline ++ t) g (stop-newline t),
+      word-self newline t,
+    )
 
 pub first-back : (op m : ℕ) (t : List ℕ) → op ≤ 4294967295 → m ≤ 4294967295 → firstOf (firstText op m ++ t) ≡ got (record { op = op; m = m }) t
 first-back op m t h g = ap firstOf (first-apart op m t) ∙ first-line op m t h g
@@ -72,8 +119,10 @@ unfolding inputText
 input-back l k i r =
     let s = meshText (i .subject) in
     let c = meshText (i .cutter) in
-    input-read l k (firstText (i .op) (i .m) ++ (s ++ (c ++ close))) (r .bytes) (record { op = i .op; m = i .m }) (s ++ (c ++ close)) (first-back (i .op) (i .m) (s ++ (c ++ close)) (r .op) (r .m))
-    (read (i .subject)) (c ++ close) (mesh-back l (i .subject) (c ++ close) (r .subject) (r .within)) (read (i .cutter)) close (mesh-back k (i .cutter) close (r .cutter) (r .within′)) [] (word-self close []) refl
+    input-read l k (firstText (i .op) (i .m) ++ (s ++ (c ++ close))) (r .bytes) (record { op = i .op; m = i .m }) (s ++ (c ++ close))
+    (first-back (i .op) (i .m) (s ++ (c ++ close)) (r .op) (r .m))
+    (read (i .subject)) (c ++ close) (mesh-back l (i .subject) (c ++ close) (r .subject) (r .within)) (read (i .cutter)) close
+    (mesh-back k (i .cutter) close (r .cutter) (r .within′)) [] (word-self close []) refl
 
 -- two inputs of one text are the same input
 pub one-text : (l k : Limits) (i j : Input) → Readable l k i → Readable l k j → textOf i ≡ textOf j → given i ≡ given j

@@ -12,7 +12,30 @@ use lib.ListN.{length, take, drop}
 use lib.Seq.{append-snoc}
 use lib.Ieee.{Float}
 use Rattle.text.specs.Text.{space, close, newline, nodeWord, cellWord, decimalTo, decimal, glyph, hexTo, hex, nodeText, nodesText, numbersText}
-use Rattle.text.specs.Read.{Rest, no, past, Parsed, none, got, orElse, andThen, after, wordOf, digitVal, hexVal, moreOf, decimalOf, hexOf, repeated, coordinate, nodeOf, nodeStep, nodesOf, entryStep, entriesOf}
+use Rattle.text.specs.Read.{
+  Rest,
+  no,
+  past,
+  Parsed,
+  none,
+  got,
+  orElse,
+  andThen,
+  after,
+  wordOf,
+  digitVal,
+  hexVal,
+  moreOf,
+  decimalOf,
+  hexOf,
+  repeated,
+  coordinate,
+  nodeOf,
+  nodeStep,
+  nodesOf,
+  entryStep,
+  entriesOf,
+}
 use Rattle.text.proofs.Repeats.{repeated-stop}
 
 -- ---- words
@@ -53,7 +76,8 @@ unfolding decimalTo tens
 more-decimal zero n t h g = let e : n ≡ 0 = omega arith in rw e
 more-decimal (suc k) n t h g = go (λ u. more-decimal k (n / 10) u (small k n h) (omega arith)) (ltb n 10) refl
   where
-    go : ((u : List ℕ) → moreOf 0 (decimalTo k (n / 10) ++ u) ≡ moreOf (n / 10) u) → (b : Bool) → ltb n 10 ≡ b → moreOf 0 (cond b ((48 + n) ∷ []) (decimalTo k (n / 10) ++ ((48 + n % 10) ∷ [])) ++ t) ≡ moreOf n t
+    go : ((u : List ℕ) → moreOf 0 (decimalTo k (n / 10) ++ u) ≡ moreOf (n / 10) u) → (b : Bool) → ltb n 10 ≡ b
+        → moreOf 0 (cond b ((48 + n) ∷ []) (decimalTo k (n / 10) ++ ((48 + n % 10) ∷ [])) ++ t) ≡ moreOf n t
     go ih true e = from-zero n t (ltb-true n 10 e)
     go ih false e =
         let f : n / 10 * 10 + n % 10 ≡ n = omega arith in
@@ -113,7 +137,8 @@ hex-digit : (d : ℕ) → d < 16 → hexVal (glyph d) ≡ d
 unfolding hexVal glyph
 hex-digit d h = go (ltb d 10) refl
   where
-    go : (b : Bool) → ltb d 10 ≡ b → cond (ltb (cond b (48 + d) (87 + d)) 97) (digitVal (cond b (48 + d) (87 + d))) (cond (ltb (cond b (48 + d) (87 + d)) 103) (cond b (48 + d) (87 + d) - 87) 255) ≡ d
+    go : (b : Bool) → ltb d 10 ≡ b → cond (ltb (cond b (48 + d) (87 + d)) 97) (digitVal (cond b (48 + d) (87 + d)))
+        (cond (ltb (cond b (48 + d) (87 + d)) 103) (cond b (48 + d) (87 + d) - 87) 255) ≡ d
     go true e = let l : d < 10 = ltb-true d 10 e in rw (lt-ltb (48 + d) 97 (omega arith)) (digit d l)
     go false e =
         let l : 10 ≤ d = ltb-false d 10 e in

@@ -10,7 +10,36 @@ use lib.ListN.{length, take, drop, length-append, length-take, length-drop}
 use lib.Seq.{append-snoc, length-take-le, take-add}
 use lib.Ieee.{Float}
 use Rattle.text.specs.Text.{space, close, newline, nodeWord, cellWord, meshWord, overlayWord, decimal, hex, nodeText, nodesText, numbersText, cellText, cellsText}
-use Rattle.text.specs.Read.{Rest, no, past, Parsed, none, got, orElse, andThen, after, wordOf, digitVal, decimalOf, hexOf, repeated, coordinate, nodeOf, nodeStep, nodesOf, entryStep, entriesOf, Heading, headOf, Cell, Cells, cellOf, addCell, cellStep, cellsOf}
+use Rattle.text.specs.Read.{
+  Rest,
+  no,
+  past,
+  Parsed,
+  none,
+  got,
+  orElse,
+  andThen,
+  after,
+  wordOf,
+  digitVal,
+  decimalOf,
+  hexOf,
+  repeated,
+  coordinate,
+  nodeOf,
+  nodeStep,
+  nodesOf,
+  entryStep,
+  entriesOf,
+  Heading,
+  headOf,
+  Cell,
+  Cells,
+  cellOf,
+  addCell,
+  cellStep,
+  cellsOf,
+}
 use Rattle.text.specs.Inputs.{Coords, no-coords, pair, Small, no-numbers, number, Rises, no-cells, cell}
 use Rattle.text.proofs.Repeats.{repeated-stop}
 use Rattle.text.proofs.Inverse.{word-self, decimal-read, hex-read}
@@ -46,7 +75,8 @@ nodes-read k cs t no-coords l s = none-left k cs t s
 nodes-read zero cs t (pair hx hy c) l s = absurd (not-suc-le-zero l)
 nodes-read (suc k) cs t (pair {x} {y} {bs} hx hy c) l s =
     ap (repeated nodeWord nodeStep (suc k) cs) (node-apart x y bs t)
-    ∙ one nodeWord nodeStep k cs (cs ++ (coordinate x ∷ coordinate y ∷ [])) (hex x ++ (space ++ (hex y ++ (close ++ (nodesText bs ++ t))))) (nodesText bs ++ t) (node-step x y cs (nodesText bs ++ t) hx hy)
+    ∙ one nodeWord nodeStep k cs (cs ++ (coordinate x ∷ coordinate y ∷ [])) (hex x ++ (space ++ (hex y ++ (close ++ (nodesText bs ++ t))))) (nodesText bs ++ t)
+    (node-step x y cs (nodesText bs ++ t) hx hy)
     ∙ nodes-read k (cs ++ (coordinate x ∷ coordinate y ∷ [])) t c (omega arith) s
     ∙ ap (λ (l : List Float). got l t) (append-assoc cs (coordinate x ∷ coordinate y ∷ []) (map coordinate bs))
 
@@ -100,7 +130,8 @@ entries-read k ns t no-numbers l = no-more k ns t
 entries-read zero ns t (number h c) l = absurd (not-suc-le-zero l)
 entries-read (suc k) ns t (number {n} {ns = ms} h c) l =
     ap (repeated space entryStep (suc k) ns) (number-apart n ms (close ++ t))
-    ∙ one space entryStep k ns (ns ++ (n ∷ [])) (decimal n ++ (numbersText ms ++ (close ++ t))) (numbersText ms ++ (close ++ t)) (entry-step n ns (numbersText ms ++ (close ++ t)) h (stop-numbers ms t))
+    ∙ one space entryStep k ns (ns ++ (n ∷ [])) (decimal n ++ (numbersText ms ++ (close ++ t))) (numbersText ms ++ (close ++ t))
+    (entry-step n ns (numbersText ms ++ (close ++ t)) h (stop-numbers ms t))
     ∙ entries-read k (ns ++ (n ∷ [])) t c (le-of-suc-le-suc l)
     ∙ ap (λ (l : List ℕ). got l (close ++ t)) (append-assoc ns (n ∷ []) ms)
 

@@ -196,7 +196,8 @@ hex-from (suc k) i j v [] h l e = absurd (none-got e)
 hex-from {n} {u} (suc k) i j v (b ∷ t) h l e =
     go (λ g f. hex-from k i (suc j) (v * 16 + hexVal b) t (omega arith) g f)
   where
-    go : (v * 16 + hexVal b < sixteens j * 16 → hexOf k (v * 16 + hexVal b) t ≡ got n u → Digits i n (hexTo (suc j) (v * 16 + hexVal b) ++ t) u) → Digits i n (hexTo j v ++ (b ∷ t)) u
+    go : (v * 16 + hexVal b < sixteens j * 16 → hexOf k (v * 16 + hexVal b) t ≡ got n u → Digits i n (hexTo (suc j) (v * 16 + hexVal b) ++ t) u)
+        → Digits i n (hexTo j v ++ (b ∷ t)) u
     go ih =
         let c = cond-got (ltb (hexVal b) 16) _ e in
         let d : hexVal b < 16 = ltb-true (hexVal b) 16 (c .0) in

@@ -9,7 +9,28 @@ use lib.Dec.{leb, eqb}
 use lib.ListN.{length}
 use lib.Ieee.{Float}
 use Rattle.text.specs.Text.{space, newline, close, overlayWord, meshWord, nodeWord, cellWord, decimal, nodesText, cellsText, Bits, bodyText, meshText, firstText, inputText}
-use Rattle.text.specs.Read.{Parsed, none, got, wordOf, decimalOf, repeated, coordinate, nodeStep, nodesOf, cellStep, Cells, cellsOf, Limits, Mesh, meshOf, First, firstOf, Given, inputOf, empty}
+use Rattle.text.specs.Read.{
+  Parsed,
+  none,
+  got,
+  wordOf,
+  decimalOf,
+  repeated,
+  coordinate,
+  nodeStep,
+  nodesOf,
+  cellStep,
+  Cells,
+  cellsOf,
+  Limits,
+  Mesh,
+  meshOf,
+  First,
+  firstOf,
+  Given,
+  inputOf,
+  empty,
+}
 use Rattle.text.specs.Inputs.{Fine, read, Within, Input, textOf, given, Readable}
 use Rattle.text.proofs.Inputs.{mesh-apart, first-apart, input-back}
 use Rattle.text.proofs.Only.{then-got, after-got, cond-got, moved, none-got, same-value, same-rest, word-only, decimal-only, repeated-only}
@@ -22,7 +43,8 @@ record MeshOf (l : Limits) (m : Mesh) (t u : List ℕ) : Type 0 where
   mesh : read bits ≡ m
   is : t ≡ meshText bits ++ u
 
-same-mesh : (m : Bits) (cs : List Float) (cl : Cells) → cs ≡ map coordinate (m .coords) → cl .nodes ≡ m .nodes → cl .ends ≡ m .ends → cl .kinds ≡ m .kinds → cl .families ≡ m .families → read m ≡ record { coords = cs; cells = cl }
+same-mesh : (m : Bits) (cs : List Float) (cl : Cells) → cs ≡ map coordinate (m .coords) → cl .nodes ≡ m .nodes → cl .ends ≡ m .ends → cl .kinds ≡ m .kinds
+    → cl .families ≡ m .families → read m ≡ record { coords = cs; cells = cl }
 unfolding read
 same-mesh m cs cl p q r s t = rw (← p, ← q, ← r, ← s, ← t)
 
@@ -45,7 +67,9 @@ mesh-only l t e =
       mesh = same-mesh m (b .value) (c .value) (p .coords) refl (q .ends) (q .kinds) (q .families) ∙ same-value (d .second);
       is =
           word-only meshWord t (a .word)
-          ∙ ap (λ (l : List ℕ). meshWord ++ l) (p .is ∙ ap (λ (l : List ℕ). nodesText (p .bits) ++ l) (q .is ∙ ap (λ (l : List ℕ). cellsText 0 (c .value .nodes) (q .es) (q .ks) (q .fs) ++ l) (word-only close (c .rest) (d .word) ∙ ap (λ (l : List ℕ). close ++ l) (same-rest (d .second)))))
+          ∙ ap (λ (l : List ℕ). meshWord ++ l) (p .is ∙ ap (λ (l : List ℕ). nodesText (p .bits) ++ l)
+          (q .is ∙ ap (λ (l : List ℕ). cellsText 0 (c .value .nodes) (q .es) (q .ks) (q .fs) ++ l)
+          (word-only close (c .rest) (d .word) ∙ ap (λ (l : List ℕ). close ++ l) (same-rest (d .second)))))
           ∙ sym (mesh-apart m _);
     }
 
@@ -70,7 +94,9 @@ first-only t e =
       m = q .fits;
       is =
           word-only overlayWord t (a .word)
-          ∙ ap (λ (l : List ℕ). overlayWord ++ l) (p .is ∙ ap (λ (l : List ℕ). decimal (b .value) ++ l) (word-only space (b .rest) (c .word) ∙ ap (λ (l : List ℕ). space ++ l) (q .is ∙ ap (λ (l : List ℕ). decimal (d .value) ++ l) (word-only newline (d .rest) (f .word)))))
+          ∙ ap (λ (l : List ℕ). overlayWord ++ l) (p .is ∙ ap (λ (l : List ℕ). decimal (b .value) ++ l)
+          (word-only space (b .rest) (c .word) ∙ ap (λ (l : List ℕ). space ++ l)
+          (q .is ∙ ap (λ (l : List ℕ). decimal (d .value) ++ l) (word-only newline (d .rest) (f .word)))))
           ∙ sym (first-apart (b .value) (d .value) (f .rest));
     })
 
@@ -102,7 +128,9 @@ input-only l k t e =
     let x = mesh-only k (b .rest) (c .first) in
     let i : Input = record { op = a .value .op; m = a .value .m; subject = s .bits; cutter = x .bits } in
     let q : t ≡ textOf i
-    = f .is ∙ ap (λ (l : List ℕ). firstText (a .value .op) (a .value .m) ++ l) (s .is ∙ ap (λ (l : List ℕ). meshText (s .bits) ++ l) (x .is ∙ ap (λ (l : List ℕ). meshText (x .bits) ++ l) (word-only close (c .rest) (d .word) ∙ ap (λ (l : List ℕ). close ++ l) (empty-rest (d .rest) (eqb-true (length (d .rest)) 0 (n .0)))))) in
+    = f .is ∙ ap (λ (l : List ℕ). firstText (a .value .op) (a .value .m) ++ l)
+    (s .is ∙ ap (λ (l : List ℕ). meshText (s .bits) ++ l) (x .is ∙ ap (λ (l : List ℕ). meshText (x .bits) ++ l)
+    (word-only close (c .rest) (d .word) ∙ ap (λ (l : List ℕ). close ++ l) (empty-rest (d .rest) (eqb-true (length (d .rest)) 0 (n .0)))))) in
     record {
       input = i;
       readable =

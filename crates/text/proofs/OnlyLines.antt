@@ -10,10 +10,50 @@ use lib.ListN.{length, take, drop, length-append}
 use lib.Seq.{take-at, drop-at}
 use lib.Ieee.{Float}
 use Rattle.text.specs.Text.{space, close, nodeWord, cellWord, decimal, hex, nodeText, nodesText, numbersText, cellText, cellsText}
-use Rattle.text.specs.Read.{Parsed, got, andThen, after, wordOf, decimalOf, hexOf, repeated, coordinate, nodeOf, nodeStep, nodesOf, entryStep, entriesOf, Heading, headOf, Cell, Cells, cellOf, addCell, cellStep, cellsOf}
+use Rattle.text.specs.Read.{
+  Parsed,
+  got,
+  andThen,
+  after,
+  wordOf,
+  decimalOf,
+  hexOf,
+  repeated,
+  coordinate,
+  nodeOf,
+  nodeStep,
+  nodesOf,
+  entryStep,
+  entriesOf,
+  Heading,
+  headOf,
+  Cell,
+  Cells,
+  cellOf,
+  addCell,
+  cellStep,
+  cellsOf,
+}
 use Rattle.text.specs.Inputs.{Coords, no-coords, pair, Small, no-numbers, number, Rises, no-cells, cell}
 use Rattle.text.proofs.Lines.{cell-apart}
-use Rattle.text.proofs.Only.{Then, then-got, After, after-got, cond-got, moved, same-value, same-rest, word-only, decimal-only, hex-only, Turns, no-more, turn, Turned, repeated-only}
+use Rattle.text.proofs.Only.{
+  Then,
+  then-got,
+  After,
+  after-got,
+  cond-got,
+  moved,
+  same-value,
+  same-rest,
+  word-only,
+  decimal-only,
+  hex-only,
+  Turns,
+  no-more,
+  turn,
+  Turned,
+  repeated-only,
+}
 
 -- ---- node lines
 record Node (p : List Float) (t u : List ℕ) : Type 0 where
@@ -39,7 +79,8 @@ node-only t e =
       fits = x .fits;
       fits′ = y .fits;
       coords = sym (same-value (d .second));
-      is = x .is ∙ ap (λ (l : List ℕ). hex (a .value) ++ l) (word-only space (a .rest) (b .word) ∙ ap (λ (l : List ℕ). space ++ l) (y .is ∙ ap (λ (l : List ℕ). hex (c .value) ++ l) (word-only close (c .rest) (d .word) ∙ ap (λ (l : List ℕ). close ++ l) (same-rest (d .second)))));
+      is = x .is ∙ ap (λ (l : List ℕ). hex (a .value) ++ l) (word-only space (a .rest) (b .word) ∙ ap (λ (l : List ℕ). space ++ l)
+          (y .is ∙ ap (λ (l : List ℕ). hex (c .value) ++ l) (word-only close (c .rest) (d .word) ∙ ap (λ (l : List ℕ). close ++ l) (same-rest (d .second)))));
     }
 
 pub record Nodes (n : ℕ) (cs ds : List Float) (t u : List ℕ) : Type 0 where
@@ -62,7 +103,8 @@ nodes-turns {cs = cs} (turn {n = n} {a₁ = ds} {b = es} {t₁ = t₁} {t₂ = t
       bits = p .x ∷ p .y ∷ s .bits;
       fits = pair (p .fits) (p .fits′) (s .fits);
       count = omega (arith, s .count);
-      coords = s .coords ∙ ap (λ (l : List Float). l ++ map coordinate (s .bits)) (sym d ∙ ap (λ (l : List Float). cs ++ l) (p .coords)) ∙ append-assoc cs (coordinate (p .x) ∷ coordinate (p .y) ∷ []) (map coordinate (s .bits));
+      coords = s .coords ∙ ap (λ (l : List Float). l ++ map coordinate (s .bits)) (sym d ∙ ap (λ (l : List Float). cs ++ l) (p .coords)) ∙ append-assoc cs
+          (coordinate (p .x) ∷ coordinate (p .y) ∷ []) (map coordinate (s .bits));
       is = w ∙ ap (λ (l : List ℕ). nodeWord ++ l) (p .is ∙ ap (λ (l : List ℕ). hex (p .x) ++ (space ++ (hex (p .y) ++ (close ++ l)))) (v ∙ s .is)) ∙ simp append-assoc;
     }
 
@@ -139,7 +181,8 @@ cell-only room ns t e =
       fits = s .fits;
       most = omega (arith, s .count, m .most);
       nodes = s .nodes;
-      is = h .is ∙ ap (λ (l : List ℕ). decimal (a .value .kind) ++ (space ++ (decimal (a .value .family) ++ l))) (s .is ∙ ap (λ (l : List ℕ). numbersText (s .own) ++ l) (word-only close (b .rest) (c .word)));
+      is = h .is ∙ ap (λ (l : List ℕ). decimal (a .value .kind) ++ (space ++ (decimal (a .value .family) ++ l)))
+          (s .is ∙ ap (λ (l : List ℕ). numbersText (s .own) ++ l) (word-only close (b .rest) (c .word)));
     })
 
 pub record CellLines (room n : ℕ) (cs ds : Cells) (t u : List ℕ) : Type 0 where
@@ -189,8 +232,10 @@ module _ (room : ℕ) (cs : Cells) (x : Cell) {t₁ t₂ : List ℕ} (h : length
         rises = cell front back (p .kind) (p .family) (rw own (p .fits)) (s .rises);
         is =
             w
-            ∙ ap (λ (l : List ℕ). cellWord ++ l) (p .is ∙ ap (λ (l : List ℕ). decimal (x .heading .kind) ++ (space ++ (decimal (x .heading .family) ++ (numbersText (p .own) ++ (close ++ l))))) (s .is))
-            ∙ ap (λ (l : List ℕ). cellWord ++ (decimal (x .heading .kind) ++ (space ++ (decimal (x .heading .family) ++ (numbersText l ++ (close ++ (cellsText (length (x .nodes)) (ds .nodes) (s .es) (s .ks) (s .fs) ++ u))))))) (sym own)
+            ∙ ap (λ (l : List ℕ). cellWord ++ l) (p .is ∙ ap (λ (l : List ℕ). decimal (x .heading .kind) ++
+            (space ++ (decimal (x .heading .family) ++ (numbersText (p .own) ++ (close ++ l))))) (s .is))
+            ∙ ap (λ (l : List ℕ). cellWord ++ (decimal (x .heading .kind) ++
+            (space ++ (decimal (x .heading .family) ++ (numbersText l ++ (close ++ (cellsText (length (x .nodes)) (ds .nodes) (s .es) (s .ks) (s .fs) ++ u))))))) (sym own)
             ∙ sym (cell-apart (length (cs .nodes)) (length (x .nodes)) (x .heading .kind) (x .heading .family) (ds .nodes) (s .es) (s .ks) (s .fs) u);
       }
 

@@ -5,8 +5,59 @@ use mathlib.Core.List.{List, [], _∷_, _++_}
 use Prim.Native.Nat.{ℕ}
 use Prim.Native.String.{String}
 use lib.Dec.{T}
-use Rattle.text.specs.Text.{bytes, Bits, overlay, answerText, bodyText, cellText, cellsText, countText, decimal, decimalTo, firstText, glyph, hex, hexTo, inputText, listingText, meshText, nodeText, nodesText, numbersText}
-use Rattle.text.specs.Read.{Parsed, none, got, Limits, atMost, limits, inputOf, firstOf, meshOf, nodesOf, cellsOf, repeated, nodeStep, nodeOf, entryStep, entriesOf, headOf, cellOf, addCell, cellStep, decimalOf, moreOf, hexOf, digitVal, hexVal, wordOf, after, andThen, orElse}
+use Rattle.text.specs.Text.{
+  bytes,
+  Bits,
+  overlay,
+  answerText,
+  bodyText,
+  cellText,
+  cellsText,
+  countText,
+  decimal,
+  decimalTo,
+  firstText,
+  glyph,
+  hex,
+  hexTo,
+  inputText,
+  listingText,
+  meshText,
+  nodeText,
+  nodesText,
+  numbersText,
+}
+use Rattle.text.specs.Read.{
+  Parsed,
+  none,
+  got,
+  Limits,
+  atMost,
+  limits,
+  inputOf,
+  firstOf,
+  meshOf,
+  nodesOf,
+  cellsOf,
+  repeated,
+  nodeStep,
+  nodeOf,
+  entryStep,
+  entriesOf,
+  headOf,
+  cellOf,
+  addCell,
+  cellStep,
+  decimalOf,
+  moreOf,
+  hexOf,
+  digitVal,
+  hexVal,
+  wordOf,
+  after,
+  andThen,
+  orElse,
+}
 use Rattle.text.specs.Inputs.{Input, textOf, given, read}
 
 abbrev texts : List String → List ℕ
@@ -15,11 +66,25 @@ texts (l ∷ ls) = bytes l ++ texts ls
 
 abbrev k1Subject : Bits
 k1Subject =
-    record { coords = 0x0000000000000000 ∷ 0x0000000000000000 ∷ 0x4000000000000000 ∷ 0x0000000000000000 ∷ 0x4000000000000000 ∷ 0x4000000000000000 ∷ 0x0000000000000000 ∷ 0x4000000000000000 ∷ []; nodes = 0 ∷ 1 ∷ 2 ∷ 3 ∷ []; ends = 4 ∷ []; kinds = 8 ∷ []; families = 7 ∷ [] }
+    record {
+      coords = 0x0000000000000000 ∷ 0x0000000000000000 ∷ 0x4000000000000000 ∷ 0x0000000000000000 ∷ 0x4000000000000000 ∷ 0x4000000000000000 ∷
+          0x0000000000000000 ∷ 0x4000000000000000 ∷ [];
+      nodes = 0 ∷ 1 ∷ 2 ∷ 3 ∷ [];
+      ends = 4 ∷ [];
+      kinds = 8 ∷ [];
+      families = 7 ∷ [];
+    }
 
 abbrev k1Cutter : Bits
 k1Cutter =
-    record { coords = 0x3ff0000000000000 ∷ 0xbff0000000000000 ∷ 0x4008000000000000 ∷ 0xbff0000000000000 ∷ 0x4008000000000000 ∷ 0x4008000000000000 ∷ 0x3ff0000000000000 ∷ 0x4008000000000000 ∷ []; nodes = 0 ∷ 1 ∷ 2 ∷ 3 ∷ []; ends = 4 ∷ []; kinds = 11 ∷ []; families = 0 ∷ [] }
+    record {
+      coords = 0x3ff0000000000000 ∷ 0xbff0000000000000 ∷ 0x4008000000000000 ∷ 0xbff0000000000000 ∷ 0x4008000000000000 ∷ 0x4008000000000000 ∷
+          0x3ff0000000000000 ∷ 0x4008000000000000 ∷ [];
+      nodes = 0 ∷ 1 ∷ 2 ∷ 3 ∷ [];
+      ends = 4 ∷ [];
+      kinds = 11 ∷ [];
+      families = 0 ∷ [];
+    }
 
 abbrev k1 : Input
 k1 = record { op = 0; m = 9; subject = k1Subject; cutter = k1Cutter }
@@ -58,12 +123,21 @@ unfolding inputText firstText meshText bodyText nodesText nodeText hex hexTo gly
 k1-text = refl
 
 k1-read : inputOf most most k1Text ≡ got (given k1) []
-unfolding inputOf firstOf meshOf nodesOf cellsOf repeated nodeStep nodeOf entryStep entriesOf headOf cellOf addCell cellStep decimalOf moreOf hexOf digitVal hexVal wordOf after andThen orElse read
+unfolding inputOf firstOf meshOf nodesOf cellsOf repeated nodeStep nodeOf entryStep entriesOf headOf cellOf addCell cellStep decimalOf moreOf hexOf digitVal
+    hexVal wordOf after andThen orElse read
 k1-read = refl
 
 abbrev k1Answer : Bits
 k1Answer =
-    record { coords = 0x0000000000000000 ∷ 0x0000000000000000 ∷ 0x4000000000000000 ∷ 0x0000000000000000 ∷ 0x4000000000000000 ∷ 0x4000000000000000 ∷ 0x0000000000000000 ∷ 0x4000000000000000 ∷ 0x3ff0000000000000 ∷ 0xbff0000000000000 ∷ 0x4008000000000000 ∷ 0xbff0000000000000 ∷ 0x4008000000000000 ∷ 0x4008000000000000 ∷ 0x3ff0000000000000 ∷ 0x4008000000000000 ∷ 0x3ff0000000000000 ∷ 0x0000000000000000 ∷ 0x3ff0000000000000 ∷ 0x4000000000000000 ∷ []; nodes = 3 ∷ 0 ∷ 8 ∷ 9 ∷ 9 ∷ 8 ∷ 1 ∷ 2 ∷ []; ends = 4 ∷ 8 ∷ []; kinds = 11 ∷ 11 ∷ []; families = 7 ∷ 7 ∷ [] }
+    record {
+      coords = 0x0000000000000000 ∷ 0x0000000000000000 ∷ 0x4000000000000000 ∷ 0x0000000000000000 ∷ 0x4000000000000000 ∷ 0x4000000000000000 ∷
+          0x0000000000000000 ∷ 0x4000000000000000 ∷ 0x3ff0000000000000 ∷ 0xbff0000000000000 ∷ 0x4008000000000000 ∷ 0xbff0000000000000 ∷ 0x4008000000000000 ∷
+          0x4008000000000000 ∷ 0x3ff0000000000000 ∷ 0x4008000000000000 ∷ 0x3ff0000000000000 ∷ 0x0000000000000000 ∷ 0x3ff0000000000000 ∷ 0x4000000000000000 ∷ [];
+      nodes = 3 ∷ 0 ∷ 8 ∷ 9 ∷ 9 ∷ 8 ∷ 1 ∷ 2 ∷ [];
+      ends = 4 ∷ 8 ∷ [];
+      kinds = 11 ∷ 11 ∷ [];
+      families = 7 ∷ 7 ∷ [];
+    }
 
 k1-answer : answerText (overlay k1Answer 2 2 0) ≡ texts
     ("(overlay\n" ∷
@@ -100,7 +174,8 @@ read-samples : T (every (λ s. isRead (bytes s))
     "(overlay 0 9\n(mesh\n(node 7ff8000000000000 fff0000000000001)\n(cell 8 7 0 1)\n)\n(mesh\n)\n)\n" ∷
     "(overlay 5 1\n(mesh\n)\n(mesh\n)\n)\n" ∷
     []))
-unfolding inputOf firstOf meshOf nodesOf cellsOf repeated nodeStep nodeOf entryStep entriesOf headOf cellOf addCell cellStep decimalOf moreOf hexOf digitVal hexVal wordOf after andThen orElse
+unfolding inputOf firstOf meshOf nodesOf cellsOf repeated nodeStep nodeOf entryStep entriesOf headOf cellOf addCell cellStep decimalOf moreOf hexOf digitVal
+    hexVal wordOf after andThen orElse
 read-samples = tt
 
 unread-samples : T (every (λ s. not (isRead (bytes s)))
@@ -127,5 +202,6 @@ unread-samples : T (every (λ s. not (isRead (bytes s)))
     "(overlay 0 9\n(mesh\n(node 0000000000000000 000000000000000a)\n(cell 8 7 0 1)\n)\n)\n" ∷
     "" ∷
     []))
-unfolding inputOf firstOf meshOf nodesOf cellsOf repeated nodeStep nodeOf entryStep entriesOf headOf cellOf addCell cellStep decimalOf moreOf hexOf digitVal hexVal wordOf after andThen orElse
+unfolding inputOf firstOf meshOf nodesOf cellsOf repeated nodeStep nodeOf entryStep entriesOf headOf cellOf addCell cellStep decimalOf moreOf hexOf digitVal
+    hexVal wordOf after andThen orElse
 unread-samples = tt

@@ -7,7 +7,35 @@ use native.Mathlib.Omega.{arith}
 use native.Mathlib.Nat.{min-le-left, le-trans}
 use lib.Dec.{ltb}
 use lib.ListN.{length, take, drop, length-append, length-take}
-use Rattle.text.specs.Text.{space, close, nodeWord, cellWord, listingWord, countWord, refusedWord, decimalTo, decimal, glyph, hexTo, hex, nodeText, nodesText, numbersText, cellText, cellsText, Bits, bodyText, countText, listingText, refusedText, Answer, unread, refused, overlay, answerText}
+use Rattle.text.specs.Text.{
+  space,
+  close,
+  nodeWord,
+  cellWord,
+  listingWord,
+  countWord,
+  refusedWord,
+  decimalTo,
+  decimal,
+  glyph,
+  hexTo,
+  hex,
+  nodeText,
+  nodesText,
+  numbersText,
+  cellText,
+  cellsText,
+  Bits,
+  bodyText,
+  countText,
+  listingText,
+  refusedText,
+  Answer,
+  unread,
+  refused,
+  overlay,
+  answerText,
+}
 
 decimalTo-size : (k n : ℕ) → length (decimalTo k n) ≤ k
 unfolding decimalTo

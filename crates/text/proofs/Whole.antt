@@ -6,7 +6,30 @@ use borrow.Author.Tests.{lt-ltb, le-ltb, le-leb, lt-leb, eq-eqb, ne-eqb}
 use lib.ListN.{length, take, drop}
 use lib.Ieee.{Float}
 use Rattle.text.specs.Text.{meshWord, close}
-use Rattle.text.specs.Read.{Rest, no, past, Parsed, none, got, andThen, after, wordOf, nodesOf, cellsOf, meshOf, Cells, Limits, atMost, limits, Mesh, First, Given, firstOf, inputOf, empty}
+use Rattle.text.specs.Read.{
+  Rest,
+  no,
+  past,
+  Parsed,
+  none,
+  got,
+  andThen,
+  after,
+  wordOf,
+  nodesOf,
+  cellsOf,
+  meshOf,
+  Cells,
+  Limits,
+  atMost,
+  limits,
+  Mesh,
+  First,
+  Given,
+  firstOf,
+  inputOf,
+  empty,
+}
 
 pub mesh-read : (l : Limits) (t t₁ t₂ t₃ t₄ : List ℕ) (cs : List Float) (cl : Cells) → wordOf meshWord t ≡ past t₁ → nodesOf (l .nodes) [] t₁ ≡ got cs t₂
     → cellsOf (l .entries) (l .cells) empty t₂ ≡ got cl t₃ → wordOf close t₃ ≡ past t₄ → meshOf l t ≡ got (record { coords = cs; cells = cl }) t₄

@@ -20,17 +20,14 @@ sorted-nodes-of-add-near-edge c = c .before .before .before .before .before .bef
 abbrev add-near-edge-at-returns : tie.After-slice-known6 → tie.After-add-near-edge
 add-near-edge-at-returns c = c .before .before .before .before .before .before
 
--- src/lib.rt:133:42
 array-share-prefix-nodes : tie.Need-array-share-prefix-nodes
 array-share-prefix-nodes c = along-fits (c .before .sorted-nodes .result) _ (c .before .sorted-nodes .ensures)
 
--- src/lib.rt:133:42
 slice-aggregate-add-near-edge : tie.Need-slice-aggregate-add-near-edge
 slice-aggregate-add-near-edge c =
     let at-sorted-nodes = sorted-nodes-at-slice-aggregate-add-near-edge c in
     sym (length-take-le _ _ (along-fits (at-sorted-nodes .sorted-nodes .result) _ (at-sorted-nodes .sorted-nodes .ensures)))
 
--- src/lib.rt:114:1
 returns : tie.Need-returns
 returns c =
     let at-sorted-nodes = sorted-nodes-of-add-near-edge (add-near-edge-at-returns c) in

@@ -21,17 +21,14 @@ sorted-nodes-of-add-own-edge c = c .before .before .before .before .before .befo
 abbrev add-own-edge-at-returns : tie.After-slice-known8 → tie.After-add-own-edge
 add-own-edge-at-returns c = c .before .before .before .before .before .before .before .before
 
--- src/lib.rt:80:32
 array-share-prefix-nodes : tie.Need-array-share-prefix-nodes
 array-share-prefix-nodes c = along-fits (c .before .sorted-nodes .result) _ (c .before .sorted-nodes .ensures)
 
--- src/lib.rt:80:32
 slice-aggregate-add-own-edge : tie.Need-slice-aggregate-add-own-edge
 slice-aggregate-add-own-edge c =
     let at-sorted-nodes = sorted-nodes-at-slice-aggregate-add-own-edge c in
     sym (length-take-le _ _ (along-fits (at-sorted-nodes .sorted-nodes .result) _ (at-sorted-nodes .sorted-nodes .ensures)))
 
--- src/lib.rt:60:1
 returns : tie.Need-returns
 returns c =
     let at-sorted-nodes = sorted-nodes-of-add-own-edge (add-own-edge-at-returns c) in

@@ -49,11 +49,9 @@ add-near-at-returns c = c .before .before .before .before .before .before .befor
 abbrev add-near-at-loop-less : tie.After-in-bounds2 Inv-loop μ-loop → tie.After-add-near Inv-loop μ-loop
 add-near-at-loop-less c = c .before .before .before .before .before .before .before .before
 
--- src/lib.rt:157:9
 in-bounds-requires : tie.Need-in-bounds-requires Inv-loop μ-loop
 in-bounds-requires c κs = entry-at-in-bounds-requires c .pre .1
 
--- src/lib.rt:158:5
 loop-holds : tie.Need-loop-holds Inv-loop μ-loop
 loop-holds c =
     let at-entry = entry-at-loop-holds c in
@@ -61,7 +59,6 @@ loop-holds c =
     near-start (a .coords .now) (pairs (a .subject .now)) (pairs (a .cutter .now)) (a .met .now) (a .near .now) (a .b) (a .first) (pairs (a .outline .now))
     (a .src .now) (a .dst .now) (a .marks .now) (a .n) (c .in-bounds .result) (at-entry .pre .2) (at-entry .pre .6) (c .in-bounds .ensures)
 
--- src/lib.rt:161:9
 add-near-requires : tie.Need-add-near-requires Inv-loop μ-loop
 add-near-requires c κs =
     let at-loop = loop-of-in-loop (in-loop-at-add-near-requires c) in
@@ -78,7 +75,6 @@ add-near-requires c κs =
       omega (arith, l .inv .same-marks, at-entry .pre .5),
     )
 
--- src/lib.rt:163:13
 returns : tie.Need-returns Inv-loop μ-loop
 returns c =
     let at-in-loop = in-loop-of-add-near (add-near-at-returns c) in
@@ -90,7 +86,6 @@ returns c =
     (a .src .now) (a .dst .now) (a .marks .now) (l .src) (l .dst) (l .marks) (l .m) (l .j) (l .inv) (at-in-loop .loop-test .taken) (e .result)
     (e .last .1 .1 .1 .1 .1 .1 .1 .0) (e .last .1 .1 .1 .1 .1 .1 .1 .1 .0) (e .last .1 .1 .1 .1 .1 .1 .1 .1 .1 .0) (e .ensures) (c .if1 .taken)
 
--- src/lib.rt:165:40
 add-in-bounds : tie.Need-add-in-bounds Inv-loop μ-loop
 add-in-bounds c =
     let at-in-loop = in-loop-of-add-near (add-near-at-add-in-bounds c) in
@@ -98,13 +93,11 @@ add-in-bounds c =
     let near-good = at-entry .good .1 .1 .1 .1 .1 .0 in
     omega (arith, at-in-loop .loop-test .taken, near-good)
 
--- src/lib.rt:165:9
 in-bounds-requires-2 : tie.Need-in-bounds-requires-2 Inv-loop μ-loop
 in-bounds-requires-2 c κs =
     let at-entry = entry-of-loop (loop-of-in-loop (in-loop-of-add-near (add-near-at-add-in-bounds c))) in
     at-entry .pre .1
 
--- src/lib.rt:158:5
 loop-less : tie.Need-loop-less Inv-loop μ-loop
 loop-less c =
     let at-in-loop = in-loop-of-add-near (add-near-at-loop-less c) in
@@ -119,7 +112,6 @@ loop-less c =
           (a .b) (a .first) (pairs (a .outline .now)) (a .src .now) (a .dst .now) (a .marks .now) (l .j) (c .in-bounds2 .result) (c .in-bounds2 .ensures),
     )
 
--- src/lib.rt:158:5
 loop-again : tie.Need-loop-again Inv-loop μ-loop
 loop-again c =
     let at-in-loop = in-loop-of-add-near (add-near-at-loop-less c) in
@@ -132,7 +124,6 @@ loop-again c =
     (e .last .1 .1 .1 .1 .1 .1 .1 .0) (e .last .1 .1 .1 .1 .1 .1 .1 .1 .0) (e .last .1 .1 .1 .1 .1 .1 .1 .1 .1 .0) (e .ensures) (c .in-bounds2 .result)
     (c .before .if1 .left) (c .in-bounds2 .ensures) (e .kept .1 .1 .1 .1 .1 .1 .1 .0) (e .kept .1 .1 .1 .1 .1 .1 .1 .1 .0) (e .kept .1 .1 .1 .1 .1 .1 .1 .1 .1 .0)
 
--- src/lib.rt:138:1
 returns-2 : tie.Need-returns-2 Inv-loop μ-loop
 returns-2 c =
     let at-entry = entry-of-loop (loop-at-returns-2 c) in

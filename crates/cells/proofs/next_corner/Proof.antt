@@ -12,13 +12,11 @@ entry-at-returns c = c .before .before
 abbrev entry-at-returns-2 : tie.After-shared-slice-known2 → tie.Start
 entry-at-returns-2 c = c .before .before
 
--- src/lib.rt:54:9
 returns : tie.Need-returns
 returns c =
     let at-entry = entry-at-returns c in
     next-inside (at-entry .args .cell .now) (at-entry .args .i) (c .before .if1 .taken)
 
--- src/lib.rt:48:1
 returns-2 : tie.Need-returns-2
 returns-2 c =
     let at-entry = entry-at-returns-2 c in

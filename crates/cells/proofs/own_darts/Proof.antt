@@ -46,13 +46,11 @@ add-own-at-add-i c = c .before .before .before .before .before .before .before .
 abbrev add-own-at-returns : tie.Then1 Inv-loop μ-loop → tie.After-add-own Inv-loop μ-loop
 add-own-at-returns c = c .before .before .before .before .before .before .before .before .before
 
--- src/lib.rt:101:5
 loop-holds : tie.Need-loop-holds Inv-loop μ-loop
 loop-holds c =
     let a = entry-at-loop-holds c .args in
     outline-start (a .coords .now) (pairs (a .subject .now)) (pairs (a .cutter .now)) (a .met .now) (a .cell .now) (a .outline .now) (a .src .now) (a .dst .now) (a .marks .now)
 
--- src/lib.rt:104:9
 add-own-requires : tie.Need-add-own-requires Inv-loop μ-loop
 add-own-requires c κs =
     let at-in-loop = in-loop (next-corner-at-add-own-requires c) in
@@ -71,7 +69,6 @@ add-own-requires c κs =
       omega (arith, l .inv .same-marks, at-entry .pre .4),
     )
 
--- src/lib.rt:106:13
 returns : tie.Need-returns Inv-loop μ-loop
 returns c =
     let at-next-corner = next-corner-of-add-own (add-own-at-returns c) in
@@ -85,7 +82,6 @@ returns c =
     (e .result) (e .last .1 .1 .1 .1 .1 .1 .1 .0) (e .last .1 .1 .1 .1 .1 .1 .1 .1 .0) (e .last .1 .1 .1 .1 .1 .1 .1 .1 .1 .0)
     (e .last .1 .1 .1 .1 .1 .1 .1 .1 .1 .1 .0) (e .ensures) (c .if1 .taken)
 
--- src/lib.rt:108:9
 add-i : tie.Need-add-i Inv-loop μ-loop
 add-i c =
     let at-in-loop = in-loop (next-corner-of-add-own (add-own-at-add-i c)) in
@@ -93,7 +89,6 @@ add-i c =
     let cell-good = at-entry .good .1 .1 .1 .1 .1 .0 in
     omega (arith, at-in-loop .loop-test .taken, cell-good)
 
--- src/lib.rt:101:5
 loop-again : tie.Need-loop-again Inv-loop μ-loop
 loop-again c =
     let at-next-corner = next-corner-of-add-own (add-own-at-add-i c) in
@@ -109,7 +104,6 @@ loop-again c =
     (e .last .1 .1 .1 .1 .1 .1 .1 .1 .1 .1 .0) (e .ensures) (c .if1 .left) (at-entry .pre .1) (e .kept .1 .1 .1 .1 .1 .1 .1 .0)
     (e .kept .1 .1 .1 .1 .1 .1 .1 .1 .0) (e .kept .1 .1 .1 .1 .1 .1 .1 .1 .1 .0) (e .kept .1 .1 .1 .1 .1 .1 .1 .1 .1 .1 .0)
 
--- src/lib.rt:84:1
 returns-2 : tie.Need-returns-2 Inv-loop μ-loop
 returns-2 c =
     let at-entry = entry-of-loop (loop-at-returns-2 c) in

@@ -5,7 +5,6 @@ use Rattle.cells.proofs.refused.Tie as tie
 use Rattle.cells.proofs.refused.Reads as reads
 use Rattle.cells.proofs.refused.Lts as lts
 
--- src/lib.rt:34:1
 returns : tie.Need-returns
 unfolding cutAs
 returns c = refl

@@ -4,11 +4,9 @@ use Rattle.cutting_cells.proofs.kind_of.Tie as tie
 use Rattle.cutting_cells.proofs.kind_of.Reads as reads
 use Rattle.cutting_cells.proofs.kind_of.Lts as lts
 
--- src/lib.rt:127:9
 returns : tie.Need-returns
 returns c = kind-cut (c .before .args .first) (c .before .args .n) (c .before .args .kind) (c .if1 .taken)
 
--- src/lib.rt:123:1
 returns-2 : tie.Need-returns-2
 returns-2 c = kind-copied (c .before .args .first) (c .before .args .n) (c .before .args .kind) (c .if1 .left)
 

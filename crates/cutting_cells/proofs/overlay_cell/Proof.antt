@@ -63,7 +63,8 @@ returns c =
       λ sc i scene this. cell-refused (a .op) (a .cutter) (a .coords .now) (a .subject .now) (a .cut .now) (a .met .now) (a .near .now) (a .nodes .now)
           (a .ends .now) (a .on .now) (a .oe .now) (a .ok .now) (a .of .now) (a .p) (a .cell .now) (a .kind) (a .family) (at-bounds2 .bounds2 .result)
           (at-bounds2 .bounds2 .ensures) (at-in-bounds .in-bounds .result) (at-in-bounds .in-bounds .ensures) (at-outcome-of .outcome-of .result)
-          (at-outcome-of .outcome-of .ensures) sc i scene this (c .before .if1 .taken) (c .refused .result) (c .refused .ensures) (a .on .now) (a .oe .now) (a .ok .now) (a .of .now),
+          (at-outcome-of .outcome-of .ensures) sc i scene this (c .before .if1 .taken) (c .refused .result) (c .refused .ensures) (a .on .now) (a .oe .now)
+          (a .ok .now) (a .of .now),
     )
 
 array-share-prefix-runs : tie.Need-array-share-prefix-runs

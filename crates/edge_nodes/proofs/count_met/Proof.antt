@@ -10,60 +10,57 @@ use Rattle.edge_nodes.proofs.count_met.Reads as reads
 use Rattle.edge_nodes.proofs.count_met.Lts as lts
 use Rattle.edge_nodes.proofs.is_under.Reads as is-under-reads
 
--- src/lib.rt:242:8
-is-under-requires : tie.Need-is-under-requires
-is-under-requires c κs = search needs
+-- places of the code, each counted once
+abbrev entry : tie.After-is-under → tie.Start
+entry c = c .before .before .before
 
--- src/lib.rt:243:25
-mul-count : tie.Need-mul-count
-mul-count c = search needs
+abbrev is-under-at-returns-4 : tie.Else1 → tie.After-is-under
+is-under-at-returns-4 c = c .before
 
--- src/lib.rt:243:25
-add-count : tie.Need-add-count
-add-count c = search needs
+abbrev is-under-of-then1 : tie.Then1 → tie.After-is-under
+is-under-of-then1 c = c .before
 
--- src/lib.rt:243:21
-mul-count-2 : tie.Need-mul-count-2
-mul-count-2 c = search needs
+abbrev then1-at-returns : tie.Then2 → tie.Then1
+then1-at-returns c = c .before .before
 
--- src/lib.rt:243:21
-shared-slice-read-count : tie.Need-shared-slice-read-count
-shared-slice-read-count c = search needs
+abbrev then1-at-returns-3 : tie.Else3 → tie.Then1
+then1-at-returns-3 c = c .before .before .before
 
--- src/lib.rt:245:13
+abbrev then1-at-returns-2 : tie.Then3 → tie.Then1
+then1-at-returns-2 c = c .before .before .before
+
 returns : tie.Need-returns
 returns c =
-    let a = c .before .before .before .before .before .before .args in
-    (sym (ap length (under-it (pairs (a .edges .now)) (a .met .now) (a .which) (a .a, a .b) (a .q) (sym (c .before .before .before .is-under .ensures) ∙ c .before .before .if1 .taken) ∙ met-none (a .met .now) (a .q) (c .if2 .taken))), omega arith)
+    let at-is-under = is-under-of-then1 (then1-at-returns c) in
+    let a = entry at-is-under .args in (
+      sym (ap length (under-it (pairs (a .edges .now)) (a .met .now) (a .which) (a .a, a .b) (a .q)
+          (sym (at-is-under .is-under .ensures) ∙ then1-at-returns c .if1 .taken) ∙ met-none (a .met .now) (a .q) (c .if2 .taken))),
+      omega arith,
+    )
 
--- src/lib.rt:248:13
 returns-2 : tie.Need-returns-2
 returns-2 c =
-    let a = c .before .before .before .before .before .before .before .args in
-    (sym (ap length (under-it (pairs (a .edges .now)) (a .met .now) (a .which) (a .a, a .b) (a .q) (sym (c .before .before .before .before .is-under .ensures) ∙ c .before .before .before .if1 .taken) ∙ met-one (a .met .now) (a .q) (c .if3 .taken))), omega arith)
+    let at-is-under = is-under-of-then1 (then1-at-returns-2 c) in
+    let a = entry at-is-under .args in (
+      sym (ap length (under-it (pairs (a .edges .now)) (a .met .now) (a .which) (a .a, a .b) (a .q)
+          (sym (at-is-under .is-under .ensures) ∙ then1-at-returns-2 c .if1 .taken) ∙ met-one (a .met .now) (a .q) (c .if3 .taken))),
+      omega arith,
+    )
 
--- src/lib.rt:250:9
 returns-3 : tie.Need-returns-3
 returns-3 c =
-    let a = c .before .before .before .before .before .before .before .args in
-    (sym (ap length (under-it (pairs (a .edges .now)) (a .met .now) (a .which) (a .a, a .b) (a .q) (sym (c .before .before .before .before .is-under .ensures) ∙ c .before .before .before .if1 .taken) ∙ met-two (a .met .now) (a .q) (c .before .if2 .left) (c .if3 .left))), omega arith)
+    let at-is-under = is-under-of-then1 (then1-at-returns-3 c) in
+    let a = entry at-is-under .args in (
+      sym (ap length (under-it (pairs (a .edges .now)) (a .met .now) (a .which) (a .a, a .b) (a .q)
+          (sym (at-is-under .is-under .ensures) ∙ then1-at-returns-3 c .if1 .taken) ∙ met-two (a .met .now) (a .q) (c .before .if2 .left) (c .if3 .left))),
+      omega arith,
+    )
 
--- src/lib.rt:238:1
 returns-4 : tie.Need-returns-4
 returns-4 c =
-    let a = c .before .before .before .before .args in
+    let at-entry = entry (is-under-at-returns-4 c) in
+    let a = at-entry .args in
     (sym (ap length (not-under (pairs (a .edges .now)) (a .met .now) (a .which) (a .a, a .b) (a .q) (sym (c .before .is-under .ensures) ∙ c .if1 .left))), omega arith)
 
 pub count-met-spec : {M : Type 1} → statement M
-count-met-spec =
-    tie.close
-    (tie.spec
-    is-under-requires
-    mul-count
-    add-count
-    mul-count-2
-    shared-slice-read-count
-    returns
-    returns-2
-    returns-3
-    returns-4)
+count-met-spec = tie.close (tie.spec (λ c κs. search needs) (λ c. search needs) (λ c. search needs) (λ c. search needs) (λ c. search needs) returns returns-2 returns-3 returns-4)

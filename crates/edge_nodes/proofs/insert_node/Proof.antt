@@ -16,46 +16,32 @@ use Rattle.edge_nodes.proofs.projection.Reads as projection-reads
 use Rattle.lists.proofs.insert_at_f64.Reads as insert-at-f64-reads
 use Rattle.lists.proofs.insert_at_u32.Reads as insert-at-u32-reads
 
--- src/lib.rt:95:9
-projection-requires : tie.Need-projection-requires
-projection-requires c κs = search needs
+-- places of the code, each counted once
+abbrev entry : tie.After-projection → tie.Start
+entry c = c .before .before .before .before
 
--- src/lib.rt:96:9
-place-requires : tie.Need-place-requires
-place-requires c κs = search needs
+abbrev projection-of-place : tie.After-place → tie.After-projection
+projection-of-place c = c .before .before
 
--- src/lib.rt:97:5
-insert-at-f64-requires : tie.Need-insert-at-f64-requires
-insert-at-f64-requires c κs = search needs
+abbrev place-of-insert-at-f64 : tie.After-insert-at-f64 → tie.After-place
+place-of-insert-at-f64 c = c .before .before
 
--- src/lib.rt:98:5
-insert-at-u32-requires : tie.Need-insert-at-u32-requires
-insert-at-u32-requires c κs = search needs
+abbrev insert-at-f64-of-insert-at-u32 : tie.After-insert-at-u32 → tie.After-insert-at-f64
+insert-at-f64-of-insert-at-u32 c = c .before .before .before .before
 
--- src/lib.rt:90:1
-same-length : tie.Need-same-length
-same-length c = search needs
+abbrev insert-at-u32-at-returns : tie.After-slice-known4 → tie.After-insert-at-u32
+insert-at-u32-at-returns c = c .before .before
 
--- src/lib.rt:90:1
-same-length-2 : tie.Need-same-length-2
-same-length-2 c = search needs
-
--- src/lib.rt:90:1
 returns : tie.Need-returns
-returns c = let a = c .before .before .before .before .before .before .before .before .before .before .before .before .before .before .args in
-    let p = c .before .before .before .before .before .before .before .before .place in
-    ap₂ (λ (z : List Float) (y : List ℕ). listed z y (a .n + 1)) (c .before .before .before .before .before .before .insert-at-f64 .ensures .1) (c .before .before .insert-at-u32 .ensures .1)
-    ∙ put-both (a .along .now) (a .nodes .now) (a .n) (c .before .before .before .before .before .before .before .before .before .before .projection .result) (a .v) (c .before .before .before .before .before .before .before .before .before .before .before .before .before .before .pre .0) (c .before .before .before .before .before .before .before .before .before .before .before .before .before .before .pre .1) (p .result) (p .ensures .0) (p .ensures .1)
-    ∙ ap (λ (z : Float). insert byProjection (record { along = z; node = a .v }) (listed (a .along .now) (a .nodes .now) (a .n))) (c .before .before .before .before .before .before .before .before .before .before .projection .ensures)
+returns c =
+    let at-insert-at-f64 = insert-at-f64-of-insert-at-u32 (insert-at-u32-at-returns c) in
+    let at-projection = projection-of-place (place-of-insert-at-f64 at-insert-at-f64) in
+    let at-entry = entry at-projection in
+    let a = at-entry .args in
+    let p = place-of-insert-at-f64 at-insert-at-f64 .place in
+    ap₂ (λ (z : List Float) (y : List ℕ). listed z y (a .n + 1)) (at-insert-at-f64 .insert-at-f64 .ensures .1) (insert-at-u32-at-returns c .insert-at-u32 .ensures .1)
+    ∙ put-both (a .along .now) (a .nodes .now) (a .n) (at-projection .projection .result) (a .v) (at-entry .pre .0) (at-entry .pre .1) (p .result) (p .ensures .0) (p .ensures .1)
+    ∙ ap (λ (z : Float). insert byProjection (record { along = z; node = a .v }) (listed (a .along .now) (a .nodes .now) (a .n))) (at-projection .projection .ensures)
 
 pub insert-node-spec : {M : Type 1} → statement M
-insert-node-spec =
-    tie.close
-    (tie.spec
-    projection-requires
-    place-requires
-    insert-at-f64-requires
-    insert-at-u32-requires
-    same-length
-    same-length-2
-    returns)
+insert-node-spec = tie.close (tie.spec (λ c κs. search needs) (λ c κs. search needs) (λ c κs. search needs) (λ c κs. search needs) (λ c. search needs) (λ c. search needs) returns)

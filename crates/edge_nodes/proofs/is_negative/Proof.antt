@@ -4,7 +4,6 @@ use Rattle.edge_nodes.proofs.is_negative.Tie as tie
 use Rattle.edge_nodes.proofs.is_negative.Reads as reads
 use Rattle.edge_nodes.proofs.is_negative.Lts as lts
 
--- src/lib.rt:50:1
 returns : tie.Need-returns
 returns c = negative-is (c .args .x)
 

@@ -16,62 +16,52 @@ Inv-loop along n x i₀ i = Passed along n x i
 abbrev μ-loop : tie.MeasureT-loop
 μ-loop along n x i₀ i = n - i
 
--- src/lib.rt:80:5
+-- places of the code, each counted once
+abbrev entry : tie.At-loop Inv-loop μ-loop → tie.Start Inv-loop μ-loop
+entry c = c .before .before
+
+abbrev loop-at-returns-2 : tie.After-loop Inv-loop μ-loop → tie.At-loop Inv-loop μ-loop
+loop-at-returns-2 c = c .before
+
+abbrev loop-of-in-loop : tie.In-loop Inv-loop μ-loop → tie.At-loop Inv-loop μ-loop
+loop-of-in-loop c = c .before
+
+abbrev in-loop-at-loop-again : tie.Else1 Inv-loop μ-loop → tie.In-loop Inv-loop μ-loop
+in-loop-at-loop-again c = c .before .before .before
+
+abbrev in-loop-at-returns : tie.Then1 Inv-loop μ-loop → tie.In-loop Inv-loop μ-loop
+in-loop-at-returns c = c .before .before .before
+
 loop-holds : tie.Need-loop-holds Inv-loop μ-loop
 loop-holds c = (omega arith, refl)
 
--- src/lib.rt:81:28
-mul-total-before : tie.Need-mul-total-before Inv-loop μ-loop
-mul-total-before c = search needs
-
--- src/lib.rt:81:28
-shared-slice-read-total-before : tie.Need-shared-slice-read-total-before Inv-loop μ-loop
-shared-slice-read-total-before c = search needs
-
--- src/lib.rt:81:12
-total-before-requires : tie.Need-total-before-requires Inv-loop μ-loop
-total-before-requires c κs = search needs
-
--- src/lib.rt:82:13
 returns : tie.Need-returns Inv-loop μ-loop
-returns c = let a = c .before .before .before .before .before .before .args in
-    let l = c .before .before .before .before .loop in
-    let r = search-here (stands (a .along .now) (a .x)) (l .i) (a .n) (l .inv .1) (c .before .before .before .loop-test .taken) (sym (c .before .total-before .ensures) ∙ c .if1 .taken) in
+returns c =
+    let at-loop = loop-of-in-loop (in-loop-at-returns c) in
+    let a = entry at-loop .args in
+    let l = at-loop .loop in
+    let r = search-here (stands (a .along .now) (a .x)) (l .i) (a .n) (l .inv .1) (in-loop-at-returns c .loop-test .taken)
+    (sym (c .before .total-before .ensures) ∙ c .if1 .taken) in
     (r .1, r .0)
 
--- src/lib.rt:84:9
-add-i : tie.Need-add-i Inv-loop μ-loop
-add-i c = search needs
-
--- src/lib.rt:80:5
-loop-less : tie.Need-loop-less Inv-loop μ-loop
-loop-less c = search needs
-
--- src/lib.rt:80:5
 loop-again : tie.Need-loop-again Inv-loop μ-loop
-loop-again c = let a = c .before .before .before .before .before .before .args in
-    let l = c .before .before .before .before .loop in
-    (omega arith, first-on (stands (a .along .now) (a .x)) (l .i) (a .n) (c .before .before .before .loop-test .taken) (sym (c .before .total-before .ensures) ∙ c .if1 .left) ∙ l .inv .1)
+loop-again c =
+    let at-loop = loop-of-in-loop (in-loop-at-loop-again c) in
+    let a = entry at-loop .args in
+    let l = at-loop .loop in (
+      omega arith,
+      first-on (stands (a .along .now) (a .x)) (l .i) (a .n) (in-loop-at-loop-again c .loop-test .taken)
+          (sym (c .before .total-before .ensures) ∙ c .if1 .left) ∙ l .inv .1,
+    )
 
--- src/lib.rt:75:1
 returns-2 : tie.Need-returns-2 Inv-loop μ-loop
-returns-2 c = let a = c .before .before .before .args in
+returns-2 c =
+    let at-entry = entry (loop-at-returns-2 c) in
+    let a = at-entry .args in
     let l = c .before .loop in
     let r = search-end (stands (a .along .now) (a .x)) (l .i) (a .n) (l .inv .1) (l .inv .0) (c .loop-test .left) in
     (r .1, r .0)
 
 pub place-spec : {M : Type 1} → statement M
-place-spec =
-    tie.close
-    (tie.spec
-    Inv-loop
-    μ-loop
-    loop-holds
-    mul-total-before
-    shared-slice-read-total-before
-    total-before-requires
-    returns
-    add-i
-    loop-less
-    loop-again
-    returns-2)
+place-spec = tie.close (tie.spec Inv-loop μ-loop loop-holds (λ c. search needs) (λ c. search needs) (λ c κs. search needs) returns (λ c. search needs)
+    (λ c. search needs) loop-again returns-2)

@@ -8,38 +8,34 @@ use Rattle.edge_nodes.proofs.lower.Reads as lower-reads
 use Rattle.edge_nodes.proofs.upper.Reads as upper-reads
 use Rattle.geometry.proofs.polygon.point_at.Reads as point-at-reads
 
--- src/lib.rt:68:30
-lower-requires : tie.Need-lower-requires
-lower-requires c κs = search needs
+-- places of the code, each counted once
+abbrev lower-of-point-at : tie.After-point-at → tie.After-lower
+lower-of-point-at c = c .before
 
--- src/lib.rt:68:9
-point-at-requires : tie.Need-point-at-requires
-point-at-requires c κs = search needs
+abbrev point-at-of-upper : tie.After-upper → tie.After-point-at
+point-at-of-upper c = c .before
 
--- src/lib.rt:69:30
-upper-requires : tie.Need-upper-requires
-upper-requires c κs = search needs
+abbrev upper-of-point-at2 : tie.After-point-at2 → tie.After-upper
+upper-of-point-at2 c = c .before
 
--- src/lib.rt:69:9
-point-at-requires-2 : tie.Need-point-at-requires-2
-point-at-requires-2 c κs = search needs
+abbrev point-at2-of-point-at3 : tie.After-point-at3 → tie.After-point-at2
+point-at2-of-point-at3 c = c .before
 
--- src/lib.rt:70:9
-point-at-requires-3 : tie.Need-point-at-requires-3
-point-at-requires-3 c κs = search needs
+abbrev point-at3-at-returns : tie.After-struct-known8 → tie.After-point-at3
+point-at3-at-returns c = c .before .before .before .before .before .before .before .before
 
--- src/lib.rt:65:1
 returns : tie.Need-returns
 unfolding between
-returns c = simp (← c .before .before .before .before .before .before .before .before .before .before .before .before .lower .ensures, ← c .before .before .before .before .before .before .before .before .before .before .upper .ensures, ← c .before .before .before .before .before .before .before .before .before .before .before .point-at .ensures, ← c .before .before .before .before .before .before .before .before .before .point-at2 .ensures, ← c .before .before .before .before .before .before .before .before .point-at3 .ensures)
+returns c =
+    let at-point-at2 = point-at2-of-point-at3 (point-at3-at-returns c) in
+    let at-point-at = point-at-of-upper (upper-of-point-at2 at-point-at2) in
+    simp (
+      ← lower-of-point-at at-point-at .lower .ensures,
+      ← upper-of-point-at2 at-point-at2 .upper .ensures,
+      ← at-point-at .point-at .ensures,
+      ← at-point-at2 .point-at2 .ensures,
+      ← point-at3-at-returns c .point-at3 .ensures,
+    )
 
 pub projection-spec : {M : Type 1} → statement M
-projection-spec =
-    tie.close
-    (tie.spec
-    lower-requires
-    point-at-requires
-    upper-requires
-    point-at-requires-2
-    point-at-requires-3
-    returns)
+projection-spec = tie.close (tie.spec (λ c κs. search needs) (λ c κs. search needs) (λ c κs. search needs) (λ c κs. search needs) (λ c κs. search needs) returns)

@@ -7,11 +7,4 @@ returns : tie.Need-returns
 returns c = (cc, cc)
 
 pub geometry-inner-spec : {M : Type 1} → statement M
-geometry-inner-spec =
-    tie.close
-    (tie.spec
-    (λ c κs. search needs)
-    (λ c κs. search needs)
-    (λ c κs. search needs)
-    (λ c. search needs)
-    returns)
+geometry-inner-spec = tie.close (tie.spec (λ c κs. search needs) (λ c κs. search needs) (λ c κs. search needs) (λ c. search needs) returns)

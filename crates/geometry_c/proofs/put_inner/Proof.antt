@@ -7,5 +7,4 @@ returns-2 : tie.Need-returns-2
 returns-2 c = cc
 
 pub put-inner-spec : {M : Type 1} → statement M
-put-inner-spec =
-    tie.close (tie.spec (λ c. search needs) (λ c. search needs) (λ c. search needs) (λ c κs. search needs) (λ c. search needs) returns-2)
+put-inner-spec = tie.close (tie.spec (λ c. search needs) (λ c. search needs) (λ c. search needs) (λ c κs. search needs) (λ c. search needs) returns-2)

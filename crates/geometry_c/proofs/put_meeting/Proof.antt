@@ -7,16 +7,5 @@ returns-3 : tie.Need-returns-3
 returns-3 c = cc
 
 pub put-meeting-spec : {M : Type 1} → statement M
-put-meeting-spec =
-    tie.close
-    (tie.spec
-    (λ c. search needs)
-    (λ c. search needs)
-    (λ c. search needs)
-    (λ c. search needs)
-    (λ c. search needs)
-    (λ c κs. search needs)
-    (λ c. search needs)
-    returns-3
-    (λ c. search needs)
-    (λ c. search needs))
+put-meeting-spec = tie.close (tie.spec (λ c. search needs) (λ c. search needs) (λ c. search needs) (λ c. search needs) (λ c. search needs)
+    (λ c κs. search needs) (λ c. search needs) returns-3 (λ c. search needs) (λ c. search needs))

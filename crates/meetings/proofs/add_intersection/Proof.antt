@@ -14,225 +14,109 @@ use Rattle.meetings.proofs.add_new.Reads as add-new-reads
 use Rattle.meetings.proofs.edges_meet.Reads as edges-meet-reads
 use Rattle.meetings.proofs.node_of.Reads as node-of-reads
 
--- src/lib.rt:100:20
-mul-a : tie.Need-mul-a
-mul-a c = search needs
+-- places of the code, each counted once
+abbrev entry-at-slice-aggregate-edges-meet : tie.After-edges-meet-arg → tie.Start
+entry-at-slice-aggregate-edges-meet c = c .before .before .before .before .before .before .before
 
--- src/lib.rt:100:15
-add-a : tie.Need-add-a
-add-a c = search needs
+abbrev entry-of-edges-meet : tie.After-edges-meet → tie.Start
+entry-of-edges-meet c = c .before .before .before .before .before .before .before .before
 
--- src/lib.rt:100:13
-mul-a-2 : tie.Need-mul-a-2
-mul-a-2 c = search needs
+abbrev edges-meet-at-returns : tie.After-enum-told → tie.After-edges-meet
+edges-meet-at-returns c = c .before .before
 
--- src/lib.rt:100:13
-slice-read-a : tie.Need-slice-read-a
-slice-read-a c = search needs
+abbrev edges-meet-of-r : tie.After-r → tie.After-edges-meet
+edges-meet-of-r c = c .before .before
 
--- src/lib.rt:101:20
-mul-b : tie.Need-mul-b
-mul-b c = search needs
+abbrev edges-meet-of-r2 : tie.After-r2 → tie.After-edges-meet
+edges-meet-of-r2 c = c .before .before
 
--- src/lib.rt:101:15
-add-b : tie.Need-add-b
-add-b c = search needs
+abbrev edges-meet-of-r3 : tie.After-r3 → tie.After-edges-meet
+edges-meet-of-r3 c = c .before .before
 
--- src/lib.rt:101:15
-add-b-2 : tie.Need-add-b-2
-add-b-2 c = search needs
+abbrev r-of-node-of : tie.After-node-of → tie.After-r
+r-of-node-of c = c .before .before
 
--- src/lib.rt:101:13
-mul-b-2 : tie.Need-mul-b-2
-mul-b-2 c = search needs
+abbrev r3-of-node-of2 : tie.After-node-of2 → tie.After-r3
+r3-of-node-of2 c = c .before .before
 
--- src/lib.rt:101:13
-slice-read-b : tie.Need-slice-read-b
-slice-read-b c = search needs
+abbrev node-of2-of-node-of3 : tie.After-node-of3 → tie.After-node-of2
+node-of2-of-node-of3 c = c .before
 
--- src/lib.rt:102:20
-mul-c : tie.Need-mul-c
-mul-c c = search needs
+abbrev node-of-of-add-known : tie.After-add-known → tie.After-node-of
+node-of-of-add-known c = c .before .before
 
--- src/lib.rt:102:15
-add-c : tie.Need-add-c
-add-c c = search needs
+abbrev r2-of-add-new : tie.After-add-new → tie.After-r2
+r2-of-add-new c = c .before .before .before .before
 
--- src/lib.rt:102:13
-mul-c-2 : tie.Need-mul-c-2
-mul-c-2 c = search needs
+abbrev node-of3-of-add-known2 : tie.After-add-known2 → tie.After-node-of3
+node-of3-of-add-known2 c = c .before .before
 
--- src/lib.rt:102:13
-slice-read-c : tie.Need-slice-read-c
-slice-read-c c = search needs
+abbrev add-known-at-returns-2 : tie.After-slice-known7 → tie.After-add-known
+add-known-at-returns-2 c = c .before .before
 
--- src/lib.rt:103:20
-mul-d : tie.Need-mul-d
-mul-d c = search needs
+abbrev add-known2-at-returns-4 : tie.After-slice-known10 → tie.After-add-known2
+add-known2-at-returns-4 c = c .before .before
 
--- src/lib.rt:103:15
-add-d : tie.Need-add-d
-add-d c = search needs
+abbrev add-new-at-returns-3 : tie.After-slice-known9 → tie.After-add-new
+add-new-at-returns-3 c = c .before .before .before .before
 
--- src/lib.rt:103:15
-add-d-2 : tie.Need-add-d-2
-add-d-2 c = search needs
-
--- src/lib.rt:103:13
-mul-d-2 : tie.Need-mul-d-2
-mul-d-2 c = search needs
-
--- src/lib.rt:103:13
-slice-read-d : tie.Need-slice-read-d
-slice-read-d c = search needs
-
--- src/lib.rt:104:24
-slice-reshare-prefix-edges-meet : tie.Need-slice-reshare-prefix-edges-meet
-slice-reshare-prefix-edges-meet c = search needs
-
--- src/lib.rt:104:24
 slice-aggregate-edges-meet : tie.Need-slice-aggregate-edges-meet
-slice-aggregate-edges-meet c = sym (length-take-le _ _ (omega (arith, c .before .before .before .before .before .before .before .pre .0 .0)))
+slice-aggregate-edges-meet c = sym (length-take-le _ _ (omega (arith, entry-at-slice-aggregate-edges-meet c .pre .0 .0)))
 
--- src/lib.rt:104:9
-edges-meet-requires : tie.Need-edges-meet-requires
-edges-meet-requires c κs = search needs
-
--- src/lib.rt:107:13
-enum-told : tie.Need-enum-told
-enum-told c = search needs
-
--- src/lib.rt:107:13
-same-length : tie.Need-same-length
-same-length c = search needs
-
--- src/lib.rt:107:13
 returns : tie.Need-returns
-returns c = let a = c .before .before .before .before .before .before .before .before .before .before .args in
-    apart (a .m) (a .base) (a .oc .now) (a .w .now) (a .met) (a .next) (take (a .placed) (a .oc .now)) (a .i) (a .j) (edgeIn (a .w .now) (a .se) (a .i)) (edgeIn (a .w .now) (a .ce) (a .j))
-    (c .before .before .edges-meet .result) (c .before .before .edges-meet .ensures) (c .before .before .before .before .before .before .before .before .before .before .pre .0 .4) (c .before .before .before .before .before .before .before .before .before .before .pre .0 .6) _ (c .enum-told .given .1) refl refl refl
+returns c =
+    let at-edges-meet = edges-meet-at-returns c in
+    let at-entry = entry-of-edges-meet at-edges-meet in
+    let a = at-entry .args in
+    apart (a .m) (a .base) (a .oc .now) (a .w .now) (a .met) (a .next) (take (a .placed) (a .oc .now)) (a .i) (a .j) (edgeIn (a .w .now) (a .se) (a .i))
+    (edgeIn (a .w .now) (a .ce) (a .j))
+    (at-edges-meet .edges-meet .result) (at-edges-meet .edges-meet .ensures) (at-entry .pre .0 .4) (at-entry .pre .0 .6) _ (c .enum-told .given .1) refl refl refl
 
--- src/lib.rt:109:27
-enum-known-r : tie.Need-enum-known-r
-enum-known-r c = search needs
-
--- src/lib.rt:110:17
-node-of-requires : tie.Need-node-of-requires
-node-of-requires c κs = search needs
-
--- src/lib.rt:111:13
-add-known-requires : tie.Need-add-known-requires
-add-known-requires c κs = search needs
-
--- src/lib.rt:111:13
-same-length-2 : tie.Need-same-length-2
-same-length-2 c = search needs
-
--- src/lib.rt:111:13
-same-length-3 : tie.Need-same-length-3
-same-length-3 c = search needs
-
--- src/lib.rt:111:13
 returns-2 : tie.Need-returns-2
-returns-2 c = let a = c .before .before .before .before .before .before .before .before .before .before .before .before .before .before .before .before .args in
-    at-one (a .m) (a .base) (a .oc .now) (a .w .now) (a .met) (a .next) (take (a .placed) (a .oc .now)) (a .i) (a .j) (edgeIn (a .w .now) (a .se) (a .i)) (edgeIn (a .w .now) (a .ce) (a .j))
-    (c .before .before .before .before .before .before .before .before .edges-meet .result) (c .before .before .before .before .before .before .before .before .edges-meet .ensures) (c .before .before .before .before .before .before .before .before .before .before .before .before .before .before .before .before .pre .0 .4) (c .before .before .before .before .before .before .before .before .before .before .before .before .before .before .before .before .pre .0 .6) (c .before .before .add-known .last .0) (c .before .before .add-known .result) _ (c .before .before .before .before .node-of .result) (c .before .before .before .before .before .before .r .given .1) (c .before .before .before .before .node-of .ensures) (c .before .before .add-known .ensures)
+returns-2 c =
+    let at-add-known = add-known-at-returns-2 c in
+    let at-node-of = node-of-of-add-known at-add-known in
+    let at-edges-meet = edges-meet-of-r (r-of-node-of at-node-of) in
+    let at-entry = entry-of-edges-meet at-edges-meet in
+    let w-last = at-add-known .add-known .last .0 in
+    let a = at-entry .args in
+    at-one (a .m) (a .base) (a .oc .now) (a .w .now) (a .met) (a .next) (take (a .placed) (a .oc .now)) (a .i) (a .j) (edgeIn (a .w .now) (a .se) (a .i))
+    (edgeIn (a .w .now) (a .ce) (a .j))
+    (at-edges-meet .edges-meet .result) (at-edges-meet .edges-meet .ensures) (at-entry .pre .0 .4) (at-entry .pre .0 .6) w-last
+    (at-add-known .add-known .result) _ (at-node-of .node-of .result) (r-of-node-of at-node-of .r .given .1) (at-node-of .node-of .ensures) (at-add-known .add-known .ensures)
 
--- src/lib.rt:113:22
-enum-known-r-2 : tie.Need-enum-known-r-2
-enum-known-r-2 c = search needs
-
--- src/lib.rt:114:13
-add-new-requires : tie.Need-add-new-requires
-add-new-requires c κs = search needs
-
--- src/lib.rt:114:13
-same-length-4 : tie.Need-same-length-4
-same-length-4 c = search needs
-
--- src/lib.rt:114:13
-same-length-5 : tie.Need-same-length-5
-same-length-5 c = search needs
-
--- src/lib.rt:114:13
 returns-3 : tie.Need-returns-3
-returns-3 c = let a = c .before .before .before .before .before .before .before .before .before .before .before .before .before .before .before .before .before .before .args in
-    at-new (a .m) (a .base) (a .oc .now) (a .w .now) (a .met) (a .next) (take (a .placed) (a .oc .now)) (a .i) (a .j) (edgeIn (a .w .now) (a .se) (a .i)) (edgeIn (a .w .now) (a .ce) (a .j))
-    (c .before .before .before .before .before .before .before .before .before .before .edges-meet .result) (c .before .before .before .before .before .before .before .before .before .before .edges-meet .ensures) (c .before .before .before .before .before .before .before .before .before .before .before .before .before .before .before .before .before .before .pre .0 .4) (c .before .before .before .before .before .before .before .before .before .before .before .before .before .before .before .before .before .before .pre .0 .6) (c .before .before .before .before .add-new .last .0) (c .before .before .before .before .add-new .last .1 .0) (c .before .before .before .before .add-new .result) _ _ (c .before .before .before .before .before .before .before .before .r2 .given .1) (c .before .before .before .before .add-new .ensures)
+returns-3 c =
+    let at-add-new = add-new-at-returns-3 c in
+    let at-edges-meet = edges-meet-of-r2 (r2-of-add-new at-add-new) in
+    let at-entry = entry-of-edges-meet at-edges-meet in
+    let oc-last = at-add-new .add-new .last .0 in
+    let w-last = at-add-new .add-new .last .1 .0 in
+    let a = at-entry .args in
+    at-new (a .m) (a .base) (a .oc .now) (a .w .now) (a .met) (a .next) (take (a .placed) (a .oc .now)) (a .i) (a .j) (edgeIn (a .w .now) (a .se) (a .i))
+    (edgeIn (a .w .now) (a .ce) (a .j))
+    (at-edges-meet .edges-meet .result) (at-edges-meet .edges-meet .ensures) (at-entry .pre .0 .4) (at-entry .pre .0 .6) oc-last w-last
+    (at-add-new .add-new .result) _ _ (r2-of-add-new at-add-new .r2 .given .1) (at-add-new .add-new .ensures)
 
--- src/lib.rt:116:26
-enum-known-r-3 : tie.Need-enum-known-r-3
-enum-known-r-3 c = search needs
-
--- src/lib.rt:117:17
-node-of-requires-2 : tie.Need-node-of-requires-2
-node-of-requires-2 c κs = search needs
-
--- src/lib.rt:118:17
-node-of-requires-3 : tie.Need-node-of-requires-3
-node-of-requires-3 c κs = search needs
-
--- src/lib.rt:119:13
-add-known-requires-2 : tie.Need-add-known-requires-2
-add-known-requires-2 c κs = search needs
-
--- src/lib.rt:119:13
-same-length-6 : tie.Need-same-length-6
-same-length-6 c = search needs
-
--- src/lib.rt:119:13
-same-length-7 : tie.Need-same-length-7
-same-length-7 c = search needs
-
--- src/lib.rt:119:13
 returns-4 : tie.Need-returns-4
-returns-4 c = let a = c .before .before .before .before .before .before .before .before .before .before .before .before .before .before .before .before .before .args in
-    at-two (a .m) (a .base) (a .oc .now) (a .w .now) (a .met) (a .next) (take (a .placed) (a .oc .now)) (a .i) (a .j) (edgeIn (a .w .now) (a .se) (a .i)) (edgeIn (a .w .now) (a .ce) (a .j))
-    (c .before .before .before .before .before .before .before .before .before .edges-meet .result) (c .before .before .before .before .before .before .before .before .before .edges-meet .ensures) (c .before .before .before .before .before .before .before .before .before .before .before .before .before .before .before .before .before .pre .0 .4) (c .before .before .before .before .before .before .before .before .before .before .before .before .before .before .before .before .before .pre .0 .6) (c .before .before .add-known2 .last .0) (c .before .before .add-known2 .result) _ _ (c .before .before .before .before .before .node-of2 .result) (c .before .before .before .before .node-of3 .result) (c .before .before .before .before .before .before .before .r3 .given .1) (c .before .before .before .before .before .node-of2 .ensures) (c .before .before .before .before .node-of3 .ensures) (c .before .before .add-known2 .ensures)
+returns-4 c =
+    let at-add-known2 = add-known2-at-returns-4 c in
+    let at-node-of3 = node-of3-of-add-known2 at-add-known2 in
+    let at-node-of2 = node-of2-of-node-of3 at-node-of3 in
+    let at-edges-meet = edges-meet-of-r3 (r3-of-node-of2 at-node-of2) in
+    let at-entry = entry-of-edges-meet at-edges-meet in
+    let w-last = at-add-known2 .add-known2 .last .0 in
+    let a = at-entry .args in
+    at-two (a .m) (a .base) (a .oc .now) (a .w .now) (a .met) (a .next) (take (a .placed) (a .oc .now)) (a .i) (a .j) (edgeIn (a .w .now) (a .se) (a .i))
+    (edgeIn (a .w .now) (a .ce) (a .j))
+    (at-edges-meet .edges-meet .result) (at-edges-meet .edges-meet .ensures) (at-entry .pre .0 .4) (at-entry .pre .0 .6) w-last
+    (at-add-known2 .add-known2 .result) _ _ (at-node-of2 .node-of2 .result) (at-node-of3 .node-of3 .result) (r3-of-node-of2 at-node-of2 .r3 .given .1)
+    (at-node-of2 .node-of2 .ensures) (at-node-of3 .node-of3 .ensures) (at-add-known2 .add-known2 .ensures)
 
 pub add-intersection-spec : {M : Type 1} → statement M
-add-intersection-spec =
-    tie.close
-    (tie.spec
-    mul-a
-    add-a
-    mul-a-2
-    slice-read-a
-    mul-b
-    add-b
-    add-b-2
-    mul-b-2
-    slice-read-b
-    mul-c
-    add-c
-    mul-c-2
-    slice-read-c
-    mul-d
-    add-d
-    add-d-2
-    mul-d-2
-    slice-read-d
-    slice-reshare-prefix-edges-meet
-    slice-aggregate-edges-meet
-    edges-meet-requires
-    enum-told
-    same-length
-    returns
-    enum-known-r
-    node-of-requires
-    add-known-requires
-    same-length-2
-    same-length-3
-    returns-2
-    enum-known-r-2
-    add-new-requires
-    same-length-4
-    same-length-5
-    returns-3
-    enum-known-r-3
-    node-of-requires-2
-    node-of-requires-3
-    add-known-requires-2
-    same-length-6
-    same-length-7
-    returns-4)
+add-intersection-spec = tie.close (tie.spec (λ c. search needs) (λ c. search needs) (λ c. search needs) (λ c. search needs) (λ c. search needs)
+    (λ c. search needs) (λ c. search needs) (λ c. search needs) (λ c. search needs) (λ c. search needs) (λ c. search needs) (λ c. search needs)
+    (λ c. search needs) (λ c. search needs) (λ c. search needs) (λ c. search needs) (λ c. search needs) (λ c. search needs) (λ c. search needs)
+    slice-aggregate-edges-meet (λ c κs. search needs) (λ c. search needs) (λ c. search needs) returns (λ c. search needs) (λ c κs. search needs)
+    (λ c κs. search needs) (λ c. search needs) (λ c. search needs) returns-2 (λ c. search needs) (λ c κs. search needs) (λ c. search needs) (λ c. search needs)
+    returns-3 (λ c. search needs) (λ c κs. search needs) (λ c κs. search needs) (λ c κs. search needs) (λ c. search needs) (λ c. search needs) returns-4)

@@ -9,50 +9,37 @@ use Rattle.meetings.proofs.add_known.Lts as lts
 use Rattle.meetings.proofs.book.Reads as book-reads
 use Rattle.meetings.proofs.refusal.Reads as refusal-reads
 
--- src/lib.rt:96:9
-refusal-requires : tie.Need-refusal-requires
-refusal-requires c κs = search needs
+-- places of the code, each counted once
+abbrev entry : tie.After-refusal → tie.Start
+entry c = c .before .before
 
--- src/lib.rt:98:9
+abbrev refusal-of-else1 : tie.Else1 → tie.After-refusal
+refusal-of-else1 c = c .before
+
+abbrev else1-at-book-requires : tie.After-book-arg → tie.Else1
+else1-at-book-requires c = c .before
+
+abbrev else1-of-book : tie.After-book → tie.Else1
+else1-of-book c = c .before .before
+
+abbrev book-at-returns-2 : tie.After-slice-known2 → tie.After-book
+book-at-returns-2 c = c .before .before
+
 returns : tie.Need-returns
 returns c = (λ l. c .before .refusal .ensures .0 l, λ l. absurd (c .if1 .taken (c .before .refusal .ensures .2 l (omega arith))))
 
--- src/lib.rt:100:20
-mul-book : tie.Need-mul-book
-mul-book c = search needs
-
--- src/lib.rt:100:13
-add-book : tie.Need-add-book
-add-book c = search needs
-
--- src/lib.rt:100:5
 book-requires : tie.Need-book-requires
 book-requires c κs =
-    let a = c .before .before .before .before .args in
-    let under = not-over (a .m) (a .met) (c .before .before .refusal .result) (c .before .before .refusal .ensures .0) (c .before .if1 .left) in
-    (omega (arith, under, c .before .before .before .before .pre .0), c .before .before .before .before .pre .2, c .before .before .before .before .pre .3)
+    let at-refusal = refusal-of-else1 (else1-at-book-requires c) in
+    let at-entry = entry at-refusal in
+    let a = at-entry .args in
+    let under = not-over (a .m) (a .met) (at-refusal .refusal .result) (at-refusal .refusal .ensures .0) (c .before .if1 .left) in
+    (omega (arith, under, at-entry .pre .0), at-entry .pre .2, at-entry .pre .3)
 
--- src/lib.rt:103:14
-add-t16 : tie.Need-add-t16
-add-t16 c = search needs
-
--- src/lib.rt:80:1
-same-length : tie.Need-same-length
-same-length c = search needs
-
--- src/lib.rt:80:1
 returns-2 : tie.Need-returns-2
-returns-2 c = (λ l. absurd (omega (arith, c .before .before .before .before .before .refusal .ensures .0 l, c .before .before .before .before .if1 .left)), λ _. (refl, refl, refl, c .before .before .book .ensures))
+returns-2 c =
+    let at-else1 = else1-of-book (book-at-returns-2 c) in
+    (λ l. absurd (omega (arith, refusal-of-else1 at-else1 .refusal .ensures .0 l, at-else1 .if1 .left)), λ _. (refl, refl, refl, book-at-returns-2 c .book .ensures))
 
 pub add-known-spec : {M : Type 1} → statement M
-add-known-spec =
-    tie.close
-    (tie.spec
-    refusal-requires
-    returns
-    mul-book
-    add-book
-    book-requires
-    add-t16
-    same-length
-    returns-2)
+add-known-spec = tie.close (tie.spec (λ c κs. search needs) returns (λ c. search needs) (λ c. search needs) book-requires (λ c. search needs) (λ c. search needs) returns-2)

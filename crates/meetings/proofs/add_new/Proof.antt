@@ -11,108 +11,61 @@ use Rattle.meetings.proofs.add_new.Lts as lts
 use Rattle.meetings.proofs.book.Reads as book-reads
 use Rattle.meetings.proofs.refusal.Reads as refusal-reads
 
--- src/lib.rt:126:13
-mul-k : tie.Need-mul-k
-mul-k c = search needs
+-- places of the code, each counted once
+abbrev entry : tie.After-refusal → tie.Start
+entry c = c .before .before .before
 
--- src/lib.rt:127:42
-add-refusal : tie.Need-add-refusal
-add-refusal c = search needs
+abbrev refusal-of-else1 : tie.Else1 → tie.After-refusal
+refusal-of-else1 c = c .before
 
--- src/lib.rt:127:9
-refusal-requires : tie.Need-refusal-requires
-refusal-requires c κs = search needs
+abbrev else1-at-book-requires : tie.After-book-arg → tie.Else1
+else1-at-book-requires c = c .before
 
--- src/lib.rt:129:9
+abbrev else1-of-book : tie.After-book → tie.Else1
+else1-of-book c = c .before .before
+
+abbrev book-at-returns-2 : tie.After-slice-known3 → tie.After-book
+book-at-returns-2 c = c .before .before
+
 returns : tie.Need-returns
-returns c = (λ l. c .before .refusal .ensures .0 l, λ l n. c .before .refusal .ensures .1 l n, λ l n. absurd (c .if1 .taken (c .before .refusal .ensures .2 l n)))
+returns c =
+    (λ l. c .before .refusal .ensures .0 l, λ l n. c .before .refusal .ensures .1 l n, λ l n. absurd (c .if1 .taken (c .before .refusal .ensures .2 l n)))
 
--- src/lib.rt:131:5
-mul-oc : tie.Need-mul-oc
-mul-oc c = search needs
-
--- src/lib.rt:131:5
 slice-write-oc : tie.Need-slice-write-oc
-slice-write-oc c = let a = c .before .before .before .before .args in
-    let fits = not-full (a .m) (a .met) (length (a .oc .now)) (2 * a .next + 2) (c .before .refusal .result) (c .before .refusal .ensures .0) (c .before .refusal .ensures .1) (c .if1 .left) in
+slice-write-oc c =
+    let at-entry = entry (refusal-of-else1 c) in
+    let a = at-entry .args in
+    let fits = not-full (a .m) (a .met) (length (a .oc .now)) (2 * a .next + 2) (c .before .refusal .result) (c .before .refusal .ensures .0)
+    (c .before .refusal .ensures .1) (c .if1 .left) in
     omega (arith, fits)
 
--- src/lib.rt:132:8
-add-oc : tie.Need-add-oc
-add-oc c = search needs
-
--- src/lib.rt:132:5
-mul-oc-2 : tie.Need-mul-oc-2
-mul-oc-2 c = search needs
-
--- src/lib.rt:132:5
 slice-write-oc-2 : tie.Need-slice-write-oc-2
-slice-write-oc-2 c = let a = c .before .before .before .before .args in
-    let fits = not-full (a .m) (a .met) (length (a .oc .now)) (2 * a .next + 2) (c .before .refusal .result) (c .before .refusal .ensures .0) (c .before .refusal .ensures .1) (c .if1 .left) in
+slice-write-oc-2 c =
+    let at-entry = entry (refusal-of-else1 c) in
+    let a = at-entry .args in
+    let fits = not-full (a .m) (a .met) (length (a .oc .now)) (2 * a .next + 2) (c .before .refusal .result) (c .before .refusal .ensures .0)
+    (c .before .refusal .ensures .1) (c .if1 .left) in
     simp length-set (omega (arith, fits))
 
--- src/lib.rt:133:20
-mul-book : tie.Need-mul-book
-mul-book c = search needs
-
--- src/lib.rt:133:13
-add-book : tie.Need-add-book
-add-book c = search needs
-
--- src/lib.rt:133:38
-cast-book : tie.Need-cast-book
-cast-book c = search needs
-
--- src/lib.rt:133:5
 book-requires : tie.Need-book-requires
 book-requires c κs =
-    let a = c .before .before .before .before .before .args in
-    let under = not-over (a .m) (a .met) (c .before .before .refusal .result) (c .before .before .refusal .ensures .0) (c .before .if1 .left) in
-    (omega (arith, under, c .before .before .before .before .before .pre .0), c .before .before .before .before .before .pre .2, c .before .before .before .before .before .pre .3)
+    let at-refusal = refusal-of-else1 (else1-at-book-requires c) in
+    let at-entry = entry at-refusal in
+    let a = at-entry .args in
+    let under = not-over (a .m) (a .met) (at-refusal .refusal .result) (at-refusal .refusal .ensures .0) (c .before .if1 .left) in
+    (omega (arith, under, at-entry .pre .0), at-entry .pre .2, at-entry .pre .3)
 
--- src/lib.rt:136:14
-add-t14 : tie.Need-add-t14
-add-t14 c = search needs
-
--- src/lib.rt:137:15
-add-t13 : tie.Need-add-t13
-add-t13 c = search needs
-
--- src/lib.rt:109:1
-same-length : tie.Need-same-length
-same-length c = search needs
-
--- src/lib.rt:109:1
-same-length-2 : tie.Need-same-length-2
-same-length-2 c = search needs
-
--- src/lib.rt:109:1
 returns-2 : tie.Need-returns-2
-returns-2 c = (
-  λ l. absurd (omega (arith, c .before .before .before .before .before .refusal .ensures .0 l, c .before .before .before .before .if1 .left)),
-  λ l n. absurd (omega (arith, c .before .before .before .before .before .refusal .ensures .1 l n, c .before .before .before .before .if1 .left)),
-  λ _ l. (refl, refl, refl, two (c .before .before .before .before .before .before .before .before .args .oc .now) (2 * c .before .before .before .before .before .before .before .before .args .next) (c .before .before .before .before .before .before .before .before .args .x) (c .before .before .before .before .before .before .before .before .args .y) l, c .before .before .book .ensures),
-)
+returns-2 c =
+    let at-else1 = else1-of-book (book-at-returns-2 c) in
+    let at-refusal = refusal-of-else1 at-else1 in
+    let at-entry = entry at-refusal in (
+      λ l. absurd (omega (arith, at-refusal .refusal .ensures .0 l, at-else1 .if1 .left)),
+      λ l n. absurd (omega (arith, at-refusal .refusal .ensures .1 l n, at-else1 .if1 .left)),
+      λ _ l. (refl, refl, refl, two (at-entry .args .oc .now) (2 * at-entry .args .next) (at-entry .args .x) (at-entry .args .y) l, book-at-returns-2 c .book .ensures),
+    )
 
 pub add-new-spec : {M : Type 1} → statement M
-add-new-spec =
-    tie.close
-    (tie.spec
-    mul-k
-    add-refusal
-    refusal-requires
-    returns
-    mul-oc
-    slice-write-oc
-    add-oc
-    mul-oc-2
-    slice-write-oc-2
-    mul-book
-    add-book
-    cast-book
-    book-requires
-    add-t14
-    add-t13
-    same-length
-    same-length-2
-    returns-2)
+add-new-spec = tie.close (tie.spec (λ c. search needs) (λ c. search needs) (λ c κs. search needs) returns (λ c. search needs) slice-write-oc
+    (λ c. search needs) (λ c. search needs) slice-write-oc-2 (λ c. search needs) (λ c. search needs) (λ c. search needs) book-requires (λ c. search needs)
+    (λ c. search needs) (λ c. search needs) (λ c. search needs) returns-2)

@@ -6,37 +6,26 @@ use Rattle.meetings.proofs.edges_meet.Lts as lts
 use Rattle.geometry.proofs.polygon.point_at.Reads as point-at-reads
 use Rattle.geometry.proofs.segment.Segment.intersect.Reads as intersect-reads
 
--- src/lib.rt:44:26
-point-at-requires : tie.Need-point-at-requires
-point-at-requires c κs = search needs
+-- places of the code, each counted once
+abbrev point-at-of-point-at2 : tie.After-point-at2 → tie.After-point-at
+point-at-of-point-at2 c = c .before
 
--- src/lib.rt:44:50
-point-at-requires-2 : tie.Need-point-at-requires-2
-point-at-requires-2 c κs = search needs
+abbrev point-at2-of-point-at3 : tie.After-point-at3 → tie.After-point-at2
+point-at2-of-point-at3 c = c .before
 
--- src/lib.rt:45:26
-point-at-requires-3 : tie.Need-point-at-requires-3
-point-at-requires-3 c κs = search needs
+abbrev point-at3-at-returns : tie.After-intersect → tie.After-point-at3
+point-at3-at-returns c = c .before .before
 
--- src/lib.rt:45:50
-point-at-requires-4 : tie.Need-point-at-requires-4
-point-at-requires-4 c κs = search needs
-
--- src/lib.rt:46:5
-intersect-requires : tie.Need-intersect-requires
-intersect-requires c κs = search needs
-
--- src/lib.rt:41:1
 returns : tie.Need-returns
-returns c = simp (c .intersect .ensures .0, c .before .point-at4 .ensures, c .before .before .point-at3 .ensures, c .before .before .before .point-at2 .ensures, c .before .before .before .before .point-at .ensures)
+returns c =
+    let at-point-at2 = point-at2-of-point-at3 (point-at3-at-returns c) in
+    simp (
+      c .intersect .ensures .0,
+      c .before .point-at4 .ensures,
+      point-at3-at-returns c .point-at3 .ensures,
+      at-point-at2 .point-at2 .ensures,
+      point-at-of-point-at2 at-point-at2 .point-at .ensures,
+    )
 
 pub edges-meet-spec : {M : Type 1} → statement M
-edges-meet-spec =
-    tie.close
-    (tie.spec
-    point-at-requires
-    point-at-requires-2
-    point-at-requires-3
-    point-at-requires-4
-    intersect-requires
-    returns)
+edges-meet-spec = tie.close (tie.spec (λ c κs. search needs) (λ c κs. search needs) (λ c κs. search needs) (λ c κs. search needs) (λ c κs. search needs) returns)

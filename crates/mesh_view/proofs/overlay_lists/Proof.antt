@@ -1,5 +1,7 @@
--- `mesh_view::overlay_lists` meets its contract: a walk of its MIR, by hand. Two views and an output are made, held in locals and passed to `overlay_views`. All that the proof knows of `view`, `output` and `overlay_views` is that each meets its contract.
--- What the meshes' slices own is had twice: once for the views, and once for the exit. The machine value that a callee returns is stored and passed on as it is; what the structs own doesn't say their lifetimes' names.
+-- `mesh_view::overlay_lists` meets its contract: a walk of its MIR, by hand. Two views and an output are made, held in locals and passed to `overlay_views`.
+-- All that the proof knows of `view`, `output` and `overlay_views` is that each meets its contract.
+-- What the meshes' slices own is had twice: once for the views, and once for the exit. The machine value that a callee returns is stored and passed on as it
+-- is; what the structs own doesn't say their lifetimes' names.
 -- Assumes nothing.
 use mathlib.Core.Path.{_≡_, refl}
 use Prim.Native.Nat.{ℕ, _<_, _^_}
@@ -17,7 +19,41 @@ use ghost.Atoms.{Atoms, sem}
 use contract.Lifetimes.{Lfts, Shares as SharesOf, toks}
 use contract.Monad.{Fun, fact}
 use contract.Running.{givenOf, tables, tablesOf}
-use types.Kit.{Given, Item, ‵, raw, _⊛_, given, ⋆, some, later, _$_, _∵_, !, qed, by, move, drop, use1, use2, use3, split, join, group, rewrite, learn, pick, fsplit, fjoin, feqL, check, suffices, frame, await, done}
+use types.Kit.{
+  Given,
+  Item,
+  ‵,
+  raw,
+  _⊛_,
+  given,
+  ⋆,
+  some,
+  later,
+  _$_,
+  _∵_,
+  !,
+  qed,
+  by,
+  move,
+  drop,
+  use1,
+  use2,
+  use3,
+  split,
+  join,
+  group,
+  rewrite,
+  learn,
+  pick,
+  fsplit,
+  fjoin,
+  feqL,
+  check,
+  suffices,
+  frame,
+  await,
+  done,
+}
 use types.Part.{agg, whole, sub, look-in}
 use types.Run.{look, init, forget, stop, hop, fld, from, load, addr, and-then, no-more, assigns, land, returns, enter, alloc1, alloc0, params1, pass1, pass0, free1, free0}
 use sound.WpLaws.{FmC, fmOf, WpFn-mono}
@@ -69,7 +105,52 @@ use Rattle.mesh_view.proofs.overlay_lists.Statement as stated
 use Rattle.mesh_view.proofs.overlay_lists.Code as code
 
 abbrev stayed : Stays (lists.ended .signature .params) (lists.ended .kept)
-stayed = (stay-none (λ _. u32) yes, (stay-none (λ _. u32) yes, (stay-none-slice (0 ∷ []) tt (plain (λ _. f64)) yes, (stay-none-slice (0 ∷ []) tt (plain (λ _. u32)) yes, (stay-none-slice (0 ∷ []) tt (plain (λ _. u32)) yes, (stay-none-slice (0 ∷ []) tt (plain (λ _. u8)) yes, (stay-none-slice (0 ∷ []) tt (plain (λ _. u32)) yes, (stay-none-slice (1 ∷ []) tt (plain (λ _. f64)) yes, (stay-none-slice (1 ∷ []) tt (plain (λ _. u32)) yes, (stay-none-slice (1 ∷ []) tt (plain (λ _. u32)) yes, (stay-none-slice (1 ∷ []) tt (plain (λ _. u8)) yes, (stay-none-slice (1 ∷ []) tt (plain (λ _. u32)) yes, (gave-slice (2 ∷ []) tt (plain (λ _. f64)), (gave-slice (2 ∷ []) tt (plain (λ _. u32)), (gave-slice (2 ∷ []) tt (plain (λ _. u32)), (gave-slice (2 ∷ []) tt (plain (λ _. u8)), (gave-slice (2 ∷ []) tt (plain (λ _. u32)), (gave-slice (3 ∷ []) tt (plain (λ _. u32)), tt))))))))))))))))))
+stayed = (
+  stay-none (λ _. u32) yes,
+  (
+    stay-none (λ _. u32) yes,
+    (
+      stay-none-slice (0 ∷ []) tt (plain (λ _. f64)) yes,
+      (
+        stay-none-slice (0 ∷ []) tt (plain (λ _. u32)) yes,
+        (
+          stay-none-slice (0 ∷ []) tt (plain (λ _. u32)) yes,
+          (
+            stay-none-slice (0 ∷ []) tt (plain (λ _. u8)) yes,
+            (
+              stay-none-slice (0 ∷ []) tt (plain (λ _. u32)) yes,
+              (
+                stay-none-slice (1 ∷ []) tt (plain (λ _. f64)) yes,
+                (
+                  stay-none-slice (1 ∷ []) tt (plain (λ _. u32)) yes,
+                  (
+                    stay-none-slice (1 ∷ []) tt (plain (λ _. u32)) yes,
+                    (
+                      stay-none-slice (1 ∷ []) tt (plain (λ _. u8)) yes,
+                      (
+                        stay-none-slice (1 ∷ []) tt (plain (λ _. u32)) yes,
+                        (
+                          gave-slice (2 ∷ []) tt (plain (λ _. f64)),
+                          (
+                            gave-slice (2 ∷ []) tt (plain (λ _. u32)),
+                            (
+                              gave-slice (2 ∷ []) tt (plain (λ _. u32)),
+                              (gave-slice (2 ∷ []) tt (plain (λ _. u8)), (gave-slice (2 ∷ []) tt (plain (λ _. u32)), (gave-slice (3 ∷ []) tt (plain (λ _. u32)), tt))),
+                            ),
+                          ),
+                        ),
+                      ),
+                    ),
+                  ),
+                ),
+              ),
+            ),
+          ),
+        ),
+      ),
+    ),
+  ),
+)
 
 module _ {M : Type 1} (𝓤 : URA M) (H : Heap 𝓤) (A : Atoms 𝓤) (mem : Memory → SProp 𝓤) (run : Routine → Fun 𝓤) where
   -- the contracts that the proof cites
@@ -137,10 +218,67 @@ module _ {M : Type 1} (𝓤 : URA M) (H : Heap 𝓤) (A : Atoms 𝓤) (W : Given
   qs = (q, (q′, (q″, (q‴, tt))))
 
   abbrev a : Args lists.signature κs
-  a = (op, (m, (s .coords, (s .nodes, (s .ends, (s .kinds, (s .families, (c .coords, (c .nodes, (c .ends, (c .kinds, (c .families, (o .coords, (o .nodes, (o .ends, (o .kinds, (o .families, (w, tt))))))))))))))))))
+  a = (
+    op,
+    (
+      m,
+      (
+        s .coords,
+        (
+          s .nodes,
+          (
+            s .ends,
+            (
+              s .kinds,
+              (
+                s .families,
+                (c .coords, (c .nodes, (c .ends, (c .kinds, (c .families, (o .coords, (o .nodes, (o .ends, (o .kinds, (o .families, (w, tt))))))))))),
+              ),
+            ),
+          ),
+        ),
+      ),
+    ),
+  )
 
   abbrev vals : Vals lists.signature κs
-  vals = (vint w32 op ∷ [], (vint w32 m ∷ [], (val (s .coords) ∷ [], (val (s .nodes) ∷ [], (val (s .ends) ∷ [], (val (s .kinds) ∷ [], (val (s .families) ∷ [], (val (c .coords) ∷ [], (val (c .nodes) ∷ [], (val (c .ends) ∷ [], (val (c .kinds) ∷ [], (val (c .families) ∷ [], (val (o .coords) ∷ [], (val (o .nodes) ∷ [], (val (o .ends) ∷ [], (val (o .kinds) ∷ [], (val (o .families) ∷ [], (val w ∷ [], tt))))))))))))))))))
+  vals = (
+    vint w32 op ∷ [],
+    (
+      vint w32 m ∷ [],
+      (
+        val (s .coords) ∷ [],
+        (
+          val (s .nodes) ∷ [],
+          (
+            val (s .ends) ∷ [],
+            (
+              val (s .kinds) ∷ [],
+              (
+                val (s .families) ∷ [],
+                (
+                  val (c .coords) ∷ [],
+                  (
+                    val (c .nodes) ∷ [],
+                    (
+                      val (c .ends) ∷ [],
+                      (
+                        val (c .kinds) ∷ [],
+                        (
+                          val (c .families) ∷ [],
+                          (val (o .coords) ∷ [], (val (o .nodes) ∷ [], (val (o .ends) ∷ [], (val (o .kinds) ∷ [], (val (o .families) ∷ [], (val w ∷ [], tt)))))),
+                        ),
+                      ),
+                    ),
+                  ),
+                ),
+              ),
+            ),
+          ),
+        ),
+      ),
+    ),
+  )
 
   abbrev Post : Val → SProp 𝓤
   Post = walkOf 𝓤 H A lists.ended stayed (lists.clauses 𝓤 H A mem run) .post ((κs, qs, tt, a, vals), tt)
@@ -211,7 +349,8 @@ module _ {M : Type 1} (𝓤 : URA M) (H : Heap 𝓤) (A : Atoms 𝓤) (W : Given
       -- [the tokens, the last first; what the parameters own]
       move ! (4 ∷ []) $ fsplit ! $ drop ! $ fsplit ! $ drop ! $
       use1 W (‵ (shrs (λ _. named 0) κ s (shrs (λ _. named 1) κ′ c (muts (λ _. named 2) κ″ o Work)))) (id⊢ 𝓤 _) $
-      use1 W (‵ S ⊛ ‵ (shrs (λ _. named 1) κ′ c (muts (λ _. named 2) κ″ o Work))) (off-shrs 𝓤 H A W (λ _. named 0) κ (shrs (λ _. named 1) κ′ c (muts (λ _. named 2) κ″ o Work)) s) $ split ! $
+      use1 W (‵ S ⊛ ‵ (shrs (λ _. named 1) κ′ c (muts (λ _. named 2) κ″ o Work)))
+      (off-shrs 𝓤 H A W (λ _. named 0) κ (shrs (λ _. named 1) κ′ c (muts (λ _. named 2) κ″ o Work)) s) $ split ! $
       use1 W (‵ S ⊛ ‵ S) (shrs-twice 𝓤 H A W (α κ) (λ _. named 0) s) $ split ! $ move ! (2 ∷ []) $
       use1 W (‵ C′ ⊛ ‵ (muts (λ _. named 2) κ″ o Work)) (off-shrs 𝓤 H A W (λ _. named 1) κ′ (muts (λ _. named 2) κ″ o Work) c) $ split ! $
       use1 W (‵ C′ ⊛ ‵ C′) (shrs-twice 𝓤 H A W (α κ′) (λ _. named 1) c) $ split ! $ move ! (2 ∷ []) $
@@ -239,20 +378,28 @@ module _ {M : Type 1} (𝓤 : URA M) (H : Heap 𝓤) (A : Atoms 𝓤) (W : Given
       use1 W (‵ (O.the-row (namedLft 4 2 tt κs) .own o (u″ ∷ []))) (id⊢ 𝓤 _) $ move ! (0 ∷ 7 ∷ []) $ fjoin ! $
       move ! (5 ∷ []) $ use1 W (‵ (T.the-row (namedLft 4 1 tt κs) .own c (u′ ∷ []))) (id⊢ 𝓤 _) $ fjoin ! $
       move ! (3 ∷ []) $ use1 W (‵ (T.the-row (namedLft 4 0 tt κs) .own s (u ∷ []))) (id⊢ 𝓤 _) $ fjoin ! $
-      owned ! u32 (Is u32) (uint-makes 𝓤 H A W w32) m (vint w32 m ∷ []) (refl, m-fits) $ fjoin ! $ owned ! u32 (Is u32) (uint-makes 𝓤 H A W w32) op (vint w32 op ∷ []) (refl, op-fits) $ fjoin ! $
+      owned ! u32 (Is u32) (uint-makes 𝓤 H A W w32) m (vint w32 m ∷ []) (refl, m-fits) $ fjoin ! $ owned ! u32 (Is u32) (uint-makes 𝓤 H A W w32) op
+      (vint w32 op ∷ []) (refl, op-fits) $ fjoin ! $
       use1 W (‵ (owns (typesAt (views.signature .params) κs) a′ (passed u u′ u″))) (id⊢ 𝓤 _) $
       -- [what the parameters own; κ″'s token, true; κ's; κ′'s; κ‴'s; …]
-      move ! (1 ∷ []) $ split ! $ move ! (3 ∷ 4 ∷ 0 ∷ 5 ∷ 1 ∷ []) $ group ! 5 $ use1 W (raw (toks 𝓤 A 4 κs qs)) (id⊢ 𝓤 _) $ use2 W (raw (Views 𝓤 H A mem run .pre (to-views u u′ u″))) (asked u u′ u″) $ done !
+      move ! (1 ∷ []) $ split ! $ move ! (3 ∷ 4 ∷ 0 ∷ 5 ∷ 1 ∷ []) $ group ! 5 $ use1 W (raw (toks 𝓤 A 4 κs qs)) (id⊢ 𝓤 _) $ use2 W
+      (raw (Views 𝓤 H A mem run .pre (to-views u u′ u″))) (asked u u′ u″) $ done !
 
   -- what `overlay_views` says of the last lists zs
   abbrev Zs : Type 0
   Zs = Lasts views.ended κs a′
 
   abbrev had : Zs → Fml
-  had zs = fsep (finally f64 (o .coords .name) (zs .1 .1 .1 .1 .0 .0)) (fsep (finally u32 (o .nodes .name) (zs .1 .1 .1 .1 .0 .1 .0)) (fsep (finally u32 (o .ends .name) (zs .1 .1 .1 .1 .0 .1 .1 .0)) (fsep (finally u8 (o .kinds .name) (zs .1 .1 .1 .1 .0 .1 .1 .1 .0)) (fsep (finally u32 (o .families .name) (zs .1 .1 .1 .1 .0 .1 .1 .1 .1 .0)) (fsep (finally u32 (w .name) (zs .1 .1 .1 .1 .1 .0)) ftrue)))))
+  had zs = fsep (finally f64 (o .coords .name) (zs .1 .1 .1 .1 .0 .0))
+      (fsep (finally u32 (o .nodes .name) (zs .1 .1 .1 .1 .0 .1 .0))
+      (fsep (finally u32 (o .ends .name) (zs .1 .1 .1 .1 .0 .1 .1 .0))
+      (fsep (finally u8 (o .kinds .name) (zs .1 .1 .1 .1 .0 .1 .1 .1 .0))
+      (fsep (finally u32 (o .families .name) (zs .1 .1 .1 .1 .0 .1 .1 .1 .1 .0)) (fsep (finally u32 (w .name) (zs .1 .1 .1 .1 .1 .0)) ftrue)))))
 
   abbrev Long : Zs → Type 0
-  Long zs = (length (zs .1 .1 .1 .1 .0 .0) ≡ length (o .coords .now)) × (length (zs .1 .1 .1 .1 .0 .1 .0) ≡ length (o .nodes .now)) × (length (zs .1 .1 .1 .1 .0 .1 .1 .0) ≡ length (o .ends .now)) × (length (zs .1 .1 .1 .1 .0 .1 .1 .1 .0) ≡ length (o .kinds .now)) × (length (zs .1 .1 .1 .1 .0 .1 .1 .1 .1 .0) ≡ length (o .families .now)) × (length (zs .1 .1 .1 .1 .1 .0) ≡ length (w .now))
+  Long zs = (length (zs .1 .1 .1 .1 .0 .0) ≡ length (o .coords .now)) × (length (zs .1 .1 .1 .1 .0 .1 .0) ≡ length (o .nodes .now)) ×
+      (length (zs .1 .1 .1 .1 .0 .1 .1 .0) ≡ length (o .ends .now)) × (length (zs .1 .1 .1 .1 .0 .1 .1 .1 .0) ≡ length (o .kinds .now)) ×
+      (length (zs .1 .1 .1 .1 .0 .1 .1 .1 .1 .0) ≡ length (o .families .now)) × (length (zs .1 .1 .1 .1 .1 .0) ≡ length (w .now))
 
   lastly : (zs : Zs) → ent 𝓤 (sem 𝓤 H A (lasts views.ended κs a′ zs)) (guard 𝓤 (Long zs) (sem 𝓤 H A (had zs)))
   lastly zs =
@@ -265,28 +412,81 @@ module _ {M : Type 1} (𝓤 : URA M) (H : Heap 𝓤) (A : Atoms 𝓤) (W : Given
       drop ! $ move ! (5 ∷ []) $ fsplit ! $ fsplit ! $ move ! (1 ∷ []) $ feqL ! (λ l₅. move ! (1 ∷ []) $
       check ! (l₀, l₁, l₂, l₃, l₄, l₅) $
       -- [true; the working list's; the families'; the kinds'; the ends'; the nodes'; the coordinates']
-      move ! (1 ∷ 0 ∷ []) $ fjoin ! $ move ! (1 ∷ 0 ∷ []) $ fjoin ! $ move ! (1 ∷ 0 ∷ []) $ fjoin ! $ move ! (1 ∷ 0 ∷ []) $ fjoin ! $ move ! (1 ∷ 0 ∷ []) $ fjoin ! $ move ! (1 ∷ 0 ∷ []) $ fjoin ! $ done !))))))
+      move ! (1 ∷ 0 ∷ []) $ fjoin ! $ move ! (1 ∷ 0 ∷ []) $ fjoin ! $ move ! (1 ∷ 0 ∷ []) $ fjoin ! $ move ! (1 ∷ 0 ∷ []) $ fjoin ! $ move ! (1 ∷ 0 ∷ []) $
+      fjoin ! $ move ! (1 ∷ 0 ∷ []) $ fjoin ! $ done !))))))
 
   abbrev Said : Answer → Zs → Type 0
   Said r zs =
-      result (r .code) (r .pieces) (r .points) (r .doubled) (lentLists (zs .1 .1 .1 .1 .0 .0) (zs .1 .1 .1 .1 .0 .1 .0) (zs .1 .1 .1 .1 .0 .1 .1 .0) (zs .1 .1 .1 .1 .0 .1 .1 .1 .0) (zs .1 .1 .1 .1 .0 .1 .1 .1 .1 .0) (zs .1 .1 .1 .1 .1 .0))
+      result (r .code) (r .pieces) (r .points) (r .doubled) (lentLists (zs .1 .1 .1 .1 .0 .0) (zs .1 .1 .1 .1 .0 .1 .0) (zs .1 .1 .1 .1 .0 .1 .1 .0)
+      (zs .1 .1 .1 .1 .0 .1 .1 .1 .0) (zs .1 .1 .1 .1 .0 .1 .1 .1 .1 .0) (zs .1 .1 .1 .1 .1 .0))
       ≡ overlayOf op m (meshOf s) (meshOf c) (listsOf o (now w))
 
   abbrev ws : (zs : Zs) → Lasts lists.ended κs a
-  ws zs = (tt, (tt, (tt, (tt, (tt, (tt, (tt, (tt, (tt, (tt, (tt, (tt, (zs .1 .1 .1 .1 .0 .0, (zs .1 .1 .1 .1 .0 .1 .0, (zs .1 .1 .1 .1 .0 .1 .1 .0, (zs .1 .1 .1 .1 .0 .1 .1 .1 .0, (zs .1 .1 .1 .1 .0 .1 .1 .1 .1 .0, (zs .1 .1 .1 .1 .1 .0, tt))))))))))))))))))
+  ws zs = (
+    tt,
+    (
+      tt,
+      (
+        tt,
+        (
+          tt,
+          (
+            tt,
+            (
+              tt,
+              (
+                tt,
+                (
+                  tt,
+                  (
+                    tt,
+                    (
+                      tt,
+                      (
+                        tt,
+                        (
+                          tt,
+                          (
+                            zs .1 .1 .1 .1 .0 .0,
+                            (
+                              zs .1 .1 .1 .1 .0 .1 .0,
+                              (
+                                zs .1 .1 .1 .1 .0 .1 .1 .0,
+                                (zs .1 .1 .1 .1 .0 .1 .1 .1 .0, (zs .1 .1 .1 .1 .0 .1 .1 .1 .1 .0, (zs .1 .1 .1 .1 .1 .0, tt))),
+                              ),
+                            ),
+                          ),
+                        ),
+                      ),
+                    ),
+                  ),
+                ),
+              ),
+            ),
+          ),
+        ),
+      ),
+    ),
+  )
 
   exits : (r : Answer) (u : Val) (zs : Zs) → Said r zs → Long zs → ent 𝓤 (⋆ 𝓤 H A (‵ (R.the-row .own r (u ∷ [])) ∷ raw (toks 𝓤 A 4 κs qs) ∷ ‵ (had zs) ∷ keep)) (Post u)
   exits r u zs e l =
       qed W (‵ (R.the-row .own r (u ∷ [])) ∷ raw (toks 𝓤 A 4 κs qs) ∷ ‵ (had zs) ∷ keep) ∵
-      suffices ! _ (ends-at 𝓤 H A lists.ended stayed (lists.clauses 𝓤 H A mem run) W ((κs, qs, tt, a, vals), tt) u r (ws zs) (tt, (tt, (tt, (tt, (tt, (tt, (tt, (tt, (tt, (tt, (tt, (tt, (l .0, (l .1, (l .2, (l .3, (l .4, (l .5, tt))))))))))))))))))) $ says ! e $
+      suffices ! _ (ends-at 𝓤 H A lists.ended stayed (lists.clauses 𝓤 H A mem run) W ((κs, qs, tt, a, vals), tt) u r (ws zs)
+      (tt, (tt, (tt, (tt, (tt, (tt, (tt, (tt, (tt, (tt, (tt, (tt, (l .0, (l .1, (l .2, (l .3, (l .4, (l .5, tt))))))))))))))))))) $ says ! e $
       move ! (4 ∷ 2 ∷ []) $ use2 W (‵ (shrs (λ _. named 1) κ′ c (had zs))) (onto-shrs 𝓤 H A W (λ _. named 1) κ′ (had zs) c) $
       move ! (3 ∷ 0 ∷ []) $ use2 W (‵ (shrs (λ _. named 0) κ s (shrs (λ _. named 1) κ′ c (had zs)))) (onto-shrs 𝓤 H A W (λ _. named 0) κ (shrs (λ _. named 1) κ′ c (had zs)) s) $
-      owned ! u32 (Is u32) (uint-makes 𝓤 H A W w32) m (vint w32 m ∷ []) (refl, m-fits) $ fjoin ! $ owned ! u32 (Is u32) (uint-makes 𝓤 H A W w32) op (vint w32 op ∷ []) (refl, op-fits) $ fjoin ! $
+      owned ! u32 (Is u32) (uint-makes 𝓤 H A W w32) m (vint w32 m ∷ []) (refl, m-fits) $ fjoin ! $ owned ! u32 (Is u32) (uint-makes 𝓤 H A W w32) op
+      (vint w32 op ∷ []) (refl, op-fits) $ fjoin ! $
       use1 W (‵ (hasOf κs (lists.signature .params) (lists.ended .kept) stayed a (ws zs) vals)) (id⊢ 𝓤 _) $ move ! (2 ∷ 0 ∷ []) $ done !
 
-  module _ (C : Calls 𝓤 H) (Λ : Loops 𝓤 H) (fm : FmC 𝓤 H (W .laws) C) (known-view : Triple 𝓤 (C #mesh-view·view) (View 𝓤 H A mem run)) (known-output : Triple 𝓤 (C #mesh-view·output) (Out 𝓤 H A mem run)) (known-views : Triple 𝓤 (C #mesh-view·overlay-views) (Views 𝓤 H A mem run)) where
+  module _ (C : Calls 𝓤 H) (Λ : Loops 𝓤 H) (fm : FmC 𝓤 H (W .laws) C) (known-view : Triple 𝓤 (C #mesh-view·view) (View 𝓤 H A mem run))
+      (known-output : Triple 𝓤 (C #mesh-view·output) (Out 𝓤 H A mem run)) (known-views : Triple 𝓤 (C #mesh-view·overlay-views) (Views 𝓤 H A mem run)) where
     walk : Are (typesAt (lists.signature .params) κs) (Ises (typesAt (lists.signature .params) κs)) a vals
-        → ent 𝓤 (onEntry 𝓤 H A lists.signature κs qs a vals) (WpFn 𝓤 H C Λ code.function (vint w32 op ∷ vint w32 m ∷ val (s .coords) ∷ val (s .nodes) ∷ val (s .ends) ∷ val (s .kinds) ∷ val (s .families) ∷ val (c .coords) ∷ val (c .nodes) ∷ val (c .ends) ∷ val (c .kinds) ∷ val (c .families) ∷ val (o .coords) ∷ val (o .nodes) ∷ val (o .ends) ∷ val (o .kinds) ∷ val (o .families) ∷ val w ∷ []) Post)
+        → ent 𝓤 (onEntry 𝓤 H A lists.signature κs qs a vals) (WpFn 𝓤 H C Λ code.function
+        (vint w32 op ∷ vint w32 m ∷ val (s .coords) ∷ val (s .nodes) ∷ val (s .ends) ∷ val (s .kinds) ∷ val (s .families) ∷ val (c .coords) ∷ val
+        (c .nodes) ∷ val (c .ends) ∷ val (c .kinds) ∷ val (c .families) ∷ val (o .coords) ∷ val (o .nodes) ∷ val (o .ends) ∷ val (o .kinds) ∷ val
+        (o .families) ∷ val w ∷ []) Post)
     walk are =
         let t₃ = shr-slice-lawful 𝓤 H A W (named 0) κ f64 .typed (s .coords) (val (s .coords) ∷ []) (are .1 .1 .0) .0 in
         let t₄ = shr-slice-lawful 𝓤 H A W (named 0) κ u32 .typed (s .nodes) (val (s .nodes) ∷ []) (are .1 .1 .1 .0) .0 in
@@ -304,61 +504,106 @@ module _ {M : Type 1} (𝓤 : URA M) (H : Heap 𝓤) (A : Atoms 𝓤) (W : Given
         let t₁₆ = mut-slice-lawful 𝓤 H A W (named 2) κ″ u8 .typed (o .kinds) (val (o .kinds) ∷ []) (are .1 .1 .1 .1 .1 .1 .1 .1 .1 .1 .1 .1 .1 .1 .1 .0) .0 in
         let t₁₇ = mut-slice-lawful 𝓤 H A W (named 2) κ″ u32 .typed (o .families) (val (o .families) ∷ []) (are .1 .1 .1 .1 .1 .1 .1 .1 .1 .1 .1 .1 .1 .1 .1 .1 .0) .0 in
         let t₁₈ = mut-slice-lawful 𝓤 H A W (named 3) κ‴ u32 .typed w (val w ∷ []) (are .1 .1 .1 .1 .1 .1 .1 .1 .1 .1 .1 .1 .1 .1 .1 .1 .1 .0) .0 in
-        qed W (raw (onEntry 𝓤 H A lists.signature κs qs a vals) ∷ []) ∵ enter ! C Λ code.function (vint w32 op ∷ vint w32 m ∷ val (s .coords) ∷ val (s .nodes) ∷ val (s .ends) ∷ val (s .kinds) ∷ val (s .families) ∷ val (c .coords) ∷ val (c .nodes) ∷ val (c .ends) ∷ val (c .kinds) ∷ val (c .families) ∷ val (o .coords) ∷ val (o .nodes) ∷ val (o .ends) ∷ val (o .kinds) ∷ val (o .families) ∷ val w ∷ []) _ $
-        alloc1 ! (λ l₀. alloc1 ! (λ l₁. alloc1 ! (λ l₂. alloc1 ! (λ l₃. alloc1 ! (λ l₄. alloc1 ! (λ l₅. alloc1 ! (λ l₆. alloc1 ! (λ l₇. alloc1 ! (λ l₈. alloc1 ! (λ l₉. alloc1 ! (λ l₁₀.
+        qed W (raw (onEntry 𝓤 H A lists.signature κs qs a vals) ∷ []) ∵ enter ! C Λ code.function
+        (vint w32 op ∷ vint w32 m ∷ val (s .coords) ∷ val (s .nodes) ∷ val (s .ends) ∷ val (s .kinds) ∷ val (s .families) ∷ val (c .coords) ∷ val
+        (c .nodes) ∷ val (c .ends) ∷ val (c .kinds) ∷ val (c .families) ∷ val (o .coords) ∷ val (o .nodes) ∷ val (o .ends) ∷ val (o .kinds) ∷ val
+        (o .families) ∷ val w ∷ []) _ $
+        alloc1 ! (λ l₀. alloc1 ! (λ l₁. alloc1 ! (λ l₂. alloc1 ! (λ l₃. alloc1 !
+        (λ l₄. alloc1 ! (λ l₅. alloc1 ! (λ l₆. alloc1 ! (λ l₇. alloc1 ! (λ l₈. alloc1 ! (λ l₉. alloc1 ! (λ l₁₀.
         alloc1 ! (λ l₁₁. alloc1 ! (λ l₁₂. alloc1 ! (λ l₁₃. alloc1 ! (λ l₁₄. alloc1 ! (λ l₁₅. alloc1 ! (λ l₁₆. alloc1 ! (λ l₁₇. alloc1 ! (λ l₁₈. alloc1 ! (λ l₁₉. alloc1 ! (λ l₂₀.
         alloc1 ! (λ l₂₁. alloc1 ! (λ l₂₂. alloc1 ! (λ l₂₃. alloc1 ! (λ l₂₄. alloc1 ! (λ l₂₅. alloc1 ! (λ l₂₆. alloc1 ! (λ l₂₇. alloc1 ! (λ l₂₈. alloc1 ! (λ l₂₉. alloc1 ! (λ l₃₀.
         alloc1 ! (λ l₃₁. alloc1 ! (λ l₃₂. alloc1 ! (λ l₃₃. alloc0 ! $ params1 ! $
-        pass1 ! (init ! 64 refl (tt, record { fits = op-fits })) $ pass1 ! (init ! 62 refl (tt, record { fits = m-fits })) $ pass1 ! (init ! 60 refl t₃) $ pass1 ! (init ! 58 refl t₄) $
-        pass1 ! (init ! 56 refl t₅) $ pass1 ! (init ! 54 refl t₆) $ pass1 ! (init ! 52 refl t₇) $ pass1 ! (init ! 50 refl t₈) $ pass1 ! (init ! 48 refl t₉) $ pass1 ! (init ! 46 refl t₁₀) $
-        pass1 ! (init ! 44 refl t₁₁) $ pass1 ! (init ! 42 refl t₁₂) $ pass1 ! (init ! 40 refl t₁₃) $ pass1 ! (init ! 38 refl t₁₄) $ pass1 ! (init ! 36 refl t₁₅) $ pass1 ! (init ! 34 refl t₁₆) $
+        pass1 ! (init ! 64 refl (tt, record { fits = op-fits })) $ pass1 ! (init ! 62 refl (tt, record { fits = m-fits })) $ pass1 ! (init ! 60 refl t₃) $
+        pass1 ! (init ! 58 refl t₄) $
+        pass1 ! (init ! 56 refl t₅) $ pass1 ! (init ! 54 refl t₆) $ pass1 ! (init ! 52 refl t₇) $ pass1 ! (init ! 50 refl t₈) $ pass1 ! (init ! 48 refl t₉) $
+        pass1 ! (init ! 46 refl t₁₀) $
+        pass1 ! (init ! 44 refl t₁₁) $ pass1 ! (init ! 42 refl t₁₂) $ pass1 ! (init ! 40 refl t₁₃) $ pass1 ! (init ! 38 refl t₁₄) $ pass1 !
+        (init ! 36 refl t₁₅) $ pass1 ! (init ! 34 refl t₁₆) $
         pass1 ! (init ! 32 refl t₁₇) $ pass1 ! (init ! 30 refl t₁₈) $ pass0 ! $
         -- the subject's view
         move ! (68 ∷ []) $ use1 W (raw (View 𝓤 H A mem run .pre to-s) ⊛ raw (⋆ 𝓤 H A beside₁)) starts $ split ! $
-        calls-at ! fm (View 𝓤 H A mem run) known-view to-s (and-then ! (load ! (from ! (stop !)) (look ! 62 refl)) (and-then ! (load ! (from ! (stop !)) (look ! 60 refl)) (and-then ! (load ! (from ! (stop !)) (look ! 58 refl)) (and-then ! (load ! (from ! (stop !)) (look ! 56 refl)) (and-then ! (load ! (from ! (stop !)) (look ! 54 refl)) (no-more !)))))) (λ u.
-        use1 W (later (some (λ (r : MeshView). ((‵ (flft κ q) ⊛ ‵ ftrue) ⊛ ‵ (T.the-row (α κ) .own r (u ∷ []))) ⊛ raw (ensured 𝓤 H A view.ended (view.clauses 𝓤 H A mem run) (κ, tt) (s .coords, (s .nodes, (s .ends, (s .kinds, (s .families, tt))))) tt r)))) (id⊢ 𝓤 _) $ await ! tt $ pick ! (λ r.
-        split ! $ move ! (1 ∷ []) $ use1 W (raw (fact 𝓤 (SaidView 𝓤 H A W mem run (named 0) κ q s r))) (view-said 𝓤 H A W mem run (named 0) κ q s r) $ heard ! (SaidView 𝓤 H A W mem run (named 0) κ q s r) (λ e.
-        split ! $ rewrite ! 1 (λ (h : MeshView). ‵ (T.the-row (α κ) .own h (u ∷ []))) (λ i. record { coords = e .0 i; nodes = e .1 i; ends = e .2 i; kinds = e .3 i; families = e .4 i }) refl $
-        move ! (1 ∷ []) $ peeks ! (T.the-row (α κ)) (Is (T.the-row (α κ))) (shows 𝓤 H A (T.the-row (α κ))) s (u ∷ []) (λ is. land ! (from ! (stop !)) (init ! 31 refl (LL.lawful (T.the-type (αᵉ κ)) (T′.the-laws (αᵉ κ)) 𝓤 H A W .typed s _ is .0)) $
+        calls-at ! fm (View 𝓤 H A mem run) known-view to-s (and-then ! (load ! (from ! (stop !)) (look ! 62 refl))
+        (and-then ! (load ! (from ! (stop !)) (look ! 60 refl))
+        (and-then ! (load ! (from ! (stop !)) (look ! 58 refl))
+        (and-then ! (load ! (from ! (stop !)) (look ! 56 refl)) (and-then ! (load ! (from ! (stop !)) (look ! 54 refl)) (no-more !)))))) (λ u.
+        use1 W (later (some (λ (r : MeshView). ((‵ (flft κ q) ⊛ ‵ ftrue) ⊛ ‵ (T.the-row (α κ) .own r (u ∷ []))) ⊛ raw
+        (ensured 𝓤 H A view.ended (view.clauses 𝓤 H A mem run) (κ, tt) (s .coords, (s .nodes, (s .ends, (s .kinds, (s .families, tt))))) tt r)))) (id⊢ 𝓤 _)
+        $ await ! tt $ pick ! (λ r.
+        split ! $ move ! (1 ∷ []) $ use1 W (raw (fact 𝓤 (SaidView 𝓤 H A W mem run (named 0) κ q s r))) (view-said 𝓤 H A W mem run (named 0) κ q s r) $ heard !
+        (SaidView 𝓤 H A W mem run (named 0) κ q s r) (λ e.
+        split ! $ rewrite ! 1 (λ (h : MeshView). ‵ (T.the-row (α κ) .own h (u ∷ [])))
+        (λ i. record { coords = e .0 i; nodes = e .1 i; ends = e .2 i; kinds = e .3 i; families = e .4 i }) refl $
+        move ! (1 ∷ []) $ peeks ! (T.the-row (α κ)) (Is (T.the-row (α κ))) (shows 𝓤 H A (T.the-row (α κ))) s (u ∷ [])
+        (λ is. land ! (from ! (stop !)) (init ! 31 refl (LL.lawful (T.the-type (αᵉ κ)) (T′.the-laws (αᵉ κ)) 𝓤 H A W .typed s _ is .0)) $
         -- the cutter's
         use3 W (raw (View 𝓤 H A mem run .pre to-c) ⊛ raw (⋆ 𝓤 H A (beside₂ u))) (next₁ u) $ split ! $
-        calls-at ! fm (View 𝓤 H A mem run) known-view to-c (and-then ! (load ! (from ! (stop !)) (look ! 52 refl)) (and-then ! (load ! (from ! (stop !)) (look ! 50 refl)) (and-then ! (load ! (from ! (stop !)) (look ! 48 refl)) (and-then ! (load ! (from ! (stop !)) (look ! 46 refl)) (and-then ! (load ! (from ! (stop !)) (look ! 44 refl)) (no-more !)))))) (λ u′.
-        use1 W (later (some (λ (r : MeshView). ((‵ (flft κ′ q′) ⊛ ‵ ftrue) ⊛ ‵ (T.the-row (α κ′) .own r (u′ ∷ []))) ⊛ raw (ensured 𝓤 H A view.ended (view.clauses 𝓤 H A mem run) (κ′, tt) (c .coords, (c .nodes, (c .ends, (c .kinds, (c .families, tt))))) tt r)))) (id⊢ 𝓤 _) $ await ! tt $ pick ! (λ r′.
-        split ! $ move ! (1 ∷ []) $ use1 W (raw (fact 𝓤 (SaidView 𝓤 H A W mem run (named 1) κ′ q′ c r′))) (view-said 𝓤 H A W mem run (named 1) κ′ q′ c r′) $ heard ! (SaidView 𝓤 H A W mem run (named 1) κ′ q′ c r′) (λ e′.
-        split ! $ rewrite ! 1 (λ (h : MeshView). ‵ (T.the-row (α κ′) .own h (u′ ∷ []))) (λ i. record { coords = e′ .0 i; nodes = e′ .1 i; ends = e′ .2 i; kinds = e′ .3 i; families = e′ .4 i }) refl $
-        move ! (1 ∷ []) $ peeks ! (T.the-row (α κ′)) (Is (T.the-row (α κ′))) (shows 𝓤 H A (T.the-row (α κ′))) c (u′ ∷ []) (λ is′. land ! (from ! (stop !)) (init ! 29 refl (LL.lawful (T.the-type (αᵉ κ′)) (T′.the-laws (αᵉ κ′)) 𝓤 H A W .typed c _ is′ .0)) $
+        calls-at ! fm (View 𝓤 H A mem run) known-view to-c (and-then ! (load ! (from ! (stop !)) (look ! 52 refl))
+        (and-then ! (load ! (from ! (stop !)) (look ! 50 refl))
+        (and-then ! (load ! (from ! (stop !)) (look ! 48 refl))
+        (and-then ! (load ! (from ! (stop !)) (look ! 46 refl)) (and-then ! (load ! (from ! (stop !)) (look ! 44 refl)) (no-more !)))))) (λ u′.
+        use1 W (later (some (λ (r : MeshView). ((‵ (flft κ′ q′) ⊛ ‵ ftrue) ⊛ ‵ (T.the-row (α κ′) .own r (u′ ∷ []))) ⊛ raw
+        (ensured 𝓤 H A view.ended (view.clauses 𝓤 H A mem run) (κ′, tt) (c .coords, (c .nodes, (c .ends, (c .kinds, (c .families, tt))))) tt r))))
+        (id⊢ 𝓤 _) $ await ! tt $ pick ! (λ r′.
+        split ! $ move ! (1 ∷ []) $ use1 W (raw (fact 𝓤 (SaidView 𝓤 H A W mem run (named 1) κ′ q′ c r′))) (view-said 𝓤 H A W mem run (named 1) κ′ q′ c r′) $
+        heard ! (SaidView 𝓤 H A W mem run (named 1) κ′ q′ c r′) (λ e′.
+        split ! $ rewrite ! 1 (λ (h : MeshView). ‵ (T.the-row (α κ′) .own h (u′ ∷ [])))
+        (λ i. record { coords = e′ .0 i; nodes = e′ .1 i; ends = e′ .2 i; kinds = e′ .3 i; families = e′ .4 i }) refl $
+        move ! (1 ∷ []) $ peeks ! (T.the-row (α κ′)) (Is (T.the-row (α κ′))) (shows 𝓤 H A (T.the-row (α κ′))) c (u′ ∷ [])
+        (λ is′. land ! (from ! (stop !)) (init ! 29 refl (LL.lawful (T.the-type (αᵉ κ′)) (T′.the-laws (αᵉ κ′)) 𝓤 H A W .typed c _ is′ .0)) $
         -- the output
         use3 W (raw (Out 𝓤 H A mem run .pre to-o) ⊛ raw (⋆ 𝓤 H A (beside₃ u u′))) (next₂ u u′) $ split ! $
         assigns ! (addr ! (from ! (fld ! refl (hop ! (look-in ! 42 (sub ! 0 refl (whole !))) (stop !))))) (from ! (stop !)) (init ! 24 refl (tt, tt)) $
-        assigns ! (agg ! (and-then ! (load ! (from ! (stop !)) (look ! 24 refl)) (and-then ! (load ! (from ! (fld ! refl (stop !))) (look-in ! 42 (sub ! 1 refl (whole !)))) (no-more !)))) (from ! (stop !)) (init ! 22 refl (tt, t₁₃ .1)) $
+        assigns ! (agg ! (and-then ! (load ! (from ! (stop !)) (look ! 24 refl))
+        (and-then ! (load ! (from ! (fld ! refl (stop !))) (look-in ! 42 (sub ! 1 refl (whole !)))) (no-more !)))) (from ! (stop !)) (init ! 22 refl (tt, t₁₃ .1)) $
         assigns ! (addr ! (from ! (fld ! refl (hop ! (look-in ! 40 (sub ! 0 refl (whole !))) (stop !))))) (from ! (stop !)) (init ! 20 refl (tt, tt)) $
-        assigns ! (agg ! (and-then ! (load ! (from ! (stop !)) (look ! 20 refl)) (and-then ! (load ! (from ! (fld ! refl (stop !))) (look-in ! 40 (sub ! 1 refl (whole !)))) (no-more !)))) (from ! (stop !)) (init ! 18 refl (tt, t₁₄ .1)) $
+        assigns ! (agg ! (and-then ! (load ! (from ! (stop !)) (look ! 20 refl))
+        (and-then ! (load ! (from ! (fld ! refl (stop !))) (look-in ! 40 (sub ! 1 refl (whole !)))) (no-more !)))) (from ! (stop !)) (init ! 18 refl (tt, t₁₄ .1)) $
         assigns ! (addr ! (from ! (fld ! refl (hop ! (look-in ! 38 (sub ! 0 refl (whole !))) (stop !))))) (from ! (stop !)) (init ! 16 refl (tt, tt)) $
-        assigns ! (agg ! (and-then ! (load ! (from ! (stop !)) (look ! 16 refl)) (and-then ! (load ! (from ! (fld ! refl (stop !))) (look-in ! 38 (sub ! 1 refl (whole !)))) (no-more !)))) (from ! (stop !)) (init ! 14 refl (tt, t₁₅ .1)) $
+        assigns ! (agg ! (and-then ! (load ! (from ! (stop !)) (look ! 16 refl))
+        (and-then ! (load ! (from ! (fld ! refl (stop !))) (look-in ! 38 (sub ! 1 refl (whole !)))) (no-more !)))) (from ! (stop !)) (init ! 14 refl (tt, t₁₅ .1)) $
         assigns ! (addr ! (from ! (fld ! refl (hop ! (look-in ! 36 (sub ! 0 refl (whole !))) (stop !))))) (from ! (stop !)) (init ! 12 refl (tt, tt)) $
-        assigns ! (agg ! (and-then ! (load ! (from ! (stop !)) (look ! 12 refl)) (and-then ! (load ! (from ! (fld ! refl (stop !))) (look-in ! 36 (sub ! 1 refl (whole !)))) (no-more !)))) (from ! (stop !)) (init ! 10 refl (tt, t₁₆ .1)) $
+        assigns ! (agg ! (and-then ! (load ! (from ! (stop !)) (look ! 12 refl))
+        (and-then ! (load ! (from ! (fld ! refl (stop !))) (look-in ! 36 (sub ! 1 refl (whole !)))) (no-more !)))) (from ! (stop !)) (init ! 10 refl (tt, t₁₆ .1)) $
         assigns ! (addr ! (from ! (fld ! refl (hop ! (look-in ! 34 (sub ! 0 refl (whole !))) (stop !))))) (from ! (stop !)) (init ! 8 refl (tt, tt)) $
-        assigns ! (agg ! (and-then ! (load ! (from ! (stop !)) (look ! 8 refl)) (and-then ! (load ! (from ! (fld ! refl (stop !))) (look-in ! 34 (sub ! 1 refl (whole !)))) (no-more !)))) (from ! (stop !)) (init ! 6 refl (tt, t₁₇ .1)) $
-        calls-at ! fm (Out 𝓤 H A mem run) known-output to-o (and-then ! (load ! (from ! (stop !)) (look ! 22 refl)) (and-then ! (load ! (from ! (stop !)) (look ! 18 refl)) (and-then ! (load ! (from ! (stop !)) (look ! 14 refl)) (and-then ! (load ! (from ! (stop !)) (look ! 10 refl)) (and-then ! (load ! (from ! (stop !)) (look ! 6 refl)) (no-more !)))))) (λ u″.
-        use1 W (later (some (λ (r : OutputView). ((‵ (flft κ″ q″) ⊛ ‵ ftrue) ⊛ ‵ (O.the-row (α κ″) .own r (u″ ∷ []))) ⊛ raw (ensured 𝓤 H A output.ended (output.clauses 𝓤 H A mem run) (κ″, tt) (o .coords, (o .nodes, (o .ends, (o .kinds, (o .families, tt))))) tt r)))) (id⊢ 𝓤 _) $ await ! tt $ pick ! (λ r″.
+        assigns ! (agg ! (and-then ! (load ! (from ! (stop !)) (look ! 8 refl))
+        (and-then ! (load ! (from ! (fld ! refl (stop !))) (look-in ! 34 (sub ! 1 refl (whole !)))) (no-more !)))) (from ! (stop !)) (init ! 6 refl (tt, t₁₇ .1)) $
+        calls-at ! fm (Out 𝓤 H A mem run) known-output to-o (and-then ! (load ! (from ! (stop !)) (look ! 22 refl))
+        (and-then ! (load ! (from ! (stop !)) (look ! 18 refl))
+        (and-then ! (load ! (from ! (stop !)) (look ! 14 refl))
+        (and-then ! (load ! (from ! (stop !)) (look ! 10 refl)) (and-then ! (load ! (from ! (stop !)) (look ! 6 refl)) (no-more !)))))) (λ u″.
+        use1 W (later (some (λ (r : OutputView). ((‵ (flft κ″ q″) ⊛ ‵ ftrue) ⊛ ‵ (O.the-row (α κ″) .own r (u″ ∷ []))) ⊛ raw
+        (ensured 𝓤 H A output.ended (output.clauses 𝓤 H A mem run) (κ″, tt) (o .coords, (o .nodes, (o .ends, (o .kinds, (o .families, tt))))) tt r))))
+        (id⊢ 𝓤 _) $ await ! tt $ pick ! (λ r″.
         split ! $ move ! (1 ∷ []) $ use1 W (raw (fact 𝓤 (SaidOutput 𝓤 H A W mem run (named 2) κ″ q″ o r″))) (output-said 𝓤 H A W mem run (named 2) κ″ q″ o r″) $
         heard ! (SaidOutput 𝓤 H A W mem run (named 2) κ″ q″ o r″) (λ e″.
-        split ! $ rewrite ! 1 (λ (h : OutputView). ‵ (O.the-row (α κ″) .own h (u″ ∷ []))) (λ i. record { coords = e″ .0 i; nodes = e″ .1 i; ends = e″ .2 i; kinds = e″ .3 i; families = e″ .4 i }) refl $
-        move ! (1 ∷ []) $ peeks ! (O.the-row (α κ″)) (Is (O.the-row (α κ″))) (shows 𝓤 H A (O.the-row (α κ″))) o (u″ ∷ []) (λ is″. land ! (from ! (stop !)) (init ! 27 refl (LL.lawful (O.the-type (αᵉ κ″)) (O′.the-laws (αᵉ κ″)) 𝓤 H A W .typed o _ is″ .0)) $
+        split ! $ rewrite ! 1 (λ (h : OutputView). ‵ (O.the-row (α κ″) .own h (u″ ∷ [])))
+        (λ i. record { coords = e″ .0 i; nodes = e″ .1 i; ends = e″ .2 i; kinds = e″ .3 i; families = e″ .4 i }) refl $
+        move ! (1 ∷ []) $ peeks ! (O.the-row (α κ″)) (Is (O.the-row (α κ″))) (shows 𝓤 H A (O.the-row (α κ″))) o (u″ ∷ [])
+        (λ is″. land ! (from ! (stop !)) (init ! 27 refl (LL.lawful (O.the-type (αᵉ κ″)) (O′.the-laws (αᵉ κ″)) 𝓤 H A W .typed o _ is″ .0)) $
         -- `overlay_views`
         use3 W (raw (Views 𝓤 H A mem run .pre (to-views u u′ u″)) ⊛ raw (⋆ 𝓤 H A keep)) (next₃ u u′ u″) $ split ! $
         assigns ! (addr ! (from ! (fld ! refl (hop ! (look-in ! 32 (sub ! 0 refl (whole !))) (stop !))))) (from ! (stop !)) (init ! 4 refl (tt, tt)) $
-        assigns ! (agg ! (and-then ! (load ! (from ! (stop !)) (look ! 4 refl)) (and-then ! (load ! (from ! (fld ! refl (stop !))) (look-in ! 32 (sub ! 1 refl (whole !)))) (no-more !)))) (from ! (stop !)) (init ! 2 refl (tt, t₁₈ .1)) $
-        calls-at ! fm (Views 𝓤 H A mem run) known-views (to-views u u′ u″) (and-then ! (load ! (from ! (stop !)) (look ! 66 refl)) (and-then ! (load ! (from ! (stop !)) (look ! 64 refl)) (and-then ! (load ! (from ! (stop !)) (look ! 30 refl)) (and-then ! (load ! (from ! (stop !)) (look ! 28 refl)) (and-then ! (load ! (from ! (stop !)) (look ! 26 refl)) (and-then ! (load ! (from ! (stop !)) (look ! 2 refl)) (no-more !))))))) (λ v.
-        use1 W (later (some (λ (r : Answer). (raw (toks 𝓤 A 4 κs qs) ⊛ ‵ (R.the-row .own r (v ∷ []))) ⊛ raw (ensured 𝓤 H A views.ended (views.clauses 𝓤 H A mem run) κs a′ tt r)))) (id⊢ 𝓤 _) $ await ! tt $ pick ! (λ x.
+        assigns ! (agg ! (and-then ! (load ! (from ! (stop !)) (look ! 4 refl))
+        (and-then ! (load ! (from ! (fld ! refl (stop !))) (look-in ! 32 (sub ! 1 refl (whole !)))) (no-more !)))) (from ! (stop !)) (init ! 2 refl (tt, t₁₈ .1)) $
+        calls-at ! fm (Views 𝓤 H A mem run) known-views (to-views u u′ u″)
+        (and-then ! (load ! (from ! (stop !)) (look ! 66 refl))
+        (and-then ! (load ! (from ! (stop !)) (look ! 64 refl))
+        (and-then ! (load ! (from ! (stop !)) (look ! 30 refl))
+        (and-then ! (load ! (from ! (stop !)) (look ! 28 refl))
+        (and-then ! (load ! (from ! (stop !)) (look ! 26 refl)) (and-then ! (load ! (from ! (stop !)) (look ! 2 refl)) (no-more !))))))) (λ v.
+        use1 W (later (some (λ (r : Answer). (raw (toks 𝓤 A 4 κs qs) ⊛ ‵ (R.the-row .own r (v ∷ []))) ⊛ raw
+        (ensured 𝓤 H A views.ended (views.clauses 𝓤 H A mem run) κs a′ tt r)))) (id⊢ 𝓤 _) $ await ! tt $ pick ! (λ x.
         split ! $ move ! (1 ∷ []) $ use1 W (some (λ (zs : Zs). ‵ (lasts views.ended κs a′ zs) ⊛ raw (fact 𝓤 (Said x zs)))) (id⊢ 𝓤 _) $ pick ! (λ zs.
         split ! $ move ! (1 ∷ []) $ heard ! (Said x zs) (λ said. use1 W (given (Long zs) (‵ (had zs))) (lastly zs) $ learn ! (λ l.
         -- [the last lists; the tokens and the result; what is kept; the locals]
         move ! (1 ∷ []) $ split ! $ move ! (1 ∷ []) $ peeks ! R.the-row (Is R.the-row) (shows 𝓤 H A R.the-row) x (v ∷ []) (λ fine.
         land ! (from ! (stop !)) (init ! 70 refl (LL.lawful R.the-type R′.the-laws 𝓤 H A W .typed x _ fine .0)) $
-        returns ! (look ! 70 refl) $ forget ! 4 refl $ forget ! 6 refl $ forget ! 8 refl $ forget ! 10 refl $ forget ! 12 refl $ forget ! 14 refl $ forget ! 16 refl $ forget ! 18 refl $
-        forget ! 20 refl $ forget ! 22 refl $ forget ! 24 refl $ forget ! 26 refl $ forget ! 28 refl $ forget ! 30 refl $ forget ! 32 refl $ forget ! 34 refl $ forget ! 36 refl $ forget ! 38 refl $
-        forget ! 40 refl $ forget ! 42 refl $ forget ! 44 refl $ forget ! 46 refl $ forget ! 48 refl $ forget ! 50 refl $ forget ! 52 refl $ forget ! 54 refl $ forget ! 56 refl $ forget ! 58 refl $
+        returns ! (look ! 70 refl) $ forget ! 4 refl $ forget ! 6 refl $ forget ! 8 refl $ forget ! 10 refl $ forget ! 12 refl $ forget ! 14 refl $ forget ! 16
+        refl $ forget ! 18 refl $
+        forget ! 20 refl $ forget ! 22 refl $ forget ! 24 refl $ forget ! 26 refl $ forget ! 28 refl $ forget ! 30 refl $ forget ! 32 refl $ forget ! 34 refl $
+        forget ! 36 refl $ forget ! 38 refl $
+        forget ! 40 refl $ forget ! 42 refl $ forget ! 44 refl $ forget ! 46 refl $ forget ! 48 refl $ forget ! 50 refl $ forget ! 52 refl $ forget ! 54 refl $
+        forget ! 56 refl $ forget ! 58 refl $
         forget ! 60 refl $ forget ! 62 refl $ forget ! 64 refl $ forget ! 66 refl $ forget ! 68 refl $ forget ! 70 refl $
         move ! (70 ∷ 71 ∷ []) $ free1 ! $ move ! (68 ∷ 69 ∷ []) $ free1 ! $ move ! (66 ∷ 67 ∷ []) $ free1 ! $ move ! (64 ∷ 65 ∷ []) $ free1 ! $ move ! (62 ∷ 63 ∷ []) $ free1 ! $
         move ! (60 ∷ 61 ∷ []) $ free1 ! $ move ! (58 ∷ 59 ∷ []) $ free1 ! $ move ! (56 ∷ 57 ∷ []) $ free1 ! $ move ! (54 ∷ 55 ∷ []) $ free1 ! $ move ! (52 ∷ 53 ∷ []) $ free1 ! $
@@ -370,23 +615,159 @@ module _ {M : Type 1} (𝓤 : URA M) (H : Heap 𝓤) (A : Atoms 𝓤) (W : Given
         by ! (exits x v zs said l)))))))))))))))))))))))))))))))))))))))))))))))))))))
 
 module _ {M : Type 1} (𝓤 : URA M) (H : Heap 𝓤) (A : Atoms 𝓤) (W : Given 𝓤 H A) (mem : Memory → SProp 𝓤) (run : Routine → Fun 𝓤) where
-  overlay-lists-walks : (C : Calls 𝓤 H) (Λ : Loops 𝓤 H) → FmC 𝓤 H (W .laws) C → Triple 𝓤 (C #mesh-view·view) (View 𝓤 H A mem run) → Triple 𝓤 (C #mesh-view·output) (Out 𝓤 H A mem run)
+  overlay-lists-walks : (C : Calls 𝓤 H) (Λ : Loops 𝓤 H) → FmC 𝓤 H (W .laws) C → Triple 𝓤 (C #mesh-view·view) (View 𝓤 H A mem run)
+      → Triple 𝓤 (C #mesh-view·output) (Out 𝓤 H A mem run)
       → Triple 𝓤 (C #mesh-view·overlay-views) (Views 𝓤 H A mem run)
       → Walks 𝓤 H A lists.ended stayed (WpFn 𝓤 H C Λ code.function) (lists.clauses 𝓤 H A mem run)
   overlay-lists-walks C Λ fm known-view known-output known-views = walked 𝓤 H A lists.ended stayed (lists.clauses 𝓤 H A mem run) (WpFn 𝓤 H C Λ code.function)
-      (λ κs. (uint-vals w32, (uint-vals w32, (slice-vals, (slice-vals, (slice-vals, (slice-vals, (slice-vals, (slice-vals, (slice-vals, (slice-vals, (slice-vals, (slice-vals, (slice-vals, (slice-vals, (slice-vals, (slice-vals, (slice-vals, (slice-vals, tt)))))))))))))))))))
-      (λ κs. (uint-tells w32, (uint-tells w32, (shr-slice-tells (named 0) (κs .0) f64, (shr-slice-tells (named 0) (κs .0) u32, (shr-slice-tells (named 0) (κs .0) u32, (shr-slice-tells (named 0) (κs .0) u8, (shr-slice-tells (named 0) (κs .0) u32, (shr-slice-tells (named 1) (κs .1 .0) f64, (shr-slice-tells (named 1) (κs .1 .0) u32, (shr-slice-tells (named 1) (κs .1 .0) u32, (shr-slice-tells (named 1) (κs .1 .0) u8, (shr-slice-tells (named 1) (κs .1 .0) u32, (mut-slice-tells (named 2) (κs .1 .1 .0) f64, (mut-slice-tells (named 2) (κs .1 .1 .0) u32, (mut-slice-tells (named 2) (κs .1 .1 .0) u32, (mut-slice-tells (named 2) (κs .1 .1 .0) u8, (mut-slice-tells (named 2) (κs .1 .1 .0) u32, (mut-slice-tells (named 3) (κs .1 .1 .1 .0) u32, tt)))))))))))))))))))
-      (λ κs qs bounds a g are. via 𝓤 _ (fst∗ 𝓤 _ (emp 𝓤)) (walk 𝓤 H A W mem run (κs .0) (κs .1 .0) (κs .1 .1 .0) (κs .1 .1 .1 .0) (qs .0) (qs .1 .0) (qs .1 .1 .0) (qs .1 .1 .1 .0) (a .0) (a .1 .0)
-      (record { coords = a .1 .1 .0; nodes = a .1 .1 .1 .0; ends = a .1 .1 .1 .1 .0; kinds = a .1 .1 .1 .1 .1 .0; families = a .1 .1 .1 .1 .1 .1 .0 }) (record { coords = a .1 .1 .1 .1 .1 .1 .1 .0; nodes = a .1 .1 .1 .1 .1 .1 .1 .1 .0; ends = a .1 .1 .1 .1 .1 .1 .1 .1 .1 .0; kinds = a .1 .1 .1 .1 .1 .1 .1 .1 .1 .1 .0; families = a .1 .1 .1 .1 .1 .1 .1 .1 .1 .1 .1 .0 }) (record { coords = a .1 .1 .1 .1 .1 .1 .1 .1 .1 .1 .1 .1 .0; nodes = a .1 .1 .1 .1 .1 .1 .1 .1 .1 .1 .1 .1 .1 .0; ends = a .1 .1 .1 .1 .1 .1 .1 .1 .1 .1 .1 .1 .1 .1 .0; kinds = a .1 .1 .1 .1 .1 .1 .1 .1 .1 .1 .1 .1 .1 .1 .1 .0; families = a .1 .1 .1 .1 .1 .1 .1 .1 .1 .1 .1 .1 .1 .1 .1 .1 .0 }) (a .1 .1 .1 .1 .1 .1 .1 .1 .1 .1 .1 .1 .1 .1 .1 .1 .1 .0)
+      (λ κs. (
+        uint-vals w32,
+        (
+          uint-vals w32,
+          (
+            slice-vals,
+            (
+              slice-vals,
+              (
+                slice-vals,
+                (
+                  slice-vals,
+                  (
+                    slice-vals,
+                    (
+                      slice-vals,
+                      (
+                        slice-vals,
+                        (slice-vals, (slice-vals, (slice-vals, (slice-vals, (slice-vals, (slice-vals, (slice-vals, (slice-vals, (slice-vals, tt))))))))),
+                      ),
+                    ),
+                  ),
+                ),
+              ),
+            ),
+          ),
+        ),
+      ))
+      (λ κs. (
+        uint-tells w32,
+        (
+          uint-tells w32,
+          (
+            shr-slice-tells (named 0) (κs .0) f64,
+            (
+              shr-slice-tells (named 0) (κs .0) u32,
+              (
+                shr-slice-tells (named 0) (κs .0) u32,
+                (
+                  shr-slice-tells (named 0) (κs .0) u8,
+                  (
+                    shr-slice-tells (named 0) (κs .0) u32,
+                    (
+                      shr-slice-tells (named 1) (κs .1 .0) f64,
+                      (
+                        shr-slice-tells (named 1) (κs .1 .0) u32,
+                        (
+                          shr-slice-tells (named 1) (κs .1 .0) u32,
+                          (
+                            shr-slice-tells (named 1) (κs .1 .0) u8,
+                            (
+                              shr-slice-tells (named 1) (κs .1 .0) u32,
+                              (
+                                mut-slice-tells (named 2) (κs .1 .1 .0) f64,
+                                (
+                                  mut-slice-tells (named 2) (κs .1 .1 .0) u32,
+                                  (
+                                    mut-slice-tells (named 2) (κs .1 .1 .0) u32,
+                                    (mut-slice-tells (named 2) (κs .1 .1 .0) u8, (mut-slice-tells (named 2) (κs .1 .1 .0) u32, (mut-slice-tells (named 3) (κs .1 .1 .1 .0) u32, tt))),
+                                  ),
+                                ),
+                              ),
+                            ),
+                          ),
+                        ),
+                      ),
+                    ),
+                  ),
+                ),
+              ),
+            ),
+          ),
+        ),
+      ))
+      (λ κs qs bounds a g are. via 𝓤 _ (fst∗ 𝓤 _ (emp 𝓤)) (walk 𝓤 H A W mem run (κs .0) (κs .1 .0) (κs .1 .1 .0) (κs .1 .1 .1 .0) (qs .0) (qs .1 .0)
+      (qs .1 .1 .0) (qs .1 .1 .1 .0) (a .0) (a .1 .0)
+      (record { coords = a .1 .1 .0; nodes = a .1 .1 .1 .0; ends = a .1 .1 .1 .1 .0; kinds = a .1 .1 .1 .1 .1 .0; families = a .1 .1 .1 .1 .1 .1 .0 })
+      (record {
+        coords = a .1 .1 .1 .1 .1 .1 .1 .0;
+        nodes = a .1 .1 .1 .1 .1 .1 .1 .1 .0;
+        ends = a .1 .1 .1 .1 .1 .1 .1 .1 .1 .0;
+        kinds = a .1 .1 .1 .1 .1 .1 .1 .1 .1 .1 .0;
+        families = a .1 .1 .1 .1 .1 .1 .1 .1 .1 .1 .1 .0;
+      })
+      (record {
+        coords = a .1 .1 .1 .1 .1 .1 .1 .1 .1 .1 .1 .1 .0;
+        nodes = a .1 .1 .1 .1 .1 .1 .1 .1 .1 .1 .1 .1 .1 .0;
+        ends = a .1 .1 .1 .1 .1 .1 .1 .1 .1 .1 .1 .1 .1 .1 .0;
+        kinds = a .1 .1 .1 .1 .1 .1 .1 .1 .1 .1 .1 .1 .1 .1 .1 .0;
+        families = a .1 .1 .1 .1 .1 .1 .1 .1 .1 .1 .1 .1 .1 .1 .1 .1 .0;
+      }) (a .1 .1 .1 .1 .1 .1 .1 .1 .1 .1 .1 .1 .1 .1 .1 .1 .1 .0)
       (are .0 .1) (are .1 .0 .1) C Λ fm known-view known-output known-views are))
 
 overlay-lists-meets : {M : Type 1} (𝓤 : URA M) (H : Heap 𝓤) (A : Atoms 𝓤) (W : Given 𝓤 H A) (mem : Memory → SProp 𝓤) (run : Routine → Fun 𝓤) (𝓣 : Tables 𝓤 H)
     → Triple 𝓤 (𝓣 .C #mesh-view·view) (View 𝓤 H A mem run) → Triple 𝓤 (𝓣 .C #mesh-view·output) (Out 𝓤 H A mem run) → Triple 𝓤 (𝓣 .C #mesh-view·overlay-views) (Views 𝓤 H A mem run)
     → Meets 𝓤 H A lists.signature (WpFn 𝓤 H (𝓣 .C) (𝓣 .Λ) code.function) (lists.spec 𝓤 H A mem run)
 overlay-lists-meets 𝓤 H A W mem run 𝓣 known-view known-output known-views =
-    walk-meets 𝓤 H A lists.ended stayed W
-    (goes-none 𝓤 H A W 4 (λ _. u32) yes (λ κs x f. refl), (goes-none 𝓤 H A W 4 (λ _. u32) yes (λ κs x f. refl), (goes-none-slice 𝓤 H A W 4 (0 ∷ []) tt (plain (λ _. f64)) yes, (goes-none-slice 𝓤 H A W 4 (0 ∷ []) tt (plain (λ _. u32)) yes, (goes-none-slice 𝓤 H A W 4 (0 ∷ []) tt (plain (λ _. u32)) yes, (goes-none-slice 𝓤 H A W 4 (0 ∷ []) tt (plain (λ _. u8)) yes, (goes-none-slice 𝓤 H A W 4 (0 ∷ []) tt (plain (λ _. u32)) yes, (goes-none-slice 𝓤 H A W 4 (1 ∷ []) tt (plain (λ _. f64)) yes, (goes-none-slice 𝓤 H A W 4 (1 ∷ []) tt (plain (λ _. u32)) yes, (goes-none-slice 𝓤 H A W 4 (1 ∷ []) tt (plain (λ _. u32)) yes, (goes-none-slice 𝓤 H A W 4 (1 ∷ []) tt (plain (λ _. u8)) yes, (goes-none-slice 𝓤 H A W 4 (1 ∷ []) tt (plain (λ _. u32)) yes, (goes-gave-slice 𝓤 H A W 4 2 tt (plain (λ _. f64)), (goes-gave-slice 𝓤 H A W 4 2 tt (plain (λ _. u32)), (goes-gave-slice 𝓤 H A W 4 2 tt (plain (λ _. u32)), (goes-gave-slice 𝓤 H A W 4 2 tt (plain (λ _. u8)), (goes-gave-slice 𝓤 H A W 4 2 tt (plain (λ _. u32)), (goes-gave-slice 𝓤 H A W 4 3 tt (plain (λ _. u32)), tt))))))))))))))))))
-    (lists.clauses 𝓤 H A mem run) (WpFn 𝓤 H (𝓣 .C) (𝓣 .Λ) code.function) (WpFn-mono 𝓤 H (W .laws) 𝓣 code.function) (overlay-lists-walks 𝓤 H A W mem run (𝓣 .C) (𝓣 .Λ) (fmOf 𝓤 H (W .laws) 𝓣) known-view known-output known-views)
+    walk-meets 𝓤 H A lists.ended stayed W (
+      goes-none 𝓤 H A W 4 (λ _. u32) yes (λ κs x f. refl),
+      (
+        goes-none 𝓤 H A W 4 (λ _. u32) yes (λ κs x f. refl),
+        (
+          goes-none-slice 𝓤 H A W 4 (0 ∷ []) tt (plain (λ _. f64)) yes,
+          (
+            goes-none-slice 𝓤 H A W 4 (0 ∷ []) tt (plain (λ _. u32)) yes,
+            (
+              goes-none-slice 𝓤 H A W 4 (0 ∷ []) tt (plain (λ _. u32)) yes,
+              (
+                goes-none-slice 𝓤 H A W 4 (0 ∷ []) tt (plain (λ _. u8)) yes,
+                (
+                  goes-none-slice 𝓤 H A W 4 (0 ∷ []) tt (plain (λ _. u32)) yes,
+                  (
+                    goes-none-slice 𝓤 H A W 4 (1 ∷ []) tt (plain (λ _. f64)) yes,
+                    (
+                      goes-none-slice 𝓤 H A W 4 (1 ∷ []) tt (plain (λ _. u32)) yes,
+                      (
+                        goes-none-slice 𝓤 H A W 4 (1 ∷ []) tt (plain (λ _. u32)) yes,
+                        (
+                          goes-none-slice 𝓤 H A W 4 (1 ∷ []) tt (plain (λ _. u8)) yes,
+                          (
+                            goes-none-slice 𝓤 H A W 4 (1 ∷ []) tt (plain (λ _. u32)) yes,
+                            (
+                              goes-gave-slice 𝓤 H A W 4 2 tt (plain (λ _. f64)),
+                              (
+                                goes-gave-slice 𝓤 H A W 4 2 tt (plain (λ _. u32)),
+                                (
+                                  goes-gave-slice 𝓤 H A W 4 2 tt (plain (λ _. u32)),
+                                  (
+                                    goes-gave-slice 𝓤 H A W 4 2 tt (plain (λ _. u8)),
+                                    (goes-gave-slice 𝓤 H A W 4 2 tt (plain (λ _. u32)), (goes-gave-slice 𝓤 H A W 4 3 tt (plain (λ _. u32)), tt)),
+                                  ),
+                                ),
+                              ),
+                            ),
+                          ),
+                        ),
+                      ),
+                    ),
+                  ),
+                ),
+              ),
+            ),
+          ),
+        ),
+      ),
+    )
+    (lists.clauses 𝓤 H A mem run) (WpFn 𝓤 H (𝓣 .C) (𝓣 .Λ) code.function) (WpFn-mono 𝓤 H (W .laws) 𝓣 code.function)
+    (overlay-lists-walks 𝓤 H A W mem run (𝓣 .C) (𝓣 .Λ) (fmOf 𝓤 H (W .laws) 𝓣) known-view known-output known-views)
 
 pub overlay-lists-spec : {M : Type 1} → stated.statement M
 unfolding code.routine tablesOf

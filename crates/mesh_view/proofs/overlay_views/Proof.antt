@@ -1,5 +1,7 @@
--- `mesh_view::overlay_views` meets its contract: a walk of its MIR, by hand. The two views and the output are taken apart, and `overlay::overlay` is called on their lists. All that the proof knows of it is that it meets its contract.
--- Views are Copy: what each owns is kept for the exit. The output's borrows and the working list's are given to the callee at their own lifetimes and names: what it says of their last lists is what this function says of them.
+-- `mesh_view::overlay_views` meets its contract: a walk of its MIR, by hand. The two views and the output are taken apart, and `overlay::overlay` is called
+-- on their lists. All that the proof knows of it is that it meets its contract.
+-- Views are Copy: what each owns is kept for the exit. The output's borrows and the working list's are given to the callee at their own lifetimes and names:
+-- what it says of their last lists is what this function says of them.
 -- A lifetime's token is cut in five, one for each list that the callee is lent at it, and mended at exit.
 -- Assumes nothing.
 use mathlib.Core.Path.{_≡_, refl}
@@ -19,7 +21,38 @@ use ghost.Atoms.{Atoms, sem}
 use contract.Lifetimes.{Lfts, Shares as SharesOf, toks}
 use contract.Monad.{Fun, fact}
 use contract.Running.{givenOf, tables, tablesOf}
-use types.Kit.{Given, Item, ‵, raw, _⊛_, given, ⋆, some, later, _$_, _∵_, !, qed, by, move, drop, use1, use2, split, group, learn, pick, fsplit, fjoin, feqL, check, suffices, frame, await, done}
+use types.Kit.{
+  Given,
+  Item,
+  ‵,
+  raw,
+  _⊛_,
+  given,
+  ⋆,
+  some,
+  later,
+  _$_,
+  _∵_,
+  !,
+  qed,
+  by,
+  move,
+  drop,
+  use1,
+  use2,
+  split,
+  group,
+  learn,
+  pick,
+  fsplit,
+  fjoin,
+  feqL,
+  check,
+  suffices,
+  frame,
+  await,
+  done,
+}
 use types.Part.{agg, whole, sub, look-in}
 use types.Run.{look, init, forget, stop, hop, fld, from, load, addr, of-opd, and-then, no-more, assigns, land, returns, enter, alloc1, alloc0, params1, pass1, pass0, free1, free0}
 use sound.WpLaws.{FmC, fmOf, WpFn-mono}
@@ -124,10 +157,67 @@ module _ {M : Type 1} (𝓤 : URA M) (H : Heap 𝓤) (A : Atoms 𝓤) (W : Given
   qs′ = (s₁ q, (s₂ q, (s₃ q, (s₄ q, (s₅ q, (s₁ q′, (s₂ q′, (s₃ q′, (s₄ q′, (s₅ q′, (s₁ q″, (s₂ q″, (s₃ q″, (s₄ q″, (s₅ q″, (q‴, tt))))))))))))))))
 
   abbrev a′ : Args overlay.signature κs′
-  a′ = (op, (m, (s .coords, (s .nodes, (s .ends, (s .kinds, (s .families, (c .coords, (c .nodes, (c .ends, (c .kinds, (c .families, (o .coords, (o .nodes, (o .ends, (o .kinds, (o .families, (w, tt))))))))))))))))))
+  a′ = (
+    op,
+    (
+      m,
+      (
+        s .coords,
+        (
+          s .nodes,
+          (
+            s .ends,
+            (
+              s .kinds,
+              (
+                s .families,
+                (c .coords, (c .nodes, (c .ends, (c .kinds, (c .families, (o .coords, (o .nodes, (o .ends, (o .kinds, (o .families, (w, tt))))))))))),
+              ),
+            ),
+          ),
+        ),
+      ),
+    ),
+  )
 
   abbrev passed : Vals overlay.signature κs′
-  passed = (vint w32 op ∷ [], (vint w32 m ∷ [], (val (s .coords) ∷ [], (val (s .nodes) ∷ [], (val (s .ends) ∷ [], (val (s .kinds) ∷ [], (val (s .families) ∷ [], (val (c .coords) ∷ [], (val (c .nodes) ∷ [], (val (c .ends) ∷ [], (val (c .kinds) ∷ [], (val (c .families) ∷ [], (val (o .coords) ∷ [], (val (o .nodes) ∷ [], (val (o .ends) ∷ [], (val (o .kinds) ∷ [], (val (o .families) ∷ [], (val w ∷ [], tt))))))))))))))))))
+  passed = (
+    vint w32 op ∷ [],
+    (
+      vint w32 m ∷ [],
+      (
+        val (s .coords) ∷ [],
+        (
+          val (s .nodes) ∷ [],
+          (
+            val (s .ends) ∷ [],
+            (
+              val (s .kinds) ∷ [],
+              (
+                val (s .families) ∷ [],
+                (
+                  val (c .coords) ∷ [],
+                  (
+                    val (c .nodes) ∷ [],
+                    (
+                      val (c .ends) ∷ [],
+                      (
+                        val (c .kinds) ∷ [],
+                        (
+                          val (c .families) ∷ [],
+                          (val (o .coords) ∷ [], (val (o .nodes) ∷ [], (val (o .ends) ∷ [], (val (o .kinds) ∷ [], (val (o .families) ∷ [], (val w ∷ [], tt)))))),
+                        ),
+                      ),
+                    ),
+                  ),
+                ),
+              ),
+            ),
+          ),
+        ),
+      ),
+    ),
+  )
 
   abbrev to : Overlay 𝓤 H A mem run .Ghost
   to = ((κs′, qs′, tt, a′, passed), tt)
@@ -142,8 +232,11 @@ module _ {M : Type 1} (𝓤 : URA M) (H : Heap 𝓤) (A : Atoms 𝓤) (W : Given
 
   mends : ent 𝓤 (toks 𝓤 A 16 κs′ qs′) (toks 𝓤 A 4 κs qs)
   mends =
-      qed W (‵ (flft κ (s₁ q)) ∷ ‵ (flft κ (s₂ q)) ∷ ‵ (flft κ (s₃ q)) ∷ ‵ (flft κ (s₄ q)) ∷ ‵ (flft κ (s₅ q)) ∷ ‵ (flft κ′ (s₁ q′)) ∷ ‵ (flft κ′ (s₂ q′)) ∷ ‵ (flft κ′ (s₃ q′)) ∷ ‵ (flft κ′ (s₄ q′)) ∷ ‵ (flft κ′ (s₅ q′)) ∷ ‵ (flft κ″ (s₁ q″)) ∷ ‵ (flft κ″ (s₂ q″)) ∷ ‵ (flft κ″ (s₃ q″)) ∷ ‵ (flft κ″ (s₄ q″)) ∷ ‵ (flft κ″ (s₅ q″)) ∷ ‵ (flft κ‴ q‴) ∷ ‵ ftrue ∷ []) ∵
-      group ! 5 $ use1 W (‵ (flft κ q)) (mend 𝓤 H A W κ q) $ frame ! $ group ! 5 $ use1 W (‵ (flft κ′ q′)) (mend 𝓤 H A W κ′ q′) $ frame ! $ group ! 5 $ use1 W (‵ (flft κ″ q″)) (mend 𝓤 H A W κ″ q″) $ frame ! $ done !
+      qed W (‵ (flft κ (s₁ q)) ∷ ‵ (flft κ (s₂ q)) ∷ ‵ (flft κ (s₃ q)) ∷ ‵ (flft κ (s₄ q)) ∷ ‵ (flft κ (s₅ q)) ∷ ‵ (flft κ′ (s₁ q′)) ∷ ‵ (flft κ′ (s₂ q′)) ∷ ‵
+      (flft κ′ (s₃ q′)) ∷ ‵ (flft κ′ (s₄ q′)) ∷ ‵ (flft κ′ (s₅ q′)) ∷ ‵ (flft κ″ (s₁ q″)) ∷ ‵ (flft κ″ (s₂ q″)) ∷ ‵ (flft κ″ (s₃ q″)) ∷ ‵ (flft κ″ (s₄ q″))
+      ∷ ‵ (flft κ″ (s₅ q″)) ∷ ‵ (flft κ‴ q‴) ∷ ‵ ftrue ∷ []) ∵
+      group ! 5 $ use1 W (‵ (flft κ q)) (mend 𝓤 H A W κ q) $ frame ! $ group ! 5 $ use1 W (‵ (flft κ′ q′)) (mend 𝓤 H A W κ′ q′) $ frame ! $ group ! 5 $ use1 W
+      (‵ (flft κ″ q″)) (mend 𝓤 H A W κ″ q″) $ frame ! $ done !
 
   -- what the views own, kept
   abbrev α : NamedLft
@@ -197,17 +290,27 @@ module _ {M : Type 1} (𝓤 : URA M) (H : Heap 𝓤) (A : Atoms 𝓤) (W : Given
   Zs = Lasts overlay.ended κs′ a′
 
   abbrev had : Zs → Fml
-  had zs = fsep (finally f64 (o .coords .name) (zs .1 .1 .1 .1 .1 .1 .1 .1 .1 .1 .1 .1 .0)) (fsep (finally u32 (o .nodes .name) (zs .1 .1 .1 .1 .1 .1 .1 .1 .1 .1 .1 .1 .1 .0)) (fsep (finally u32 (o .ends .name) (zs .1 .1 .1 .1 .1 .1 .1 .1 .1 .1 .1 .1 .1 .1 .0)) (fsep (finally u8 (o .kinds .name) (zs .1 .1 .1 .1 .1 .1 .1 .1 .1 .1 .1 .1 .1 .1 .1 .0)) (fsep (finally u32 (o .families .name) (zs .1 .1 .1 .1 .1 .1 .1 .1 .1 .1 .1 .1 .1 .1 .1 .1 .0)) ftrue))))
+  had zs = fsep (finally f64 (o .coords .name) (zs .1 .1 .1 .1 .1 .1 .1 .1 .1 .1 .1 .1 .0))
+      (fsep (finally u32 (o .nodes .name) (zs .1 .1 .1 .1 .1 .1 .1 .1 .1 .1 .1 .1 .1 .0))
+      (fsep (finally u32 (o .ends .name) (zs .1 .1 .1 .1 .1 .1 .1 .1 .1 .1 .1 .1 .1 .1 .0))
+      (fsep (finally u8 (o .kinds .name) (zs .1 .1 .1 .1 .1 .1 .1 .1 .1 .1 .1 .1 .1 .1 .1 .0))
+      (fsep (finally u32 (o .families .name) (zs .1 .1 .1 .1 .1 .1 .1 .1 .1 .1 .1 .1 .1 .1 .1 .1 .0)) ftrue))))
 
   abbrev had-work : Zs → Fml
   had-work zs = finally u32 (w .name) (zs .1 .1 .1 .1 .1 .1 .1 .1 .1 .1 .1 .1 .1 .1 .1 .1 .1 .0)
 
   abbrev Long : Zs → Type 0
-  Long zs = (length (zs .1 .1 .1 .1 .1 .1 .1 .1 .1 .1 .1 .1 .0) ≡ length (o .coords .now)) × (length (zs .1 .1 .1 .1 .1 .1 .1 .1 .1 .1 .1 .1 .1 .0) ≡ length (o .nodes .now)) × (length (zs .1 .1 .1 .1 .1 .1 .1 .1 .1 .1 .1 .1 .1 .1 .0) ≡ length (o .ends .now)) × (length (zs .1 .1 .1 .1 .1 .1 .1 .1 .1 .1 .1 .1 .1 .1 .1 .0) ≡ length (o .kinds .now)) × (length (zs .1 .1 .1 .1 .1 .1 .1 .1 .1 .1 .1 .1 .1 .1 .1 .1 .0) ≡ length (o .families .now)) × (length (zs .1 .1 .1 .1 .1 .1 .1 .1 .1 .1 .1 .1 .1 .1 .1 .1 .1 .0) ≡ length (w .now))
+  Long zs = (length (zs .1 .1 .1 .1 .1 .1 .1 .1 .1 .1 .1 .1 .0) ≡ length (o .coords .now)) ×
+      (length (zs .1 .1 .1 .1 .1 .1 .1 .1 .1 .1 .1 .1 .1 .0) ≡ length (o .nodes .now)) ×
+      (length (zs .1 .1 .1 .1 .1 .1 .1 .1 .1 .1 .1 .1 .1 .1 .0) ≡ length (o .ends .now)) ×
+      (length (zs .1 .1 .1 .1 .1 .1 .1 .1 .1 .1 .1 .1 .1 .1 .1 .0) ≡ length (o .kinds .now)) ×
+      (length (zs .1 .1 .1 .1 .1 .1 .1 .1 .1 .1 .1 .1 .1 .1 .1 .1 .0) ≡ length (o .families .now)) ×
+      (length (zs .1 .1 .1 .1 .1 .1 .1 .1 .1 .1 .1 .1 .1 .1 .1 .1 .1 .0) ≡ length (w .now))
 
   lastly : (zs : Zs) → ent 𝓤 (sem 𝓤 H A (lasts overlay.ended κs′ a′ zs)) (guard 𝓤 (Long zs) (⋆ 𝓤 H A (‵ (had zs) ∷ ‵ (had-work zs) ∷ [])))
   lastly zs =
-      qed W (‵ (lasts overlay.ended κs′ a′ zs) ∷ []) ∵ fsplit ! $ drop ! $ fsplit ! $ drop ! $ fsplit ! $ drop ! $ fsplit ! $ drop ! $ fsplit ! $ drop ! $ fsplit ! $ drop ! $ fsplit ! $ drop ! $
+      qed W (‵ (lasts overlay.ended κs′ a′ zs) ∷ []) ∵ fsplit ! $ drop ! $ fsplit ! $ drop ! $ fsplit ! $ drop ! $ fsplit ! $ drop ! $ fsplit ! $ drop ! $
+      fsplit ! $ drop ! $ fsplit ! $ drop ! $
       fsplit ! $ drop ! $ fsplit ! $ drop ! $ fsplit ! $ drop ! $ fsplit ! $ drop ! $ fsplit ! $ drop ! $
       fsplit ! $ fsplit ! $ move ! (1 ∷ []) $ feqL ! (λ l₀. move ! (1 ∷ []) $
       fsplit ! $ fsplit ! $ move ! (1 ∷ []) $ feqL ! (λ l₁. move ! (1 ∷ []) $
@@ -221,19 +324,50 @@ module _ {M : Type 1} (𝓤 : URA M) (H : Heap 𝓤) (A : Atoms 𝓤) (W : Given
 
   abbrev Said : Answer → Zs → Type 0
   Said r zs =
-      result (r .code) (r .pieces) (r .points) (r .doubled) (lentLists (zs .1 .1 .1 .1 .1 .1 .1 .1 .1 .1 .1 .1 .0) (zs .1 .1 .1 .1 .1 .1 .1 .1 .1 .1 .1 .1 .1 .0) (zs .1 .1 .1 .1 .1 .1 .1 .1 .1 .1 .1 .1 .1 .1 .0) (zs .1 .1 .1 .1 .1 .1 .1 .1 .1 .1 .1 .1 .1 .1 .1 .0) (zs .1 .1 .1 .1 .1 .1 .1 .1 .1 .1 .1 .1 .1 .1 .1 .1 .0) (zs .1 .1 .1 .1 .1 .1 .1 .1 .1 .1 .1 .1 .1 .1 .1 .1 .1 .0))
+      result (r .code) (r .pieces) (r .points) (r .doubled) (lentLists (zs .1 .1 .1 .1 .1 .1 .1 .1 .1 .1 .1 .1 .0)
+      (zs .1 .1 .1 .1 .1 .1 .1 .1 .1 .1 .1 .1 .1 .0) (zs .1 .1 .1 .1 .1 .1 .1 .1 .1 .1 .1 .1 .1 .1 .0) (zs .1 .1 .1 .1 .1 .1 .1 .1 .1 .1 .1 .1 .1 .1 .1 .0)
+      (zs .1 .1 .1 .1 .1 .1 .1 .1 .1 .1 .1 .1 .1 .1 .1 .1 .0) (zs .1 .1 .1 .1 .1 .1 .1 .1 .1 .1 .1 .1 .1 .1 .1 .1 .1 .0))
       ≡ overlayOf op m (meshOf s) (meshOf c) (listsOf o (now w))
 
   abbrev ws : (zs : Zs) → Lasts views.ended κs a
-  ws zs = (tt, (tt, (tt, (tt, ((zs .1 .1 .1 .1 .1 .1 .1 .1 .1 .1 .1 .1 .0, (zs .1 .1 .1 .1 .1 .1 .1 .1 .1 .1 .1 .1 .1 .0, (zs .1 .1 .1 .1 .1 .1 .1 .1 .1 .1 .1 .1 .1 .1 .0, (zs .1 .1 .1 .1 .1 .1 .1 .1 .1 .1 .1 .1 .1 .1 .1 .0, (zs .1 .1 .1 .1 .1 .1 .1 .1 .1 .1 .1 .1 .1 .1 .1 .1 .0, tt))))), (zs .1 .1 .1 .1 .1 .1 .1 .1 .1 .1 .1 .1 .1 .1 .1 .1 .1 .0, tt))))))
+  ws zs = (
+    tt,
+    (
+      tt,
+      (
+        tt,
+        (
+          tt,
+          (
+            (
+              zs .1 .1 .1 .1 .1 .1 .1 .1 .1 .1 .1 .1 .0,
+              (
+                zs .1 .1 .1 .1 .1 .1 .1 .1 .1 .1 .1 .1 .1 .0,
+                (
+                  zs .1 .1 .1 .1 .1 .1 .1 .1 .1 .1 .1 .1 .1 .1 .0,
+                  (zs .1 .1 .1 .1 .1 .1 .1 .1 .1 .1 .1 .1 .1 .1 .1 .0, (zs .1 .1 .1 .1 .1 .1 .1 .1 .1 .1 .1 .1 .1 .1 .1 .1 .0, tt)),
+                ),
+              ),
+            ),
+            (zs .1 .1 .1 .1 .1 .1 .1 .1 .1 .1 .1 .1 .1 .1 .1 .1 .1 .0, tt),
+          ),
+        ),
+      ),
+    ),
+  )
 
-  exits : (r : Answer) (u : Val) (zs : Zs) → Said r zs → Long zs → ent 𝓤 (⋆ 𝓤 H A (‵ (R.the-row .own r (u ∷ [])) ∷ raw (toks 𝓤 A 16 κs′ qs′) ∷ ‵ (had zs) ∷ ‵ (had-work zs) ∷ views-own)) (Post u)
+  exits : (r : Answer) (u : Val) (zs : Zs) → Said r zs → Long zs → ent 𝓤
+      (⋆ 𝓤 H A (‵ (R.the-row .own r (u ∷ [])) ∷ raw (toks 𝓤 A 16 κs′ qs′) ∷ ‵ (had zs) ∷ ‵ (had-work zs) ∷ views-own)) (Post u)
   exits r u zs e l =
       qed W (‵ (R.the-row .own r (u ∷ [])) ∷ raw (toks 𝓤 A 16 κs′ qs′) ∷ ‵ (had zs) ∷ ‵ (had-work zs) ∷ views-own) ∵
-      suffices ! _ (ends-at 𝓤 H A views.ended stayed (views.clauses 𝓤 H A mem run) W ((κs, qs, tt, a, vals), tt) u r (ws zs) (tt, (tt, (tt, (tt, ((l .0, (l .1, (l .2, (l .3, (l .4, tt))))), (l .5, tt))))))) $ says ! e $
+      suffices ! _ (ends-at 𝓤 H A views.ended stayed (views.clauses 𝓤 H A mem run) W ((κs, qs, tt, a, vals), tt) u r (ws zs)
+      (tt, (tt, (tt, (tt, ((l .0, (l .1, (l .2, (l .3, (l .4, tt))))), (l .5, tt))))))) $ says ! e $
       move ! (1 ∷ []) $ use1 W (raw (toks 𝓤 A 4 κs qs)) mends $ nothing ! $ move ! (4 ∷ 0 ∷ []) $ fjoin ! $ move ! (3 ∷ []) $
       -- [the output's last lists; the working list's; the tokens; the result; the subject; the cutter]
-      use1 W (‵ (inStruct (MutSlice (named 2) κ″ f64 ∷ MutSlice (named 2) κ″ u32 ∷ MutSlice (named 2) κ″ u32 ∷ MutSlice (named 2) κ″ u8 ∷ MutSlice (named 2) κ″ u32 ∷ []) (O′.lowered o ∷ []) (λ _. had zs))) (makes 𝓤 H A W (MutSlice (named 2) κ″ f64 ∷ MutSlice (named 2) κ″ u32 ∷ MutSlice (named 2) κ″ u32 ∷ MutSlice (named 2) κ″ u8 ∷ MutSlice (named 2) κ″ u32 ∷ []) (λ _. had zs) (val (o .coords) ∷ [], (val (o .nodes) ∷ [], (val (o .ends) ∷ [], (val (o .kinds) ∷ [], (val (o .families) ∷ [], tt)))))) $ fjoin ! $
+      use1 W (‵ (inStruct (MutSlice (named 2) κ″ f64 ∷ MutSlice (named 2) κ″ u32 ∷ MutSlice (named 2) κ″ u32 ∷ MutSlice (named 2) κ″ u8 ∷ MutSlice (named 2) κ″
+      u32 ∷ []) (O′.lowered o ∷ []) (λ _. had zs))) (makes 𝓤 H A W
+      (MutSlice (named 2) κ″ f64 ∷ MutSlice (named 2) κ″ u32 ∷ MutSlice (named 2) κ″ u32 ∷ MutSlice (named 2) κ″ u8 ∷ MutSlice (named 2) κ″ u32 ∷ [])
+      (λ _. had zs) (val (o .coords) ∷ [], (val (o .nodes) ∷ [], (val (o .ends) ∷ [], (val (o .kinds) ∷ [], (val (o .families) ∷ [], tt)))))) $ fjoin ! $
       move ! (4 ∷ 0 ∷ []) $ fjoin ! $ move ! (3 ∷ 0 ∷ []) $ fjoin ! $ owned ! u32 (Is u32) (uint-makes 𝓤 H A W w32) m _ (refl, m-fits) $ fjoin ! $
       owned ! u32 (Is u32) (uint-makes 𝓤 H A W w32) op _ (refl, op-fits) $ fjoin ! $
       use1 W (‵ (hasOf κs (views.signature .params) (views.ended .kept) stayed a (ws zs) vals)) (id⊢ 𝓤 _) $ move ! (1 ∷ 0 ∷ []) $ done !
@@ -244,11 +378,14 @@ module _ {M : Type 1} (𝓤 : URA M) (H : Heap 𝓤) (A : Atoms 𝓤) (W : Given
         → ent 𝓤 (onEntry 𝓤 H A views.signature κs qs a vals) (WpFn 𝓤 H C Λ code.function (vint w32 op ∷ vint w32 m ∷ T′.lowered s ∷ T′.lowered c ∷ O′.lowered o ∷ val w ∷ []) Post)
     walk wt wt′ wt″ is‴ =
         let wt‴ = mut-slice-lawful 𝓤 H A W (named 3) κ‴ u32 .typed w (val w ∷ []) is‴ .0 in
-        qed W (raw (onEntry 𝓤 H A views.signature κs qs a vals) ∷ []) ∵ enter ! C Λ code.function (vint w32 op ∷ vint w32 m ∷ T′.lowered s ∷ T′.lowered c ∷ O′.lowered o ∷ val w ∷ []) _ $
-        alloc1 ! (λ l₀. alloc1 ! (λ l₁. alloc1 ! (λ l₂. alloc1 ! (λ l₃. alloc1 ! (λ l₄. alloc1 ! (λ l₅. alloc1 ! (λ l₆. alloc1 ! (λ l₇. alloc1 ! (λ l₈. alloc1 ! (λ l₉. alloc1 ! (λ l₁₀.
+        qed W (raw (onEntry 𝓤 H A views.signature κs qs a vals) ∷ []) ∵ enter ! C Λ code.function
+        (vint w32 op ∷ vint w32 m ∷ T′.lowered s ∷ T′.lowered c ∷ O′.lowered o ∷ val w ∷ []) _ $
+        alloc1 ! (λ l₀. alloc1 ! (λ l₁. alloc1 ! (λ l₂. alloc1 ! (λ l₃. alloc1 !
+        (λ l₄. alloc1 ! (λ l₅. alloc1 ! (λ l₆. alloc1 ! (λ l₇. alloc1 ! (λ l₈. alloc1 ! (λ l₉. alloc1 ! (λ l₁₀.
         alloc1 ! (λ l₁₁. alloc1 ! (λ l₁₂. alloc1 ! (λ l₁₃. alloc1 ! (λ l₁₄. alloc1 ! (λ l₁₅. alloc1 ! (λ l₁₆. alloc1 ! (λ l₁₇. alloc1 ! (λ l₁₈. alloc1 ! (λ l₁₉. alloc1 ! (λ l₂₀.
         alloc1 ! (λ l₂₁. alloc1 ! (λ l₂₂. alloc1 ! (λ l₂₃. alloc1 ! (λ l₂₄. alloc1 ! (λ l₂₅. alloc1 ! (λ l₂₆. alloc1 ! (λ l₂₇. alloc1 ! (λ l₂₈. alloc0 ! $ params1 ! $
-        pass1 ! (init ! 54 refl (tt, record { fits = op-fits })) $ pass1 ! (init ! 52 refl (tt, record { fits = m-fits })) $ pass1 ! (init ! 50 refl wt) $ pass1 ! (init ! 48 refl wt′) $
+        pass1 ! (init ! 54 refl (tt, record { fits = op-fits })) $ pass1 ! (init ! 52 refl (tt, record { fits = m-fits })) $ pass1 ! (init ! 50 refl wt) $
+        pass1 ! (init ! 48 refl wt′) $
         pass1 ! (init ! 46 refl wt″) $ pass1 ! (init ! 44 refl wt‴) $ pass0 ! $
         assigns ! (of-opd ! (load ! (from ! (fld ! refl (stop !))) (look-in ! 50 (sub ! 0 refl (whole !))))) (from ! (stop !)) (init ! 42 refl (tt, wt .1 .0)) $
         assigns ! (of-opd ! (load ! (from ! (fld ! refl (stop !))) (look-in ! 50 (sub ! 1 refl (whole !))))) (from ! (stop !)) (init ! 40 refl (tt, wt .1 .1 .0)) $
@@ -261,20 +398,48 @@ module _ {M : Type 1} (𝓤 : URA M) (H : Heap 𝓤) (A : Atoms 𝓤) (W : Given
         assigns ! (of-opd ! (load ! (from ! (fld ! refl (stop !))) (look-in ! 48 (sub ! 3 refl (whole !))))) (from ! (stop !)) (init ! 26 refl (tt, wt′ .1 .1 .1 .1 .0)) $
         assigns ! (of-opd ! (load ! (from ! (fld ! refl (stop !))) (look-in ! 48 (sub ! 4 refl (whole !))))) (from ! (stop !)) (init ! 24 refl (tt, wt′ .1 .1 .1 .1 .1 .0)) $
         assigns ! (addr ! (from ! (fld ! refl (fld ! refl (hop ! (look-in ! 46 (sub ! 0 refl (sub ! 0 refl (whole !)))) (stop !)))))) (from ! (stop !)) (init ! 22 refl (tt, tt)) $
-        assigns ! (agg ! (and-then ! (load ! (from ! (stop !)) (look ! 22 refl)) (and-then ! (load ! (from ! (fld ! refl (fld ! refl (stop !)))) (look-in ! 46 (sub ! 1 refl (sub ! 0 refl (whole !))))) (no-more !)))) (from ! (stop !)) (init ! 20 refl (tt, wt″ .1 .0)) $
+        assigns ! (agg ! (and-then ! (load ! (from ! (stop !)) (look ! 22 refl))
+        (and-then ! (load ! (from ! (fld ! refl (fld ! refl (stop !)))) (look-in ! 46 (sub ! 1 refl (sub ! 0 refl (whole !))))) (no-more !))))
+        (from ! (stop !)) (init ! 20 refl (tt, wt″ .1 .0)) $
         assigns ! (addr ! (from ! (fld ! refl (fld ! refl (hop ! (look-in ! 46 (sub ! 0 refl (sub ! 1 refl (whole !)))) (stop !)))))) (from ! (stop !)) (init ! 18 refl (tt, tt)) $
-        assigns ! (agg ! (and-then ! (load ! (from ! (stop !)) (look ! 18 refl)) (and-then ! (load ! (from ! (fld ! refl (fld ! refl (stop !)))) (look-in ! 46 (sub ! 1 refl (sub ! 1 refl (whole !))))) (no-more !)))) (from ! (stop !)) (init ! 16 refl (tt, wt″ .1 .1 .0)) $
+        assigns ! (agg ! (and-then ! (load ! (from ! (stop !)) (look ! 18 refl))
+        (and-then ! (load ! (from ! (fld ! refl (fld ! refl (stop !)))) (look-in ! 46 (sub ! 1 refl (sub ! 1 refl (whole !))))) (no-more !))))
+        (from ! (stop !)) (init ! 16 refl (tt, wt″ .1 .1 .0)) $
         assigns ! (addr ! (from ! (fld ! refl (fld ! refl (hop ! (look-in ! 46 (sub ! 0 refl (sub ! 2 refl (whole !)))) (stop !)))))) (from ! (stop !)) (init ! 14 refl (tt, tt)) $
-        assigns ! (agg ! (and-then ! (load ! (from ! (stop !)) (look ! 14 refl)) (and-then ! (load ! (from ! (fld ! refl (fld ! refl (stop !)))) (look-in ! 46 (sub ! 1 refl (sub ! 2 refl (whole !))))) (no-more !)))) (from ! (stop !)) (init ! 12 refl (tt, wt″ .1 .1 .1 .0)) $
+        assigns ! (agg ! (and-then ! (load ! (from ! (stop !)) (look ! 14 refl))
+        (and-then ! (load ! (from ! (fld ! refl (fld ! refl (stop !)))) (look-in ! 46 (sub ! 1 refl (sub ! 2 refl (whole !))))) (no-more !))))
+        (from ! (stop !)) (init ! 12 refl (tt, wt″ .1 .1 .1 .0)) $
         assigns ! (addr ! (from ! (fld ! refl (fld ! refl (hop ! (look-in ! 46 (sub ! 0 refl (sub ! 3 refl (whole !)))) (stop !)))))) (from ! (stop !)) (init ! 10 refl (tt, tt)) $
-        assigns ! (agg ! (and-then ! (load ! (from ! (stop !)) (look ! 10 refl)) (and-then ! (load ! (from ! (fld ! refl (fld ! refl (stop !)))) (look-in ! 46 (sub ! 1 refl (sub ! 3 refl (whole !))))) (no-more !)))) (from ! (stop !)) (init ! 8 refl (tt, wt″ .1 .1 .1 .1 .0)) $
+        assigns ! (agg ! (and-then ! (load ! (from ! (stop !)) (look ! 10 refl))
+        (and-then ! (load ! (from ! (fld ! refl (fld ! refl (stop !)))) (look-in ! 46 (sub ! 1 refl (sub ! 3 refl (whole !))))) (no-more !))))
+        (from ! (stop !)) (init ! 8 refl (tt, wt″ .1 .1 .1 .1 .0)) $
         assigns ! (addr ! (from ! (fld ! refl (fld ! refl (hop ! (look-in ! 46 (sub ! 0 refl (sub ! 4 refl (whole !)))) (stop !)))))) (from ! (stop !)) (init ! 6 refl (tt, tt)) $
-        assigns ! (agg ! (and-then ! (load ! (from ! (stop !)) (look ! 6 refl)) (and-then ! (load ! (from ! (fld ! refl (fld ! refl (stop !)))) (look-in ! 46 (sub ! 1 refl (sub ! 4 refl (whole !))))) (no-more !)))) (from ! (stop !)) (init ! 4 refl (tt, wt″ .1 .1 .1 .1 .1 .0)) $
+        assigns ! (agg ! (and-then ! (load ! (from ! (stop !)) (look ! 6 refl))
+        (and-then ! (load ! (from ! (fld ! refl (fld ! refl (stop !)))) (look-in ! 46 (sub ! 1 refl (sub ! 4 refl (whole !))))) (no-more !))))
+        (from ! (stop !)) (init ! 4 refl (tt, wt″ .1 .1 .1 .1 .1 .0)) $
         assigns ! (addr ! (from ! (fld ! refl (hop ! (look-in ! 44 (sub ! 0 refl (whole !))) (stop !))))) (from ! (stop !)) (init ! 2 refl (tt, tt)) $
-        assigns ! (agg ! (and-then ! (load ! (from ! (stop !)) (look ! 2 refl)) (and-then ! (load ! (from ! (fld ! refl (stop !))) (look-in ! 44 (sub ! 1 refl (whole !)))) (no-more !)))) (from ! (stop !)) (init ! 0 refl (tt, wt‴ .1)) $
+        assigns ! (agg ! (and-then ! (load ! (from ! (stop !)) (look ! 2 refl))
+        (and-then ! (load ! (from ! (fld ! refl (stop !))) (look-in ! 44 (sub ! 1 refl (whole !)))) (no-more !)))) (from ! (stop !)) (init ! 0 refl (tt, wt‴ .1)) $
         move ! (58 ∷ []) $ use1 W (raw (Overlay 𝓤 H A mem run .pre to) ⊛ (‵ (OwnView α s) ⊛ ‵ (OwnView α′ c))) apart $ split ! $
-        calls-at ! fm (Overlay 𝓤 H A mem run) known to (and-then ! (load ! (from ! (stop !)) (look ! 56 refl)) (and-then ! (load ! (from ! (stop !)) (look ! 54 refl)) (and-then ! (load ! (from ! (stop !)) (look ! 44 refl)) (and-then ! (load ! (from ! (stop !)) (look ! 42 refl)) (and-then ! (load ! (from ! (stop !)) (look ! 40 refl)) (and-then ! (load ! (from ! (stop !)) (look ! 38 refl)) (and-then ! (load ! (from ! (stop !)) (look ! 36 refl)) (and-then ! (load ! (from ! (stop !)) (look ! 34 refl)) (and-then ! (load ! (from ! (stop !)) (look ! 32 refl)) (and-then ! (load ! (from ! (stop !)) (look ! 30 refl)) (and-then ! (load ! (from ! (stop !)) (look ! 28 refl)) (and-then ! (load ! (from ! (stop !)) (look ! 26 refl)) (and-then ! (load ! (from ! (stop !)) (look ! 22 refl)) (and-then ! (load ! (from ! (stop !)) (look ! 18 refl)) (and-then ! (load ! (from ! (stop !)) (look ! 14 refl)) (and-then ! (load ! (from ! (stop !)) (look ! 10 refl)) (and-then ! (load ! (from ! (stop !)) (look ! 6 refl)) (and-then ! (load ! (from ! (stop !)) (look ! 2 refl)) (no-more !))))))))))))))))))) (λ u.
-        use1 W (later (some (λ (r : Answer). (raw (toks 𝓤 A 16 κs′ qs′) ⊛ ‵ (R.the-row .own r (u ∷ []))) ⊛ raw (ensured 𝓤 H A overlay.ended (overlay.clauses 𝓤 H A mem run) κs′ a′ tt r)))) (id⊢ 𝓤 _) $
+        calls-at ! fm (Overlay 𝓤 H A mem run) known to (and-then ! (load ! (from ! (stop !)) (look ! 56 refl))
+        (and-then ! (load ! (from ! (stop !)) (look ! 54 refl))
+        (and-then ! (load ! (from ! (stop !)) (look ! 44 refl))
+        (and-then ! (load ! (from ! (stop !)) (look ! 42 refl))
+        (and-then ! (load ! (from ! (stop !)) (look ! 40 refl))
+        (and-then ! (load ! (from ! (stop !)) (look ! 38 refl))
+        (and-then ! (load ! (from ! (stop !)) (look ! 36 refl))
+        (and-then ! (load ! (from ! (stop !)) (look ! 34 refl))
+        (and-then ! (load ! (from ! (stop !)) (look ! 32 refl))
+        (and-then ! (load ! (from ! (stop !)) (look ! 30 refl))
+        (and-then ! (load ! (from ! (stop !)) (look ! 28 refl))
+        (and-then ! (load ! (from ! (stop !)) (look ! 26 refl))
+        (and-then ! (load ! (from ! (stop !)) (look ! 22 refl))
+        (and-then ! (load ! (from ! (stop !)) (look ! 18 refl))
+        (and-then ! (load ! (from ! (stop !)) (look ! 14 refl))
+        (and-then ! (load ! (from ! (stop !)) (look ! 10 refl))
+        (and-then ! (load ! (from ! (stop !)) (look ! 6 refl)) (and-then ! (load ! (from ! (stop !)) (look ! 2 refl)) (no-more !))))))))))))))))))) (λ u.
+        use1 W (later (some (λ (r : Answer). (raw (toks 𝓤 A 16 κs′ qs′) ⊛ ‵ (R.the-row .own r (u ∷ []))) ⊛ raw
+        (ensured 𝓤 H A overlay.ended (overlay.clauses 𝓤 H A mem run) κs′ a′ tt r)))) (id⊢ 𝓤 _) $
         await ! tt $ pick ! (λ r.
         split ! $ move ! (1 ∷ []) $ use1 W (some (λ (zs : Zs). ‵ (lasts overlay.ended κs′ a′ zs) ⊛ raw (fact 𝓤 (Said r zs)))) (id⊢ 𝓤 _) $ pick ! (λ zs.
         split ! $ move ! (1 ∷ []) $ heard ! (Said r zs) (λ e. use1 W (given (Long zs) (‵ (had zs) ⊛ ‵ (had-work zs))) (lastly zs) $ learn ! (λ l. split ! $
@@ -282,33 +447,60 @@ module _ {M : Type 1} (𝓤 : URA M) (H : Heap 𝓤) (A : Atoms 𝓤) (W : Given
         move ! (2 ∷ []) $ split ! $ move ! (4 ∷ 1 ∷ 0 ∷ []) $ split ! $ move ! (2 ∷ 3 ∷ 4 ∷ 5 ∷ 0 ∷ 1 ∷ []) $
         peeks ! R.the-row (Is R.the-row) (shows 𝓤 H A R.the-row) r (u ∷ []) (λ is.
         land ! (from ! (stop !)) (init ! 62 refl (LL.lawful R.the-type R′.the-laws 𝓤 H A W .typed r _ is .0)) $
-        returns ! (look ! 62 refl) $ forget ! 6 refl $ forget ! 8 refl $ forget ! 10 refl $ forget ! 12 refl $ forget ! 14 refl $ forget ! 16 refl $ forget ! 18 refl $ forget ! 20 refl $
-        forget ! 22 refl $ forget ! 24 refl $ forget ! 26 refl $ forget ! 28 refl $ forget ! 30 refl $ forget ! 32 refl $ forget ! 34 refl $ forget ! 36 refl $ forget ! 38 refl $ forget ! 40 refl $
-        forget ! 42 refl $ forget ! 44 refl $ forget ! 46 refl $ forget ! 48 refl $ forget ! 50 refl $ forget ! 52 refl $ forget ! 54 refl $ forget ! 56 refl $ forget ! 58 refl $ forget ! 60 refl $ forget ! 62 refl $
+        returns ! (look ! 62 refl) $ forget ! 6 refl $ forget ! 8 refl $ forget ! 10 refl $ forget ! 12 refl $ forget ! 14 refl $ forget ! 16 refl $ forget !
+        18 refl $ forget ! 20 refl $
+        forget ! 22 refl $ forget ! 24 refl $ forget ! 26 refl $ forget ! 28 refl $ forget ! 30 refl $ forget ! 32 refl $ forget ! 34 refl $ forget ! 36 refl $
+        forget ! 38 refl $ forget ! 40 refl $
+        forget ! 42 refl $ forget ! 44 refl $ forget ! 46 refl $ forget ! 48 refl $ forget ! 50 refl $ forget ! 52 refl $ forget ! 54 refl $ forget ! 56 refl $
+        forget ! 58 refl $ forget ! 60 refl $ forget ! 62 refl $
         move ! (62 ∷ 63 ∷ []) $ free1 ! $ move ! (60 ∷ 61 ∷ []) $ free1 ! $ move ! (58 ∷ 59 ∷ []) $ free1 ! $ move ! (56 ∷ 57 ∷ []) $ free1 ! $ move ! (54 ∷ 55 ∷ []) $ free1 ! $
         move ! (52 ∷ 53 ∷ []) $ free1 ! $ move ! (50 ∷ 51 ∷ []) $ free1 ! $ move ! (48 ∷ 49 ∷ []) $ free1 ! $ move ! (46 ∷ 47 ∷ []) $ free1 ! $ move ! (44 ∷ 45 ∷ []) $ free1 ! $
         move ! (42 ∷ 43 ∷ []) $ free1 ! $ move ! (40 ∷ 41 ∷ []) $ free1 ! $ move ! (38 ∷ 39 ∷ []) $ free1 ! $ move ! (36 ∷ 37 ∷ []) $ free1 ! $ move ! (34 ∷ 35 ∷ []) $ free1 ! $
         move ! (32 ∷ 33 ∷ []) $ free1 ! $ move ! (30 ∷ 31 ∷ []) $ free1 ! $ move ! (28 ∷ 29 ∷ []) $ free1 ! $ move ! (26 ∷ 27 ∷ []) $ free1 ! $ move ! (24 ∷ 25 ∷ []) $ free1 ! $
         move ! (22 ∷ 23 ∷ []) $ free1 ! $ move ! (20 ∷ 21 ∷ []) $ free1 ! $ move ! (18 ∷ 19 ∷ []) $ free1 ! $ move ! (16 ∷ 17 ∷ []) $ free1 ! $ move ! (14 ∷ 15 ∷ []) $ free1 ! $
-        move ! (12 ∷ 13 ∷ []) $ free1 ! $ move ! (10 ∷ 11 ∷ []) $ free1 ! $ move ! (8 ∷ 9 ∷ []) $ free1 ! $ move ! (6 ∷ 7 ∷ []) $ free1 ! $ free0 ! $ by ! (exits r u zs e l))))))))))))))))))))))))))))))))))))
+        move ! (12 ∷ 13 ∷ []) $ free1 ! $ move ! (10 ∷ 11 ∷ []) $ free1 ! $ move ! (8 ∷ 9 ∷ []) $ free1 ! $ move ! (6 ∷ 7 ∷ []) $ free1 ! $ free0 ! $ by !
+        (exits r u zs e l))))))))))))))))))))))))))))))))))))
 
 module _ {M : Type 1} (𝓤 : URA M) (H : Heap 𝓤) (A : Atoms 𝓤) (W : Given 𝓤 H A) (mem : Memory → SProp 𝓤) (run : Routine → Fun 𝓤) where
   overlay-views-walks : (C : Calls 𝓤 H) (Λ : Loops 𝓤 H) → FmC 𝓤 H (W .laws) C → Triple 𝓤 (C #overlay·overlay) (Overlay 𝓤 H A mem run)
       → Walks 𝓤 H A views.ended stayed (WpFn 𝓤 H C Λ code.function) (views.clauses 𝓤 H A mem run)
   overlay-views-walks C Λ fm known = walked 𝓤 H A views.ended stayed (views.clauses 𝓤 H A mem run) (WpFn 𝓤 H C Λ code.function)
       (λ κs. (uint-vals w32, (uint-vals w32, (LL.vals (D κs) (L κs), (LL.vals (D′ κs) (L′ κs), (LL.vals (D″ κs) (L″ κs), (slice-vals, tt)))))))
-      (λ κs. (uint-tells w32, (uint-tells w32, (LL.tells (D κs) (L κs), (LL.tells (D′ κs) (L′ κs), (LL.tells (D″ κs) (L″ κs), (mut-slice-tells (named 3) (κs .1 .1 .1 .0) u32, tt)))))))
+      (λ κs. (
+        uint-tells w32,
+        (
+          uint-tells w32,
+          (
+            LL.tells (D κs) (L κs),
+            (LL.tells (D′ κs) (L′ κs), (LL.tells (D″ κs) (L″ κs), (mut-slice-tells (named 3) (κs .1 .1 .1 .0) u32, tt))),
+          ),
+        ),
+      ))
       (λ κs qs bounds a g are. via 𝓤 _ (fst∗ 𝓤 _ (emp 𝓤)) (walk 𝓤 H A W mem run (κs .0) (κs .1 .0) (κs .1 .1 .0) (κs .1 .1 .1 .0) (qs .0) (qs .1 .0) (qs .1 .1 .0) (qs .1 .1 .1 .0)
       (a .0) (a .1 .0) (a .1 .1 .0) (a .1 .1 .1 .0) (a .1 .1 .1 .1 .0) (a .1 .1 .1 .1 .1 .0) (are .0 .1) (are .1 .0 .1) C Λ fm known
-      (LL.lawful (D κs) (L κs) 𝓤 H A W .typed (a .1 .1 .0) _ (are .1 .1 .0) .0) (LL.lawful (D′ κs) (L′ κs) 𝓤 H A W .typed (a .1 .1 .1 .0) _ (are .1 .1 .1 .0) .0) (LL.lawful (D″ κs) (L″ κs) 𝓤 H A W .typed (a .1 .1 .1 .1 .0) _ (are .1 .1 .1 .1 .0) .0)
+      (LL.lawful (D κs) (L κs) 𝓤 H A W .typed (a .1 .1 .0) _ (are .1 .1 .0) .0)
+      (LL.lawful (D′ κs) (L′ κs) 𝓤 H A W .typed (a .1 .1 .1 .0) _ (are .1 .1 .1 .0) .0) (LL.lawful (D″ κs) (L″ κs) 𝓤 H A W .typed (a .1 .1 .1 .1 .0) _ (are .1 .1 .1 .1 .0) .0)
       (are .1 .1 .1 .1 .1 .0)))
 
-overlay-views-meets : {M : Type 1} (𝓤 : URA M) (H : Heap 𝓤) (A : Atoms 𝓤) (W : Given 𝓤 H A) (mem : Memory → SProp 𝓤) (run : Routine → Fun 𝓤) (𝓣 : Tables 𝓤 H) → Triple 𝓤 (𝓣 .C #overlay·overlay) (Overlay 𝓤 H A mem run)
+overlay-views-meets : {M : Type 1} (𝓤 : URA M) (H : Heap 𝓤) (A : Atoms 𝓤) (W : Given 𝓤 H A) (mem : Memory → SProp 𝓤) (run : Routine → Fun 𝓤) (𝓣 : Tables 𝓤 H)
+    → Triple 𝓤 (𝓣 .C #overlay·overlay) (Overlay 𝓤 H A mem run)
     → Meets 𝓤 H A views.signature (WpFn 𝓤 H (𝓣 .C) (𝓣 .Λ) code.function) (views.spec 𝓤 H A mem run)
 overlay-views-meets 𝓤 H A W mem run 𝓣 known =
-    walk-meets 𝓤 H A views.ended stayed W
-    (goes-none 𝓤 H A W 4 (λ _. u32) yes (λ κs x f. refl), (goes-none 𝓤 H A W 4 (λ _. u32) yes (λ κs x f. refl), (goes-none 𝓤 H A W 4 B yes (λ κs x f. refl), (goes-none 𝓤 H A W 4 B′ yes (λ κs x f. refl), (output-gave-goes 𝓤 H A W, (goes-gave-slice 𝓤 H A W 4 3 tt (plain (λ _. u32)), tt))))))
-    (views.clauses 𝓤 H A mem run) (WpFn 𝓤 H (𝓣 .C) (𝓣 .Λ) code.function) (WpFn-mono 𝓤 H (W .laws) 𝓣 code.function) (overlay-views-walks 𝓤 H A W mem run (𝓣 .C) (𝓣 .Λ) (fmOf 𝓤 H (W .laws) 𝓣) known)
+    walk-meets 𝓤 H A views.ended stayed W (
+      goes-none 𝓤 H A W 4 (λ _. u32) yes (λ κs x f. refl),
+      (
+        goes-none 𝓤 H A W 4 (λ _. u32) yes (λ κs x f. refl),
+        (
+          goes-none 𝓤 H A W 4 B yes (λ κs x f. refl),
+          (
+            goes-none 𝓤 H A W 4 B′ yes (λ κs x f. refl),
+            (output-gave-goes 𝓤 H A W, (goes-gave-slice 𝓤 H A W 4 3 tt (plain (λ _. u32)), tt)),
+          ),
+        ),
+      ),
+    )
+    (views.clauses 𝓤 H A mem run) (WpFn 𝓤 H (𝓣 .C) (𝓣 .Λ) code.function) (WpFn-mono 𝓤 H (W .laws) 𝓣 code.function)
+    (overlay-views-walks 𝓤 H A W mem run (𝓣 .C) (𝓣 .Λ) (fmOf 𝓤 H (W .laws) 𝓣) known)
 
 pub overlay-views-spec : {M : Type 1} → stated.statement M
 unfolding code.routine tablesOf

@@ -39,7 +39,13 @@ use Rattle.mesh_view.proofs.view.Statement as stated
 use Rattle.mesh_view.proofs.view.Code as code
 
 abbrev stayed : Stays (view.ended .signature .params) (view.ended .kept)
-stayed = (stay-none-slice (0 ∷ []) tt (plain (λ _. f64)) yes, (stay-none-slice (0 ∷ []) tt (plain (λ _. u32)) yes, (stay-none-slice (0 ∷ []) tt (plain (λ _. u32)) yes, (stay-none-slice (0 ∷ []) tt (plain (λ _. u8)) yes, (stay-none-slice (0 ∷ []) tt (plain (λ _. u32)) yes, tt)))))
+stayed = (
+  stay-none-slice (0 ∷ []) tt (plain (λ _. f64)) yes,
+  (
+    stay-none-slice (0 ∷ []) tt (plain (λ _. u32)) yes,
+    (stay-none-slice (0 ∷ []) tt (plain (λ _. u32)) yes, (stay-none-slice (0 ∷ []) tt (plain (λ _. u8)) yes, (stay-none-slice (0 ∷ []) tt (plain (λ _. u32)) yes, tt))),
+  ),
+)
 
 -- the parameters' types
 abbrev rows : Lft → List RattleType
@@ -65,39 +71,63 @@ module _ {M : Type 1} (𝓤 : URA M) (H : Heap 𝓤) (A : Atoms 𝓤) (W : Given
   exits : ent 𝓤 (onEntry 𝓤 H A view.signature (κ, tt) (q, tt) lists at) (Post mach)
   exits =
       qed W ((‵ (flft κ q) ⊛ ‵ ftrue) ∷ ‵ (owns (rows κ) lists at) ∷ []) ∵
-      suffices ! _ (ends-at 𝓤 H A view.ended stayed (view.clauses 𝓤 H A mem run) W (((κ, tt), (q, tt), tt, lists, at), tt) mach d (tt, (tt, (tt, (tt, (tt, tt))))) (tt, (tt, (tt, (tt, (tt, tt)))))) $
+      suffices ! _ (ends-at 𝓤 H A view.ended stayed (view.clauses 𝓤 H A mem run) W (((κ, tt), (q, tt), tt, lists, at), tt) mach d
+      (tt, (tt, (tt, (tt, (tt, tt))))) (tt, (tt, (tt, (tt, (tt, tt)))))) $
       says ! (refl, refl, refl, refl, refl) $ frame ! $
       use1 W (‵ (OwnView α d)) (view-shut 𝓤 H A W α (λ _. named 0) d) $
-      use1 W (‵ (OwnView α d) ⊛ ‵ (OwnView α d)) (view-twice 𝓤 H A W α (λ _. named 0) d) $ split ! $ use1 W (‵ (owns (rows κ) lists at)) (view-open 𝓤 H A W α (λ _. named 0) d) $ frame ! $ done !
+      use1 W (‵ (OwnView α d) ⊛ ‵ (OwnView α d)) (view-twice 𝓤 H A W α (λ _. named 0) d) $ split ! $ use1 W (‵ (owns (rows κ) lists at))
+      (view-open 𝓤 H A W α (λ _. named 0) d) $ frame ! $ done !
 
   module _ (C : Calls 𝓤 H) (Λ : Loops 𝓤 H) where
     walk : Are (rows κ) (Ises (rows κ)) lists at
-        → ent 𝓤 (onEntry 𝓤 H A view.signature (κ, tt) (q, tt) lists at) (WpFn 𝓤 H C Λ code.function (val (d .coords) ∷ val (d .nodes) ∷ val (d .ends) ∷ val (d .kinds) ∷ val (d .families) ∷ []) Post)
+        → ent 𝓤 (onEntry 𝓤 H A view.signature (κ, tt) (q, tt) lists at)
+        (WpFn 𝓤 H C Λ code.function (val (d .coords) ∷ val (d .nodes) ∷ val (d .ends) ∷ val (d .kinds) ∷ val (d .families) ∷ []) Post)
     walk are =
         let t₁ = shr-slice-lawful 𝓤 H A W (named 0) κ f64 .typed (d .coords) (val (d .coords) ∷ []) (are .0) .0 in
         let t₂ = shr-slice-lawful 𝓤 H A W (named 0) κ u32 .typed (d .nodes) (val (d .nodes) ∷ []) (are .1 .0) .0 in
         let t₃ = shr-slice-lawful 𝓤 H A W (named 0) κ u32 .typed (d .ends) (val (d .ends) ∷ []) (are .1 .1 .0) .0 in
         let t₄ = shr-slice-lawful 𝓤 H A W (named 0) κ u8 .typed (d .kinds) (val (d .kinds) ∷ []) (are .1 .1 .1 .0) .0 in
         let t₅ = shr-slice-lawful 𝓤 H A W (named 0) κ u32 .typed (d .families) (val (d .families) ∷ []) (are .1 .1 .1 .1 .0) .0 in
-        qed W (raw (onEntry 𝓤 H A view.signature (κ, tt) (q, tt) lists at) ∷ []) ∵ enter ! C Λ code.function (val (d .coords) ∷ val (d .nodes) ∷ val (d .ends) ∷ val (d .kinds) ∷ val (d .families) ∷ []) _ $
+        qed W (raw (onEntry 𝓤 H A view.signature (κ, tt) (q, tt) lists at) ∷ []) ∵ enter ! C Λ code.function
+        (val (d .coords) ∷ val (d .nodes) ∷ val (d .ends) ∷ val (d .kinds) ∷ val (d .families) ∷ []) _ $
         alloc1 ! (λ l₀. alloc1 ! (λ l₁. alloc1 ! (λ l₂. alloc1 ! (λ l₃. alloc1 ! (λ l₄. alloc1 ! (λ l₅. alloc0 ! $ params1 ! $
         pass1 ! (init ! 8 refl t₁) $ pass1 ! (init ! 6 refl t₂) $ pass1 ! (init ! 4 refl t₃) $ pass1 ! (init ! 2 refl t₄) $ pass1 ! (init ! 0 refl t₅) $ pass0 ! $
-        assigns ! (agg ! (and-then ! (load ! (from ! (stop !)) (look ! 8 refl)) (and-then ! (load ! (from ! (stop !)) (look ! 6 refl)) (and-then ! (load ! (from ! (stop !)) (look ! 4 refl)) (and-then ! (load ! (from ! (stop !)) (look ! 2 refl)) (and-then ! (load ! (from ! (stop !)) (look ! 0 refl)) (no-more !)))))))
+        assigns ! (agg ! (and-then ! (load ! (from ! (stop !)) (look ! 8 refl))
+        (and-then ! (load ! (from ! (stop !)) (look ! 6 refl))
+        (and-then ! (load ! (from ! (stop !)) (look ! 4 refl))
+        (and-then ! (load ! (from ! (stop !)) (look ! 2 refl)) (and-then ! (load ! (from ! (stop !)) (look ! 0 refl)) (no-more !)))))))
         (from ! (stop !)) (init ! 10 refl (tt, (t₁ .1, (t₂ .1, (t₃ .1, (t₄ .1, (t₅ .1, tt))))))) $
         returns ! (look ! 10 refl) $ forget ! 0 refl $ forget ! 2 refl $ forget ! 4 refl $ forget ! 6 refl $ forget ! 8 refl $ forget ! 10 refl $
-        move ! (10 ∷ 11 ∷ []) $ free1 ! $ move ! (8 ∷ 9 ∷ []) $ free1 ! $ move ! (6 ∷ 7 ∷ []) $ free1 ! $ move ! (4 ∷ 5 ∷ []) $ free1 ! $ move ! (2 ∷ 3 ∷ []) $ free1 ! $ free1 ! $ free0 ! $ by ! exits))))))
+        move ! (10 ∷ 11 ∷ []) $ free1 ! $ move ! (8 ∷ 9 ∷ []) $ free1 ! $ move ! (6 ∷ 7 ∷ []) $ free1 ! $ move ! (4 ∷ 5 ∷ []) $ free1 ! $ move ! (2 ∷ 3 ∷ []) $
+        free1 ! $ free1 ! $ free0 ! $ by ! exits))))))
 
 module _ {M : Type 1} (𝓤 : URA M) (H : Heap 𝓤) (A : Atoms 𝓤) (W : Given 𝓤 H A) (mem : Memory → SProp 𝓤) (run : Routine → Fun 𝓤) where
   view-walks : (C : Calls 𝓤 H) (Λ : Loops 𝓤 H) → Walks 𝓤 H A view.ended stayed (WpFn 𝓤 H C Λ code.function) (view.clauses 𝓤 H A mem run)
-  view-walks C Λ = walked 𝓤 H A view.ended stayed (view.clauses 𝓤 H A mem run) (WpFn 𝓤 H C Λ code.function) (λ κs. (slice-vals, (slice-vals, (slice-vals, (slice-vals, (slice-vals, tt))))))
-      (λ κs. (shr-slice-tells (named 0) (κs .0) f64, (shr-slice-tells (named 0) (κs .0) u32, (shr-slice-tells (named 0) (κs .0) u32, (shr-slice-tells (named 0) (κs .0) u8, (shr-slice-tells (named 0) (κs .0) u32, tt))))))
-      (λ κs qs bounds a g are. via 𝓤 _ (fst∗ 𝓤 _ (emp 𝓤)) (walk 𝓤 H A W mem run (κs .0) (qs .0) (record { coords = a .0; nodes = a .1 .0; ends = a .1 .1 .0; kinds = a .1 .1 .1 .0; families = a .1 .1 .1 .1 .0 }) C Λ are))
+  view-walks C Λ = walked 𝓤 H A view.ended stayed (view.clauses 𝓤 H A mem run) (WpFn 𝓤 H C Λ code.function)
+      (λ κs. (slice-vals, (slice-vals, (slice-vals, (slice-vals, (slice-vals, tt))))))
+      (λ κs. (
+        shr-slice-tells (named 0) (κs .0) f64,
+        (
+          shr-slice-tells (named 0) (κs .0) u32,
+          (shr-slice-tells (named 0) (κs .0) u32, (shr-slice-tells (named 0) (κs .0) u8, (shr-slice-tells (named 0) (κs .0) u32, tt))),
+        ),
+      ))
+      (λ κs qs bounds a g are. via 𝓤 _ (fst∗ 𝓤 _ (emp 𝓤)) (walk 𝓤 H A W mem run (κs .0) (qs .0)
+      (record { coords = a .0; nodes = a .1 .0; ends = a .1 .1 .0; kinds = a .1 .1 .1 .0; families = a .1 .1 .1 .1 .0 }) C Λ are))
 
 view-meets : {M : Type 1} (𝓤 : URA M) (H : Heap 𝓤) (A : Atoms 𝓤) → Given 𝓤 H A → (mem : Memory → SProp 𝓤) (run : Routine → Fun 𝓤) (𝓣 : Tables 𝓤 H)
     → Meets 𝓤 H A view.signature (WpFn 𝓤 H (𝓣 .C) (𝓣 .Λ) code.function) (view.spec 𝓤 H A mem run)
 view-meets 𝓤 H A W mem run 𝓣 =
-    walk-meets 𝓤 H A view.ended stayed W
-    (goes-none-slice 𝓤 H A W 1 (0 ∷ []) tt (plain (λ _. f64)) yes, (goes-none-slice 𝓤 H A W 1 (0 ∷ []) tt (plain (λ _. u32)) yes, (goes-none-slice 𝓤 H A W 1 (0 ∷ []) tt (plain (λ _. u32)) yes, (goes-none-slice 𝓤 H A W 1 (0 ∷ []) tt (plain (λ _. u8)) yes, (goes-none-slice 𝓤 H A W 1 (0 ∷ []) tt (plain (λ _. u32)) yes, tt)))))
+    walk-meets 𝓤 H A view.ended stayed W (
+      goes-none-slice 𝓤 H A W 1 (0 ∷ []) tt (plain (λ _. f64)) yes,
+      (
+        goes-none-slice 𝓤 H A W 1 (0 ∷ []) tt (plain (λ _. u32)) yes,
+        (
+          goes-none-slice 𝓤 H A W 1 (0 ∷ []) tt (plain (λ _. u32)) yes,
+          (goes-none-slice 𝓤 H A W 1 (0 ∷ []) tt (plain (λ _. u8)) yes, (goes-none-slice 𝓤 H A W 1 (0 ∷ []) tt (plain (λ _. u32)) yes, tt)),
+        ),
+      ),
+    )
     (view.clauses 𝓤 H A mem run) (WpFn 𝓤 H (𝓣 .C) (𝓣 .Λ) code.function) (WpFn-mono 𝓤 H (W .laws) 𝓣 code.function) (view-walks 𝓤 H A W mem run (𝓣 .C) (𝓣 .Λ))
 
 pub view-spec : {M : Type 1} → stated.statement M

@@ -15,91 +15,65 @@ Inv-loop w₀ at m base k scratch h n r₀ i₀ w r i = Filled w₀ at m base k 
 abbrev μ-loop : tie.MeasureT-loop
 μ-loop w₀ at m base k scratch h n r₀ i₀ w r i = m - i
 
--- src/lib.rt:117:5
+-- places of the code, each counted once
+abbrev entry : tie.At-loop Inv-loop μ-loop → tie.Start Inv-loop μ-loop
+entry c = c .before .before
+
+abbrev loop-at-returns : tie.After-loop Inv-loop μ-loop → tie.At-loop Inv-loop μ-loop
+loop-at-returns c = c .before
+
+abbrev loop-of-in-loop : tie.In-loop Inv-loop μ-loop → tie.At-loop Inv-loop μ-loop
+loop-of-in-loop c = c .before
+
+abbrev in-loop : tie.After-next Inv-loop μ-loop → tie.In-loop Inv-loop μ-loop
+in-loop c = c .before
+
+abbrev next-at-add-edge-requires : tie.After-add-edge-arg Inv-loop μ-loop → tie.After-next Inv-loop μ-loop
+next-at-add-edge-requires c = c .before .before .before
+
+abbrev next-of-add-edge : tie.After-add-edge Inv-loop μ-loop → tie.After-next Inv-loop μ-loop
+next-of-add-edge c = c .before .before .before .before
+
+abbrev add-edge-at-loop-again : tie.After-slice-known4 Inv-loop μ-loop → tie.After-add-edge Inv-loop μ-loop
+add-edge-at-loop-again c = c .before .before
+
 loop-holds : tie.Need-loop-holds Inv-loop μ-loop
 loop-holds c =
-    let p = c .before in
-    cell-start (p .args .w .now) (p .args .at) (p .args .m) (p .args .base) (p .args .k) (p .args .scratch) (p .args .h) (p .args .n) (p .pre .0) (p .pre .1) (p .pre .2) (p .pre .6)
+    cell-start (c .before .args .w .now) (c .before .args .at) (c .before .args .m) (c .before .args .base) (c .before .args .k) (c .before .args .scratch)
+    (c .before .args .h) (c .before .args .n) (c .before .pre .0) (c .before .pre .1) (c .before .pre .2) (c .before .pre .6)
 
--- src/lib.rt:118:13
-next-requires : tie.Need-next-requires Inv-loop μ-loop
-next-requires c κs = search needs
-
--- src/lib.rt:119:19
-add-a : tie.Need-add-a Inv-loop μ-loop
-add-a c = search needs
-
--- src/lib.rt:119:17
-mul-a : tie.Need-mul-a Inv-loop μ-loop
-mul-a c = search needs
-
--- src/lib.rt:119:17
-slice-read-a : tie.Need-slice-read-a Inv-loop μ-loop
-slice-read-a c = search needs
-
--- src/lib.rt:120:19
-add-b : tie.Need-add-b Inv-loop μ-loop
-add-b c = search needs
-
--- src/lib.rt:120:17
-mul-b : tie.Need-mul-b Inv-loop μ-loop
-mul-b c = search needs
-
--- src/lib.rt:120:17
-slice-read-b : tie.Need-slice-read-b Inv-loop μ-loop
-slice-read-b c = search needs
-
--- src/lib.rt:121:9
 add-edge-requires : tie.Need-add-edge-requires Inv-loop μ-loop
 add-edge-requires c κs =
-    let p = c .before .before .before .before .before .before .before in
-    let l = c .before .before .before .before .before .loop in
-    (omega arith, omega arith, omega arith, omega arith, omega arith, cell-ready (p .args .w .now) (p .args .at) (p .args .m) (p .args .base) (p .args .k) (p .args .scratch) (p .args .h) (p .args .n) (p .pre .0) (p .pre .1) (p .pre .2) (p .pre .6) (l .w) (l .r) (l .i) (l .inv))
+    let at-loop = loop-of-in-loop (in-loop (next-at-add-edge-requires c)) in
+    let at-entry = entry at-loop in
+    let l = at-loop .loop in (
+      omega arith,
+      omega arith,
+      omega arith,
+      omega arith,
+      omega arith,
+      cell-ready (at-entry .args .w .now) (at-entry .args .at) (at-entry .args .m) (at-entry .args .base) (at-entry .args .k) (at-entry .args .scratch)
+          (at-entry .args .h) (at-entry .args .n) (at-entry .pre .0) (at-entry .pre .1) (at-entry .pre .2) (at-entry .pre .6) (l .w) (l .r) (l .i) (l .inv),
+    )
 
--- src/lib.rt:122:9
-add-i : tie.Need-add-i Inv-loop μ-loop
-add-i c = search needs
-
--- src/lib.rt:117:5
-loop-less : tie.Need-loop-less Inv-loop μ-loop
-loop-less c = search needs
-
--- src/lib.rt:117:5
 loop-again : tie.Need-loop-again Inv-loop μ-loop
 loop-again c =
-    let p = c .before .before .before .before .before .before .before .before .before .before in
-    let l = c .before .before .before .before .before .before .before .before .loop in
-    let add = c .before .before .add-edge in
-    cell-turn (p .args .w .now) (p .args .at) (p .args .m) (p .args .base) (p .args .k) (p .args .scratch) (p .args .h) (p .args .n) (p .pre .0) (p .pre .1) (p .pre .2) (p .pre .6) (l .w) (l .r) (l .i) (l .inv) (c .before .before .before .before .before .before .next .result) (add .result) (add .last .0) (c .before .before .before .before .before .before .before .loop-test .taken) (c .before .before .before .before .before .before .next .ensures) (add .kept .0) (add .ensures)
+    let at-next = next-of-add-edge (add-edge-at-loop-again c) in
+    let at-loop = loop-of-in-loop (in-loop at-next) in
+    let at-entry = entry at-loop in
+    let l = at-loop .loop in
+    let add = add-edge-at-loop-again c .add-edge in
+    cell-turn (at-entry .args .w .now) (at-entry .args .at) (at-entry .args .m) (at-entry .args .base) (at-entry .args .k) (at-entry .args .scratch)
+    (at-entry .args .h) (at-entry .args .n) (at-entry .pre .0) (at-entry .pre .1) (at-entry .pre .2) (at-entry .pre .6) (l .w) (l .r) (l .i) (l .inv)
+    (at-next .next .result) (add .result) (add .last .0) (in-loop at-next .loop-test .taken) (at-next .next .ensures) (add .kept .0) (add .ensures)
 
--- src/lib.rt:100:1
-same-length : tie.Need-same-length Inv-loop μ-loop
-same-length c = search needs
-
--- src/lib.rt:100:1
 returns : tie.Need-returns Inv-loop μ-loop
 returns c =
-    let p = c .before .before .before in
+    let at-entry = entry (loop-at-returns c) in
     let l = c .before .loop in
-    cell-end (p .args .w .now) (p .args .at) (p .args .m) (p .args .base) (p .args .k) (p .args .scratch) (p .args .h) (p .args .n) (p .pre .0) (p .pre .1) (p .pre .2) (p .pre .6) (l .w) (l .r) (l .i) (l .inv) (c .loop-test .left)
+    cell-end (at-entry .args .w .now) (at-entry .args .at) (at-entry .args .m) (at-entry .args .base) (at-entry .args .k) (at-entry .args .scratch)
+    (at-entry .args .h) (at-entry .args .n) (at-entry .pre .0) (at-entry .pre .1) (at-entry .pre .2) (at-entry .pre .6) (l .w) (l .r) (l .i) (l .inv) (c .loop-test .left)
 
 pub cell-edges-spec : {M : Type 1} → statement M
-cell-edges-spec =
-    tie.close
-    (tie.spec
-    Inv-loop
-    μ-loop
-    loop-holds
-    next-requires
-    add-a
-    mul-a
-    slice-read-a
-    add-b
-    mul-b
-    slice-read-b
-    add-edge-requires
-    add-i
-    loop-less
-    loop-again
-    same-length
-    returns)
+cell-edges-spec = tie.close (tie.spec Inv-loop μ-loop loop-holds (λ c κs. search needs) (λ c. search needs) (λ c. search needs) (λ c. search needs)
+    (λ c. search needs) (λ c. search needs) (λ c. search needs) add-edge-requires (λ c. search needs) (λ c. search needs) loop-again (λ c. search needs) returns)

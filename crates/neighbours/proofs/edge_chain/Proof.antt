@@ -5,16 +5,14 @@ use borrow.Author.Needs.{needs}
 use Rattle.neighbours.proofs.edge_chain.Statement.{statement}
 use Rattle.neighbours.proofs.edge_chain.Tie as tie
 
-key-requires : tie.Need-key-requires
-key-requires c κs = search needs
-
-chain-of-requires : tie.Need-chain-of-requires
-chain-of-requires c κs = search needs
+-- places of the code, each counted once
+abbrev entry : tie.After-chain-of → tie.Start
+entry c = c .before .before
 
 returns : tie.Need-returns
 returns c =
     let v = ap (λ (e : Edge). e .0) (c .before .key .ensures) in
-    (c .chain-of .ensures .0 ∙ ap (chainOf (c .before .before .args .h)) v, c .chain-of .ensures .1)
+    (c .chain-of .ensures .0 ∙ ap (chainOf (entry c .args .h)) v, c .chain-of .ensures .1)
 
 pub edge-chain-spec : {M : Type 1} → statement M
-edge-chain-spec = tie.close (tie.spec key-requires chain-of-requires returns)
+edge-chain-spec = tie.close (tie.spec (λ c κs. search needs) (λ c κs. search needs) returns)

@@ -19,5 +19,4 @@ unfolding placed
 returns-2 c = simp (le-ltb _ _ (c .if1 .left))
 
 pub put-spec : {M : Type 1} → statement M
-put-spec =
-    tie.close (tie.spec (λ c. search needs) slice-write-counts-2 (λ c. search needs) (λ c. search needs) returns returns-2)
+put-spec = tie.close (tie.spec (λ c. search needs) slice-write-counts-2 (λ c. search needs) (λ c. search needs) returns returns-2)

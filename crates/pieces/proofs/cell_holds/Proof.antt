@@ -3,21 +3,25 @@ use borrow.Author.Needs.{needs}
 use Rattle.pieces.proofs.cell_holds.Statement.{statement}
 use Rattle.pieces.proofs.cell_holds.Tie as tie
 
-bounds2-requires : tie.Need-bounds2-requires
-bounds2-requires c κs = search needs
+-- places of the code, each counted once
+abbrev bounds2-of-bounds-hold : tie.After-bounds-hold → tie.After-bounds2
+bounds2-of-bounds-hold c = c .before
 
-bounds-hold-requires : tie.Need-bounds-hold-requires
-bounds-hold-requires c κs = search needs
+abbrev bounds-hold-at-returns-2 : tie.Else1 → tie.After-bounds-hold
+bounds-hold-at-returns-2 c = c .before
 
-inside-requires : tie.Need-inside-requires
-inside-requires c κs = search needs
+abbrev bounds-hold-at-returns : tie.After-inside → tie.After-bounds-hold
+bounds-hold-at-returns c = c .before .before
 
 returns : tie.Need-returns
-returns c = simp (c .before .if1 .taken, ← c .before .before .before .bounds2 .ensures, ← c .before .before .bounds-hold .ensures, c .inside .ensures)
+returns c =
+    let at-bounds2 = bounds2-of-bounds-hold (bounds-hold-at-returns c) in
+    simp (c .before .if1 .taken, ← at-bounds2 .bounds2 .ensures, ← bounds-hold-at-returns c .bounds-hold .ensures, c .inside .ensures)
 
 returns-2 : tie.Need-returns-2
-returns-2 c = simp (c .if1 .left, ← c .before .before .bounds2 .ensures, ← c .before .bounds-hold .ensures)
+returns-2 c =
+    let at-bounds2 = bounds2-of-bounds-hold (bounds-hold-at-returns-2 c) in
+    simp (c .if1 .left, ← at-bounds2 .bounds2 .ensures, ← c .before .bounds-hold .ensures)
 
 pub cell-holds-spec : {M : Type 1} → statement M
-cell-holds-spec =
-    tie.close (tie.spec bounds2-requires bounds-hold-requires inside-requires returns returns-2)
+cell-holds-spec = tie.close (tie.spec (λ c κs. search needs) (λ c κs. search needs) (λ c κs. search needs) returns returns-2)

@@ -4,25 +4,25 @@ use borrow.Author.Needs.{needs}
 use Rattle.pieces.proofs.point_inside.Statement.{statement}
 use Rattle.pieces.proofs.point_inside.Tie as tie
 
-strict-interior-point-requires : tie.Need-strict-interior-point-requires
-strict-interior-point-requires c κs = search needs
+-- places of the code, each counted once
+abbrev strict-interior-point-at-returns : tie.After-enum-told → tie.After-strict-interior-point
+strict-interior-point-at-returns c = c .before .before
 
-enum-known-p : tie.Need-enum-known-p
-enum-known-p c = search needs
+abbrev strict-interior-point-of-p : tie.After-p → tie.After-strict-interior-point
+strict-interior-point-of-p c = c .before .before
 
-enum-told : tie.Need-enum-told
-enum-told c = search needs
+abbrev p-at-returns-2 : tie.After-some-holds → tie.After-p
+p-at-returns-2 c = c .before .before
 
 returns : tie.Need-returns
 unfolding someHolds pointInside
-returns c = simp (← c .before .before .strict-interior-point .ensures .0, c .enum-told .given .1)
-
-some-holds-requires : tie.Need-some-holds-requires
-some-holds-requires c κs = search needs
+returns c = simp (← strict-interior-point-at-returns c .strict-interior-point .ensures .0, c .enum-told .given .1)
 
 returns-2 : tie.Need-returns-2
 unfolding pointInside
-returns-2 c = simp (← c .before .before .before .before .strict-interior-point .ensures .0, c .before .before .p .given .1, c .some-holds .ensures)
+returns-2 c =
+    let at-strict-interior-point = strict-interior-point-of-p (p-at-returns-2 c) in
+    simp (← at-strict-interior-point .strict-interior-point .ensures .0, p-at-returns-2 c .p .given .1, c .some-holds .ensures)
 
 pub point-inside-spec : {M : Type 1} → statement M
-point-inside-spec = tie.close (tie.spec strict-interior-point-requires enum-known-p enum-told returns some-holds-requires returns-2)
+point-inside-spec = tie.close (tie.spec (λ c κs. search needs) (λ c. search needs) (λ c. search needs) returns (λ c κs. search needs) returns-2)

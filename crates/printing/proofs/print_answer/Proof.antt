@@ -8,102 +8,74 @@ use borrow.Author.Needs.{needs}
 use Rattle.printing.proofs.print_answer.Statement.{statement}
 use Rattle.printing.proofs.print_answer.Tie as tie
 
-enum-told : tie.Need-enum-told
-enum-told c = search needs
+-- places of the code, each counted once
+abbrev entry : tie.After-answer2 → tie.Start
+entry c = c .before .before .before .before .before .before .before .before
 
-slice-aggregate-put-bytes : tie.Need-slice-aggregate-put-bytes
-slice-aggregate-put-bytes c = search needs
+abbrev answer2-of-least : tie.After-least → tie.After-answer2
+answer2-of-least c = c .before .before
 
-put-bytes-requires : tie.Need-put-bytes-requires
-put-bytes-requires c κs = search needs
+abbrev least-of-least2 : tie.After-least2 → tie.After-least
+least-of-least2 c = c .before
 
-enum-known-answer : tie.Need-enum-known-answer
-enum-known-answer c = search needs
+abbrev enum-told-of-put-bytes : tie.After-put-bytes → tie.After-enum-told
+enum-told-of-put-bytes c = c .before .before .before
 
-put-refused-requires : tie.Need-put-refused-requires
-put-refused-requires c κs = search needs
+abbrev answer-of-put-refused : tie.After-put-refused → tie.After-answer
+answer-of-put-refused c = c .before .before .before
 
-enum-known-answer-2 : tie.Need-enum-known-answer-2
-enum-known-answer-2 c = search needs
+abbrev least2-at-slice-aggregate-put-listing : tie.After-put-listing-arg2 → tie.After-least2
+least2-at-slice-aggregate-put-listing c = c .before .before
 
-cast-least : tie.Need-cast-least
-cast-least c = search needs
+abbrev put-bytes-at-returns : tie.After-slice-known2 → tie.After-put-bytes
+put-bytes-at-returns c = c .before .before
 
-mul-least : tie.Need-mul-least
-mul-least c = search needs
+abbrev put-refused-at-returns-2 : tie.After-slice-known3 → tie.After-put-refused
+put-refused-at-returns-2 c = c .before .before
 
-least-requires : tie.Need-least-requires
-least-requires c κs = search needs
+abbrev least2-at-slice-aggregate-put-listing-2 : tie.After-put-listing-arg3 → tie.After-least2
+least2-at-slice-aggregate-put-listing-2 c = c .before .before .before
 
-cast-least-2 : tie.Need-cast-least-2
-cast-least-2 c = search needs
+abbrev least2-of-put-listing : tie.After-put-listing → tie.After-least2
+least2-of-put-listing c = c .before .before .before .before
 
-least-requires-2 : tie.Need-least-requires-2
-least-requires-2 c κs = search needs
+abbrev put-listing-at-returns-3 : tie.After-slice-known4 → tie.After-put-listing
+put-listing-at-returns-3 c = c .before .before
 
 slice-aggregate-put-listing : tie.Need-slice-aggregate-put-listing
 slice-aggregate-put-listing c =
-    let at-start = c .before .before .before .before .before .before .before .before .before .before .before .before .before in
-    length-least (at-start .args .coords .now) _ _ (c .before .before .before .least .ensures)
+    let at-least = least-of-least2 (least2-at-slice-aggregate-put-listing c) in
+    let at-entry = entry (answer2-of-least at-least) in
+    length-least (at-entry .args .coords .now) _ _ (at-least .least .ensures)
 
 slice-aggregate-put-listing-2 : tie.Need-slice-aggregate-put-listing-2
 slice-aggregate-put-listing-2 c =
-    let at-start = c .before .before .before .before .before .before .before .before .before .before .before .before .before .before in
-    length-least (at-start .args .ends .now) _ _ (c .before .before .before .least2 .ensures)
-
-put-listing-requires : tie.Need-put-listing-requires
-put-listing-requires c κs = search needs
-
-same-length : tie.Need-same-length
-same-length c = search needs
+    let at-entry = entry (answer2-of-least (least-of-least2 (least2-at-slice-aggregate-put-listing-2 c))) in
+    length-least (at-entry .args .ends .now) _ _ (least2-at-slice-aggregate-put-listing-2 c .least2 .ensures)
 
 returns : tie.Need-returns
 unfolding told answerText
 returns c =
-    let at-enum-told = c .before .before .before .before .before in
-    rw (at-enum-told .enum-told .given .1) (printed _ _ (c .before .before .put-bytes .ensures))
-
-same-length-2 : tie.Need-same-length-2
-same-length-2 c = search needs
+    let at-enum-told = enum-told-of-put-bytes (put-bytes-at-returns c) in
+    rw (at-enum-told .enum-told .given .1) (printed _ _ (put-bytes-at-returns c .put-bytes .ensures))
 
 returns-2 : tie.Need-returns-2
 unfolding told answerText
 returns-2 c =
-    let at-answer = c .before .before .before .before .before in
-    rw (at-answer .answer .given .1) (printed _ _ (c .before .before .put-refused .ensures))
-
-same-length-3 : tie.Need-same-length-3
-same-length-3 c = search needs
+    let at-answer = answer-of-put-refused (put-refused-at-returns-2 c) in
+    rw (at-answer .answer .given .1) (printed _ _ (put-refused-at-returns-2 c .put-refused .ensures))
 
 returns-3 : tie.Need-returns-3
 unfolding told answerText
 returns-3 c =
-    let at-least2 = c .before .before .before .before .before .before in
-    let at-least = at-least2 .before in
-    let at-answer2 = at-least .before .before in
-    rw (at-answer2 .answer2 .given .1) (printed _ _ (rw (take-least _ _ _ (at-least .least .ensures), take-least _ _ _ (at-least2 .least2 .ensures)) at (c .before .before .put-listing .ensures)))
+    let at-least2 = least2-of-put-listing (put-listing-at-returns-3 c) in
+    let at-answer2 = answer2-of-least (least-of-least2 at-least2) in
+    rw (at-answer2 .answer2 .given .1) (printed _ _ (rw (
+      take-least _ _ _ (least-of-least2 at-least2 .least .ensures),
+      take-least _ _ _ (at-least2 .least2 .ensures),
+    ) at (put-listing-at-returns-3 c .put-listing .ensures)))
 
 pub print-answer-spec : {M : Type 1} → statement M
-print-answer-spec =
-    tie.close
-    (tie.spec
-    enum-told
-    slice-aggregate-put-bytes
-    put-bytes-requires
-    enum-known-answer
-    put-refused-requires
-    enum-known-answer-2
-    cast-least
-    mul-least
-    least-requires
-    cast-least-2
-    least-requires-2
-    slice-aggregate-put-listing
-    slice-aggregate-put-listing-2
-    put-listing-requires
-    same-length
-    returns
-    same-length-2
-    returns-2
-    same-length-3
-    returns-3)
+print-answer-spec = tie.close (tie.spec (λ c. search needs) (λ c. search needs) (λ c κs. search needs) (λ c. search needs) (λ c κs. search needs)
+    (λ c. search needs) (λ c. search needs) (λ c. search needs) (λ c κs. search needs) (λ c. search needs) (λ c κs. search needs) slice-aggregate-put-listing
+    slice-aggregate-put-listing-2 (λ c κs. search needs) (λ c. search needs) returns (λ c. search needs) returns-2 (λ c. search needs) returns-3)

@@ -5,40 +5,26 @@ use borrow.Author.Needs.{needs}
 use Rattle.printing.proofs.print_input.Statement.{statement}
 use Rattle.printing.proofs.print_input.Tie as tie
 
-put-first-requires : tie.Need-put-first-requires
-put-first-requires c κs = search needs
+-- places of the code, each counted once
+abbrev put-first-of-put-mesh : tie.After-put-mesh → tie.After-put-first
+put-first-of-put-mesh c = c .before .before .before .before
 
-put-mesh-requires : tie.Need-put-mesh-requires
-put-mesh-requires c κs = search needs
+abbrev put-mesh-of-put-mesh2 : tie.After-put-mesh2 → tie.After-put-mesh
+put-mesh-of-put-mesh2 c = c .before .before .before .before
 
-put-mesh-requires-2 : tie.Need-put-mesh-requires-2
-put-mesh-requires-2 c κs = search needs
+abbrev put-mesh2-of-put-bytes : tie.After-put-bytes → tie.After-put-mesh2
+put-mesh2-of-put-bytes c = c .before .before .before .before .before
 
-slice-aggregate-put-bytes : tie.Need-slice-aggregate-put-bytes
-slice-aggregate-put-bytes c = search needs
-
-put-bytes-requires : tie.Need-put-bytes-requires
-put-bytes-requires c κs = search needs
-
-same-length : tie.Need-same-length
-same-length c = search needs
+abbrev put-bytes-at-returns : tie.After-slice-known5 → tie.After-put-bytes
+put-bytes-at-returns c = c .before .before
 
 returns : tie.Need-returns
 unfolding inputText
 returns c =
-    let at-put-mesh2 = c .before .before .before .before .before .before .before in
-    let at-put-mesh = at-put-mesh2 .before .before .before .before in
-    let at-put-first = at-put-mesh .before .before .before .before in
-    printed _ _ (then _ _ _ (at-put-first .put-first .ensures) (then _ _ _ (at-put-mesh .put-mesh .ensures) (then _ _ _ (at-put-mesh2 .put-mesh2 .ensures) (c .before .before .put-bytes .ensures))))
+    let at-put-mesh2 = put-mesh2-of-put-bytes (put-bytes-at-returns c) in
+    let at-put-first = put-first-of-put-mesh (put-mesh-of-put-mesh2 at-put-mesh2) in
+    printed _ _ (then _ _ _ (at-put-first .put-first .ensures) (then _ _ _ (put-mesh-of-put-mesh2 at-put-mesh2 .put-mesh .ensures)
+    (then _ _ _ (at-put-mesh2 .put-mesh2 .ensures) (put-bytes-at-returns c .put-bytes .ensures))))
 
 pub print-input-spec : {M : Type 1} → statement M
-print-input-spec =
-    tie.close
-    (tie.spec
-    put-first-requires
-    put-mesh-requires
-    put-mesh-requires-2
-    slice-aggregate-put-bytes
-    put-bytes-requires
-    same-length
-    returns)
+print-input-spec = tie.close (tie.spec (λ c κs. search needs) (λ c κs. search needs) (λ c κs. search needs) (λ c. search needs) (λ c κs. search needs) (λ c. search needs) returns)

@@ -6,39 +6,21 @@ use borrow.Author.Needs.{needs}
 use Rattle.printing.proofs.put_refused.Statement.{statement}
 use Rattle.printing.proofs.put_refused.Tie as tie
 
-slice-aggregate-put-bytes : tie.Need-slice-aggregate-put-bytes
-slice-aggregate-put-bytes c = search needs
+-- places of the code, each counted once
+abbrev put-bytes-of-put-decimal : tie.After-put-decimal → tie.After-put-bytes
+put-bytes-of-put-decimal c = c .before .before .before .before
 
-put-bytes-requires : tie.Need-put-bytes-requires
-put-bytes-requires c κs = search needs
+abbrev put-decimal-of-put-bytes2 : tie.After-put-bytes2 → tie.After-put-decimal
+put-decimal-of-put-bytes2 c = c .before .before .before .before .before
 
-put-decimal-requires : tie.Need-put-decimal-requires
-put-decimal-requires c κs = search needs
-
-slice-aggregate-put-bytes-2 : tie.Need-slice-aggregate-put-bytes-2
-slice-aggregate-put-bytes-2 c = search needs
-
-put-bytes-requires-2 : tie.Need-put-bytes-requires-2
-put-bytes-requires-2 c κs = search needs
-
-same-length : tie.Need-same-length
-same-length c = search needs
+abbrev put-bytes2-at-returns : tie.After-slice-known4 → tie.After-put-bytes2
+put-bytes2-at-returns c = c .before .before
 
 returns : tie.Need-returns
 unfolding refusedText
 returns c =
-    let at-put-decimal = c .before .before .before .before .before .before .before in
-    let at-put-bytes = at-put-decimal .before .before .before .before in
-    then _ _ _ (at-put-bytes .put-bytes .ensures) (then _ _ _ (at-put-decimal .put-decimal .ensures) (c .before .before .put-bytes2 .ensures))
+    let at-put-decimal = put-decimal-of-put-bytes2 (put-bytes2-at-returns c) in
+    then _ _ _ (put-bytes-of-put-decimal at-put-decimal .put-bytes .ensures) (then _ _ _ (at-put-decimal .put-decimal .ensures) (put-bytes2-at-returns c .put-bytes2 .ensures))
 
 pub put-refused-spec : {M : Type 1} → statement M
-put-refused-spec =
-    tie.close
-    (tie.spec
-    slice-aggregate-put-bytes
-    put-bytes-requires
-    put-decimal-requires
-    slice-aggregate-put-bytes-2
-    put-bytes-requires-2
-    same-length
-    returns)
+put-refused-spec = tie.close (tie.spec (λ c. search needs) (λ c κs. search needs) (λ c κs. search needs) (λ c. search needs) (λ c κs. search needs) (λ c. search needs) returns)

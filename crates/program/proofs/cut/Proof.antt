@@ -5,77 +5,49 @@ use borrow.Author.Needs.{needs}
 use Rattle.program.proofs.cut.Statement.{statement}
 use Rattle.program.proofs.cut.Tie as tie
 
-slice-aggregate-overlay-lists : tie.Need-slice-aggregate-overlay-lists
-slice-aggregate-overlay-lists c = search needs
+-- places of the code, each counted once
+abbrev entry : tie.After-overlay-lists → tie.Start
+entry c = c .before .before .before .before .before .before .before .before .before .before .before .before .before .before .before .before .before .before
 
-slice-aggregate-overlay-lists-2 : tie.Need-slice-aggregate-overlay-lists-2
-slice-aggregate-overlay-lists-2 c = search needs
+abbrev overlay-lists-at-told-requires : tie.After-work2 → tie.After-overlay-lists
+overlay-lists-at-told-requires c = c .before .before .before .before .before .before
 
-slice-aggregate-overlay-lists-3 : tie.Need-slice-aggregate-overlay-lists-3
-slice-aggregate-overlay-lists-3 c = search needs
+abbrev overlay-lists-of-told : tie.After-told → tie.After-overlay-lists
+overlay-lists-of-told c = c .before .before .before .before .before .before .before
 
-slice-aggregate-overlay-lists-4 : tie.Need-slice-aggregate-overlay-lists-4
-slice-aggregate-overlay-lists-4 c = search needs
+abbrev told-of-print-answer : tie.After-print-answer → tie.After-told
+told-of-print-answer c = c .before .before .before .before .before .before .before
 
-slice-aggregate-overlay-lists-5 : tie.Need-slice-aggregate-overlay-lists-5
-slice-aggregate-overlay-lists-5 c = search needs
-
-slice-aggregate-overlay-lists-6 : tie.Need-slice-aggregate-overlay-lists-6
-slice-aggregate-overlay-lists-6 c = search needs
-
-overlay-lists-requires : tie.Need-overlay-lists-requires
-overlay-lists-requires c κs = search needs
+abbrev print-answer-at-returns : tie.After-slice-known2 → tie.After-print-answer
+print-answer-at-returns c = c .before .before
 
 told-requires : tie.Need-told-requires
-told-requires c κs = let a = c .before .before .before .before .before .before .before .before .before .before .before .before .before .before .before .before .before .before .before .before .before .before .before .before .args in
-    let v = c .before .before .before .before .before .before .overlay-lists in
-    nodes-fit (a .op) (a .m) (mesh (a .sc .now) (a .sn .now) (a .se .now) (a .sk .now) (a .sf .now)) (mesh (a .cc .now) (a .cn .now) (a .ce .now) (a .ck .now) (a .cf .now)) (a .nodes) (v .result .code) (v .result .pieces) (v .result .points) (v .result .doubled) (v .last .1 .1 .1 .1 .1 .1 .1 .1 .1 .1 .1 .1 .0) (v .last .1 .1 .1 .1 .1 .1 .1 .1 .1 .1 .1 .1 .1 .0) (v .last .1 .1 .1 .1 .1 .1 .1 .1 .1 .1 .1 .1 .1 .1 .0) (v .last .1 .1 .1 .1 .1 .1 .1 .1 .1 .1 .1 .1 .1 .1 .1 .0) (v .last .1 .1 .1 .1 .1 .1 .1 .1 .1 .1 .1 .1 .1 .1 .1 .1 .0) (v .last .1 .1 .1 .1 .1 .1 .1 .1 .1 .1 .1 .1 .1 .1 .1 .1 .1 .0) (v .ensures) (c .before .before .before .before .before .before .before .before .before .before .before .before .before .before .before .before .before .before .before .before .before .before .before .before .pre)
-
-slice-aggregate-print-answer : tie.Need-slice-aggregate-print-answer
-slice-aggregate-print-answer c = search needs
-
-slice-aggregate-print-answer-2 : tie.Need-slice-aggregate-print-answer-2
-slice-aggregate-print-answer-2 c = search needs
-
-slice-aggregate-print-answer-3 : tie.Need-slice-aggregate-print-answer-3
-slice-aggregate-print-answer-3 c = search needs
-
-slice-aggregate-print-answer-4 : tie.Need-slice-aggregate-print-answer-4
-slice-aggregate-print-answer-4 c = search needs
-
-slice-aggregate-print-answer-5 : tie.Need-slice-aggregate-print-answer-5
-slice-aggregate-print-answer-5 c = search needs
-
-print-answer-requires : tie.Need-print-answer-requires
-print-answer-requires c κs = search needs
-
-same-length : tie.Need-same-length
-same-length c = search needs
+told-requires c κs =
+    let at-entry = entry (overlay-lists-at-told-requires c) in
+    let a = at-entry .args in
+    let v = overlay-lists-at-told-requires c .overlay-lists in
+    nodes-fit (a .op) (a .m) (mesh (a .sc .now) (a .sn .now) (a .se .now) (a .sk .now) (a .sf .now))
+    (mesh (a .cc .now) (a .cn .now) (a .ce .now) (a .ck .now) (a .cf .now)) (a .nodes) (v .result .code) (v .result .pieces) (v .result .points)
+    (v .result .doubled) (v .last .1 .1 .1 .1 .1 .1 .1 .1 .1 .1 .1 .1 .0) (v .last .1 .1 .1 .1 .1 .1 .1 .1 .1 .1 .1 .1 .1 .0)
+    (v .last .1 .1 .1 .1 .1 .1 .1 .1 .1 .1 .1 .1 .1 .1 .0) (v .last .1 .1 .1 .1 .1 .1 .1 .1 .1 .1 .1 .1 .1 .1 .1 .0)
+    (v .last .1 .1 .1 .1 .1 .1 .1 .1 .1 .1 .1 .1 .1 .1 .1 .1 .0) (v .last .1 .1 .1 .1 .1 .1 .1 .1 .1 .1 .1 .1 .1 .1 .1 .1 .1 .0) (v .ensures) (at-entry .pre)
 
 returns : tie.Need-returns
-returns c = let a = c .before .before .before .before .before .before .before .before .before .before .before .before .before .before .before .before .before .before .before .before .before .before .before .before .before .before .before .before .before .before .before .before .before .before .args in
-    let v = c .before .before .before .before .before .before .before .before .before .before .before .before .before .before .before .before .overlay-lists in
-    let g = c .before .before .before .before .before .before .before .before .before .told in
-    let w = c .before .before .print-answer in
-    cut-printed (a .op) (a .m) (mesh (a .sc .now) (a .sn .now) (a .se .now) (a .sk .now) (a .sf .now)) (mesh (a .cc .now) (a .cn .now) (a .ce .now) (a .ck .now) (a .cf .now)) (a .nodes) (v .result .code) (v .result .pieces) (v .result .points) (v .result .doubled) (v .last .1 .1 .1 .1 .1 .1 .1 .1 .1 .1 .1 .1 .0) (v .last .1 .1 .1 .1 .1 .1 .1 .1 .1 .1 .1 .1 .1 .0) (v .last .1 .1 .1 .1 .1 .1 .1 .1 .1 .1 .1 .1 .1 .1 .0) (v .last .1 .1 .1 .1 .1 .1 .1 .1 .1 .1 .1 .1 .1 .1 .1 .0) (v .last .1 .1 .1 .1 .1 .1 .1 .1 .1 .1 .1 .1 .1 .1 .1 .1 .0) (v .last .1 .1 .1 .1 .1 .1 .1 .1 .1 .1 .1 .1 .1 .1 .1 .1 .1 .0) (v .ensures) (g .result) (w .result) (a .out .now) (w .last .0) (g .ensures) (w .ensures)
+returns c =
+    let at-told = told-of-print-answer (print-answer-at-returns c) in
+    let at-entry = entry (overlay-lists-of-told at-told) in
+    let a = at-entry .args in
+    let v = overlay-lists-of-told at-told .overlay-lists in
+    let g = at-told .told in
+    let w = print-answer-at-returns c .print-answer in
+    cut-printed (a .op) (a .m) (mesh (a .sc .now) (a .sn .now) (a .se .now) (a .sk .now) (a .sf .now))
+    (mesh (a .cc .now) (a .cn .now) (a .ce .now) (a .ck .now) (a .cf .now)) (a .nodes) (v .result .code) (v .result .pieces) (v .result .points)
+    (v .result .doubled) (v .last .1 .1 .1 .1 .1 .1 .1 .1 .1 .1 .1 .1 .0) (v .last .1 .1 .1 .1 .1 .1 .1 .1 .1 .1 .1 .1 .1 .0)
+    (v .last .1 .1 .1 .1 .1 .1 .1 .1 .1 .1 .1 .1 .1 .1 .0) (v .last .1 .1 .1 .1 .1 .1 .1 .1 .1 .1 .1 .1 .1 .1 .1 .0)
+    (v .last .1 .1 .1 .1 .1 .1 .1 .1 .1 .1 .1 .1 .1 .1 .1 .1 .0) (v .last .1 .1 .1 .1 .1 .1 .1 .1 .1 .1 .1 .1 .1 .1 .1 .1 .1 .0) (v .ensures) (g .result)
+    (w .result) (a .out .now) (w .last .0) (g .ensures) (w .ensures)
 
 pub cut-spec : {M : Type 1} → statement M
-cut-spec =
-    tie.close
-    (tie.spec
-    slice-aggregate-overlay-lists
-    slice-aggregate-overlay-lists-2
-    slice-aggregate-overlay-lists-3
-    slice-aggregate-overlay-lists-4
-    slice-aggregate-overlay-lists-5
-    slice-aggregate-overlay-lists-6
-    overlay-lists-requires
-    told-requires
-    slice-aggregate-print-answer
-    slice-aggregate-print-answer-2
-    slice-aggregate-print-answer-3
-    slice-aggregate-print-answer-4
-    slice-aggregate-print-answer-5
-    print-answer-requires
-    same-length
-    returns)
+cut-spec = tie.close (tie.spec (λ c. search needs) (λ c. search needs) (λ c. search needs) (λ c. search needs) (λ c. search needs) (λ c. search needs)
+    (λ c κs. search needs) told-requires (λ c. search needs) (λ c. search needs) (λ c. search needs) (λ c. search needs) (λ c. search needs)
+    (λ c κs. search needs) (λ c. search needs) returns)

@@ -5,167 +5,69 @@ use borrow.Author.Needs.{needs}
 use Rattle.reading.proofs.clear_rest.Statement.{statement}
 use Rattle.reading.proofs.clear_rest.Tie as tie
 
-mul-zero-f64 : tie.Need-mul-zero-f64
-mul-zero-f64 c = search needs
+-- places of the code, each counted once
+abbrev entry : tie.After-zero-f64 → tie.Start
+entry c = c .before .before .before .before .before .before .before
 
-mul-zero-f64-2 : tie.Need-mul-zero-f64-2
-mul-zero-f64-2 c = search needs
+abbrev zero-f64-of-zero-u32 : tie.After-zero-u32 → tie.After-zero-f64
+zero-f64-of-zero-u32 c = c .before .before .before .before
 
-sub-zero-f64 : tie.Need-sub-zero-f64
-sub-zero-f64 c = search needs
+abbrev zero-u32-of-zero-u322 : tie.After-zero-u322 → tie.After-zero-u32
+zero-u32-of-zero-u322 c = c .before .before .before .before
 
-part-zero-f64-start : tie.Need-part-zero-f64-start
-part-zero-f64-start c = search needs
+abbrev zero-u322-of-zero-u8 : tie.After-zero-u8 → tie.After-zero-u322
+zero-u322-of-zero-u8 c = c .before .before .before .before
 
-part-zero-f64-end : tie.Need-part-zero-f64-end
-part-zero-f64-end c = search needs
+abbrev zero-u8-of-zero-u323 : tie.After-zero-u323 → tie.After-zero-u8
+zero-u8-of-zero-u323 c = c .before .before .before .before
 
-zero-f64-requires : tie.Need-zero-f64-requires
-zero-f64-requires c κs = search needs
-
-mul-zero-u32 : tie.Need-mul-zero-u32
-mul-zero-u32 c = search needs
-
-sub-zero-u32 : tie.Need-sub-zero-u32
-sub-zero-u32 c = search needs
-
-part-zero-u32-start : tie.Need-part-zero-u32-start
-part-zero-u32-start c = search needs
-
-part-zero-u32-end : tie.Need-part-zero-u32-end
-part-zero-u32-end c = search needs
-
-zero-u32-requires : tie.Need-zero-u32-requires
-zero-u32-requires c κs = search needs
-
-mul-zero-u32-2 : tie.Need-mul-zero-u32-2
-mul-zero-u32-2 c = search needs
-
-sub-zero-u32-2 : tie.Need-sub-zero-u32-2
-sub-zero-u32-2 c = search needs
-
-part-zero-u32-start-2 : tie.Need-part-zero-u32-start-2
-part-zero-u32-start-2 c = search needs
-
-part-zero-u32-end-2 : tie.Need-part-zero-u32-end-2
-part-zero-u32-end-2 c = search needs
-
-zero-u32-requires-2 : tie.Need-zero-u32-requires-2
-zero-u32-requires-2 c κs = search needs
-
-sub-zero-u8 : tie.Need-sub-zero-u8
-sub-zero-u8 c = search needs
-
-part-zero-u8-start : tie.Need-part-zero-u8-start
-part-zero-u8-start c = search needs
-
-part-zero-u8-end : tie.Need-part-zero-u8-end
-part-zero-u8-end c = search needs
-
-zero-u8-requires : tie.Need-zero-u8-requires
-zero-u8-requires c κs = search needs
-
-mul-zero-u32-3 : tie.Need-mul-zero-u32-3
-mul-zero-u32-3 c = search needs
-
-sub-zero-u32-3 : tie.Need-sub-zero-u32-3
-sub-zero-u32-3 c = search needs
-
-part-zero-u32-start-3 : tie.Need-part-zero-u32-start-3
-part-zero-u32-start-3 c = search needs
-
-part-zero-u32-end-3 : tie.Need-part-zero-u32-end-3
-part-zero-u32-end-3 c = search needs
-
-zero-u32-requires-3 : tie.Need-zero-u32-requires-3
-zero-u32-requires-3 c κs = search needs
+abbrev zero-u323-at-same-length : tie.After-slice-known10 → tie.After-zero-u323
+zero-u323-at-same-length c = c .before .before
 
 same-length : tie.Need-same-length
 same-length c =
-    let at-zero-u8 = c .before .before .before .before .before .before in
-    let at-zero-u322 = at-zero-u8 .before .before .before .before in
-    let at-zero-u32 = at-zero-u322 .before .before .before .before in
-    let at-zero-f64 = at-zero-u32 .before .before .before .before in
-    let at-start = at-zero-f64 .before .before .before .before .before .before .before in
-    as-many _ (at-start .args .coords .now) (2 * at-start .args .points) (at-start .pre .0) _ (at-zero-f64 .zero-f64 .ensures)
+    let at-zero-f64 = zero-f64-of-zero-u32 (zero-u32-of-zero-u322 (zero-u322-of-zero-u8 (zero-u8-of-zero-u323 (zero-u323-at-same-length c)))) in
+    let at-entry = entry at-zero-f64 in
+    as-many _ (at-entry .args .coords .now) (2 * at-entry .args .points) (at-entry .pre .0) _ (at-zero-f64 .zero-f64 .ensures)
 
 same-length-2 : tie.Need-same-length-2
 same-length-2 c =
-    let at-zero-u8 = c .before .before .before .before .before .before in
-    let at-zero-u322 = at-zero-u8 .before .before .before .before in
-    let at-zero-u32 = at-zero-u322 .before .before .before .before in
-    let at-zero-f64 = at-zero-u32 .before .before .before .before in
-    let at-start = at-zero-f64 .before .before .before .before .before .before .before in
-    as-many _ (at-start .args .nodes .now) (at-start .args .entries) (at-start .pre .1) _ (at-zero-u32 .zero-u32 .ensures)
+    let at-zero-u32 = zero-u32-of-zero-u322 (zero-u322-of-zero-u8 (zero-u8-of-zero-u323 (zero-u323-at-same-length c))) in
+    let at-entry = entry (zero-f64-of-zero-u32 at-zero-u32) in
+    as-many _ (at-entry .args .nodes .now) (at-entry .args .entries) (at-entry .pre .1) _ (at-zero-u32 .zero-u32 .ensures)
 
 same-length-3 : tie.Need-same-length-3
 same-length-3 c =
-    let at-zero-u8 = c .before .before .before .before .before .before in
-    let at-zero-u322 = at-zero-u8 .before .before .before .before in
-    let at-zero-u32 = at-zero-u322 .before .before .before .before in
-    let at-zero-f64 = at-zero-u32 .before .before .before .before in
-    let at-start = at-zero-f64 .before .before .before .before .before .before .before in
-    as-many _ (at-start .args .ends .now) (at-start .args .cells) (at-start .pre .2) _ (at-zero-u322 .zero-u322 .ensures)
+    let at-zero-u322 = zero-u322-of-zero-u8 (zero-u8-of-zero-u323 (zero-u323-at-same-length c)) in
+    let at-entry = entry (zero-f64-of-zero-u32 (zero-u32-of-zero-u322 at-zero-u322)) in
+    as-many _ (at-entry .args .ends .now) (at-entry .args .cells) (at-entry .pre .2) _ (at-zero-u322 .zero-u322 .ensures)
 
 same-length-4 : tie.Need-same-length-4
 same-length-4 c =
-    let at-zero-u8 = c .before .before .before .before .before .before in
-    let at-zero-u322 = at-zero-u8 .before .before .before .before in
-    let at-zero-u32 = at-zero-u322 .before .before .before .before in
-    let at-zero-f64 = at-zero-u32 .before .before .before .before in
-    let at-start = at-zero-f64 .before .before .before .before .before .before .before in
-    as-many _ (at-start .args .kinds .now) (at-start .args .cells) (at-start .pre .3) _ (at-zero-u8 .zero-u8 .ensures)
+    let at-zero-u8 = zero-u8-of-zero-u323 (zero-u323-at-same-length c) in
+    let at-entry = entry (zero-f64-of-zero-u32 (zero-u32-of-zero-u322 (zero-u322-of-zero-u8 at-zero-u8))) in
+    as-many _ (at-entry .args .kinds .now) (at-entry .args .cells) (at-entry .pre .3) _ (at-zero-u8 .zero-u8 .ensures)
 
 same-length-5 : tie.Need-same-length-5
 same-length-5 c =
-    let at-zero-u8 = c .before .before .before .before .before .before in
-    let at-zero-u322 = at-zero-u8 .before .before .before .before in
-    let at-zero-u32 = at-zero-u322 .before .before .before .before in
-    let at-zero-f64 = at-zero-u32 .before .before .before .before in
-    let at-start = at-zero-f64 .before .before .before .before .before .before .before in
-    as-many _ (at-start .args .families .now) (at-start .args .cells) (at-start .pre .4) _ (c .before .before .zero-u323 .ensures)
+    let at-entry = entry (zero-f64-of-zero-u32 (zero-u32-of-zero-u322 (zero-u322-of-zero-u8 (zero-u8-of-zero-u323 (zero-u323-at-same-length c))))) in
+    as-many _ (at-entry .args .families .now) (at-entry .args .cells) (at-entry .pre .4) _ (zero-u323-at-same-length c .zero-u323 .ensures)
 
 returns : tie.Need-returns
 returns c =
-    let at-zero-u8 = c .before .before .before .before .before .before in
-    let at-zero-u322 = at-zero-u8 .before .before .before .before in
-    let at-zero-u32 = at-zero-u322 .before .before .before .before in
-    let at-zero-f64 = at-zero-u32 .before .before .before .before in
-    let at-start = at-zero-f64 .before .before .before .before .before .before .before in
-    (came-back _ (at-start .args .coords .now) (2 * at-start .args .points) (at-start .pre .0) _ (at-zero-f64 .zero-f64 .ensures), came-back _ (at-start .args .nodes .now) (at-start .args .entries) (at-start .pre .1) _ (at-zero-u32 .zero-u32 .ensures), came-back _ (at-start .args .ends .now) (at-start .args .cells) (at-start .pre .2) _ (at-zero-u322 .zero-u322 .ensures), came-back _ (at-start .args .kinds .now) (at-start .args .cells) (at-start .pre .3) _ (at-zero-u8 .zero-u8 .ensures), came-back _ (at-start .args .families .now) (at-start .args .cells) (at-start .pre .4) _ (c .before .before .zero-u323 .ensures))
+    let at-zero-u8 = zero-u8-of-zero-u323 (zero-u323-at-same-length c) in
+    let at-zero-u32 = zero-u32-of-zero-u322 (zero-u322-of-zero-u8 at-zero-u8) in
+    let at-entry = entry (zero-f64-of-zero-u32 at-zero-u32) in (
+      came-back _ (at-entry .args .coords .now) (2 * at-entry .args .points) (at-entry .pre .0) _ (zero-f64-of-zero-u32 at-zero-u32 .zero-f64 .ensures),
+      came-back _ (at-entry .args .nodes .now) (at-entry .args .entries) (at-entry .pre .1) _ (at-zero-u32 .zero-u32 .ensures),
+      came-back _ (at-entry .args .ends .now) (at-entry .args .cells) (at-entry .pre .2) _ (zero-u322-of-zero-u8 at-zero-u8 .zero-u322 .ensures),
+      came-back _ (at-entry .args .kinds .now) (at-entry .args .cells) (at-entry .pre .3) _ (at-zero-u8 .zero-u8 .ensures),
+      came-back _ (at-entry .args .families .now) (at-entry .args .cells) (at-entry .pre .4) _ (zero-u323-at-same-length c .zero-u323 .ensures),
+    )
 
 pub clear-rest-spec : {M : Type 1} → statement M
-clear-rest-spec =
-    tie.close
-    (tie.spec
-    mul-zero-f64
-    mul-zero-f64-2
-    sub-zero-f64
-    part-zero-f64-start
-    part-zero-f64-end
-    zero-f64-requires
-    mul-zero-u32
-    sub-zero-u32
-    part-zero-u32-start
-    part-zero-u32-end
-    zero-u32-requires
-    mul-zero-u32-2
-    sub-zero-u32-2
-    part-zero-u32-start-2
-    part-zero-u32-end-2
-    zero-u32-requires-2
-    sub-zero-u8
-    part-zero-u8-start
-    part-zero-u8-end
-    zero-u8-requires
-    mul-zero-u32-3
-    sub-zero-u32-3
-    part-zero-u32-start-3
-    part-zero-u32-end-3
-    zero-u32-requires-3
-    same-length
-    same-length-2
-    same-length-3
-    same-length-4
-    same-length-5
-    returns)
+clear-rest-spec = tie.close (tie.spec (λ c. search needs) (λ c. search needs) (λ c. search needs) (λ c. search needs) (λ c. search needs)
+    (λ c κs. search needs) (λ c. search needs) (λ c. search needs) (λ c. search needs) (λ c. search needs) (λ c κs. search needs) (λ c. search needs)
+    (λ c. search needs) (λ c. search needs) (λ c. search needs) (λ c κs. search needs) (λ c. search needs) (λ c. search needs) (λ c. search needs)
+    (λ c κs. search needs) (λ c. search needs) (λ c. search needs) (λ c. search needs) (λ c. search needs) (λ c κs. search needs) same-length same-length-2
+    same-length-3 same-length-4 same-length-5 returns)

@@ -16,18 +16,29 @@ Inv-loop sc cc w₀ count n end j₀ w j = (j ≤ n) × (length w ≡ length w�
 abbrev μ-loop : tie.MeasureT-loop
 μ-loop sc cc w₀ count n end j₀ w j = n - j
 
+-- places of the code, each counted once
+abbrev entry : tie.At-loop Inv-loop μ-loop → tie.Start Inv-loop μ-loop
+entry c = c .before .before .before .before
+
+abbrev loop-of-in-loop : tie.In-loop Inv-loop μ-loop → tie.At-loop Inv-loop μ-loop
+loop-of-in-loop c = c .before
+
+abbrev in-loop : tie.After-number-of Inv-loop μ-loop → tie.In-loop Inv-loop μ-loop
+in-loop c = c .before .before .before .before
+
 loop-holds : tie.Need-loop-holds Inv-loop μ-loop
 loop-holds c = (omega arith, refl, number-start _ _ _ _ _)
 
 loop-again : tie.Need-loop-again Inv-loop μ-loop
 loop-again c =
-    let test = c .before .before .before .before in
-    let l = test .before .loop in
-    let p = test .before .before .before .before .before in
-    let n = length (p .args .cc .now) / 2 in (
+    let at-loop = loop-of-in-loop (in-loop c) in
+    let at-entry = entry at-loop in
+    let l = at-loop .loop in
+    let n = length (at-entry .args .cc .now) / 2 in (
       omega arith,
       simp length-set (l .inv .1),
-      number-turn (p .args .sc .now) (p .args .cc .now) (p .args .w .now) n (p .args .count) (l .w) (c .number-of .result) (l .j) (p .pre .2) (test .loop-test .taken) (l .inv .2) (c .number-of .ensures),
+      number-turn (at-entry .args .sc .now) (at-entry .args .cc .now) (at-entry .args .w .now) n (at-entry .args .count) (l .w) (c .number-of .result) (l .j)
+          (at-entry .pre .2) (in-loop c .loop-test .taken) (l .inv .2) (c .number-of .ensures),
     )
 
 returns : tie.Need-returns Inv-loop μ-loop
@@ -36,24 +47,6 @@ returns c =
     number-end _ _ _ _ _ (l .w) (l .j) (l .inv .0) (c .loop-test .left) (l .inv .2)
 
 pub number-nodes-spec : {M : Type 1} → statement M
-number-nodes-spec =
-    tie.close
-    (tie.spec
-    Inv-loop
-    μ-loop
-    (λ c. search needs)
-    loop-holds
-    (λ c. search needs)
-    (λ c. search needs)
-    (λ c. search needs)
-    (λ c. search needs)
-    (λ c. search needs)
-    (λ c. search needs)
-    (λ c κs. search needs)
-    (λ c. search needs)
-    (λ c. search needs)
-    (λ c. search needs)
-    (λ c. search needs)
-    loop-again
-    (λ c. search needs)
-    returns)
+number-nodes-spec = tie.close (tie.spec Inv-loop μ-loop (λ c. search needs) loop-holds (λ c. search needs) (λ c. search needs) (λ c. search needs)
+    (λ c. search needs) (λ c. search needs) (λ c. search needs) (λ c κs. search needs) (λ c. search needs) (λ c. search needs) (λ c. search needs)
+    (λ c. search needs) loop-again (λ c. search needs) returns)

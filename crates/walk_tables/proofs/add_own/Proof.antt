@@ -14,156 +14,48 @@ Inv-loop coords edges outline₀ src₀ dst₀ marks₀ n₀ i₀ outline src ds
 abbrev μ-loop : tie.MeasureT-loop
 μ-loop coords edges outline₀ src₀ dst₀ marks₀ n₀ i₀ outline src dst marks n i = length edges - i
 
+-- places of the code, each counted once
+abbrev loop-of-in-loop : tie.In-loop Inv-loop μ-loop → tie.At-loop Inv-loop μ-loop
+loop-of-in-loop c = c .before
+
+abbrev in-loop : tie.Else1 Inv-loop μ-loop → tie.In-loop Inv-loop μ-loop
+in-loop c = c .before .before .before .before .before
+
+abbrev else1 : tie.After-add-own-edge Inv-loop μ-loop → tie.Else1 Inv-loop μ-loop
+else1 c = c .before .before .before .before .before .before
+
+abbrev add-own-edge-at-loop-again : tie.Else2 Inv-loop μ-loop → tie.After-add-own-edge Inv-loop μ-loop
+add-own-edge-at-loop-again c = c .before .before .before .before .before .before .before .before .before
+
 loop-holds : tie.Need-loop-holds Inv-loop μ-loop
 loop-holds c = (refl, refl, refl, refl, search needs, search needs)
-
-add-loop : tie.Need-add-loop Inv-loop μ-loop
-add-loop c = search needs
-
-mul-a : tie.Need-mul-a Inv-loop μ-loop
-mul-a c = search needs
-
-shared-slice-read-a : tie.Need-shared-slice-read-a Inv-loop μ-loop
-shared-slice-read-a c = search needs
-
-add-b : tie.Need-add-b Inv-loop μ-loop
-add-b c = search needs
-
-mul-b : tie.Need-mul-b Inv-loop μ-loop
-mul-b c = search needs
-
-shared-slice-read-b : tie.Need-shared-slice-read-b Inv-loop μ-loop
-shared-slice-read-b c = search needs
-
-add-wide : tie.Need-add-wide Inv-loop μ-loop
-add-wide c = search needs
-
-mul-wide : tie.Need-mul-wide Inv-loop μ-loop
-mul-wide c = search needs
-
-shared-slice-read-wide : tie.Need-shared-slice-read-wide Inv-loop μ-loop
-shared-slice-read-wide c = search needs
-
-wide-requires : tie.Need-wide-requires Inv-loop μ-loop
-wide-requires c κs = search needs
-
-add-from : tie.Need-add-from Inv-loop μ-loop
-add-from c = search needs
-
-sub-if1 : tie.Need-sub-if1 Inv-loop μ-loop
-sub-if1 c = search needs
-
-same-length : tie.Need-same-length Inv-loop μ-loop
-same-length c = search needs
-
-same-length-2 : tie.Need-same-length-2 Inv-loop μ-loop
-same-length-2 c = search needs
-
-same-length-3 : tie.Need-same-length-3 Inv-loop μ-loop
-same-length-3 c = search needs
-
-same-length-4 : tie.Need-same-length-4 Inv-loop μ-loop
-same-length-4 c = search needs
 
 returns : tie.Need-returns Inv-loop μ-loop
 returns c = tt
 
-add-to : tie.Need-add-to Inv-loop μ-loop
-add-to c = search needs
-
-mul-add-own-edge : tie.Need-mul-add-own-edge Inv-loop μ-loop
-mul-add-own-edge c = search needs
-
-sub-add-own-edge : tie.Need-sub-add-own-edge Inv-loop μ-loop
-sub-add-own-edge c = search needs
-
-part-add-own-edge-start : tie.Need-part-add-own-edge-start Inv-loop μ-loop
-part-add-own-edge-start c = search needs
-
-part-add-own-edge-end : tie.Need-part-add-own-edge-end Inv-loop μ-loop
-part-add-own-edge-end c = search needs
-
-add-own-edge-requires : tie.Need-add-own-edge-requires Inv-loop μ-loop
-add-own-edge-requires c κs = search needs
-
-same-length-5 : tie.Need-same-length-5 Inv-loop μ-loop
-same-length-5 c = search needs
-
-same-length-6 : tie.Need-same-length-6 Inv-loop μ-loop
-same-length-6 c = search needs
-
-same-length-7 : tie.Need-same-length-7 Inv-loop μ-loop
-same-length-7 c = search needs
-
-same-length-8 : tie.Need-same-length-8 Inv-loop μ-loop
-same-length-8 c = search needs
-
 returns-2 : tie.Need-returns-2 Inv-loop μ-loop
 returns-2 c = tt
 
-loop-less : tie.Need-loop-less Inv-loop μ-loop
-loop-less c = search needs
-
 loop-again : tie.Need-loop-again Inv-loop μ-loop
 loop-again c =
-    let v = c .before .before .before .before .before .before .before .before .before .before .before .before .before .before .before .before .before .before .before .before .before .loop .inv in
-    let e = c .before .before .before .before .before .before .before .before .before .add-own-edge in
-    (e .kept .1 .1 .1 .1 .0 ∙ v .0, e .kept .1 .1 .1 .1 .1 .0 ∙ v .1, e .kept .1 .1 .1 .1 .1 .1 .0 ∙ v .2, e .kept .1 .1 .1 .1 .1 .1 .1 .0 ∙ v .3, c .if2 .left, omega (arith, c .before .before .before .before .before .before .before .before .before .before .before .before .before .before .before .if1 .left, c .before .before .before .before .before .before .before .before .before .before .before .before .before .before .before .before .before .before .before .before .loop-test .taken))
-
-same-length-9 : tie.Need-same-length-9 Inv-loop μ-loop
-same-length-9 c = search needs
-
-same-length-10 : tie.Need-same-length-10 Inv-loop μ-loop
-same-length-10 c = search needs
-
-same-length-11 : tie.Need-same-length-11 Inv-loop μ-loop
-same-length-11 c = search needs
-
-same-length-12 : tie.Need-same-length-12 Inv-loop μ-loop
-same-length-12 c = search needs
+    let at-else1 = else1 (add-own-edge-at-loop-again c) in
+    let at-loop = loop-of-in-loop (in-loop at-else1) in
+    let v = at-loop .loop .inv in
+    let e = add-own-edge-at-loop-again c .add-own-edge in (
+      e .kept .1 .1 .1 .1 .0 ∙ v .0,
+      e .kept .1 .1 .1 .1 .1 .0 ∙ v .1,
+      e .kept .1 .1 .1 .1 .1 .1 .0 ∙ v .2,
+      e .kept .1 .1 .1 .1 .1 .1 .1 .0 ∙ v .3,
+      c .if2 .left,
+      omega (arith, at-else1 .if1 .left, in-loop at-else1 .loop-test .taken),
+    )
 
 returns-3 : tie.Need-returns-3 Inv-loop μ-loop
 returns-3 c = tt
 
 pub add-own-spec : {M : Type 1} → statement M
-add-own-spec =
-    tie.close
-    (tie.spec
-    Inv-loop
-    μ-loop
-    loop-holds
-    add-loop
-    mul-a
-    shared-slice-read-a
-    add-b
-    mul-b
-    shared-slice-read-b
-    add-wide
-    mul-wide
-    shared-slice-read-wide
-    wide-requires
-    add-from
-    sub-if1
-    same-length
-    same-length-2
-    same-length-3
-    same-length-4
-    returns
-    add-to
-    mul-add-own-edge
-    sub-add-own-edge
-    part-add-own-edge-start
-    part-add-own-edge-end
-    add-own-edge-requires
-    same-length-5
-    same-length-6
-    same-length-7
-    same-length-8
-    returns-2
-    loop-less
-    loop-again
-    same-length-9
-    same-length-10
-    same-length-11
-    same-length-12
-    returns-3)
+add-own-spec = tie.close (tie.spec Inv-loop μ-loop loop-holds (λ c. search needs) (λ c. search needs) (λ c. search needs) (λ c. search needs)
+    (λ c. search needs) (λ c. search needs) (λ c. search needs) (λ c. search needs) (λ c. search needs) (λ c κs. search needs) (λ c. search needs)
+    (λ c. search needs) (λ c. search needs) (λ c. search needs) (λ c. search needs) (λ c. search needs) returns (λ c. search needs) (λ c. search needs)
+    (λ c. search needs) (λ c. search needs) (λ c. search needs) (λ c κs. search needs) (λ c. search needs) (λ c. search needs) (λ c. search needs)
+    (λ c. search needs) returns-2 (λ c. search needs) loop-again (λ c. search needs) (λ c. search needs) (λ c. search needs) (λ c. search needs) returns-3)

@@ -1,4 +1,5 @@
--- `cutting::cut::walk_on` meets its contract. A turn of its loop is a step of the definition, and the invariant ties the lists to the definition's state (`Turns`). The measure: twice the unmarked slots and the heap. Assumes nothing.
+-- `cutting::cut::walk_on` meets its contract. A turn of its loop is a step of the definition, and the invariant ties the lists to the definition's state
+-- (`Turns`). The measure: twice the unmarked slots and the heap. Assumes nothing.
 use mathlib.Core.Path.{refl, _∙_}
 use mathlib.Core.Bool.{true}
 use Prim.Native.Nat.{_+_, _*_, _-_, _<_}

@@ -8,45 +8,30 @@ use Rattle.edge_nodes.proofs.chains.chain_at.Tie as tie
 use Rattle.edge_nodes.proofs.chains.chain_at.Reads as reads
 use Rattle.edge_nodes.proofs.chains.chain_at.Lts as lts
 
-mul-e : tie.Need-mul-e
-mul-e c = search needs
+-- places of the code, each counted once
+abbrev entry-at-cast-e : tie.After-shared-slice-known3 → tie.Start
+entry-at-cast-e c = c .before .before .before
 
-add-e : tie.Need-add-e
-add-e c = search needs
+abbrev entry-of-first-of : tie.After-first-of → tie.Start
+entry-of-first-of c = c .before .before .before .before
 
-mul-e-2 : tie.Need-mul-e-2
-mul-e-2 c = search needs
-
-shared-slice-read-e : tie.Need-shared-slice-read-e
-shared-slice-read-e c = search needs
+abbrev first-of-at-returns : tie.After-edge-chain → tie.After-first-of
+first-of-at-returns c = c .before .before
 
 cast-e : tie.Need-cast-e
-cast-e c = omega (arith, c .shared-slice-known3 .given (5 * c .before .before .before .args .q + c .before .before .before .args .which))
-
-first-of-requires : tie.Need-first-of-requires
-first-of-requires c κs = search needs
-
-second-of-requires : tie.Need-second-of-requires
-second-of-requires c κs = search needs
-
-edge-chain-requires : tie.Need-edge-chain-requires
-edge-chain-requires c κs = search needs
+cast-e c =
+    let at-entry = entry-at-cast-e c in
+    omega (arith, c .shared-slice-known3 .given (5 * at-entry .args .q + at-entry .args .which))
 
 returns : tie.Need-returns
 returns c =
-    let a = c .before .before .before .before .before .before .args in
-    (chain-is (a .h) (pairs (a .edges .now)) (a .met .now) (a .which) (a .q) (c .before .before .first-of .result) (c .before .second-of .result) (c .edge-chain .result) (c .before .before .first-of .ensures) (c .before .second-of .ensures) (c .edge-chain .ensures .0), c .edge-chain .ensures .1)
+    let at-first-of = first-of-at-returns c in
+    let a = entry-of-first-of at-first-of .args in (
+      chain-is (a .h) (pairs (a .edges .now)) (a .met .now) (a .which) (a .q) (at-first-of .first-of .result) (c .before .second-of .result)
+          (c .edge-chain .result) (at-first-of .first-of .ensures) (c .before .second-of .ensures) (c .edge-chain .ensures .0),
+      c .edge-chain .ensures .1,
+    )
 
 pub chain-at-spec : {M : Type 1} → statement M
-chain-at-spec =
-    tie.close
-    (tie.spec
-    mul-e
-    add-e
-    mul-e-2
-    shared-slice-read-e
-    cast-e
-    first-of-requires
-    second-of-requires
-    edge-chain-requires
-    returns)
+chain-at-spec = tie.close (tie.spec (λ c. search needs) (λ c. search needs) (λ c. search needs) (λ c. search needs) cast-e (λ c κs. search needs)
+    (λ c κs. search needs) (λ c κs. search needs) returns)

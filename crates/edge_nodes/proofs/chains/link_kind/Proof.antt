@@ -15,76 +15,90 @@ Inv-loop w₀ from s base met which heads nexts h q₀ w q = Linking h w₀ from
 abbrev μ-loop : tie.MeasureT-loop
 μ-loop w₀ from s base met which heads nexts h q₀ w q = q
 
--- src/chains.rt:92:23
-cast-fill : tie.Need-cast-fill Inv-loop μ-loop
-cast-fill c = search needs
+-- places of the code, each counted once
+abbrev entry : tie.After-fill Inv-loop μ-loop → tie.Start Inv-loop μ-loop
+entry c = c .before .before .before
 
--- src/chains.rt:92:5
-fill-requires : tie.Need-fill-requires Inv-loop μ-loop
-fill-requires c κs = search needs
+abbrev fill-at-loop-holds : tie.After-slice-known2 Inv-loop μ-loop → tie.After-fill Inv-loop μ-loop
+fill-at-loop-holds c = c .before .before
 
--- src/chains.rt:94:5
+abbrev fill-of-loop : tie.At-loop Inv-loop μ-loop → tie.After-fill Inv-loop μ-loop
+fill-of-loop c = c .before .before .before
+
+abbrev loop-at-same-length : tie.After-loop Inv-loop μ-loop → tie.At-loop Inv-loop μ-loop
+loop-at-same-length c = c .before
+
+abbrev loop-of-in-loop : tie.In-loop Inv-loop μ-loop → tie.At-loop Inv-loop μ-loop
+loop-of-in-loop c = c .before
+
+abbrev in-loop-at-link-met-requires : tie.After-link-met-arg Inv-loop μ-loop → tie.In-loop Inv-loop μ-loop
+in-loop-at-link-met-requires c = c .before
+
+abbrev in-loop-of-link-met : tie.After-link-met Inv-loop μ-loop → tie.In-loop Inv-loop μ-loop
+in-loop-of-link-met c = c .before .before
+
+abbrev link-met-at-loop-again : tie.After-slice-known3 Inv-loop μ-loop → tie.After-link-met Inv-loop μ-loop
+link-met-at-loop-again c = c .before .before
+
 loop-holds : tie.Need-loop-holds Inv-loop μ-loop
 loop-holds c =
-    let a = c .before .before .before .before .before .args in
-    let p = c .before .before .before .before .before .pre in
-    let f = c .before .before .fill in
+    let at-entry = entry (fill-at-loop-holds c) in
+    let a = at-entry .args in
+    let p = at-entry .pre in
+    let f = fill-at-loop-holds c .fill in
     filled-start (a .h) (a .w .now) (f .last .0) (a .from) (a .s) (a .base) (a .met) (a .which) (a .heads) (a .nexts) (p .0) (p .1) (p .2) (p .3) (f .ensures)
 
--- src/chains.rt:95:9
-sub-q : tie.Need-sub-q Inv-loop μ-loop
-sub-q c = search needs
-
--- src/chains.rt:96:9
 link-met-requires : tie.Need-link-met-requires Inv-loop μ-loop
 link-met-requires c κs =
-    let a = c .before .before .before .before .before .before .before .before .args in
-    let p = c .before .before .before .before .before .before .before .before .pre in
-    let n = c .before .before .before .before .before .fill .kept .0 in
-    let l = c .before .before .loop in
-    let t = c .before .loop-test .taken in
-    (omega (arith, p .0, p .2, p .3, n, l .inv .1 .long), omega (arith, p .1, p .2, p .3, n, l .inv .1 .long), omega (arith, p .2, p .3, n, l .inv .1 .long), omega (arith, p .3, n, l .inv .1 .long), p .4, p .5, omega (arith, t, l .inv .0), p .6)
+    let at-loop = loop-of-in-loop (in-loop-at-link-met-requires c) in
+    let at-entry = entry (fill-of-loop at-loop) in
+    let w-kept = fill-of-loop at-loop .fill .kept .0 in
+    let a = at-entry .args in
+    let p = at-entry .pre in
+    let n = w-kept in
+    let l = at-loop .loop in
+    let t = c .before .loop-test .taken in (
+      omega (arith, p .0, p .2, p .3, n, l .inv .1 .long),
+      omega (arith, p .1, p .2, p .3, n, l .inv .1 .long),
+      omega (arith, p .2, p .3, n, l .inv .1 .long),
+      omega (arith, p .3, n, l .inv .1 .long),
+      p .4,
+      p .5,
+      omega (arith, t, l .inv .0),
+      p .6,
+    )
 
--- src/chains.rt:94:5
-loop-less : tie.Need-loop-less Inv-loop μ-loop
-loop-less c = search needs
-
--- src/chains.rt:94:5
 loop-again : tie.Need-loop-again Inv-loop μ-loop
 loop-again c =
-    let a = c .before .before .before .before .before .before .before .before .before .before .before .args in
-    let p = c .before .before .before .before .before .before .before .before .before .before .before .pre in
-    let f = c .before .before .before .before .before .before .before .before .fill in
-    let l = c .before .before .before .before .before .loop in
-    let t = c .before .before .before .before .loop-test .taken in
-    let r = c .before .before .link-met in
-    kind-turn (a .h) (f .last .0) (a .from) (a .s) (a .base) (a .met) (a .which) (a .heads) (a .nexts) (p .0) (p .1) (p .2) (omega (arith, p .3, f .kept .0)) (l .q) (l .w) (r .last .0) (p .5) t (l .inv) (r .ensures)
+    let at-in-loop = in-loop-of-link-met (link-met-at-loop-again c) in
+    let at-fill = fill-of-loop (loop-of-in-loop at-in-loop) in
+    let at-entry = entry at-fill in
+    let a = at-entry .args in
+    let p = at-entry .pre in
+    let f = at-fill .fill in
+    let l = loop-of-in-loop at-in-loop .loop in
+    let t = at-in-loop .loop-test .taken in
+    let r = link-met-at-loop-again c .link-met in
+    kind-turn (a .h) (f .last .0) (a .from) (a .s) (a .base) (a .met) (a .which) (a .heads) (a .nexts) (p .0) (p .1) (p .2) (omega (arith, p .3, f .kept .0))
+    (l .q) (l .w) (r .last .0) (p .5) t (l .inv) (r .ensures)
 
--- src/chains.rt:77:1
 same-length : tie.Need-same-length Inv-loop μ-loop
-same-length c = c .before .loop .inv .1 .long ∙ c .before .before .before .before .fill .kept .0
+same-length c =
+    let at-fill = fill-of-loop (loop-at-same-length c) in
+    let w-kept = at-fill .fill .kept .0 in
+    c .before .loop .inv .1 .long ∙ w-kept
 
--- src/chains.rt:77:1
 returns : tie.Need-returns Inv-loop μ-loop
 returns c =
-    let a = c .before .before .before .before .before .before .before .args in
-    let p = c .before .before .before .before .before .before .before .pre in
-    let f = c .before .before .before .before .fill in
+    let at-fill = fill-of-loop (loop-at-same-length c) in
+    let at-entry = entry at-fill in
+    let a = at-entry .args in
+    let p = at-entry .pre in
+    let f = at-fill .fill in
     let l = c .before .loop in
-    filled-end (a .h) (a .w .now) (f .last .0) (a .from) (a .s) (a .base) (a .met) (a .which) (a .heads) (a .nexts) (p .0) (p .1) (p .2) (p .3) (f .ensures) (l .q) (l .w) (l .inv) (omega (arith, c .loop-test .left))
+    filled-end (a .h) (a .w .now) (f .last .0) (a .from) (a .s) (a .base) (a .met) (a .which) (a .heads) (a .nexts) (p .0) (p .1) (p .2) (p .3) (f .ensures)
+    (l .q) (l .w) (l .inv) (omega (arith, c .loop-test .left))
 
 pub link-kind-spec : {M : Type 1} → statement M
-link-kind-spec =
-    tie.close
-    (tie.spec
-    Inv-loop
-    μ-loop
-    cast-fill
-    fill-requires
-    loop-holds
-    sub-q
-    link-met-requires
-    loop-less
-    loop-again
-    same-length
-    returns)
+link-kind-spec = tie.close (tie.spec Inv-loop μ-loop (λ c. search needs) (λ c κs. search needs) loop-holds (λ c. search needs) link-met-requires
+    (λ c. search needs) loop-again same-length returns)

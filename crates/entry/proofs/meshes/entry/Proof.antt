@@ -9,69 +9,73 @@ use borrow.Author.Needs.{needs}
 use Rattle.entry.proofs.meshes.entry.Statement.{statement}
 use Rattle.entry.proofs.meshes.entry.Tie as tie
 
-call-ok-requires : tie.Need-call-ok-requires
-call-ok-requires c κs = search needs
+-- places of the code, each counted once
+abbrev call-ok-of-else1 : tie.Else1 → tie.After-call-ok
+call-ok-of-else1 c = c .before
+
+abbrev else1 : tie.After-mesh-of → tie.Else1
+else1 c = c .before
+
+abbrev mesh-of-of-mesh-of2 : tie.After-mesh-of2 → tie.After-mesh-of
+mesh-of-of-mesh-of2 c = c .before
+
+abbrev mesh-of2-of-lower : tie.After-lower → tie.After-mesh-of2
+mesh-of2-of-lower c = c .before
+
+abbrev lower-at-mul-if3 : tie.Else2 → tie.After-lower
+lower-at-mul-if3 c = c .before
+
+abbrev lower-at-returns-2 : tie.Then2 → tie.After-lower
+lower-at-returns-2 c = c .before
+
+abbrev lower-at-returns-4 : tie.Else3 → tie.After-lower
+lower-at-returns-4 c = c .before .before
+
+abbrev lower-at-returns-3 : tie.Then3 → tie.After-lower
+lower-at-returns-3 c = c .before .before
 
 returns : tie.Need-returns
 returns c = at-call _ _ _ _ _ (sym (c .before .call-ok .ensures) ∙ not-true _ (c .if1 .taken))
 
-mesh-of-requires : tie.Need-mesh-of-requires
-mesh-of-requires c κs = search needs
-
-mesh-of-requires-2 : tie.Need-mesh-of-requires-2
-mesh-of-requires-2 c κs = search needs
-
-lower-requires : tie.Need-lower-requires
-lower-requires c κs = search needs
-
 returns-2 : tie.Need-returns-2
-returns-2 c = at-mesh _ _ _ _ _ _ (sym (c .before .before .before .before .before .call-ok .ensures) ∙ not-false _ (c .before .before .before .before .if1 .left)) (c .before .lower .ensures ∙ ap₂ lower (c .before .before .before .mesh-of .ensures) (c .before .before .mesh-of2 .ensures)) (c .if2 .taken)
-
-add-nodes : tie.Need-add-nodes
-add-nodes c = search needs
-
-add-entries : tie.Need-add-entries
-add-entries c = search needs
-
-add-if3 : tie.Need-add-if3
-add-if3 c = search needs
-
-add-if3-2 : tie.Need-add-if3-2
-add-if3-2 c = search needs
+returns-2 c =
+    let at-mesh-of2 = mesh-of2-of-lower (lower-at-returns-2 c) in
+    let at-else1 = else1 (mesh-of-of-mesh-of2 at-mesh-of2) in
+    at-mesh _ _ _ _ _ _ (sym (call-ok-of-else1 at-else1 .call-ok .ensures) ∙ not-false _ (at-else1 .if1 .left))
+    (c .before .lower .ensures ∙ ap₂ lower (mesh-of-of-mesh-of2 at-mesh-of2 .mesh-of .ensures) (at-mesh-of2 .mesh-of2 .ensures)) (c .if2 .taken)
 
 mul-if3 : tie.Need-mul-if3
 mul-if3 c =
+    let at-mesh-of2 = mesh-of2-of-lower (lower-at-mul-if3 c) in
+    let at-else1 = else1 (mesh-of-of-mesh-of2 at-mesh-of2) in
     let z = lower-zero _ _ (sym (c .before .lower .ensures) ∙ c .if2 .left) in
-    let call = sym (c .before .before .before .before .before .call-ok .ensures) ∙ not-false _ (c .before .before .before .before .if1 .left) in
-    omega (arith, room-most _ _ _ _ _ call (sym (c .before .before .before .mesh-of .ensures) ∙ z .0) (sym (c .before .before .mesh-of2 .ensures) ∙ z .1))
+    let call = sym (call-ok-of-else1 at-else1 .call-ok .ensures) ∙ not-false _ (at-else1 .if1 .left) in
+    omega (arith, room-most _ _ _ _ _ call (sym (mesh-of-of-mesh-of2 at-mesh-of2 .mesh-of .ensures) ∙ z .0) (sym (at-mesh-of2 .mesh-of2 .ensures) ∙ z .1))
 
 add-if3-3 : tie.Need-add-if3-3
 add-if3-3 c =
+    let at-mesh-of2 = mesh-of2-of-lower (lower-at-mul-if3 c) in
+    let at-else1 = else1 (mesh-of-of-mesh-of2 at-mesh-of2) in
     let z = lower-zero _ _ (sym (c .before .lower .ensures) ∙ c .if2 .left) in
-    let call = sym (c .before .before .before .before .before .call-ok .ensures) ∙ not-false _ (c .before .before .before .before .if1 .left) in
-    omega (arith, room-most _ _ _ _ _ call (sym (c .before .before .before .mesh-of .ensures) ∙ z .0) (sym (c .before .before .mesh-of2 .ensures) ∙ z .1))
+    let call = sym (call-ok-of-else1 at-else1 .call-ok .ensures) ∙ not-false _ (at-else1 .if1 .left) in
+    omega (arith, room-most _ _ _ _ _ call (sym (mesh-of-of-mesh-of2 at-mesh-of2 .mesh-of .ensures) ∙ z .0) (sym (at-mesh-of2 .mesh-of2 .ensures) ∙ z .1))
 
 returns-3 : tie.Need-returns-3
-returns-3 c = at-work _ _ _ _ _ _ (sym (c .before .before .before .before .before .before .call-ok .ensures) ∙ not-false _ (c .before .before .before .before .before .if1 .left)) (c .before .before .lower .ensures ∙ ap₂ lower (c .before .before .before .before .mesh-of .ensures) (c .before .before .before .mesh-of2 .ensures)) (c .before .if2 .left) (c .if3 .taken)
+returns-3 c =
+    let at-mesh-of2 = mesh-of2-of-lower (lower-at-returns-3 c) in
+    let at-else1 = else1 (mesh-of-of-mesh-of2 at-mesh-of2) in
+    at-work _ _ _ _ _ _ (sym (call-ok-of-else1 at-else1 .call-ok .ensures) ∙ not-false _ (at-else1 .if1 .left))
+    (lower-at-returns-3 c .lower .ensures ∙ ap₂ lower (mesh-of-of-mesh-of2 at-mesh-of2 .mesh-of .ensures) (at-mesh-of2 .mesh-of2 .ensures))
+    (c .before .if2 .left) (c .if3 .taken)
 
 returns-4 : tie.Need-returns-4
-returns-4 c = at-end _ _ _ _ _ _ (sym (c .before .before .before .before .before .before .call-ok .ensures) ∙ not-false _ (c .before .before .before .before .before .if1 .left)) (c .before .before .lower .ensures ∙ ap₂ lower (c .before .before .before .before .mesh-of .ensures) (c .before .before .before .mesh-of2 .ensures)) (c .before .if2 .left) (c .if3 .left)
+returns-4 c =
+    let at-mesh-of2 = mesh-of2-of-lower (lower-at-returns-4 c) in
+    let at-else1 = else1 (mesh-of-of-mesh-of2 at-mesh-of2) in
+    at-end _ _ _ _ _ _ (sym (call-ok-of-else1 at-else1 .call-ok .ensures) ∙ not-false _ (at-else1 .if1 .left))
+    (lower-at-returns-4 c .lower .ensures ∙ ap₂ lower (mesh-of-of-mesh-of2 at-mesh-of2 .mesh-of .ensures) (at-mesh-of2 .mesh-of2 .ensures))
+    (c .before .if2 .left) (c .if3 .left)
 
 pub entry-spec : {M : Type 1} → statement M
-entry-spec =
-    tie.close
-    (tie.spec
-    call-ok-requires
-    returns
-    mesh-of-requires
-    mesh-of-requires-2
-    lower-requires
-    returns-2
-    add-nodes
-    add-entries
-    add-if3
-    add-if3-2
-    mul-if3
-    add-if3-3
-    returns-3
-    returns-4)
+entry-spec = tie.close (tie.spec (λ c κs. search needs) returns (λ c κs. search needs) (λ c κs. search needs) (λ c κs. search needs) returns-2
+    (λ c. search needs) (λ c. search needs) (λ c. search needs) (λ c. search needs) mul-if3 add-if3-3 returns-3 returns-4)

@@ -24,73 +24,78 @@ Inv-loop nodes ends start₀ i₀ i-end start i = (i ≤ length ends) × (every 
 abbrev μ-loop : tie.MeasureT-loop
 μ-loop nodes ends start₀ i₀ i-end start i = length ends - i
 
+-- places of the code, each counted once
+abbrev entry-of-loop : tie.At-loop Inv-loop μ-loop → tie.Start Inv-loop μ-loop
+entry-of-loop c = c .before .before .before
+
+abbrev loop-at-returns-2 : tie.After-loop Inv-loop μ-loop → tie.At-loop Inv-loop μ-loop
+loop-at-returns-2 c = c .before
+
+abbrev loop-of-in-loop : tie.In-loop Inv-loop μ-loop → tie.At-loop Inv-loop μ-loop
+loop-of-in-loop c = c .before
+
+abbrev in-loop-at-cast-e : tie.After-shared-slice-known3 Inv-loop μ-loop → tie.In-loop Inv-loop μ-loop
+in-loop-at-cast-e c = c .before
+
+abbrev in-loop-at-loop-again : tie.Else1 Inv-loop μ-loop → tie.In-loop Inv-loop μ-loop
+in-loop-at-loop-again c = c .before .before .before
+
+abbrev in-loop-at-returns : tie.Then1 Inv-loop μ-loop → tie.In-loop Inv-loop μ-loop
+in-loop-at-returns c = c .before .before .before
+
 loop-holds : tie.Need-loop-holds Inv-loop μ-loop
 unfolding prior
 loop-holds c = (zero-le, every-none _, refl)
 
-mul-e : tie.Need-mul-e Inv-loop μ-loop
-mul-e c = search needs
-
-shared-slice-read-e : tie.Need-shared-slice-read-e Inv-loop μ-loop
-shared-slice-read-e c = search needs
-
 cast-e : tie.Need-cast-e Inv-loop μ-loop
-cast-e c = omega (arith, c .shared-slice-known3 .given (c .before .before .loop .i))
+cast-e c =
+    let at-loop = loop-of-in-loop (in-loop-at-cast-e c) in
+    omega (arith, c .shared-slice-known3 .given (at-loop .loop .i))
 
 sub-cell-ok : tie.Need-sub-cell-ok Inv-loop μ-loop
 sub-cell-ok c =
-    let a = c .before .before .before .before .before in
-    let l = c .before .before .loop in
-    let b = end-at (a .args .ends .now) (length (a .args .nodes .now)) (a .pre) (l .i) (c .before .loop-test .taken) in
+    let at-loop = loop-of-in-loop (in-loop-at-cast-e c) in
+    let at-entry = entry-of-loop at-loop in
+    let l = at-loop .loop in
+    let b = end-at (at-entry .args .ends .now) (length (at-entry .args .nodes .now)) (at-entry .pre) (l .i) (c .before .loop-test .taken) in
     omega (arith, b .0, b .1)
 
 cell-ok-requires : tie.Need-cell-ok-requires Inv-loop μ-loop
 cell-ok-requires c κs =
-    let a = c .before .before .before .before .before in
-    let l = c .before .before .loop in
-    let b = end-at (a .args .ends .now) (length (a .args .nodes .now)) (a .pre) (l .i) (c .before .loop-test .taken) in
+    let at-loop = loop-of-in-loop (in-loop-at-cast-e c) in
+    let at-entry = entry-of-loop at-loop in
+    let l = at-loop .loop in
+    let b = end-at (at-entry .args .ends .now) (length (at-entry .args .nodes .now)) (at-entry .pre) (l .i) (c .before .loop-test .taken) in
     omega (arith, b .0, b .1)
 
 returns : tie.Need-returns Inv-loop μ-loop
 unfolding cellsOk
 returns c =
-    let a = c .before .before .before .before .before .before .before .args in
-    let l = c .before .before .before .before .loop in
-    every-fails (P (a .nodes .now) (a .ends .now)) (l .i) _ (c .before .before .before .loop-test .taken) (rw (← l .inv .2) (sym (c .before .cell-ok .ensures) ∙ not-true _ (c .if1 .taken)))
-
-add-i : tie.Need-add-i Inv-loop μ-loop
-add-i c = search needs
-
-loop-less : tie.Need-loop-less Inv-loop μ-loop
-loop-less c = search needs
+    let at-loop = loop-of-in-loop (in-loop-at-returns c) in
+    let a = entry-of-loop at-loop .args in
+    let l = at-loop .loop in
+    every-fails (P (a .nodes .now) (a .ends .now)) (l .i) _ (in-loop-at-returns c .loop-test .taken)
+    (rw (← l .inv .2) (sym (c .before .cell-ok .ensures) ∙ not-true _ (c .if1 .taken)))
 
 loop-again : tie.Need-loop-again Inv-loop μ-loop
 loop-again c =
-    let a = c .before .before .before .before .before .before .before .args in
-    let l = c .before .before .before .before .loop in
-    (omega arith, every-more (P (a .nodes .now) (a .ends .now)) (l .i) (l .inv .1) (rw (← l .inv .2) (sym (c .before .cell-ok .ensures) ∙ not-false _ (c .if1 .left))), sym (prior-more (a .ends .now) (l .i)))
+    let at-loop = loop-of-in-loop (in-loop-at-loop-again c) in
+    let a = entry-of-loop at-loop .args in
+    let l = at-loop .loop in (
+      omega arith,
+      every-more (P (a .nodes .now) (a .ends .now)) (l .i) (l .inv .1)
+          (rw (← l .inv .2) (sym (c .before .cell-ok .ensures) ∙ not-false _ (c .if1 .left))),
+      sym (prior-more (a .ends .now) (l .i)),
+    )
 
 returns-2 : tie.Need-returns-2 Inv-loop μ-loop
 unfolding cellsOk
 returns-2 c =
-    let a = c .before .before .before .before .args in
+    let at-entry = entry-of-loop (loop-at-returns-2 c) in
+    let a = at-entry .args in
     let l = c .before .loop in
     every-end (P (a .nodes .now) (a .ends .now)) (l .i) _ (l .inv .1) (l .inv .0) (c .loop-test .left)
 
 pub cells-ok-spec : {M : Type 1} → statement M
-cells-ok-spec =
-    tie.close
-    (tie.spec
-    Inv-loop
-    μ-loop
-    loop-holds
-    mul-e
-    shared-slice-read-e
-    cast-e
-    sub-cell-ok
-    cell-ok-requires
-    returns
-    add-i
-    loop-less
-    loop-again
-    returns-2)
+cells-ok-spec = tie.close (tie.spec Inv-loop μ-loop loop-holds (λ c. search needs) (λ c. search needs) cast-e sub-cell-ok cell-ok-requires returns
+    (λ c. search needs) (λ c. search needs) loop-again returns-2)

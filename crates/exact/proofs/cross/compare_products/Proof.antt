@@ -7,34 +7,19 @@ use Rattle.exact.proofs.TwoWords.{scaled-of}
 use Rattle.exact.proofs.cross.compare_products.Statement.{statement}
 use Rattle.exact.proofs.cross.compare_products.Tie as tie
 
-product-requires : tie.Need-product-requires
-product-requires c κs = search needs
+-- places of the code, each counted once
+abbrev product-of-product2 : tie.After-product2 → tie.After-product
+product-of-product2 c = c .before .before .before
 
-add-compare-scaled : tie.Need-add-compare-scaled
-add-compare-scaled c = search needs
-
-product-requires-2 : tie.Need-product-requires-2
-product-requires-2 c κs = search needs
-
-add-compare-scaled-2 : tie.Need-add-compare-scaled-2
-add-compare-scaled-2 c = search needs
-
-compare-scaled-requires : tie.Need-compare-scaled-requires
-compare-scaled-requires c κs = search needs
+abbrev product2-at-returns : tie.After-compare-scaled → tie.After-product2
+product2-at-returns c = c .before .before .before
 
 returns : tie.Need-returns
 returns c =
+    let at-product = product-of-product2 (product2-at-returns c) in
     c .compare-scaled .ensures
-    ∙ ap₂ (λ (x y : ℕ). ordered x y) (scaled-of _ _ _ _ _ (c .before .before .before .before .before .before .product .ensures))
-    (scaled-of _ _ _ _ _ (c .before .before .before .product2 .ensures))
+    ∙ ap₂ (λ (x y : ℕ). ordered x y) (scaled-of _ _ _ _ _ (at-product .product .ensures))
+    (scaled-of _ _ _ _ _ (product2-at-returns c .product2 .ensures))
 
 pub compare-products-spec : {M : Type 1} → statement M
-compare-products-spec =
-    tie.close
-    (tie.spec
-    product-requires
-    add-compare-scaled
-    product-requires-2
-    add-compare-scaled-2
-    compare-scaled-requires
-    returns)
+compare-products-spec = tie.close (tie.spec (λ c κs. search needs) (λ c. search needs) (λ c κs. search needs) (λ c. search needs) (λ c κs. search needs) returns)

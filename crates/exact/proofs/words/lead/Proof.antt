@@ -5,8 +5,12 @@ use Rattle.exact.proofs.TwoWords.{lead-high, lead-low}
 use Rattle.exact.proofs.words.lead.Statement.{statement}
 use Rattle.exact.proofs.words.lead.Tie as tie
 
+-- places of the code, each counted once
+abbrev entry : tie.After-struct-known3 → tie.Start
+entry c = c .before .before .before
+
 add-result : tie.Need-add-result
-add-result c = omega (arith, leading-le 64 (c .before .before .before .args .w .lo))
+add-result c = omega (arith, leading-le 64 (entry c .args .w .lo))
 
 returns : tie.Need-returns
 returns c = lead-high _ _ (c .before .if1 .taken) (omega arith) (omega arith)

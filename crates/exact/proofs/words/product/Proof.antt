@@ -18,8 +18,7 @@ add-mid : tie.Need-add-mid
 add-mid c = omega (arith, high-low (c .args .a) (c .args .b) (c .pre .0), low-high (c .args .a) (c .args .b) (c .pre .1))
 
 add-mid-2 : tie.Need-add-mid-2
-add-mid-2 c =
-    omega (arith, low-low (c .args .a) (c .args .b), high-low (c .args .a) (c .args .b) (c .pre .0), low-high (c .args .a) (c .args .b) (c .pre .1))
+add-mid-2 c = omega (arith, low-low (c .args .a) (c .args .b), high-low (c .args .a) (c .args .b) (c .pre .0), low-high (c .args .a) (c .args .b) (c .pre .1))
 
 mul-t9 : tie.Need-mul-t9
 mul-t9 c = omega (arith, high-high (c .args .a) (c .args .b) (c .pre .0) (c .pre .1))
@@ -27,14 +26,8 @@ mul-t9 c = omega (arith, high-high (c .args .a) (c .args .b) (c .pre .0) (c .pre
 add-t11 : tie.Need-add-t11
 add-t11 c = record { fits = upper _ _ (high-high (c .args .a) (c .args .b) (c .pre .0) (c .pre .1)) (add-mid-2 c .fits) }
 
-mul-t13 : tie.Need-mul-t13
-mul-t13 c = search needs
-
-add-t15 : tie.Need-add-t15
-add-t15 c = search needs
-
 returns : tie.Need-returns
 returns c = omega (arith, whole (c .args .a) (c .args .b))
 
 pub product-spec : {M : Type 1} → statement M
-product-spec = tie.close (tie.spec mul-low mul-mid mul-mid-2 add-mid add-mid-2 mul-t9 add-t11 mul-t13 add-t15 returns)
+product-spec = tie.close (tie.spec mul-low mul-mid mul-mid-2 add-mid add-mid-2 mul-t9 add-t11 (λ c. search needs) (λ c. search needs) returns)

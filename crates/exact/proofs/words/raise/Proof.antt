@@ -5,39 +5,28 @@ use Rattle.exact.proofs.TwoWords.{shifted, shifted-fits, jumped, unmove
 use Rattle.exact.proofs.words.raise.Statement.{statement}
 use Rattle.exact.proofs.words.raise.Tie as tie
 
-cast-t6 : tie.Need-cast-t6
-cast-t6 c = search needs
+-- places of the code, each counted once
+abbrev entry-at-returns : tie.After-struct-known → tie.Start
+entry-at-returns c = c .before .before
 
-shl-t7 : tie.Need-shl-t7
-shl-t7 c = search needs
+abbrev entry-at-add-t15 : tie.After-struct-known3 → tie.Start
+entry-at-add-t15 c = c .before .before .before .before
 
-shl-t11 : tie.Need-shl-t11
-shl-t11 c = search needs
-
-sub-t12 : tie.Need-sub-t12
-sub-t12 c = search needs
-
-cast-t13 : tie.Need-cast-t13
-cast-t13 c = search needs
-
-shr-t14 : tie.Need-shr-t14
-shr-t14 c = search needs
+abbrev entry-at-returns-3 : tie.After-struct-known4 → tie.Start
+entry-at-returns-3 c = c .before .before .before .before .before
 
 add-t15 : tie.Need-add-t15
-add-t15 c = record { fits = shifted-fits _ _ _ (c .before .before .before .before .pre .1) (omega arith) }
-
-shl-t17 : tie.Need-shl-t17
-shl-t17 c = search needs
+add-t15 c = record { fits = shifted-fits _ _ _ (entry-at-add-t15 c .pre .1) (omega arith) }
 
 returns : tie.Need-returns
-returns c = jumped _ _ _ (c .before .before .pre .1) (c .before .if1 .taken)
+returns c = jumped _ _ _ (entry-at-returns c .pre .1) (c .before .if1 .taken)
 
 returns-2 : tie.Need-returns-2
 returns-2 c = unmoved _ _ (c .if2 .taken)
 
 returns-3 : tie.Need-returns-3
-returns-3 c = shifted _ _ _ (c .before .before .before .before .before .pre .1) (omega arith)
+returns-3 c = shifted _ _ _ (entry-at-returns-3 c .pre .1) (omega arith)
 
 pub raise-spec : {M : Type 1} → statement M
-raise-spec =
-    tie.close (tie.spec cast-t6 shl-t7 shl-t11 sub-t12 cast-t13 shr-t14 add-t15 shl-t17 returns returns-2 returns-3)
+raise-spec = tie.close (tie.spec (λ c. search needs) (λ c. search needs) (λ c. search needs) (λ c. search needs) (λ c. search needs) (λ c. search needs)
+    add-t15 (λ c. search needs) returns returns-2 returns-3)

@@ -9,15 +9,11 @@ use Rattle.geometry.proofs.polygon.after.Tie as tie
 
 returns : tie.Need-returns
 unfolding after
-returns c =
-    let at-if1 = c .before in
-    simp (lt-ltb _ _ (c .if2 .taken), lt-ltb _ _ (at-if1 .if1 .taken))
+returns c = simp (lt-ltb _ _ (c .if2 .taken), lt-ltb _ _ (c .before .if1 .taken))
 
 returns-2 : tie.Need-returns-2
 unfolding after
-returns-2 c =
-    let at-if1 = c .before in
-    simp (le-ltb _ _ (c .if2 .left), lt-ltb _ _ (at-if1 .if1 .taken))
+returns-2 c = simp (le-ltb _ _ (c .if2 .left), lt-ltb _ _ (c .before .if1 .taken))
 
 returns-3 : tie.Need-returns-3
 returns-3 c = after-over _ _ (c .if1 .left)

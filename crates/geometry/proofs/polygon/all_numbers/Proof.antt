@@ -18,6 +18,16 @@ Inv-loop coords corners ok₀ i₀ ok i = (i ≤ length corners) × (ok ≡ all 
 abbrev μ-loop : tie.MeasureT-loop
 μ-loop coords corners ok₀ i₀ ok i = length corners - i
 
+-- places of the code, each counted once
+abbrev entry : tie.At-loop Inv-loop μ-loop → tie.Start Inv-loop μ-loop
+entry c = c .before .before .before
+
+abbrev loop-at-returns : tie.After-loop Inv-loop μ-loop → tie.At-loop Inv-loop μ-loop
+loop-at-returns c = c .before
+
+abbrev loop-at-loop-again : tie.After-struct-known Inv-loop μ-loop → tie.At-loop Inv-loop μ-loop
+loop-at-loop-again c = c .before .before .before
+
 loop-holds : tie.Need-loop-holds Inv-loop μ-loop
 unfolding all gathered
 loop-holds c = (zero-le, refl)
@@ -25,14 +35,16 @@ loop-holds c = (zero-le, refl)
 loop-again : tie.Need-loop-again Inv-loop μ-loop
 unfolding oriented
 loop-again c =
-    let a = c .before .before .before .before .before .before .args in
-    let l = c .before .before .before .loop in
+    let at-entry = entry (loop-at-loop-again c) in
+    let a = at-entry .args in
+    let l = loop-at-loop-again c .loop in
     (omega arith, numbers-turn (l .i) (a .coords .now) (a .corners .now) (l .ok) (c .before .corner-at .result) (l .inv .1) (c .before .corner-at .ensures))
 
 returns : tie.Need-returns Inv-loop μ-loop
 unfolding heights
 returns c =
-    let a = c .before .before .before .before .args in
+    let at-entry = entry (loop-at-returns c) in
+    let a = at-entry .args in
     let l = c .before .loop in
     ended (λ k. all number (each k (heightAt (a .coords .now) (a .corners .now)))) (l .i) (length (a .corners .now)) (l .ok)
     (l .inv .1) (l .inv .0) (c .loop-test .left)

@@ -6,20 +6,15 @@ use Rattle.geometry.proofs.polygon.clamped.Tie as tie
 
 returns : tie.Need-returns
 unfolding clamped
-returns c =
-    simp (c .if1 .taken)
+returns c = simp (c .if1 .taken)
 
 returns-2 : tie.Need-returns-2
 unfolding clamped
-returns-2 c =
-    let at-if1 = c .before in
-    simp (c .if2 .taken, at-if1 .if1 .left)
+returns-2 c = simp (c .if2 .taken, c .before .if1 .left)
 
 returns-3 : tie.Need-returns-3
 unfolding clamped
-returns-3 c =
-    let at-if1 = c .before in
-    simp (c .if2 .left, at-if1 .if1 .left)
+returns-3 c = simp (c .if2 .left, c .before .if1 .left)
 
 pub clamped-spec : {M : Type 1} → statement M
 clamped-spec = tie.close (tie.spec returns returns-2 returns-3)

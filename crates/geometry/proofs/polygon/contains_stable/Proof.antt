@@ -7,6 +7,19 @@ use Rattle.geometry.specs.Inside.{containsStable}
 use Rattle.geometry.proofs.polygon.contains_stable.Statement.{statement}
 use Rattle.geometry.proofs.polygon.contains_stable.Tie as tie
 
+-- places of the code, each counted once
+abbrev else1 : tie.After-nearest → tie.Else1
+else1 c = c .before
+
+abbrev nearest-of-then2 : tie.Then2 → tie.After-nearest
+nearest-of-then2 c = c .before
+
+abbrev nearest-at-returns-3 : tie.After-at-corner → tie.After-nearest
+nearest-at-returns-3 c = c .before .before
+
+abbrev then2 : tie.After-left-of → tie.Then2
+then2 c = c .before .before
+
 returns : tie.Need-returns
 unfolding containsStable
 returns c =
@@ -18,31 +31,27 @@ returns c =
 returns-2 : tie.Need-returns-2
 unfolding containsStable
 returns-2 c =
-    let at-if2 = c .before .before in
-    let at-if1 = at-if2 .before .before in
+    let at-nearest = nearest-of-then2 (then2 c) in
     simp (
       length-oriented,
       c .left-of .ensures,
       ← c .before .after .ensures,
-      at-if2 .if2 .taken,
-      ← at-if2 .before .nearest .ensures,
-      le-ltb _ _ (at-if1 .if1 .left),
+      then2 c .if2 .taken,
+      ← at-nearest .nearest .ensures,
+      le-ltb _ _ (else1 at-nearest .if1 .left),
     )
 
 returns-3 : tie.Need-returns-3
 unfolding containsStable
 returns-3 c =
-    let at-if2 = c .before in
-    let at-if1 = at-if2 .before .before in
+    let at-else1 = else1 (nearest-at-returns-3 c) in
     simp (
       length-oriented,
       c .at-corner .ensures,
-      at-if2 .if2 .left,
-      ← at-if2 .before .nearest .ensures,
-      le-ltb _ _ (at-if1 .if1 .left),
+      c .before .if2 .left,
+      ← nearest-at-returns-3 c .nearest .ensures,
+      le-ltb _ _ (at-else1 .if1 .left),
     )
 
 pub contains-stable-spec : {M : Type 1} → statement M
-contains-stable-spec =
-    tie.close
-    (tie.spec returns (λ c κs. search needs) (λ c κs. search needs) (λ c κs. search needs) returns-2 (λ c κs. search needs) returns-3)
+contains-stable-spec = tie.close (tie.spec returns (λ c κs. search needs) (λ c κs. search needs) (λ c κs. search needs) returns-2 (λ c κs. search needs) returns-3)

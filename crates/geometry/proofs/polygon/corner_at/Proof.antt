@@ -7,8 +7,7 @@ use Rattle.geometry.proofs.polygon.corner_at.Tie as tie
 
 returns : tie.Need-returns
 unfolding cornerAt
-returns c =
-    simp (c .point-at .ensures, ← c .before .corner .ensures)
+returns c = simp (c .point-at .ensures, ← c .before .corner .ensures)
 
 pub corner-at-spec : {M : Type 1} → statement M
 corner-at-spec = tie.close (tie.spec (λ c κs. search needs) (λ c κs. search needs) returns)

@@ -7,8 +7,7 @@ use Rattle.geometry.proofs.polygon.inside.Tie as tie
 
 returns : tie.Need-returns
 unfolding inside
-returns c =
-    simp (c .contains-stable .ensures, c .before .into-ccw2 .ensures .1)
+returns c = simp (c .contains-stable .ensures, c .before .into-ccw2 .ensures .1)
 
 pub inside-spec : {M : Type 1} → statement M
 inside-spec = tie.close (tie.spec (λ c κs. search needs) (λ c κs. search needs) returns)

@@ -7,10 +7,14 @@ use Rattle.geometry.specs.Corners.{oriented, turned, intoCcw2}
 use Rattle.geometry.proofs.polygon.into_ccw2.Statement.{statement}
 use Rattle.geometry.proofs.polygon.into_ccw2.Tie as tie
 
+-- places of the code, each counted once
+abbrev entry : tie.After-signed-area2 → tie.Start
+entry c = c .before .before .before
+
 returns : tie.Need-returns
 unfolding turned intoCcw2
 returns c =
-    let a = c .before .before .before .args in
+    let a = entry c .args in
     both (λ (b : Bool). oriented b (a .corners .now)) (simp (c .signed-area2 .ensures))
 
 pub into-ccw2-spec : {M : Type 1} → statement M

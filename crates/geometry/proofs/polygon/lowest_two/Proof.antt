@@ -17,20 +17,32 @@ Inv-loop coords corners m l₀ i₀ l i = (i ≤ length corners) × (l ≡ lowes
 abbrev μ-loop : tie.MeasureT-loop
 μ-loop coords corners m l₀ i₀ l i = length corners - i
 
+-- places of the code, each counted once
+abbrev entry : tie.At-loop Inv-loop μ-loop → tie.Start Inv-loop μ-loop
+entry c = c .before .before .before
+
+abbrev loop-at-returns : tie.After-loop Inv-loop μ-loop → tie.At-loop Inv-loop μ-loop
+loop-at-returns c = c .before
+
+abbrev loop-at-loop-again : tie.After-with-crossing Inv-loop μ-loop → tie.At-loop Inv-loop μ-loop
+loop-at-loop-again c = c .before .before
+
 loop-holds : tie.Need-loop-holds Inv-loop μ-loop
 unfolding lowest all sortOnto gathered
 loop-holds c = (zero-le, refl)
 
 loop-again : tie.Need-loop-again Inv-loop μ-loop
 loop-again c =
-    let a = c .before .before .before .before .before .args in
-    let l = c .before .before .loop in
+    let at-entry = entry (loop-at-loop-again c) in
+    let a = at-entry .args in
+    let l = loop-at-loop-again c .loop in
     (omega arith, lowest-turn (l .i) (a .coords .now) (a .corners .now) (a .m) (l .l) (c .with-crossing .result) (l .inv .1) (c .with-crossing .ensures))
 
 returns : tie.Need-returns Inv-loop μ-loop
 unfolding crossings
 returns c =
-    let a = c .before .before .before .before .args in
+    let at-entry = entry (loop-at-returns c) in
+    let a = at-entry .args in
     let l = c .before .loop in
     ended (λ k. lowest (gathered k (crossed (a .coords .now) (a .corners .now) (a .m)))) (l .i) (length (a .corners .now)) (l .l)
     (l .inv .1) (l .inv .0) (c .loop-test .left)

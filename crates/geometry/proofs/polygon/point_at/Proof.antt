@@ -7,8 +7,7 @@ use Rattle.geometry.proofs.polygon.point_at.Tie as tie
 
 returns : tie.Need-returns
 unfolding pointAt
-returns c =
-    simp (← c .coordinate2 .ensures, ← c .before .coordinate .ensures)
+returns c = simp (← c .coordinate2 .ensures, ← c .before .coordinate .ensures)
 
 pub point-at-spec : {M : Type 1} → statement M
 point-at-spec = tie.close (tie.spec (λ c. search needs) (λ c κs. search needs) (λ c. search needs) (λ c κs. search needs) returns)

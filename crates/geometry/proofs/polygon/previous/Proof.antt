@@ -8,20 +8,15 @@ use Rattle.geometry.proofs.polygon.previous.Tie as tie
 
 returns : tie.Need-returns
 unfolding previous
-returns c =
-    let at-if1 = c .before in
-    simp (c .if2 .taken, eq-eqb _ _ (at-if1 .if1 .taken))
+returns c = simp (c .if2 .taken, eq-eqb _ _ (c .before .if1 .taken))
 
 returns-2 : tie.Need-returns-2
 unfolding previous
-returns-2 c =
-    let at-if1 = c .before in
-    simp (ne-eqb _ _ (c .if2 .left), eq-eqb _ _ (at-if1 .if1 .taken))
+returns-2 c = simp (ne-eqb _ _ (c .if2 .left), eq-eqb _ _ (c .before .if1 .taken))
 
 returns-3 : tie.Need-returns-3
 unfolding previous
-returns-3 c =
-    simp (ne-eqb _ _ (c .if1 .left))
+returns-3 c = simp (ne-eqb _ _ (c .if1 .left))
 
 pub previous-spec : {M : Type 1} → statement M
 previous-spec = tie.close (tie.spec returns (λ c. search needs) returns-2 (λ c. search needs) returns-3)

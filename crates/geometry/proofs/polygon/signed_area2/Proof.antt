@@ -7,8 +7,7 @@ use Rattle.geometry.proofs.polygon.signed_area2.Tie as tie
 
 returns : tie.Need-returns
 unfolding signedArea2
-returns c =
-    simp (c .doubled .ensures)
+returns c = simp (c .doubled .ensures)
 
 pub signed-area2-spec : {M : Type 1} → statement M
 signed-area2-spec = tie.close (tie.spec (λ c κs. search needs) returns)

@@ -7,8 +7,7 @@ use Rattle.geometry.proofs.segment.along.Tie as tie
 
 returns : tie.Need-returns
 unfolding along
-returns c =
-    refl
+returns c = refl
 
 pub along-spec : {M : Type 1} → statement M
 along-spec = tie.close (tie.spec returns)

@@ -7,8 +7,7 @@ use Rattle.geometry.proofs.segment.between.Tie as tie
 
 returns : tie.Need-returns
 unfolding between
-returns c =
-    refl
+returns c = refl
 
 pub between-spec : {M : Type 1} → statement M
 between-spec = tie.close (tie.spec returns)

@@ -7,16 +7,30 @@ use Rattle.geometry.specs.Colinear.{colinear}
 use Rattle.geometry.proofs.segment.colinear.Statement.{statement}
 use Rattle.geometry.proofs.segment.colinear.Tie as tie
 
+-- places of the code, each counted once
+abbrev parameters-of-orderable : tie.After-orderable → tie.After-parameters
+parameters-of-orderable c = c .before
+
+abbrev orderable-at-returns-2 : tie.Else1 → tie.After-orderable
+orderable-at-returns-2 c = c .before
+
+abbrev orderable-of-then1 : tie.Then1 → tie.After-orderable
+orderable-of-then1 c = c .before
+
+abbrev then1 : tie.After-of-order → tie.Then1
+then1 c = c .before .before
+
 returns : tie.Need-returns
 returns c =
-    let at-if1 = c .before .before in
-    colinear-is _ _ _ _ _ (at-if1 .before .before .parameters .ensures) (sym (at-if1 .before .orderable .ensures) ∙ at-if1 .if1 .taken)
+    let at-orderable = orderable-of-then1 (then1 c) in
+    colinear-is _ _ _ _ _ (parameters-of-orderable at-orderable .parameters .ensures) (sym (at-orderable .orderable .ensures) ∙ then1 c .if1 .taken)
     (c .before .in-order .ensures) (c .of-order .ensures)
 
 returns-2 : tie.Need-returns-2
 unfolding colinear
 returns-2 c =
-    simp (c .if1 .left, ← c .before .orderable .ensures, ← c .before .before .parameters .ensures)
+    let at-parameters = parameters-of-orderable (orderable-at-returns-2 c) in
+    simp (c .if1 .left, ← c .before .orderable .ensures, ← at-parameters .parameters .ensures)
 
 pub colinear-spec : {M : Type 1} → statement M
 colinear-spec = tie.close (tie.spec (λ c κs. search needs) (λ c κs. search needs) (λ c κs. search needs) (λ c κs. search needs) returns returns-2)

@@ -7,16 +7,12 @@ use Rattle.geometry.proofs.segment.exchanged.Tie as tie
 
 returns : tie.Need-returns
 unfolding exchanged
-returns c =
-    simp (c .if1 .taken)
+returns c = simp (c .if1 .taken)
 
 returns-2 : tie.Need-returns-2
 unfolding exchanged
-returns-2 c =
-    simp (c .if1 .left)
+returns-2 c = simp (c .if1 .left)
 
 pub exchanged-spec : {M : Type 1} → statement M
-exchanged-spec =
-    tie.close
-    (tie.spec (λ c. search needs) (λ c. search needs) (λ c. search needs) (λ c. search needs) (λ c. search needs) (λ c. search needs)
+exchanged-spec = tie.close (tie.spec (λ c. search needs) (λ c. search needs) (λ c. search needs) (λ c. search needs) (λ c. search needs) (λ c. search needs)
     (λ c. search needs) (λ c. search needs) (λ c. search needs) returns returns-2)

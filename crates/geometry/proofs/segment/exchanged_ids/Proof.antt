@@ -7,16 +7,12 @@ use Rattle.geometry.proofs.segment.exchanged_ids.Tie as tie
 
 returns : tie.Need-returns
 unfolding exchangedIds
-returns c =
-    simp (c .if1 .taken)
+returns c = simp (c .if1 .taken)
 
 returns-2 : tie.Need-returns-2
 unfolding exchangedIds
-returns-2 c =
-    simp (c .if1 .left)
+returns-2 c = simp (c .if1 .left)
 
 pub exchanged-ids-spec : {M : Type 1} → statement M
-exchanged-ids-spec =
-    tie.close
-    (tie.spec (λ c. search needs) (λ c. search needs) (λ c. search needs) (λ c. search needs) (λ c. search needs) (λ c. search needs)
-    (λ c. search needs) (λ c. search needs) (λ c. search needs) returns returns-2)
+exchanged-ids-spec = tie.close (tie.spec (λ c. search needs) (λ c. search needs) (λ c. search needs) (λ c. search needs) (λ c. search needs)
+    (λ c. search needs) (λ c. search needs) (λ c. search needs) (λ c. search needs) returns returns-2)

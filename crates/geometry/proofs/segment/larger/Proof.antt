@@ -6,13 +6,11 @@ use Rattle.geometry.proofs.segment.larger.Tie as tie
 
 returns : tie.Need-returns
 unfolding larger
-returns c =
-    simp (c .if1 .taken)
+returns c = simp (c .if1 .taken)
 
 returns-2 : tie.Need-returns-2
 unfolding larger
-returns-2 c =
-    simp (c .if1 .left)
+returns-2 c = simp (c .if1 .left)
 
 pub larger-spec : {M : Type 1} → statement M
 larger-spec = tie.close (tie.spec returns returns-2)

@@ -7,8 +7,7 @@ use Rattle.geometry.proofs.segment.leads.Tie as tie
 
 returns : tie.Need-returns
 unfolding leads
-returns c =
-    simp (c .is-second .ensures, ← c .before .is-first .ensures)
+returns c = simp (c .is-second .ensures, ← c .before .is-first .ensures)
 
 pub leads-spec : {M : Type 1} → statement M
 leads-spec = tie.close (tie.spec (λ c κs. search needs) (λ c κs. search needs) returns)

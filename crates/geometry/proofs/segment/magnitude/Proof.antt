@@ -6,13 +6,11 @@ use Rattle.geometry.proofs.segment.magnitude.Tie as tie
 
 returns : tie.Need-returns
 unfolding magnitude
-returns c =
-    simp (c .if1 .taken)
+returns c = simp (c .if1 .taken)
 
 returns-2 : tie.Need-returns-2
 unfolding magnitude
-returns-2 c =
-    simp (c .if1 .left)
+returns-2 c = simp (c .if1 .left)
 
 pub magnitude-spec : {M : Type 1} → statement M
 magnitude-spec = tie.close (tie.spec returns returns-2)

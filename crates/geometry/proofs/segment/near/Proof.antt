@@ -7,8 +7,7 @@ use Rattle.geometry.proofs.segment.near.Tie as tie
 
 returns : tie.Need-returns
 unfolding near
-returns c =
-    simp (c .dot .ensures, ← c .before .between .ensures)
+returns c = simp (c .dot .ensures, ← c .before .between .ensures)
 
 pub near-spec : {M : Type 1} → statement M
 near-spec = tie.close (tie.spec (λ c κs. search needs) (λ c κs. search needs) returns)

@@ -7,8 +7,7 @@ use Rattle.geometry.proofs.segment.tolerance.Tie as tie
 
 returns : tie.Need-returns
 unfolding tolerance
-returns c =
-    simp (c .scale .ensures)
+returns c = simp (c .scale .ensures)
 
 pub tolerance-spec : {M : Type 1} → statement M
 tolerance-spec = tie.close (tie.spec (λ c κs. search needs) returns)

@@ -13,6 +13,13 @@ Inv-loop s₀ i₀ i-end s i = (i ≤ length s₀) × (length s ≡ length s₀)
 abbrev μ-loop : tie.MeasureT-loop
 μ-loop s₀ i₀ i-end s i = length s₀ - i
 
+-- places of the code, each counted once
+abbrev entry-at-returns : tie.After-loop Inv-loop μ-loop → tie.Start Inv-loop μ-loop
+entry-at-returns c = c .before .before
+
+abbrev entry-at-loop-again : tie.In-loop Inv-loop μ-loop → tie.Start Inv-loop μ-loop
+entry-at-loop-again c = c .before .before
+
 loop-holds : tie.Need-loop-holds Inv-loop μ-loop
 loop-holds c = (zero-le, refl, refl)
 
@@ -28,7 +35,7 @@ loop-less c = omega arith
 loop-again : tie.Need-loop-again Inv-loop μ-loop
 loop-again c =
     let l = c .before .loop in
-    (omega arith, simp length-set (l .inv .1), fill-turn 0 (l .i) (c .before .before .args .s .now) (l .s) (c .loop-test .taken) (l .inv .2))
+    (omega arith, simp length-set (l .inv .1), fill-turn 0 (l .i) (entry-at-loop-again c .args .s .now) (l .s) (c .loop-test .taken) (l .inv .2))
 
 same-length : tie.Need-same-length Inv-loop μ-loop
 same-length c = c .before .loop .inv .1
@@ -36,7 +43,7 @@ same-length c = c .before .loop .inv .1
 returns : tie.Need-returns Inv-loop μ-loop
 returns c =
     let l = c .before .loop in
-    fill-end 0 (l .i) (c .before .before .args .s .now) (l .s) (l .inv .0) (c .loop-test .left) (l .inv .2)
+    fill-end 0 (l .i) (entry-at-returns c .args .s .now) (l .s) (l .inv .0) (c .loop-test .left) (l .inv .2)
 
 pub zero-u8-spec : {M : Type 1} → statement M
 zero-u8-spec = tie.close (tie.spec Inv-loop μ-loop loop-holds slice-write-s add-i loop-less loop-again same-length returns)

@@ -17,6 +17,19 @@ Inv-loop xs₀ n k x i₀ xs i = (k ≤ i) × (i ≤ n) × (length xs ≡ length
 abbrev μ-loop : tie.MeasureT-loop
 μ-loop xs₀ n k x i₀ xs i = i
 
+-- places of the code, each counted once
+abbrev else1 : tie.Else2 Inv-loop μ-loop → tie.Else1 Inv-loop μ-loop
+else1 c = c .before
+
+abbrev else2 : tie.At-loop Inv-loop μ-loop → tie.Else2 Inv-loop μ-loop
+else2 c = c .before
+
+abbrev loop-at-returns-3 : tie.After-loop Inv-loop μ-loop → tie.At-loop Inv-loop μ-loop
+loop-at-returns-3 c = c .before
+
+abbrev loop-at-loop-again : tie.After-slice-known Inv-loop μ-loop → tie.At-loop Inv-loop μ-loop
+loop-at-loop-again c = c .before .before
+
 returns : tie.Need-returns Inv-loop μ-loop
 returns c = beyond-refused _ _ _ _ (c .if1 .taken)
 
@@ -26,64 +39,18 @@ returns-2 c = full-refused _ _ _ _ (c .before .if1 .left) (c .if2 .taken)
 loop-holds : tie.Need-loop-holds Inv-loop μ-loop
 loop-holds c = (c .before .if1 .left, omega arith, refl, (_, shift-start nan _ _ (c .if2 .left)))
 
-sub-xs : tie.Need-sub-xs Inv-loop μ-loop
-sub-xs c = search needs
-
-mul-xs : tie.Need-mul-xs Inv-loop μ-loop
-mul-xs c = search needs
-
-slice-read-xs : tie.Need-slice-read-xs Inv-loop μ-loop
-slice-read-xs c = search needs
-
-mul-xs-2 : tie.Need-mul-xs-2 Inv-loop μ-loop
-mul-xs-2 c = search needs
-
-slice-write-xs : tie.Need-slice-write-xs Inv-loop μ-loop
-slice-write-xs c = search needs
-
-sub-i : tie.Need-sub-i Inv-loop μ-loop
-sub-i c = search needs
-
-loop-less : tie.Need-loop-less Inv-loop μ-loop
-loop-less c = search needs
-
 loop-again : tie.Need-loop-again Inv-loop μ-loop
 loop-again c =
-    let v = c .before .before .loop .inv in
-    (omega arith, omega arith, simp length-set (v .2), (_, shift-turn nan _ _ (c .before .before .before .if2 .left) _ _ (v .3 .0) (v .3 .1) (omega arith) (v .1)))
-
-mul-xs-3 : tie.Need-mul-xs-3 Inv-loop μ-loop
-mul-xs-3 c = search needs
-
-slice-write-xs-2 : tie.Need-slice-write-xs-2 Inv-loop μ-loop
-slice-write-xs-2 c = search needs
-
-same-length : tie.Need-same-length Inv-loop μ-loop
-same-length c = search needs
+    let at-else2 = else2 (loop-at-loop-again c) in
+    let v = loop-at-loop-again c .loop .inv in
+    (omega arith, omega arith, simp length-set (v .2), (_, shift-turn nan _ _ (at-else2 .if2 .left) _ _ (v .3 .0) (v .3 .1) (omega arith) (v .1)))
 
 returns-3 : tie.Need-returns-3 Inv-loop μ-loop
 returns-3 c =
+    let at-else2 = else2 (loop-at-returns-3 c) in
     let v = c .before .loop .inv in
-    shift-end nan _ _ (c .before .before .if2 .left) _ _ _ (v .3 .0) _ (v .3 .1) (omega arith) (c .before .before .before .if1 .left)
+    shift-end nan _ _ (at-else2 .if2 .left) _ _ _ (v .3 .0) _ (v .3 .1) (omega arith) (else1 at-else2 .if1 .left)
 
 pub insert-at-f64-spec : {M : Type 1} → statement M
-insert-at-f64-spec =
-    tie.close
-    (tie.spec
-    Inv-loop
-    μ-loop
-    returns
-    returns-2
-    loop-holds
-    sub-xs
-    mul-xs
-    slice-read-xs
-    mul-xs-2
-    slice-write-xs
-    sub-i
-    loop-less
-    loop-again
-    mul-xs-3
-    slice-write-xs-2
-    same-length
-    returns-3)
+insert-at-f64-spec = tie.close (tie.spec Inv-loop μ-loop returns returns-2 loop-holds (λ c. search needs) (λ c. search needs) (λ c. search needs)
+    (λ c. search needs) (λ c. search needs) (λ c. search needs) (λ c. search needs) loop-again (λ c. search needs) (λ c. search needs) (λ c. search needs) returns-3)

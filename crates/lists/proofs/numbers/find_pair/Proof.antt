@@ -20,48 +20,42 @@ Inv-loop xs a b n p₀ p = (p ≤ length xs / 2) × (first (λ j. eqb (getD xs (
 abbrev μ-loop : tie.MeasureT-loop
 μ-loop xs a b n p₀ p = length xs / 2 - p
 
+-- places of the code, each counted once
+abbrev entry : tie.At-loop Inv-loop μ-loop → tie.Start Inv-loop μ-loop
+entry c = c .before
+
+abbrev loop-of-in-loop : tie.In-loop Inv-loop μ-loop → tie.At-loop Inv-loop μ-loop
+loop-of-in-loop c = c .before
+
+abbrev in-loop-at-loop-again : tie.Joined1 Inv-loop μ-loop → tie.In-loop Inv-loop μ-loop
+in-loop-at-loop-again c = c .before .before
+
+abbrev in-loop-of-then1 : tie.Then1 Inv-loop μ-loop → tie.In-loop Inv-loop μ-loop
+in-loop-of-then1 c = c .before .before
+
+abbrev then1 : tie.Then2 Inv-loop μ-loop → tie.Then1 Inv-loop μ-loop
+then1 c = c .before .before
+
 loop-holds : tie.Need-loop-holds Inv-loop μ-loop
 loop-holds c = (zero-le, refl)
 
-mul-if1 : tie.Need-mul-if1 Inv-loop μ-loop
-mul-if1 c = search needs
-
-mul-if1-2 : tie.Need-mul-if1-2 Inv-loop μ-loop
-mul-if1-2 c = search needs
-
-shared-slice-read-if1 : tie.Need-shared-slice-read-if1 Inv-loop μ-loop
-shared-slice-read-if1 c = search needs
-
-mul-if2 : tie.Need-mul-if2 Inv-loop μ-loop
-mul-if2 c = search needs
-
-add-if2 : tie.Need-add-if2 Inv-loop μ-loop
-add-if2 c = search needs
-
-mul-if2-2 : tie.Need-mul-if2-2 Inv-loop μ-loop
-mul-if2-2 c = search needs
-
-shared-slice-read-if2 : tie.Need-shared-slice-read-if2 Inv-loop μ-loop
-shared-slice-read-if2 c = search needs
-
 returns : tie.Need-returns Inv-loop μ-loop
 returns c =
-    let l = c .before .before .before .before .before .loop in
-    search-here _ (l .p) _ (l .inv .1) (c .before .before .before .before .loop-test .taken) (both-true _ _ _ _ (c .before .before .if1 .taken) (c .if2 .taken))
-
-add-p : tie.Need-add-p Inv-loop μ-loop
-add-p c = search needs
-
-loop-less : tie.Need-loop-less Inv-loop μ-loop
-loop-less c = search needs
+    let at-in-loop = in-loop-of-then1 (then1 c) in
+    let l = loop-of-in-loop at-in-loop .loop in
+    search-here _ (l .p) _ (l .inv .1) (at-in-loop .loop-test .taken) (both-true _ _ _ _ (then1 c .if1 .taken) (c .if2 .taken))
 
 loop-again : tie.Need-loop-again Inv-loop μ-loop
 loop-again c =
-    let l = c .before .before .before .loop in
-    let g = c .before .before .before .before .args in
+    let at-loop = loop-of-in-loop (in-loop-at-loop-again c) in
+    let l = at-loop .loop in
+    let g = entry at-loop .args in
     let x = getD (g .xs .now) (2 * l .p) 0 in
-    let y = getD (g .xs .now) (2 * l .p + 1) 0 in
-    (omega arith, first-on _ (l .p) _ (c .before .before .loop-test .taken) (⊎-elim (λ w. right-false x (g .a) y (g .b) (w .2 .left)) (λ w. left-false x (g .a) y (g .b) (w .left)) (c .if1 .came)) ∙ l .inv .1)
+    let y = getD (g .xs .now) (2 * l .p + 1) 0 in (
+      omega arith,
+      first-on _ (l .p) _ (in-loop-at-loop-again c .loop-test .taken)
+          (⊎-elim (λ w. right-false x (g .a) y (g .b) (w .2 .left)) (λ w. left-false x (g .a) y (g .b) (w .left)) (c .if1 .came)) ∙ l .inv .1,
+    )
 
 returns-2 : tie.Need-returns-2 Inv-loop μ-loop
 returns-2 c =
@@ -69,21 +63,5 @@ returns-2 c =
     search-end _ (l .p) _ (l .inv .1) (l .inv .0) (c .loop-test .left)
 
 pub find-pair-spec : {M : Type 1} → statement M
-find-pair-spec =
-    tie.close
-    (tie.spec
-    Inv-loop
-    μ-loop
-    loop-holds
-    mul-if1
-    mul-if1-2
-    shared-slice-read-if1
-    mul-if2
-    add-if2
-    mul-if2-2
-    shared-slice-read-if2
-    returns
-    add-p
-    loop-less
-    loop-again
-    returns-2)
+find-pair-spec = tie.close (tie.spec Inv-loop μ-loop loop-holds (λ c. search needs) (λ c. search needs) (λ c. search needs) (λ c. search needs)
+    (λ c. search needs) (λ c. search needs) (λ c. search needs) returns (λ c. search needs) (λ c. search needs) loop-again returns-2)

@@ -19,30 +19,30 @@ Inv-loop xs x i₀ i = (i ≤ length xs) × (first (λ j. eqb (getD xs j 0) x) i
 abbrev μ-loop : tie.MeasureT-loop
 μ-loop xs x i₀ i = length xs - i
 
+-- places of the code, each counted once
+abbrev loop-of-in-loop : tie.In-loop Inv-loop μ-loop → tie.At-loop Inv-loop μ-loop
+loop-of-in-loop c = c .before
+
+abbrev in-loop-at-loop-again : tie.Else1 Inv-loop μ-loop → tie.In-loop Inv-loop μ-loop
+in-loop-at-loop-again c = c .before .before
+
+abbrev in-loop-at-returns : tie.Then1 Inv-loop μ-loop → tie.In-loop Inv-loop μ-loop
+in-loop-at-returns c = c .before .before
+
 loop-holds : tie.Need-loop-holds Inv-loop μ-loop
 loop-holds c = (zero-le, refl)
 
-mul-if1 : tie.Need-mul-if1 Inv-loop μ-loop
-mul-if1 c = search needs
-
-shared-slice-read-if1 : tie.Need-shared-slice-read-if1 Inv-loop μ-loop
-shared-slice-read-if1 c = search needs
-
 returns : tie.Need-returns Inv-loop μ-loop
 returns c =
-    let l = c .before .before .before .loop in
-    search-here _ (l .i) _ (l .inv .1) (c .before .before .loop-test .taken) (eq-eqb _ _ (c .if1 .taken))
-
-add-i : tie.Need-add-i Inv-loop μ-loop
-add-i c = search needs
-
-loop-less : tie.Need-loop-less Inv-loop μ-loop
-loop-less c = search needs
+    let at-loop = loop-of-in-loop (in-loop-at-returns c) in
+    let l = at-loop .loop in
+    search-here _ (l .i) _ (l .inv .1) (in-loop-at-returns c .loop-test .taken) (eq-eqb _ _ (c .if1 .taken))
 
 loop-again : tie.Need-loop-again Inv-loop μ-loop
 loop-again c =
-    let l = c .before .before .before .loop in
-    (omega arith, first-on _ (l .i) _ (c .before .before .loop-test .taken) (ne-eqb _ _ (c .if1 .left)) ∙ l .inv .1)
+    let at-loop = loop-of-in-loop (in-loop-at-loop-again c) in
+    let l = at-loop .loop in
+    (omega arith, first-on _ (l .i) _ (in-loop-at-loop-again c .loop-test .taken) (ne-eqb _ _ (c .if1 .left)) ∙ l .inv .1)
 
 returns-2 : tie.Need-returns-2 Inv-loop μ-loop
 returns-2 c =
@@ -50,16 +50,4 @@ returns-2 c =
     search-end _ (l .i) _ (l .inv .1) (l .inv .0) (c .loop-test .left)
 
 pub find-u32-spec : {M : Type 1} → statement M
-find-u32-spec =
-    tie.close
-    (tie.spec
-    Inv-loop
-    μ-loop
-    loop-holds
-    mul-if1
-    shared-slice-read-if1
-    returns
-    add-i
-    loop-less
-    loop-again
-    returns-2)
+find-u32-spec = tie.close (tie.spec Inv-loop μ-loop loop-holds (λ c. search needs) (λ c. search needs) returns (λ c. search needs) (λ c. search needs) loop-again returns-2)

@@ -7,11 +7,8 @@ use Rattle.printing.proofs.digits.bits_of.Tie as tie
 float-to-bits-result : tie.Need-float-to-bits-result
 float-to-bits-result c = same-no-nan (c .before .args .x) (c .if1 .taken)
 
-returns : tie.Need-returns
-returns c = search needs
-
 returns-2 : tie.Need-returns-2
 returns-2 c = not-same (c .before .args .x) (c .if1 .left)
 
 pub bits-of-spec : {M : Type 1} → statement M
-bits-of-spec = tie.close (tie.spec float-to-bits-result returns returns-2)
+bits-of-spec = tie.close (tie.spec float-to-bits-result (λ c. search needs) returns-2)

@@ -17,37 +17,33 @@ Inv-loop n a₀ i₀ v₀ a i v = (i ≤ 16) × (length a ≡ 16) × (hexTo i v 
 abbrev μ-loop : tie.MeasureT-loop
 μ-loop n a₀ i₀ v₀ a i v = i
 
+-- places of the code, each counted once
+abbrev entry : tie.At-loop Inv-loop μ-loop → tie.Start Inv-loop μ-loop
+entry c = c .before
+
+abbrev loop-at-returns : tie.After-loop Inv-loop μ-loop → tie.At-loop Inv-loop μ-loop
+loop-at-returns c = c .before
+
+abbrev loop-at-loop-again : tie.After-glyph-of Inv-loop μ-loop → tie.At-loop Inv-loop μ-loop
+loop-at-loop-again c = c .before .before
+
 loop-holds : tie.Need-loop-holds Inv-loop μ-loop
 loop-holds c = (omega arith, refl, hex-start (c .args .n) (replicate 16 0) refl)
 
-sub-i : tie.Need-sub-i Inv-loop μ-loop
-sub-i c = search needs
-
-glyph-of-requires : tie.Need-glyph-of-requires Inv-loop μ-loop
-glyph-of-requires c κs = search needs
-
-array-write-a : tie.Need-array-write-a Inv-loop μ-loop
-array-write-a c = search needs
-
-loop-less : tie.Need-loop-less Inv-loop μ-loop
-loop-less c = search needs
-
 loop-again : tie.Need-loop-again Inv-loop μ-loop
-loop-again c = (omega arith, simp length-set (c .before .before .loop .inv .1), sym (hex-turn (c .before .before .loop .a) (c .before .before .loop .i) (c .before .before .loop .i - 1) (c .before .before .loop .v) (c .glyph-of .result) (omega (arith, c .before .loop-test .taken)) (omega (arith, c .before .loop-test .taken, c .before .before .loop .inv .0, c .before .before .loop .inv .1)) (c .glyph-of .ensures)) ∙ c .before .before .loop .inv .2)
+loop-again c =
+    let at-loop = loop-at-loop-again c in (
+      omega arith,
+      simp length-set (at-loop .loop .inv .1),
+      sym (hex-turn (at-loop .loop .a) (at-loop .loop .i) (at-loop .loop .i - 1) (at-loop .loop .v)
+          (c .glyph-of .result) (omega (arith, c .before .loop-test .taken))
+          (omega (arith, c .before .loop-test .taken, at-loop .loop .inv .0, at-loop .loop .inv .1)) (c .glyph-of .ensures)) ∙ at-loop .loop .inv .2,
+    )
 
 returns : tie.Need-returns Inv-loop μ-loop
-returns c = hex-end (c .before .before .args .n) (c .before .loop .i) (c .before .loop .v) (c .before .loop .a) (omega (arith, c .loop-test .left)) (c .before .loop .inv .2)
+returns c =
+    let at-entry = entry (loop-at-returns c) in
+    hex-end (at-entry .args .n) (c .before .loop .i) (c .before .loop .v) (c .before .loop .a) (omega (arith, c .loop-test .left)) (c .before .loop .inv .2)
 
 pub hex-digits-spec : {M : Type 1} → statement M
-hex-digits-spec =
-    tie.close
-    (tie.spec
-    Inv-loop
-    μ-loop
-    loop-holds
-    sub-i
-    glyph-of-requires
-    array-write-a
-    loop-less
-    loop-again
-    returns)
+hex-digits-spec = tie.close (tie.spec Inv-loop μ-loop loop-holds (λ c. search needs) (λ c κs. search needs) (λ c. search needs) (λ c. search needs) loop-again returns)

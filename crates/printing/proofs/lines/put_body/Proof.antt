@@ -5,20 +5,18 @@ use borrow.Author.Needs.{needs}
 use Rattle.printing.proofs.lines.put_body.Statement.{statement}
 use Rattle.printing.proofs.lines.put_body.Tie as tie
 
-put-nodes-requires : tie.Need-put-nodes-requires
-put-nodes-requires c κs = search needs
+-- places of the code, each counted once
+abbrev put-nodes-of-put-cells : tie.After-put-cells → tie.After-put-nodes
+put-nodes-of-put-cells c = c .before .before .before .before
 
-put-cells-requires : tie.Need-put-cells-requires
-put-cells-requires c κs = search needs
-
-same-length : tie.Need-same-length
-same-length c = search needs
+abbrev put-cells-at-returns : tie.After-slice-known3 → tie.After-put-cells
+put-cells-at-returns c = c .before .before
 
 returns : tie.Need-returns
 unfolding bodyText
 returns c =
-    let at-put-nodes = c .before .before .before .before .before .before in
-    then _ _ _ (at-put-nodes .put-nodes .ensures) (c .before .before .put-cells .ensures)
+    let at-put-nodes = put-nodes-of-put-cells (put-cells-at-returns c) in
+    then _ _ _ (at-put-nodes .put-nodes .ensures) (put-cells-at-returns c .put-cells .ensures)
 
 pub put-body-spec : {M : Type 1} → statement M
-put-body-spec = tie.close (tie.spec put-nodes-requires put-cells-requires same-length returns)
+put-body-spec = tie.close (tie.spec (λ c κs. search needs) (λ c κs. search needs) (λ c. search needs) returns)

@@ -12,95 +12,98 @@ use Rattle.printing.proofs.lines.put_cells.Statement.{statement}
 use Rattle.printing.proofs.lines.put_cells.Tie as tie
 
 abbrev Inv-loop : tie.InvT-loop
-Inv-loop out₀ nodes ends kinds families p₀ from₀ k₀ out p from k = (length out ≡ length out₀) × (written (page p out) (cellsText from nodes (drop k ends) (drop k kinds) (drop k families)) ≡ written (page p₀ out₀) (cellsText 0 nodes ends kinds families))
+Inv-loop out₀ nodes ends kinds families p₀ from₀ k₀ out p from k = (length out ≡ length out₀) ×
+    (written (page p out) (cellsText from nodes (drop k ends) (drop k kinds) (drop k families)) ≡ written (page p₀ out₀) (cellsText 0 nodes ends kinds families))
 
 abbrev μ-loop : tie.MeasureT-loop
 μ-loop out₀ nodes ends kinds families p₀ from₀ k₀ out p from k = length ends - k
+
+-- places of the code, each counted once
+abbrev entry : tie.At-loop Inv-loop μ-loop → tie.Start Inv-loop μ-loop
+entry c = c .before .before .before .before .before .before
+
+abbrev loop-at-returns-3 : tie.After-loop Inv-loop μ-loop → tie.At-loop Inv-loop μ-loop
+loop-at-returns-3 c = c .before
+
+abbrev loop-of-in-loop : tie.In-loop Inv-loop μ-loop → tie.At-loop Inv-loop μ-loop
+loop-of-in-loop c = c .before
+
+abbrev in-loop-of-else1 : tie.Else1 Inv-loop μ-loop → tie.In-loop Inv-loop μ-loop
+in-loop-of-else1 c = c .before
+
+abbrev in-loop-at-same-length : tie.Then1 Inv-loop μ-loop → tie.In-loop Inv-loop μ-loop
+in-loop-at-same-length c = c .before
+
+abbrev else1-of-else2 : tie.Else2 Inv-loop μ-loop → tie.Else1 Inv-loop μ-loop
+else1-of-else2 c = c .before
+
+abbrev else1-at-same-length-2 : tie.Then2 Inv-loop μ-loop → tie.Else1 Inv-loop μ-loop
+else1-at-same-length-2 c = c .before
+
+abbrev else2-at-cast-end : tie.After-shared-slice-known5 Inv-loop μ-loop → tie.Else2 Inv-loop μ-loop
+else2-at-cast-end c = c .before
+
+abbrev else2-of-put-cell : tie.After-put-cell Inv-loop μ-loop → tie.Else2 Inv-loop μ-loop
+else2-of-put-cell c = c .before .before .before .before .before
+
+abbrev put-cell-at-loop-again : tie.After-slice-known2 Inv-loop μ-loop → tie.After-put-cell Inv-loop μ-loop
+put-cell-at-loop-again c = c .before .before
 
 loop-holds : tie.Need-loop-holds Inv-loop μ-loop
 loop-holds c = (refl, refl)
 
 same-length : tie.Need-same-length Inv-loop μ-loop
-same-length c = c .before .before .loop .inv .0
+same-length c =
+    let at-loop = loop-of-in-loop (in-loop-at-same-length c) in
+    at-loop .loop .inv .0
 
 returns : tie.Need-returns Inv-loop μ-loop
 returns c =
-    let at-start = c .before .before .before .before .before .before .before .before in
-    sym (ended _ (cells-no-kind (c .before .before .loop .from) (c .before .before .loop .k) (at-start .args .nodes .now) (at-start .args .ends .now) (at-start .args .kinds .now) (at-start .args .families .now) (c .before .loop-test .taken) (c .if1 .taken))) ∙ c .before .before .loop .inv .1
+    let at-loop = loop-of-in-loop (in-loop-at-same-length c) in
+    let at-entry = entry at-loop in
+    sym (ended _ (cells-no-kind (at-loop .loop .from) (at-loop .loop .k) (at-entry .args .nodes .now) (at-entry .args .ends .now) (at-entry .args .kinds .now)
+    (at-entry .args .families .now) (c .before .loop-test .taken) (c .if1 .taken))) ∙ at-loop .loop .inv .1
 
 same-length-2 : tie.Need-same-length-2 Inv-loop μ-loop
-same-length-2 c = c .before .before .before .loop .inv .0
+same-length-2 c =
+    let at-loop = loop-of-in-loop (in-loop-of-else1 (else1-at-same-length-2 c)) in
+    at-loop .loop .inv .0
 
 returns-2 : tie.Need-returns-2 Inv-loop μ-loop
 returns-2 c =
-    let at-loop = c .before .before .before in
-    let at-start = at-loop .before .before .before .before .before .before in
-    sym (ended _ (cells-no-family (at-loop .loop .from) (at-loop .loop .k) (at-start .args .nodes .now) (at-start .args .ends .now) (at-start .args .kinds .now) (at-start .args .families .now) (c .before .before .loop-test .taken) (c .before .if1 .left) (c .if2 .taken))) ∙ at-loop .loop .inv .1
-
-mul-end : tie.Need-mul-end Inv-loop μ-loop
-mul-end c = search needs
-
-shared-slice-read-end : tie.Need-shared-slice-read-end Inv-loop μ-loop
-shared-slice-read-end c = search needs
+    let at-in-loop = in-loop-of-else1 (else1-at-same-length-2 c) in
+    let at-loop = loop-of-in-loop at-in-loop in
+    let at-entry = entry at-loop in
+    sym (ended _ (cells-no-family (at-loop .loop .from) (at-loop .loop .k) (at-entry .args .nodes .now) (at-entry .args .ends .now)
+    (at-entry .args .kinds .now) (at-entry .args .families .now) (at-in-loop .loop-test .taken) (c .before .if1 .left) (c .if2 .taken))) ∙ at-loop .loop .inv .1
 
 cast-end : tie.Need-cast-end Inv-loop μ-loop
-cast-end c = omega (arith, c .shared-slice-known5 .given (c .before .before .before .before .loop .k))
-
-shared-slice-read-put-cell : tie.Need-shared-slice-read-put-cell Inv-loop μ-loop
-shared-slice-read-put-cell c = search needs
-
-mul-put-cell : tie.Need-mul-put-cell Inv-loop μ-loop
-mul-put-cell c = search needs
-
-shared-slice-read-put-cell-2 : tie.Need-shared-slice-read-put-cell-2 Inv-loop μ-loop
-shared-slice-read-put-cell-2 c = search needs
-
-put-cell-requires : tie.Need-put-cell-requires Inv-loop μ-loop
-put-cell-requires c κs = search needs
-
-add-k : tie.Need-add-k Inv-loop μ-loop
-add-k c = search needs
-
-loop-less : tie.Need-loop-less Inv-loop μ-loop
-loop-less c = search needs
+cast-end c =
+    let at-loop = loop-of-in-loop (in-loop-of-else1 (else1-of-else2 (else2-at-cast-end c))) in
+    omega (arith, c .shared-slice-known5 .given (at-loop .loop .k))
 
 loop-again : tie.Need-loop-again Inv-loop μ-loop
 loop-again c =
-    let at-if2 = c .before .before .before .before .before .before .before in
-    let at-if1 = at-if2 .before in
-    let at-loop-test = at-if1 .before in
-    let at-loop = at-loop-test .before in
-    let at-start = at-loop .before .before .before .before .before .before in
-    (c .before .before .put-cell .kept .0 ∙ at-loop .loop .inv .0, turn _ _ _ (cells-next (at-loop .loop .from) (at-loop .loop .k) (at-start .args .nodes .now) (at-start .args .ends .now) (at-start .args .kinds .now) (at-start .args .families .now) (at-loop-test .loop-test .taken) (at-if1 .if1 .left) (at-if2 .if2 .left)) (c .before .before .put-cell .ensures) ∙ at-loop .loop .inv .1)
+    let at-put-cell = put-cell-at-loop-again c in
+    let at-else1 = else1-of-else2 (else2-of-put-cell at-put-cell) in
+    let at-loop = loop-of-in-loop (in-loop-of-else1 at-else1) in
+    let at-entry = entry at-loop in
+    let out-kept = at-put-cell .put-cell .kept .0 in (
+      out-kept ∙ at-loop .loop .inv .0,
+      turn _ _ _ (cells-next (at-loop .loop .from) (at-loop .loop .k) (at-entry .args .nodes .now) (at-entry .args .ends .now)
+          (at-entry .args .kinds .now) (at-entry .args .families .now) (in-loop-of-else1 at-else1 .loop-test .taken) (at-else1 .if1 .left)
+          (else2-of-put-cell at-put-cell .if2 .left)) (at-put-cell .put-cell .ensures) ∙ at-loop .loop .inv .1,
+    )
 
 same-length-3 : tie.Need-same-length-3 Inv-loop μ-loop
 same-length-3 c = c .before .loop .inv .0
 
 returns-3 : tie.Need-returns-3 Inv-loop μ-loop
 returns-3 c =
-    let at-start = c .before .before .before .before .before .before .before in
-    sym (ended _ (cells-end (c .before .loop .from) (c .before .loop .k) (at-start .args .nodes .now) (at-start .args .ends .now) (at-start .args .kinds .now) (at-start .args .families .now) (c .loop-test .left))) ∙ c .before .loop .inv .1
+    let at-entry = entry (loop-at-returns-3 c) in
+    sym (ended _ (cells-end (c .before .loop .from) (c .before .loop .k) (at-entry .args .nodes .now) (at-entry .args .ends .now) (at-entry .args .kinds .now)
+    (at-entry .args .families .now) (c .loop-test .left))) ∙ c .before .loop .inv .1
 
 pub put-cells-spec : {M : Type 1} → statement M
-put-cells-spec =
-    tie.close
-    (tie.spec
-    Inv-loop
-    μ-loop
-    loop-holds
-    same-length
-    returns
-    same-length-2
-    returns-2
-    mul-end
-    shared-slice-read-end
-    cast-end
-    shared-slice-read-put-cell
-    mul-put-cell
-    shared-slice-read-put-cell-2
-    put-cell-requires
-    add-k
-    loop-less
-    loop-again
-    same-length-3
-    returns-3)
+put-cells-spec = tie.close (tie.spec Inv-loop μ-loop loop-holds same-length returns same-length-2 returns-2 (λ c. search needs) (λ c. search needs) cast-end
+    (λ c. search needs) (λ c. search needs) (λ c. search needs) (λ c κs. search needs) (λ c. search needs) (λ c. search needs) loop-again same-length-3 returns-3)

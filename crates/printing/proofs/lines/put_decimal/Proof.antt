@@ -4,37 +4,21 @@ use borrow.Author.Needs.{needs}
 use Rattle.printing.proofs.lines.put_decimal.Statement.{statement}
 use Rattle.printing.proofs.lines.put_decimal.Tie as tie
 
-decimal-digits-requires : tie.Need-decimal-digits-requires
-decimal-digits-requires c κs = search needs
+-- places of the code, each counted once
+abbrev decimal-digits-of-put-bytes : tie.After-put-bytes → tie.After-decimal-digits
+decimal-digits-of-put-bytes c = c .before .before .before .before .before
 
-sub-put-bytes : tie.Need-sub-put-bytes
-sub-put-bytes c = search needs
-
-part-put-bytes-start : tie.Need-part-put-bytes-start
-part-put-bytes-start c = search needs
-
-part-put-bytes-end : tie.Need-part-put-bytes-end
-part-put-bytes-end c = search needs
-
-put-bytes-requires : tie.Need-put-bytes-requires
-put-bytes-requires c κs = search needs
-
-same-length : tie.Need-same-length
-same-length c = search needs
+abbrev put-bytes-at-returns : tie.After-slice-known2 → tie.After-put-bytes
+put-bytes-at-returns c = c .before .before
 
 returns : tie.Need-returns
 returns c =
-    let at-decimal-digits = c .before .before .before .before .before .before .before in
-    rw (part-all (at-decimal-digits .decimal-digits .result .bytes) (at-decimal-digits .decimal-digits .result .start) (at-decimal-digits .decimal-digits .ensures .2), at-decimal-digits .decimal-digits .ensures .0) at (c .before .before .put-bytes .ensures)
+    let at-decimal-digits = decimal-digits-of-put-bytes (put-bytes-at-returns c) in
+    rw (
+      part-all (at-decimal-digits .decimal-digits .result .bytes) (at-decimal-digits .decimal-digits .result .start)
+          (at-decimal-digits .decimal-digits .ensures .2),
+      at-decimal-digits .decimal-digits .ensures .0,
+    ) at (put-bytes-at-returns c .put-bytes .ensures)
 
 pub put-decimal-spec : {M : Type 1} → statement M
-put-decimal-spec =
-    tie.close
-    (tie.spec
-    decimal-digits-requires
-    sub-put-bytes
-    part-put-bytes-start
-    part-put-bytes-end
-    put-bytes-requires
-    same-length
-    returns)
+put-decimal-spec = tie.close (tie.spec (λ c κs. search needs) (λ c. search needs) (λ c. search needs) (λ c. search needs) (λ c κs. search needs) (λ c. search needs) returns)

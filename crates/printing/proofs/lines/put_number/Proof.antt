@@ -5,29 +5,17 @@ use borrow.Author.Needs.{needs}
 use Rattle.printing.proofs.lines.put_number.Statement.{statement}
 use Rattle.printing.proofs.lines.put_number.Tie as tie
 
-slice-aggregate-put-bytes : tie.Need-slice-aggregate-put-bytes
-slice-aggregate-put-bytes c = search needs
+-- places of the code, each counted once
+abbrev put-bytes-of-put-decimal : tie.After-put-decimal → tie.After-put-bytes
+put-bytes-of-put-decimal c = c .before .before .before .before
 
-put-bytes-requires : tie.Need-put-bytes-requires
-put-bytes-requires c κs = search needs
-
-put-decimal-requires : tie.Need-put-decimal-requires
-put-decimal-requires c κs = search needs
-
-same-length : tie.Need-same-length
-same-length c = search needs
+abbrev put-decimal-at-returns : tie.After-slice-known3 → tie.After-put-decimal
+put-decimal-at-returns c = c .before .before
 
 returns : tie.Need-returns
 returns c =
-    let at-put-bytes = c .before .before .before .before .before .before in
-    then _ _ _ (at-put-bytes .put-bytes .ensures) (c .before .before .put-decimal .ensures)
+    let at-put-bytes = put-bytes-of-put-decimal (put-decimal-at-returns c) in
+    then _ _ _ (at-put-bytes .put-bytes .ensures) (put-decimal-at-returns c .put-decimal .ensures)
 
 pub put-number-spec : {M : Type 1} → statement M
-put-number-spec =
-    tie.close
-    (tie.spec
-    slice-aggregate-put-bytes
-    put-bytes-requires
-    put-decimal-requires
-    same-length
-    returns)
+put-number-spec = tie.close (tie.spec (λ c. search needs) (λ c κs. search needs) (λ c κs. search needs) (λ c. search needs) returns)

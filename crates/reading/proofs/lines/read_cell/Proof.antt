@@ -7,66 +7,81 @@ use borrow.Author.Needs.{needs}
 use Rattle.reading.proofs.lines.read_cell.Statement.{statement}
 use Rattle.reading.proofs.lines.read_cell.Tie as tie
 
-read-head-requires : tie.Need-read-head-requires
-read-head-requires c κs = search needs
+-- places of the code, each counted once
+abbrev entry : tie.After-read-head → tie.Start
+entry c = c .before .before .before
 
-enum-known-h : tie.Need-enum-known-h
-enum-known-h c = search needs
+abbrev read-head-at-returns : tie.After-enum-told → tie.After-read-head
+read-head-at-returns c = c .before .before
 
-enum-told : tie.Need-enum-told
-enum-told c = search needs
+abbrev read-head-of-h : tie.After-h → tie.After-read-head
+read-head-of-h c = c .before .before
+
+abbrev h-of-read-entries : tie.After-read-entries → tie.After-h
+h-of-read-entries c = c .before .before .before
+
+abbrev read-entries-at-returns-2 : tie.After-enum-told2 → tie.After-read-entries
+read-entries-at-returns-2 c = c .before .before .before .before
+
+abbrev read-entries-of-n : tie.After-n → tie.After-read-entries
+read-entries-of-n c = c .before .before .before .before
+
+abbrev n-of-close : tie.After-close → tie.After-n
+n-of-close c = c .before .before
+
+abbrev close-at-returns-3 : tie.After-enum-told3 → tie.After-close
+close-at-returns-3 c = c .before .before
 
 returns : tie.Need-returns
 unfolding cellOf andThen after
-returns c = (simp (c .enum-told .given .1, ← c .before .before .read-head .ensures .0), zero-le, zero-le)
+returns c = (simp (c .enum-told .given .1, ← read-head-at-returns c .read-head .ensures .0), zero-le, zero-le)
 
 read-entries-requires : tie.Need-read-entries-requires
 read-entries-requires c κs =
-    let at-start = c .before .before .before .before .before .before .before in
-    (rw (c .before .before .h .given .1) at (c .before .before .before .before .read-head .ensures .1), at-start .pre .1, at-start .pre .2)
-
-enum-known-n : tie.Need-enum-known-n
-enum-known-n c = search needs
-
-enum-told-2 : tie.Need-enum-told-2
-enum-told-2 c = search needs
-
-same-length : tie.Need-same-length
-same-length c = search needs
+    let at-h = c .before .before in
+    let at-read-head = at-h .before .before in
+    let at-entry = at-read-head .before .before .before in
+    (rw (at-h .h .given .1) at (at-read-head .read-head .ensures .1), at-entry .pre .1, at-entry .pre .2)
 
 returns-2 : tie.Need-returns-2
 unfolding cellOf andThen after
 returns-2 c =
-    let at-h = c .before .before .before .before .before .before .before in
-    let at-read-head = at-h .before .before in
-    let at-start = at-read-head .before .before .before in
-    (simp (length-take-le (at-start .args .from) (at-start .args .nodes .now) (le-trans (at-start .pre .1) (at-start .pre .2)), c .enum-told2 .given .1, ← c .before .before .before .before .read-entries .ensures .0, at-h .h .given .1, ← at-read-head .read-head .ensures .0), zero-le, zero-le)
+    let at-h = h-of-read-entries (read-entries-at-returns-2 c) in
+    let at-entry = entry (read-head-of-h at-h) in (
+      simp (
+        length-take-le (at-entry .args .from) (at-entry .args .nodes .now) (le-trans (at-entry .pre .1) (at-entry .pre .2)),
+        c .enum-told2 .given .1,
+        ← read-entries-at-returns-2 c .read-entries .ensures .0,
+        at-h .h .given .1,
+        ← read-head-of-h at-h .read-head .ensures .0,
+      ),
+      zero-le,
+      zero-le,
+    )
 
 close-requires : tie.Need-close-requires
 close-requires c κs =
     let at-read-entries = c .before .before .before .before .before in
     rw (c .before .n .given .1) at (at-read-entries .read-entries .ensures .1)
 
-enum-known-z : tie.Need-enum-known-z
-enum-known-z c = search needs
-
-enum-told-3 : tie.Need-enum-told-3
-enum-told-3 c = search needs
-
-same-length-2 : tie.Need-same-length-2
-same-length-2 c = search needs
-
 returns-3 : tie.Need-returns-3
 unfolding cellOf andThen after
 returns-3 c =
-    let at-read-entries = c .before .before .before .before .before .before .before .before in
-    let at-h = at-read-entries .before .before .before in
-    let at-read-head = at-h .before .before in
-    let at-start = at-read-head .before .before .before in
-    (simp (length-take-le (at-start .args .from) (at-start .args .nodes .now) (le-trans (at-start .pre .1) (at-start .pre .2)), c .enum-told3 .given .1, ← c .before .before .close .ensures .0, c .before .before .before .before .n .given .1, ← at-read-entries .read-entries .ensures .0, at-h .h .given .1, ← at-read-head .read-head .ensures .0), zero-le, zero-le)
-
-same-length-3 : tie.Need-same-length-3
-same-length-3 c = search needs
+    let at-n = n-of-close (close-at-returns-3 c) in
+    let at-h = h-of-read-entries (read-entries-of-n at-n) in
+    let at-entry = entry (read-head-of-h at-h) in (
+      simp (
+        length-take-le (at-entry .args .from) (at-entry .args .nodes .now) (le-trans (at-entry .pre .1) (at-entry .pre .2)),
+        c .enum-told3 .given .1,
+        ← close-at-returns-3 c .close .ensures .0,
+        at-n .n .given .1,
+        ← read-entries-of-n at-n .read-entries .ensures .0,
+        at-h .h .given .1,
+        ← read-head-of-h at-h .read-head .ensures .0,
+      ),
+      zero-le,
+      zero-le,
+    )
 
 returns-4 : tie.Need-returns-4
 unfolding cellOf andThen after
@@ -76,26 +91,20 @@ returns-4 c =
     let at-read-entries = at-n .before .before .before .before in
     let at-h = at-read-entries .before .before .before in
     let at-read-head = at-h .before .before in
-    let at-start = at-read-head .before .before .before in
-    (simp (length-take-le (at-start .args .from) (at-start .args .nodes .now) (le-trans (at-start .pre .1) (at-start .pre .2)), c .before .z .given .1, ← at-close .close .ensures .0, at-n .n .given .1, ← at-read-entries .read-entries .ensures .0, at-h .h .given .1, ← at-read-head .read-head .ensures .0), rw (c .before .z .given .1) at (at-close .close .ensures .1), rw (at-n .n .given .1) at (at-read-entries .read-entries .ensures .2))
+    let at-entry = at-read-head .before .before .before in (
+      simp (
+        length-take-le (at-entry .args .from) (at-entry .args .nodes .now) (le-trans (at-entry .pre .1) (at-entry .pre .2)),
+        c .before .z .given .1,
+        ← at-close .close .ensures .0,
+        at-n .n .given .1,
+        ← at-read-entries .read-entries .ensures .0,
+        at-h .h .given .1,
+        ← at-read-head .read-head .ensures .0,
+      ),
+      rw (c .before .z .given .1) at (at-close .close .ensures .1),
+      rw (at-n .n .given .1) at (at-read-entries .read-entries .ensures .2),
+    )
 
 pub read-cell-spec : {M : Type 1} → statement M
-read-cell-spec =
-    tie.close
-    (tie.spec
-    read-head-requires
-    enum-known-h
-    enum-told
-    returns
-    read-entries-requires
-    enum-known-n
-    enum-told-2
-    same-length
-    returns-2
-    close-requires
-    enum-known-z
-    enum-told-3
-    same-length-2
-    returns-3
-    same-length-3
-    returns-4)
+read-cell-spec = tie.close (tie.spec (λ c κs. search needs) (λ c. search needs) (λ c. search needs) returns read-entries-requires (λ c. search needs)
+    (λ c. search needs) (λ c. search needs) returns-2 close-requires (λ c. search needs) (λ c. search needs) (λ c. search needs) returns-3 (λ c. search needs) returns-4)

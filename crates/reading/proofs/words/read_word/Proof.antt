@@ -16,65 +16,68 @@ Inv-loop s at w i₀ i = (i ≤ length w) × (at + i ≤ length s) × (wordOf (d
 abbrev μ-loop : tie.MeasureT-loop
 μ-loop s at w i₀ i = length w - i
 
+-- places of the code, each counted once
+abbrev entry : tie.At-loop Inv-loop μ-loop → tie.Start Inv-loop μ-loop
+entry c = c .before
+
+abbrev loop-at-returns-3 : tie.After-loop Inv-loop μ-loop → tie.At-loop Inv-loop μ-loop
+loop-at-returns-3 c = c .before
+
+abbrev loop-of-in-loop : tie.In-loop Inv-loop μ-loop → tie.At-loop Inv-loop μ-loop
+loop-of-in-loop c = c .before
+
+abbrev in-loop-of-else1 : tie.Else1 Inv-loop μ-loop → tie.In-loop Inv-loop μ-loop
+in-loop-of-else1 c = c .before
+
+abbrev in-loop-at-returns : tie.Then1 Inv-loop μ-loop → tie.In-loop Inv-loop μ-loop
+in-loop-at-returns c = c .before
+
+abbrev else1-at-loop-again : tie.Else2 Inv-loop μ-loop → tie.Else1 Inv-loop μ-loop
+else1-at-loop-again c = c .before .before .before
+
+abbrev else1-at-returns-2 : tie.Then2 Inv-loop μ-loop → tie.Else1 Inv-loop μ-loop
+else1-at-returns-2 c = c .before .before .before
+
 loop-holds : tie.Need-loop-holds Inv-loop μ-loop
 loop-holds c = (zero-le, rw add-zero (c .pre), rw add-zero refl)
 
-add-if1 : tie.Need-add-if1 Inv-loop μ-loop
-add-if1 c = search needs
-
 returns : tie.Need-returns Inv-loop μ-loop
 returns c =
-    let at-start = c .before .before .before in
-    (sym (word-out (at-start .args .w .now) (at-start .args .s .now) (at-start .args .at) (c .before .before .loop .i) (c .before .loop-test .taken) (c .if1 .taken)) ∙ c .before .before .loop .inv .2, zero-le)
-
-add-if2 : tie.Need-add-if2 Inv-loop μ-loop
-add-if2 c = search needs
-
-shared-slice-read-if2 : tie.Need-shared-slice-read-if2 Inv-loop μ-loop
-shared-slice-read-if2 c = search needs
-
-shared-slice-read-if2-2 : tie.Need-shared-slice-read-if2-2 Inv-loop μ-loop
-shared-slice-read-if2-2 c = search needs
+    let at-loop = loop-of-in-loop (in-loop-at-returns c) in
+    let at-entry = entry at-loop in (
+      sym (word-out (at-entry .args .w .now) (at-entry .args .s .now) (at-entry .args .at) (at-loop .loop .i) (c .before .loop-test .taken) (c .if1 .taken)) ∙
+          at-loop .loop .inv .2,
+      zero-le,
+    )
 
 returns-2 : tie.Need-returns-2 Inv-loop μ-loop
 returns-2 c =
-    let at-loop = c .before .before .before .before .before in
-    let at-start = at-loop .before in
-    (sym (word-other (at-start .args .w .now) (at-start .args .s .now) (at-start .args .at) (at-loop .loop .i) (c .before .before .before .before .loop-test .taken) (c .before .before .before .if1 .left) (c .if2 .taken)) ∙ at-loop .loop .inv .2, zero-le)
-
-add-i : tie.Need-add-i Inv-loop μ-loop
-add-i c = search needs
-
-loop-less : tie.Need-loop-less Inv-loop μ-loop
-loop-less c = search needs
+    let at-in-loop = in-loop-of-else1 (else1-at-returns-2 c) in
+    let at-loop = loop-of-in-loop at-in-loop in
+    let at-entry = entry at-loop in (
+      sym (word-other (at-entry .args .w .now) (at-entry .args .s .now) (at-entry .args .at) (at-loop .loop .i) (at-in-loop .loop-test .taken)
+          (else1-at-returns-2 c .if1 .left) (c .if2 .taken)) ∙ at-loop .loop .inv .2,
+      zero-le,
+    )
 
 loop-again : tie.Need-loop-again Inv-loop μ-loop
 loop-again c =
-    let at-loop = c .before .before .before .before .before in
-    let at-start = at-loop .before in
-    (omega arith, omega arith, sym (word-same (at-start .args .w .now) (at-start .args .s .now) (at-start .args .at) (at-loop .loop .i) (c .before .before .before .before .loop-test .taken) (c .before .before .before .if1 .left) (c .if2 .left)) ∙ at-loop .loop .inv .2)
-
-add-t12 : tie.Need-add-t12 Inv-loop μ-loop
-add-t12 c = search needs
+    let at-in-loop = in-loop-of-else1 (else1-at-loop-again c) in
+    let at-loop = loop-of-in-loop at-in-loop in
+    let at-entry = entry at-loop in (
+      omega arith,
+      omega arith,
+      sym (word-same (at-entry .args .w .now) (at-entry .args .s .now) (at-entry .args .at) (at-loop .loop .i)
+          (at-in-loop .loop-test .taken) (else1-at-loop-again c .if1 .left) (c .if2 .left)) ∙ at-loop .loop .inv .2,
+    )
 
 returns-3 : tie.Need-returns-3 Inv-loop μ-loop
-returns-3 c = (sym (word-end (c .before .before .args .w .now) (c .before .before .args .s .now) (c .before .before .args .at) (c .before .loop .i) (c .loop-test .left)) ∙ c .before .loop .inv .2, c .before .loop .inv .1)
+returns-3 c =
+    let at-entry = entry (loop-at-returns-3 c) in (
+      sym (word-end (at-entry .args .w .now) (at-entry .args .s .now) (at-entry .args .at) (c .before .loop .i) (c .loop-test .left)) ∙ c .before .loop .inv .2,
+      c .before .loop .inv .1,
+    )
 
 pub read-word-spec : {M : Type 1} → statement M
-read-word-spec =
-    tie.close
-    (tie.spec
-    Inv-loop
-    μ-loop
-    loop-holds
-    add-if1
-    returns
-    add-if2
-    shared-slice-read-if2
-    shared-slice-read-if2-2
-    returns-2
-    add-i
-    loop-less
-    loop-again
-    add-t12
-    returns-3)
+read-word-spec = tie.close (tie.spec Inv-loop μ-loop loop-holds (λ c. search needs) returns (λ c. search needs) (λ c. search needs) (λ c. search needs)
+    returns-2 (λ c. search needs) (λ c. search needs) loop-again (λ c. search needs) returns-3)
