@@ -11,7 +11,7 @@ use lib.Ieee.{Float}
 use lib.IntN.{ℤ, negℤ, _+ℤ_, _-ℤ_, _*ℤ_, *ℤ-comm, negℤ-+ℤ, negℤ-negℤ, +ℤ-comm}
 use borrow.Author.Tests.{ltb-false, lt-ltb, le-ltb}
 use Rattle.exact.specs.Exact.{coord}
-use Rattle.geometry.specs.Plane.{pointAt}
+use Rattle.plane.specs.Plane.{pointAt}
 use Rattle.lists.specs.Gather.{all}
 use Rattle.lists.specs.Regions.{front}
 use Rattle.cutting.specs.Edges.{Edge, ring, rings, times}

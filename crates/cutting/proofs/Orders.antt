@@ -8,8 +8,8 @@ use lib.Ieee.{Float, sub, binary64}
 use borrow.Author.Tests.{eq-eqb, ne-eqb}
 use Rattle.exact.specs.Angle.{angles}
 use Rattle.exact.specs.declared.Order.{Order}
-use Rattle.geometry.specs.Plane.{between, pointAt}
-use Rattle.geometry.specs.declared.segment.Point.{Point}
+use Rattle.plane.specs.Plane.{between, pointAt}
+use Rattle.plane.specs.declared.Point.{Point}
 use Rattle.cutting.specs.Edges.{Edge, key, sameKey}
 use Rattle.cutting.specs.Cell.{isLess, stands}
 

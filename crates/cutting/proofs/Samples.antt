@@ -9,7 +9,7 @@ use Rattle.lists.specs.Gather.{all, passing, joined, tally}
 use Rattle.lists.specs.Sort.{insert, sortOnto}
 use Rattle.exact.specs.Angle.{angles}
 use Rattle.exact.specs.Exact.{coord, mag, sign, ordered}
-use Rattle.geometry.specs.Plane.{between, pointAt}
+use Rattle.plane.specs.Plane.{between, pointAt}
 use Rattle.cutting.specs.Edges.{Edge, hops, ring, rings, times}
 use Rattle.cutting.specs.Setting.{Setting, base, ours}
 use Rattle.cutting.specs.Cell.{

@@ -7,7 +7,7 @@ use lib.IntN.{ℤ, pos, _+ℤ_, _-ℤ_, _*ℤ_}
 use lib.Ieee.{Float}
 use Rattle.lists.specs.Gather.{tally}
 use Rattle.exact.specs.Exact.{coord}
-use Rattle.geometry.specs.Plane.{pointAt}
+use Rattle.plane.specs.Plane.{pointAt}
 use Rattle.cutting.specs.Edges.{Edge, ring, rings, times}
 
 -- x·y' − y·x' from node a to node b, a whole number of 2^-2148

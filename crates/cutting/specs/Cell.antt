@@ -10,8 +10,8 @@ use Rattle.lists.specs.Sort.{sorted}
 use Rattle.exact.specs.Angle.{angles}
 use Rattle.exact.specs.declared.Order.{Order}
 use Rattle.exact.specs.declared.Order.the-variants.{Less, Equal, Greater}
-use Rattle.geometry.specs.Plane.{between, pointAt}
-use Rattle.geometry.specs.declared.segment.Point.{Point}
+use Rattle.plane.specs.Plane.{between, pointAt}
+use Rattle.plane.specs.declared.Point.{Point}
 use Rattle.cutting.specs.Edges.{Edge, key, sameKey, turn, hops, ring}
 
 -- an edge with its sorted nodes; none where nothing was collected on it

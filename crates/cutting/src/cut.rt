@@ -40,9 +40,9 @@ fn stands(coords: &[f64], a: u32, b: u32, c: u32, d: u32) -> bool
     if a != c {
         return false;
     }
-    let p = geometry::polygon::point_at(coords, a);
-    let q = geometry::polygon::point_at(coords, b);
-    let s = geometry::polygon::point_at(coords, d);
+    let p = plane::point_at(coords, a);
+    let q = plane::point_at(coords, b);
+    let s = plane::point_at(coords, d);
     is_less(exact::compare_around(p.x, p.y, q.x, q.y, s.x, s.y))
 }
 

@@ -7,14 +7,14 @@ use lib.Ieee.{Float}
 use lib.ListN.{length, set}
 use Rattle.exact.specs.declared.Order.{Order}
 use Rattle.exact.specs.declared.Order.the-variants.{Less, Equal, Greater}
-use Rattle.geometry.specs.declared.segment.Point.{Point}
-use Rattle.geometry.specs.declared.segment.Segment.{Segment}
-use Rattle.geometry.specs.declared.segment.PointId.{PointId}
-use Rattle.geometry.specs.declared.segment.PointId.the-variants.{P1, P2, P3, P4}
-use Rattle.geometry.specs.declared.segment.Meeting.{Meeting}
-use Rattle.geometry.specs.declared.segment.Meeting.the-variants.{Apart, Existing, New, Overlap}
-use Rattle.geometry.specs.declared.polygon.Inner.{Inner}
-use Rattle.geometry.specs.declared.polygon.Inner.the-variants.{Nowhere, Inside}
+use Rattle.plane.specs.declared.Point.{Point}
+use Rattle.segments.specs.declared.Segment.{Segment}
+use Rattle.segments.specs.declared.PointId.{PointId}
+use Rattle.segments.specs.declared.PointId.the-variants.{P1, P2, P3, P4}
+use Rattle.segments.specs.declared.Meeting.{Meeting}
+use Rattle.segments.specs.declared.Meeting.the-variants.{Apart, Existing, New, Overlap}
+use Rattle.polygons.specs.declared.Inner.{Inner}
+use Rattle.polygons.specs.declared.Inner.the-variants.{Nowhere, Inside}
 
 -- 0 below, 1 zero, 2 above
 abbrev pub sideNumber : Order → ℕ

@@ -3,18 +3,17 @@ ghost use mathlib.Core.Path.{_≡_};
 ghost use mathlib.Core.Bool.{true, false};
 ghost use Prim.Native.Nat.{_≤_};
 ghost use Rattle.exact.specs.Angle.{orientation, angles};
-ghost use Rattle.geometry.specs.Meet.{meeting};
-ghost use Rattle.geometry.specs.Corners.{oriented, turned};
-ghost use Rattle.geometry.specs.Inside.{containsStable};
-ghost use Rattle.geometry.specs.Interior.{strictInteriorPoint};
+ghost use Rattle.segments.specs.Meet.{meeting};
+ghost use Rattle.polygons.specs.Corners.{oriented, turned};
+ghost use Rattle.polygons.specs.Inside.{containsStable};
+ghost use Rattle.polygons.specs.Interior.{strictInteriorPoint};
 ghost use Rattle.geometry_c.specs.Numbers.{sideNumber, idNumber, meetNumber, newPoint, meetPoint, innerNumber, innerPoint, pointOf, segmentOf};
 use exact::Order;
-use geometry::polygon;
-use geometry::polygon::Inner;
-use geometry::segment::Meeting;
-use geometry::segment::Point;
-use geometry::segment::PointId;
-use geometry::segment::Segment;
+use plane::Point;
+use polygons::Inner;
+use segments::Meeting;
+use segments::PointId;
+use segments::Segment;
 
 // 0 below, 1 zero, 2 above.
 fn side_number(o: Order) -> u8
@@ -156,7 +155,7 @@ pub extern "C" fn geometry_inner(coords: &[f64], corners: &[u32], point: &mut [f
     ensures { λ r. ⌜ r ≡ innerNumber (strictInteriorPoint (now (coords .entry)) (now (corners .entry))) ⌝ }
     ensures { λ _. ⌜ now (point .exit) ≡ innerPoint (strictInteriorPoint (now (coords .entry)) (now (corners .entry))) (now (point .entry)) ⌝ }
 {
-    let i = polygon::strict_interior_point(coords, corners);
+    let i = polygons::strict_interior_point(coords, corners);
     put_inner(i, point);
     inner_number(i)
 }
@@ -166,7 +165,7 @@ pub extern "C" fn geometry_inner(coords: &[f64], corners: &[u32], point: &mut [f
 pub extern "C" fn geometry_turned(coords: &[f64], corners: &[u32]) -> bool
     ensures { λ r. ⌜ r ≡ turned (now (coords .entry)) (now (corners .entry)) ⌝ }
 {
-    polygon::into_ccw2(coords, corners)
+    polygons::into_ccw2(coords, corners)
 }
 
 // The corners, read backwards where `back`, go counter-clockwise.
@@ -180,5 +179,5 @@ pub extern "C" fn geometry_contains_stable(
 ) -> bool
     ensures { λ r. ⌜ r ≡ containsStable (now (coords .entry)) (oriented back (now (corners .entry))) (pointOf x y) ⌝ }
 {
-    polygon::contains_stable(coords, corners, back, Point { x, y })
+    polygons::contains_stable(coords, corners, back, Point { x, y })
 }

@@ -3,12 +3,11 @@
 // three points; `around` a centre and its neighbours. Up to 65,536 bytes and 512 points a line.
 ghost use Prim.Native.Nat.{_<_, _≤_};
 use exact::Order;
-use geometry::polygon;
-use geometry::polygon::Inner;
-use geometry::segment::Meeting;
-use geometry::segment::Point;
-use geometry::segment::PointId;
-use geometry::segment::Segment;
+use plane::Point;
+use polygons::Inner;
+use segments::Meeting;
+use segments::PointId;
+use segments::Segment;
 
 // What of a line has been read: its first word's third letter, whether that word still goes on, the count of characters of the present
 // word, the value of its digits, and how many numbers came before.
@@ -170,7 +169,7 @@ fn print_inner(i: Inner) {
 fn inner(c: &[f64], rising: &[u32]) {
     let n = c.len() / 2;
     if n <= rising.len() {
-        print_inner(polygon::strict_interior_point(c, &rising[0..n]));
+        print_inner(polygons::strict_interior_point(c, &rising[0..n]));
     } else {
         unread();
     }
@@ -183,7 +182,7 @@ fn inside(c: &[f64], rising: &[u32]) {
         return;
     }
     if n <= rising.len() {
-        if polygon::inside(c, &rising[1..n], point(c, 0)) {
+        if polygons::inside(c, &rising[1..n], point(c, 0)) {
             io::write_all(1, b"true");
         } else {
             io::write_all(1, b"false");

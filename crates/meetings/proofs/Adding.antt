@@ -10,10 +10,10 @@ use Rattle.lists.specs.Gather.{joined}
 use Rattle.lists.specs.Regions.{put}
 use Rattle.lists.proofs.Gather.{joined-append}
 use Rattle.lists.proofs.Regions.{put-none, put-append, length-put}
-use Rattle.geometry.specs.Meet.{meeting}
-use Rattle.geometry.specs.declared.segment.PointId.{PointId}
-use Rattle.geometry.specs.declared.segment.Meeting.{Meeting}
-use Rattle.geometry.specs.declared.segment.Meeting.the-variants.{Apart, Existing, New, Overlap}
+use Rattle.segments.specs.Meet.{meeting}
+use Rattle.segments.specs.declared.PointId.{PointId}
+use Rattle.segments.specs.declared.Meeting.{Meeting}
+use Rattle.segments.specs.declared.Meeting.the-variants.{Apart, Existing, New, Overlap}
 use Rattle.cutting.specs.Edges.{Edge}
 use Rattle.rules.specs.Meetings.{Met, nodeOf, segmentOf, recorded, addedBy}
 use Rattle.rules.specs.Refusals.{Event, ofMeeting, firstRefusal}

@@ -13,9 +13,9 @@ use Rattle.lists.specs.Gather.{joined}
 use Rattle.lists.specs.Regions.{run, front, put}
 use Rattle.lists.proofs.Search.{first-from}
 use Rattle.lists.proofs.Regions.{put-before, run-before, length-run, getD-run}
-use Rattle.geometry.specs.Meet.{meeting}
-use Rattle.geometry.specs.declared.segment.Meeting.{Meeting}
-use Rattle.geometry.specs.declared.segment.Meeting.the-variants.{Apart, Existing, New, Overlap}
+use Rattle.segments.specs.Meet.{meeting}
+use Rattle.segments.specs.declared.Meeting.{Meeting}
+use Rattle.segments.specs.declared.Meeting.the-variants.{Apart, Existing, New, Overlap}
 use Rattle.cutting.specs.Edges.{Edge, edgeAt}
 use Rattle.cutting.specs.Lent.{pairs}
 use Rattle.cutting.proofs.Adds.{pairs-length, pairs-at}

@@ -10,9 +10,9 @@ use Rattle.lists.specs.Gather.{joined}
 use Rattle.lists.specs.Regions.{put}
 use Rattle.lists.proofs.Gather.{places-at}
 use Rattle.lists.proofs.Regions.{put-in}
-use Rattle.geometry.specs.Meet.{meeting}
-use Rattle.geometry.specs.declared.segment.Meeting.{Meeting}
-use Rattle.geometry.specs.declared.segment.Meeting.the-variants.{Apart, Existing, New, Overlap}
+use Rattle.segments.specs.Meet.{meeting}
+use Rattle.segments.specs.declared.Meeting.{Meeting}
+use Rattle.segments.specs.declared.Meeting.the-variants.{Apart, Existing, New, Overlap}
 use Rattle.cutting.specs.Edges.{Edge, edgeAt}
 use Rattle.rules.specs.SpatialIndex.{edgeBox, candidates}
 use Rattle.rules.specs.Neighbours.{Net}

@@ -6,7 +6,7 @@ use lib.ListN.{length, getD}
 use lib.Ieee.{Float}
 use Rattle.lists.specs.Gather.{joined}
 use Rattle.lists.specs.Regions.{put}
-use Rattle.geometry.specs.Meet.{meeting}
+use Rattle.segments.specs.Meet.{meeting}
 use Rattle.cutting.specs.Edges.{Edge, edgeAt}
 use Rattle.rules.specs.SpatialIndex.{edgeBox, candidates}
 use Rattle.rules.specs.Meetings.{Met, segmentOf, recorded, addedBy}

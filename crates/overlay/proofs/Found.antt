@@ -12,9 +12,9 @@ use Rattle.lists.specs.Gather.{joined}
 use Rattle.lists.specs.Regions.{run, front}
 use Rattle.lists.proofs.Gather.{joined-append}
 use Rattle.lists.proofs.Regions.{take-front-of}
-use Rattle.geometry.specs.declared.segment.Meeting.{Meeting}
-use Rattle.geometry.specs.declared.segment.Meeting.the-variants.{Apart, Existing, New, Overlap}
-use Rattle.geometry.specs.Meet as Meet
+use Rattle.segments.specs.declared.Meeting.{Meeting}
+use Rattle.segments.specs.declared.Meeting.the-variants.{Apart, Existing, New, Overlap}
+use Rattle.segments.specs.Meet as Meet
 use Rattle.cutting.specs.Edges.{Edge, edgeAt}
 use Rattle.cutting.specs.Lent.{pairs}
 use Rattle.entry.specs.Mesh.{Mesh, nodeCount}

@@ -8,9 +8,9 @@ use lib.Ieee.{Float}
 use lib.ListN.{length, getD, take, drop}
 use Rattle.lists.specs.Search.{first, has}
 use Rattle.lists.proofs.Search.{and-true, first-on, first-here, first-end, has-true, has-false}
-use Rattle.geometry.specs.Inside.{inside}
-use Rattle.geometry.specs.declared.segment.Point.{Point}
-use Rattle.geometry.specs.declared.polygon.Inner.the-variants.{Inside}
+use Rattle.polygons.specs.Inside.{inside}
+use Rattle.plane.specs.declared.Point.{Point}
+use Rattle.polygons.specs.declared.Inner.the-variants.{Inside}
 use Rattle.entry.specs.Mesh.{prior, Rising}
 use Rattle.entry.proofs.Ends.{prior-more}
 use Rattle.rules.specs.Mesh.{Side}

@@ -8,9 +8,10 @@ use lib.Ieee.{binary64, ofBits}
 use Rattle.lists.specs.Search.{bit}
 use Rattle.lists.specs.Gather.{each, joined}
 use Rattle.lists.specs.Sort.{sorted}
-use Rattle.geometry.specs.Meet.{meeting}
-use Rattle.geometry.specs.Interior.{strictInteriorPoint}
-use Rattle.geometry.specs.Code.{code, innerCode}
+use Rattle.segments.specs.Meet.{meeting}
+use Rattle.polygons.specs.Interior.{strictInteriorPoint}
+use Rattle.segments.specs.Code.{code}
+use Rattle.polygons.specs.Code.{innerCode}
 use Rattle.cutting.specs.Edges.{Edge}
 use Rattle.cutting.specs.Cell.{Laid, Slot, standsBefore, cellTable}
 use Rattle.cutting.specs.Setting.{Setting, base}
@@ -25,8 +26,8 @@ use Rattle.rules.specs.Nodes.{alongEdge}
 use Rattle.rules.specs.Overlay.{Lists, Result, result, overlayWith, overlayOf}
 use Rattle.rules.specs.Forward.{forwardEdge, forwardCell}
 use Rattle.rules.proofs.Tables.{Case, case, lent, onLists, floats, both, same, rightBy}
-use Rattle.geometry.specs.declared.segment.Point.{Point}
-use Rattle.geometry.specs.declared.segment.Segment.{Segment}
+use Rattle.plane.specs.declared.Point.{Point}
+use Rattle.segments.specs.declared.Segment.{Segment}
 
 -- ---- what is asked, and last the answer
 

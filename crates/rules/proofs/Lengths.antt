@@ -10,7 +10,7 @@ use lib.ListN.{length, replicate, length-append, length-map, length-replicate}
 use lib.Ieee.{Float}
 use borrow.Author.Tests.{leb-true}
 use Rattle.lists.specs.Gather.{gathered, joined}
-use Rattle.geometry.specs.Meet.{meeting}
+use Rattle.segments.specs.Meet.{meeting}
 use Rattle.cutting.specs.Edges.{edgeAt, Edge}
 use Rattle.cutting.specs.Outcome.{Outcome, refusal, pieces, flat, stops}
 use Rattle.cutting.specs.Setting.{ours}
@@ -29,8 +29,8 @@ use Rattle.entry.proofs.Passed.{passed}
 use Rattle.rules.proofs.Endings.{Ending, input, state-met, success, ending, input-refused, state-refused, succeeds, no-refusal}
 use Rattle.rules.proofs.Accepts.{accepted, Calm, calm-left, calm-right, calm-gathered, calm-course}
 use Rattle.rules.specs.Refusals as Refusals
-use Rattle.geometry.specs.declared.segment.Meeting.{Meeting}
-use Rattle.geometry.specs.declared.segment.Meeting.the-variants.{Apart, Existing, New, Overlap}
+use Rattle.segments.specs.declared.Meeting.{Meeting}
+use Rattle.segments.specs.declared.Meeting.the-variants.{Apart, Existing, New, Overlap}
 
 -- ---- what events take up
 

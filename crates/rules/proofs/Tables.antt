@@ -10,12 +10,12 @@ use Rattle.lists.specs.Sort.{insert, sortOnto}
 use Rattle.lists.specs.Regions as Regions
 use Rattle.exact.specs.Exact.{coord, mag, sign, ordered}
 use Rattle.exact.specs.Angle.{angles, orientation}
-use Rattle.geometry.specs.Plane.{magnitude, larger, scale, between, along, tolerance, pointAt}
-use Rattle.geometry.specs.Colinear.{parameters, inOrder, leads, ofOrder, colinear}
-use Rattle.geometry.specs.Meet.{near, settled, crossing, meeting}
-use Rattle.geometry.specs.Corners as Corners
-use Rattle.geometry.specs.Inside as Polygon
-use Rattle.geometry.specs.Interior.{heights, passed, climb, widest, widestIn, crossed, crossings, lowest, strictInteriorPoint}
+use Rattle.plane.specs.Plane.{magnitude, larger, scale, between, along, tolerance, pointAt}
+use Rattle.segments.specs.Colinear.{parameters, inOrder, leads, ofOrder, colinear}
+use Rattle.segments.specs.Meet.{near, settled, crossing, meeting}
+use Rattle.polygons.specs.Corners as Corners
+use Rattle.polygons.specs.Inside as Polygon
+use Rattle.polygons.specs.Interior.{heights, passed, climb, widest, widestIn, crossed, crossings, lowest, strictInteriorPoint}
 use Rattle.cutting.specs.Edges.{hops, ring, rings, times}
 use Rattle.cutting.specs.Cell.{
   dartsAlong,

@@ -5,13 +5,13 @@ use Prim.Native.Nat.{ℕ, _+_}
 use native.Mathlib.Numerals.{add-one}
 use lib.ListN.{getD}
 use lib.Ieee.{Float}
-use Rattle.geometry.specs.Plane.{_⊕_, pointAt}
+use Rattle.plane.specs.Plane.{_⊕_, pointAt}
 use Rattle.cutting.specs.Edges.{Edge, ring, edgeAt}
 use Rattle.rules.specs.Snap.{nearer, distance2, nearestTo}
 use Rattle.rules.specs.Neighbours.{Net, added, addedAll, descendingTo}
 use Rattle.rules.specs.SpatialIndex.{stretched, boxTo, edgeBox, candidates}
 use Rattle.rules.specs.Meetings.{Met, metPair, metAll, meetingsTo}
-use Rattle.geometry.specs.declared.segment.Point.{Point}
+use Rattle.plane.specs.declared.Point.{Point}
 
 pub nearestTo-more : (k : ℕ) (coords : List Float) (ns : List ℕ) (p : Point)
     → nearestTo (k + 1) coords ns p ≡ nearer (distance2 p (pointAt coords (getD ns k 0))) (getD ns k 0) (nearestTo k coords ns p)

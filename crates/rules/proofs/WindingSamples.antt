@@ -5,7 +5,7 @@ use Prim.Native.Nat.{ℕ, _*_, _^_}
 use lib.IntN.{ℤ, pos, negsuc}
 use lib.Ieee.{Float, binary64, ofBits}
 use Rattle.exact.specs.Exact.{coord, mag, sign}
-use Rattle.geometry.specs.Plane.{pointAt}
+use Rattle.plane.specs.Plane.{pointAt}
 use Rattle.cutting.specs.Edges.{hops, ring}
 use Rattle.rules.specs.Winding.{Spot, rises, winding, windingOf}
 

@@ -5,12 +5,12 @@ use Prim.Native.Nat.{ℕ}
 use lib.ListN.{length, getD}
 use lib.Ieee.{Float}
 use Rattle.lists.specs.Search.{has}
-use Rattle.geometry.specs.Inside.{inside}
-use Rattle.geometry.specs.Interior.{strictInteriorPoint}
+use Rattle.polygons.specs.Inside.{inside}
+use Rattle.polygons.specs.Interior.{strictInteriorPoint}
 use Rattle.rules.specs.SpatialIndex.{boxOf, boxHolds}
-use Rattle.geometry.specs.declared.polygon.Inner.{Inner}
-use Rattle.geometry.specs.declared.polygon.Inner.the-variants.{Nowhere, Inside}
-use Rattle.geometry.specs.declared.segment.Point.{Point}
+use Rattle.polygons.specs.declared.Inner.{Inner}
+use Rattle.polygons.specs.declared.Inner.the-variants.{Nowhere, Inside}
+use Rattle.plane.specs.declared.Point.{Point}
 
 -- "a polygon without an inner point is outside"; otherwise some cell whose box holds the point, turned counter-clockwise, contains it
 unfoldable pub someHolds : List Float → List (List ℕ) → Inner → Bool

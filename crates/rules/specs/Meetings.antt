@@ -5,18 +5,18 @@ use Prim.Native.Nat.{ℕ, zero, suc, _+_, _/_}
 use lib.ListN.{length}
 use lib.Ieee.{Float}
 use Rattle.lists.specs.Gather.{joined}
-use Rattle.geometry.specs.Plane.{pointAt}
-use Rattle.geometry.specs.Meet.{meeting}
+use Rattle.plane.specs.Plane.{pointAt}
+use Rattle.segments.specs.Meet.{meeting}
 use Rattle.cutting.specs.Edges.{Edge, edgeAt}
 use Rattle.entry.specs.Mesh.{Mesh}
 use Rattle.rules.specs.Mesh.{Side, theSubject, theCutter}
 use Rattle.rules.specs.Neighbours.{Net, subjectNet, cutterNet}
 use Rattle.rules.specs.SpatialIndex.{edgeBox, candidates}
-use Rattle.geometry.specs.declared.segment.Segment.{Segment}
-use Rattle.geometry.specs.declared.segment.PointId.{PointId}
-use Rattle.geometry.specs.declared.segment.PointId.the-variants.{P1, P2, P3, P4}
-use Rattle.geometry.specs.declared.segment.Meeting.{Meeting}
-use Rattle.geometry.specs.declared.segment.Meeting.the-variants.{Apart, Existing, New, Overlap}
+use Rattle.segments.specs.declared.Segment.{Segment}
+use Rattle.segments.specs.declared.PointId.{PointId}
+use Rattle.segments.specs.declared.PointId.the-variants.{P1, P2, P3, P4}
+use Rattle.segments.specs.declared.Meeting.{Meeting}
+use Rattle.segments.specs.declared.Meeting.the-variants.{Apart, Existing, New, Overlap}
 
 -- a meeting: its two edges, the one or two nodes there, and the two coordinates of a new point
 pub record Met : Type 0 where

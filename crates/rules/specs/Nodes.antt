@@ -9,7 +9,7 @@ use lib.Ieee.{Float, nan, inf, fin}
 use Rattle.lists.specs.Search.{has}
 use Rattle.lists.specs.Gather.{joined, slim}
 use Rattle.lists.specs.Sort.{sorted}
-use Rattle.geometry.specs.Plane.{between, dot, pointAt}
+use Rattle.plane.specs.Plane.{between, dot, pointAt}
 use Rattle.cutting.specs.Edges.{Edge, edgeAt, key, sameKey}
 use Rattle.rules.specs.Meetings.{Scene}
 

@@ -10,9 +10,9 @@ use lib.Ieee.{Float, binary64}
 use Rattle.lists.specs.Search.{has}
 use Rattle.lists.specs.Gather.{each, places}
 use Rattle.lists.specs.Sort.{sorted}
-use Rattle.geometry.specs.Plane.{_⊗_, between, dot, pointAt}
+use Rattle.plane.specs.Plane.{_⊗_, between, dot, pointAt}
 use Rattle.entry.specs.Mesh.{Mesh, nodeCount}
-use Rattle.geometry.specs.declared.segment.Point.{Point}
+use Rattle.plane.specs.declared.Point.{Point}
 
 -- 1e-12
 abbrev pub weldEps : Float

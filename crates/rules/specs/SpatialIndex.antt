@@ -7,9 +7,9 @@ use lib.ListN.{length, getD}
 use lib.Ieee as Ieee
 use lib.Ieee.{Float, inf}
 use Rattle.lists.specs.Gather.{places}
-use Rattle.geometry.specs.Plane.{larger, pointAt}
+use Rattle.plane.specs.Plane.{larger, pointAt}
 use Rattle.cutting.specs.Edges.{Edge, edgeAt}
-use Rattle.geometry.specs.declared.segment.Point.{Point}
+use Rattle.plane.specs.declared.Point.{Point}
 use Rattle.rules.specs.declared.Bounds.{Bounds}
 
 -- the smaller of the two; x where one is no number

@@ -9,8 +9,8 @@ use lib.Ieee.{Float}
 use Rattle.lists.specs.Search.{bit}
 use Rattle.exact.specs.Exact.{coord, sign}
 use Rattle.exact.specs.Angle.{det}
-use Rattle.geometry.specs.Plane.{pointAt}
-use Rattle.geometry.specs.Inside.{isGreater}
+use Rattle.plane.specs.Plane.{pointAt}
+use Rattle.polygons.specs.Inside.{isGreater}
 use Rattle.cutting.specs.Edges.{Edge, ring}
 
 -- any point with exact coordinates, whether a float has them or not

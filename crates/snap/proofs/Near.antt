@@ -8,8 +8,8 @@ use native.Mathlib.Nat.{le-antisymm}
 use native.Mathlib.Numerals.{add-one}
 use lib.ListN.{length, getD}
 use lib.Ieee.{Float, lt}
-use Rattle.geometry.specs.Plane.{pointAt}
-use Rattle.geometry.specs.declared.segment.Point.{Point}
+use Rattle.plane.specs.Plane.{pointAt}
+use Rattle.plane.specs.declared.Point.{Point}
 use Rattle.rules.specs.Snap as snap
 use Rattle.rules.specs.Snap.{distance2, nearestTo, nearer, closestWithin, orShifted}
 use Rattle.snap.specs.declared.Nearest.{Nearest}

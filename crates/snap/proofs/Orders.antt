@@ -18,8 +18,8 @@ use Rattle.lists.proofs.Gather.{places-more, places-le}
 use Rattle.lists.proofs.Insert.{insertAt-fits}
 use Rattle.lists.proofs.Regions.{take-front-of, front-front, front-behind}
 use Rattle.lists.proofs.Sort.{length-insert, insert-is, length-sorted, sortOnto-snoc}
-use Rattle.geometry.specs.Plane.{pointAt}
-use Rattle.geometry.specs.declared.segment.Point.{Point}
+use Rattle.plane.specs.Plane.{pointAt}
+use Rattle.plane.specs.declared.Point.{Point}
 use Rattle.rules.specs.Snap.{precedes}
 use Rattle.snap.specs.Steps.{marked, before, inOrder, withNode, counted}
 

@@ -15,8 +15,8 @@ use Rattle.lists.specs.Sort.{sorted}
 use Rattle.lists.proofs.Search.{many-has, many-some}
 use Rattle.lists.proofs.Gather.{length-each, getD-each, each-getD, tally-each, places-at}
 use Rattle.lists.proofs.Sort.{sorted-tally}
-use Rattle.geometry.specs.declared.segment.Point.{Point}
-use Rattle.geometry.specs.Plane.{pointAt}
+use Rattle.plane.specs.declared.Point.{Point}
+use Rattle.plane.specs.Plane.{pointAt}
 use Rattle.entry.specs.Mesh.{Mesh, mesh, nodeCount}
 use Rattle.rules.specs.Snap.{Nearest, named, usedNodes, sortedIndicesFor, distance2, nearestTo, closestWithin, orShifted, numberOf, weld}
 use Rattle.snap.specs.Steps.{Below, before}

@@ -14,7 +14,7 @@ use Rattle.lists.specs.Sort.{sorted}
 use Rattle.lists.specs.Regions.{run, front, put, zeros}
 use Rattle.lists.proofs.Gather.{each-ext, length-each, places-ext}
 use Rattle.lists.proofs.Regions.{length-front, front-in, front-front, part-back}
-use Rattle.geometry.specs.Plane.{pointAt}
+use Rattle.plane.specs.Plane.{pointAt}
 use Rattle.entry.specs.Mesh.{mesh}
 use Rattle.rules.specs.Snap.{named, usedNodes, sortedIndicesFor, closestWithin, orShifted, numberOf, weld}
 use Rattle.snap.specs.Steps.{used, marked, before, inOrder, numberBy}

@@ -9,7 +9,7 @@ use Rattle.lists.specs.Search.{bit}
 use Rattle.lists.specs.Gather.{each, places}
 use Rattle.lists.specs.Sort.{insert, sorted}
 use Rattle.lists.specs.Regions.{front}
-use Rattle.geometry.specs.Plane.{pointAt}
+use Rattle.plane.specs.Plane.{pointAt}
 use Rattle.rules.specs.Snap.{named, precedes, orShifted, closestWithin}
 use Rattle.snap.specs.declared.Nearest.{Nearest}
 

@@ -9,10 +9,10 @@ ghost use Rattle.lists.specs.Regions.{run, front, zeros};
 ghost use Rattle.entry.specs.Mesh.{mesh};
 ghost use Rattle.rules.specs.Snap.{precedes, distance2, orShifted, closestWithin, weld};
 ghost use Rattle.snap.specs.Steps.{Below, used, before, inOrder, withNode, counted, closer, numberBy};
-use geometry::polygon::point_at;
-use geometry::segment::Point;
 use lists::insert_at_u32;
 use lists::zero_u32;
+use plane::Point;
+use plane::point_at;
 
 // The nearest node so far, and the squared distance that the next must stay below.
 struct Nearest {

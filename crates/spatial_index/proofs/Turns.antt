@@ -11,8 +11,8 @@ use lib.ListN.{length, getD}
 use lib.Ieee.{Float}
 use Rattle.lists.specs.Search.{first}
 use Rattle.lists.proofs.Search.{first-on, first-here, first-end}
-use Rattle.geometry.specs.Plane.{pointAt}
-use Rattle.geometry.specs.declared.segment.Point.{Point}
+use Rattle.plane.specs.Plane.{pointAt}
+use Rattle.plane.specs.declared.Point.{Point}
 use Rattle.cutting.specs.Edges.{Edge}
 use Rattle.cutting.specs.Lent.{pairs}
 use Rattle.cutting.proofs.Adds.{pairs-length, pairs-at}

@@ -7,9 +7,9 @@ use native.Mathlib.Decide.{decLe}
 use native.Mathlib.Omega.{arith}
 use lib.ListN.{getD}
 use lib.Ieee.{Float, inf, lt, eq, le}
-use Rattle.geometry.specs.Plane.{larger, pointAt}
-use Rattle.geometry.specs.declared.segment.Point.{Point}
-use Rattle.geometry.proofs.FloatOrder.{lt-asym, not-lt-trans, number-left, number-right, eq-sym, eq-number, eq-not-lt, trichotomy, and-left, and-right}
+use Rattle.plane.specs.Plane.{larger, pointAt}
+use Rattle.plane.specs.declared.Point.{Point}
+use Rattle.plane.proofs.FloatOrder.{lt-asym, not-lt-trans, number-left, number-right, eq-sym, eq-number, eq-not-lt, trichotomy, and-left, and-right}
 use Rattle.rules.specs.declared.Bounds.{Bounds}
 use Rattle.rules.specs.SpatialIndex.{smaller, stretched, boxTo, edgeBox, boxesMeet}
 

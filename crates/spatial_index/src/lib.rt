@@ -6,13 +6,13 @@ ghost use Prim.Native.Nat.{_+_, _*_, _/_, _≤_, _<_};
 ghost use lib.ListN.{length};
 ghost use Rattle.lists.specs.Search.{first};
 ghost use Rattle.lists.specs.Regions.{front, put};
-ghost use Rattle.geometry.specs.Plane.{larger};
+ghost use Rattle.plane.specs.Plane.{larger};
 ghost use Rattle.cutting.specs.Edges.{edgeAt};
 ghost use Rattle.cutting.specs.Lent.{pairs};
 ghost use Rattle.rules.specs.SpatialIndex.{smaller, stretched, boxOf, edgeBox, boxesMeet, boxHolds};
 ghost use Rattle.spatial_index.specs.Blocks.{boxAt, blockBoxes, Covered, Apart};
-use geometry::polygon::point_at;
-use geometry::segment::Point;
+use plane::Point;
+use plane::point_at;
 use rules::Bounds;
 
 fn smaller(x: f64, y: f64) -> f64

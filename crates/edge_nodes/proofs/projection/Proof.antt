@@ -1,4 +1,4 @@
-use Rattle.geometry.specs.Plane.{between}
+use Rattle.plane.specs.Plane.{between}
 use borrow.Author.Needs.{needs}
 use Rattle.edge_nodes.proofs.projection.Statement.{statement}
 use Rattle.edge_nodes.proofs.projection.Tie as tie
@@ -6,7 +6,7 @@ use Rattle.edge_nodes.proofs.projection.Reads as reads
 use Rattle.edge_nodes.proofs.projection.Lts as lts
 use Rattle.edge_nodes.proofs.lower.Reads as lower-reads
 use Rattle.edge_nodes.proofs.upper.Reads as upper-reads
-use Rattle.geometry.proofs.polygon.point_at.Reads as point-at-reads
+use Rattle.plane.proofs.point_at.Reads as point-at-reads
 
 -- places of the code, each counted once
 abbrev lower-of-point-at : tie.After-point-at → tie.After-lower

@@ -3,8 +3,8 @@ use Rattle.meetings.proofs.edges_meet.Statement.{statement}
 use Rattle.meetings.proofs.edges_meet.Tie as tie
 use Rattle.meetings.proofs.edges_meet.Reads as reads
 use Rattle.meetings.proofs.edges_meet.Lts as lts
-use Rattle.geometry.proofs.polygon.point_at.Reads as point-at-reads
-use Rattle.geometry.proofs.segment.Segment.intersect.Reads as intersect-reads
+use Rattle.plane.proofs.point_at.Reads as point-at-reads
+use Rattle.segments.proofs.Segment.intersect.Reads as intersect-reads
 
 -- places of the code, each counted once
 abbrev point-at-of-point-at2 : tie.After-point-at2 → tie.After-point-at

@@ -1,6 +1,6 @@
 -- `snap::distance2` meets its contract. Assumes nothing.
 use mathlib.Core.Path.{refl}
-use Rattle.geometry.specs.Plane.{between}
+use Rattle.plane.specs.Plane.{between}
 use Rattle.snap.proofs.distance2.Statement.{statement}
 use Rattle.snap.proofs.distance2.Tie as tie
 

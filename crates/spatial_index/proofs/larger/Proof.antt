@@ -1,5 +1,5 @@
 -- `spatial_index::larger` meets its contract. Assumes nothing.
-use Rattle.geometry.specs.Plane.{larger}
+use Rattle.plane.specs.Plane.{larger}
 use Rattle.spatial_index.proofs.larger.Statement.{statement}
 use Rattle.spatial_index.proofs.larger.Tie as tie
 

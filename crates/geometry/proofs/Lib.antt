@@ -1,7 +1,0 @@
-pub mod FloatOrder
-pub mod Corners
-pub mod Scans
-pub mod Ascent
-pub mod Steps
-pub mod Sorted
-pub mod Cases

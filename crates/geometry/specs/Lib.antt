@@ -1,8 +1,0 @@
-pub mod Plane
-pub mod Colinear
-pub mod Meet
-pub mod Corners
-pub mod Inside
-pub mod Interior
-pub mod Code
-pub mod Scans

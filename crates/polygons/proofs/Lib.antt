@@ -1,0 +1,5 @@
+pub mod Corners
+pub mod Scans
+pub mod Ascent
+pub mod Steps
+pub mod Cases

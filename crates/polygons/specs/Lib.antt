@@ -1,0 +1,5 @@
+pub mod Corners
+pub mod Inside
+pub mod Interior
+pub mod Code
+pub mod Scans

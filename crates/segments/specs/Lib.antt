@@ -1,0 +1,4 @@
+pub mod Colinear
+pub mod Meet
+pub mod Code
+pub mod Scans
