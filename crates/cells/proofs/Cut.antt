@@ -13,10 +13,12 @@ use Rattle.cutting.specs.Edges.{Edge}
 use Rattle.cutting.specs.Cell.{Laid, Slot, newTo, innerWith, cellTable, repeats}
 use Rattle.cutting.specs.Walk.{walk}
 use Rattle.cutting.specs.Outcome.{Outcome, pieces, refusal, ofWalk, flat}
-use Rattle.cutting.specs.Lent.{slotsOf, ends, pairs, answer, cornersIn, endsIn}
-use Rattle.cutting.specs.declared.cut.Walked.{Walked}
-use Rattle.cutting.specs.declared.cut.Walked.the-variants.{Closed, Refused}
-use Rattle.cutting.proofs.Joins.{pairs-ends, cell-length, cut-repeats, cut-over, cut-fits}
+use Rattle.cutting.specs.Lent.{slotsOf, ends, pairs}
+use Rattle.dart_walk.specs.Answer.{answer, cornersIn, endsIn}
+use Rattle.dart_walk.specs.declared.Walked.{Walked}
+use Rattle.dart_walk.specs.declared.Walked.the-variants.{Closed, Refused}
+use Rattle.cutting.proofs.Pairs.{pairs-ends}
+use Rattle.dart_table.proofs.Joins.{cell-length, cut-repeats, cut-over, cut-fits}
 use Rattle.cutting.proofs.Tabled.{slots-length}
 use Rattle.rules.specs.declared.Bounds.{Bounds}
 use Rattle.edge_nodes.specs.Lent.{filled}

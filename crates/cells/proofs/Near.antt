@@ -9,9 +9,10 @@ use Rattle.lists.specs.Search.{first}
 use Rattle.lists.proofs.Search.{first-from}
 use Rattle.cutting.specs.Edges.{Edge, edgeAt}
 use Rattle.cutting.specs.Cell.{Laid, nearDarts, cellTable}
-use Rattle.cutting.specs.Lent.{slotsOf, pairs, Table, tableIn, withEdges}
-use Rattle.cutting.proofs.Joins.{near-turn, near-full}
-use Rattle.cutting.proofs.Adds.{pairs-length, pairs-at}
+use Rattle.cutting.specs.Lent.{slotsOf, pairs}
+use Rattle.dart_table.specs.Table.{Table, tableIn, withEdges}
+use Rattle.dart_table.proofs.Joins.{near-turn, near-full}
+use Rattle.cutting.proofs.Pairs.{pairs-length, pairs-at}
 use Rattle.rules.specs.declared.Bounds.{Bounds}
 use Rattle.spatial_index.specs.Candidates.{meets}
 use Rattle.spatial_index.proofs.Candidates.{places-next, places-end}

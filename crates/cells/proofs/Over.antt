@@ -12,9 +12,8 @@ use lib.Ieee.{Float}
 use Rattle.cutting.specs.Edges.{Edge, edgeAt, key, hops, ring}
 use Rattle.cutting.specs.Cell.{Laid, ownDarts, outlineDarts, among, repeats}
 use Rattle.cutting.specs.Lent.{ends, pairs}
-use Rattle.cutting.proofs.Adds.{darts-length}
-use Rattle.cutting.proofs.Grow.{ends-length}
-use Rattle.cutting.proofs.Joins.{pairs-ends}
+use Rattle.dart_table.proofs.Adds.{darts-length}
+use Rattle.cutting.proofs.Pairs.{ends-length, pairs-ends}
 use Rattle.outlines.specs.Meets.{meets}
 use Rattle.outlines.proofs.Flat.{Holds}
 use Rattle.outlines.proofs.Appended.{meets-append, repeats-append}

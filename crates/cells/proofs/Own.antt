@@ -13,8 +13,9 @@ use Rattle.lists.specs.Sort.{sortOnto, sorted}
 use Rattle.lists.proofs.Gather.{joined-snoc}
 use Rattle.cutting.specs.Edges.{Edge, edgeAt, hops, ring}
 use Rattle.cutting.specs.Cell.{Laid, ownDarts, outlineDarts, edgeSlots, standsBefore, cellTable}
-use Rattle.cutting.specs.Lent.{slotsOf, ends, Added, Outlined}
-use Rattle.cutting.proofs.Joins.{outline-more, none-near, own-turn, own-full}
+use Rattle.cutting.specs.Lent.{slotsOf, ends}
+use Rattle.dart_table.specs.Table.{Added, Outlined}
+use Rattle.dart_table.proofs.Joins.{outline-more, none-near, own-turn, own-full}
 use Rattle.edge_nodes.specs.Lent.{collectedIn}
 use Rattle.cells.specs.Cells.{laidIn, outlineIn, Uncrowded, nextCorner, Held}
 

@@ -1,8 +1,8 @@
 // One cell cut by the other mesh's edges near it. Edges are flat lists of pairs, meetings five numbers each and chained by `links`, as in `edge_nodes`.
-use cutting::cut::Walked;
-use cutting::cut::add_near_edge;
-use cutting::cut::add_own_edge;
-use cutting::cut::walk_dart_map;
+use dart_table::add_near_edge;
+use dart_table::add_own_edge;
+use dart_walk::Walked;
+use dart_walk::walk_dart_map;
 use edge_nodes::sorted_nodes;
 use outlines::edges_meet;
 use outlines::edges_repeat;
@@ -18,7 +18,8 @@ ghost use Rattle.cutting.specs.Cell.{ownDarts, nearDarts, cellTable, repeats};
 ghost use Rattle.cutting.specs.Walk.{walk};
 ghost use Rattle.cutting.specs.Outcome.{refusal, ofWalk};
 ghost use Rattle.outlines.specs.Meets.{meets};
-ghost use Rattle.cutting.specs.Lent.{slotsOf, ends, pairs, tableIn, withEdges, Added, Outlined};
+ghost use Rattle.cutting.specs.Lent.{slotsOf, ends, pairs};
+ghost use Rattle.dart_table.specs.Table.{tableIn, withEdges, Added, Outlined};
 ghost use Rattle.spatial_index.specs.Blocks.{Covered};
 ghost use Rattle.edge_nodes.specs.Lent.{collectedIn};
 ghost use Rattle.edge_nodes.specs.Links.{Linked};

@@ -2,25 +2,21 @@
 use mathlib.Core.Path.{_≡_, refl, sym, ap, ap₂, _∙_, subst}
 use mathlib.Core.Logic.{_⊎_, inl, inr}
 use mathlib.Core.Bool.{Bool, true, false, cond, not, _&&_, _||_}
-use mathlib.Core.List.{List, [], _∷_, _++_, append-nil, append-assoc}
-use Prim.Native.Nat.{ℕ, _+_, _-_, _≤_, _<_}
+use mathlib.Core.List.{List, [], _∷_, append-nil}
+use Prim.Native.Nat.{ℕ, _+_, _≤_, _<_}
 use native.Mathlib.Omega.{arith}
-use lib.ListN.{length, take, drop}
-use lib.Seq.{take-at, drop-at}
+use lib.ListN.{length}
 use lib.Ieee.{Float}
 use lib.IntN.{ℤ, negℤ, _+ℤ_, _-ℤ_, _*ℤ_, *ℤ-comm, negℤ-+ℤ, negℤ-negℤ, +ℤ-comm}
 use borrow.Author.Tests.{ltb-false, lt-ltb, le-ltb}
 use Rattle.exact.specs.Exact.{coord}
 use Rattle.plane.specs.Plane.{pointAt}
 use Rattle.lists.specs.Gather.{all}
-use Rattle.lists.specs.Regions.{front}
 use Rattle.cutting.specs.Edges.{Edge, ring, rings, times}
 use Rattle.cutting.specs.Cell.{Laid, inner, Slot, cellTable, doubled, repeats}
 use Rattle.cutting.specs.Walk.{Next, more, closed, stuck, broken, srcs, dsts, walkWith}
-use Rattle.cutting.specs.Outcome.{Outcome, refusal, pieces, ofWalk, walked, closesUp, afterWalk, tooMany, cutOutcomeWith, copiedOutcome, flat, stops}
+use Rattle.cutting.specs.Outcome.{Outcome, refusal, pieces, ofWalk, walked, closesUp, afterWalk, tooMany, cutOutcomeWith, copiedOutcome}
 use Rattle.cutting.specs.Areas.{term, doubledArea, doubledAreas, Closes, ClosesUp, Round}
-use Rattle.cutting.specs.Lent.{answer, cornersIn, endsIn, piecesIn}
-use Rattle.cutting.specs.declared.cut.Walked.the-variants.{Closed}
 use Rattle.cutting.proofs.EdgeLaws.{hit-self}
 use Rattle.cutting.proofs.Tables.{even, closes}
 use Rattle.cutting.proofs.Sums.{sum, sum-append, sum-even}
@@ -84,23 +80,6 @@ module _ (outline : List Edge) (ps : List (List ℕ)) (close : (a b : ℕ) → C
   closes-test : closesUp outline (rings ps) ≡ true
   unfolding closesUp
   closes-test = ap₂ (λ (x y : Bool). x && y) (all-edges _ outline outer) (all-edges _ (rings ps) other)
-
--- ---- pieces in two lists
-
-pieces-behind : (from : ℕ) (ps : List (List ℕ)) (ns ss : List ℕ) → piecesIn from (length ps) (flat ps ++ ns) (stops from ps ++ ss) ≡ ps
-unfolding piecesIn flat stops
-pieces-behind from [] ns ss = refl
-pieces-behind from (p ∷ ps) ns ss =
-    let size : length p ≡ from + length p - from = omega arith in
-    let all : p ++ flat ps ++ ns ≡ p ++ (flat ps ++ ns) = append-assoc p (flat ps) ns in
-    ap₂ (λ (q : List ℕ) (qs : List (List ℕ)). q ∷ qs)
-    (ap (take (from + length p - from)) all ∙ take-at p (flat ps ++ ns) (from + length p - from) size)
-    (ap (λ (w : List ℕ). piecesIn (from + length p) (length ps) w (stops (from + length p) ps ++ ss))
-    (ap (drop (from + length p - from)) all ∙ drop-at p (flat ps ++ ns) (from + length p - from) size) ∙ pieces-behind (from + length p) ps ns ss)
-
-pieces-read : (from : ℕ) (ps : List (List ℕ)) (nodes stops₀ : List ℕ) → piecesIn from (length ps) (front nodes (flat ps)) (front stops₀ (stops from ps)) ≡ ps
-unfolding front
-pieces-read from ps nodes stops₀ = pieces-behind from ps (drop (length (flat ps)) nodes) (drop (length (stops from ps)) stops₀)
 
 -- ---- a cell that is cut
 
@@ -172,23 +151,6 @@ module _ (turning : Bool) (coords : List Float) (outline : List Edge) (near : Li
           → ClosesUp coords outline ps
       by true f q = let z : _≡_ {A = ℕ} 0 1 = cc in absurd (omega arith)
       by false f q = closes-up f ps (of-walk (walkWith turning outline (cellTable coords outline near)) (made (tooMany (length (cellTable coords outline near))) q))
-
-  -- the pieces as they are read from the answer and the lists
-  pub read-closes-up : repeats outline ≡ false → (nodes stops₀ : List ℕ) (k m : ℕ)
-      → let o : Outcome = ofWalk (walkWith turning outline (cellTable coords outline near)) in answer o ≡ Closed k m
-      → ClosesUp coords outline (piecesIn 0 k (cornersIn o nodes) (endsIn o stops₀))
-  unfolding cornersIn endsIn
-  read-closes-up once nodes stops₀ k m = go (walkWith turning outline (cellTable coords outline near)) refl
-    where
-      go : (x : Next) → walkWith turning outline (cellTable coords outline near) ≡ x → answer (ofWalk x) ≡ Closed k m
-          → ClosesUp coords outline (piecesIn 0 k (cornersIn (ofWalk x) nodes) (endsIn (ofWalk x) stops₀))
-      go (closed ps) e q =
-          let count : k ≡ length ps = cc in
-          subst (ClosesUp coords outline) (sym (ap (λ (j : ℕ). piecesIn 0 j (front nodes (flat ps)) (front stops₀ (stops 0 ps))) count ∙ pieces-read 0 ps nodes
-          stops₀)) (closes-up once ps e)
-      go stuck e q = let z : _≡_ {A = ℕ} 0 1 = cc in absurd (omega arith)
-      go broken e q = let z : _≡_ {A = ℕ} 0 1 = cc in absurd (omega arith)
-      go (more s) e q = let z : _≡_ {A = ℕ} 0 1 = cc in absurd (omega arith)
 
 -- an outline with as many darts into each node as out of it: the walk, which may turn back, always has a way on
 pub round-closes : (coords : List Float) (outline : List Edge) (near : List Laid) → Round outline

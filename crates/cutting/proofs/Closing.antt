@@ -9,10 +9,8 @@ use lib.Ieee.{Float}
 use Rattle.cutting.specs.Edges.{Edge, ring, rings}
 use Rattle.cutting.specs.Cell.{Laid, Slot, cellTable, copiedTable, doubled, repeats}
 use Rattle.cutting.specs.Walk.{closed, stuck, walk}
-use Rattle.cutting.specs.Outcome.{Outcome, pieces, refusal, ofWalk, closesUp, tooMany, cutOutcome, copiedOutcome}
+use Rattle.cutting.specs.Outcome.{pieces, refusal, ofWalk, closesUp, tooMany, cutOutcome, copiedOutcome}
 use Rattle.cutting.specs.Areas.{ClosesUp, Round}
-use Rattle.cutting.specs.Lent.{answer, cornersIn, endsIn, piecesIn}
-use Rattle.cutting.specs.declared.cut.Walked.the-variants.{Closed}
 use Rattle.cutting.proofs.Cells as cells
 use Rattle.cutting.proofs.Once as once
 
@@ -34,12 +32,6 @@ module _ (coords : List Float) (outline : List Edge) (near : List Laid) where
   -- The same of the pieces of a cell that gives no refusal, with no condition on its table.
   pub accepted-closes-up : (ps : List (List ℕ)) → cutOutcome outline (cellTable coords outline near) ≡ pieces ps → ClosesUp coords outline ps
   accepted-closes-up = cells.accepted-closes-up true coords outline near
-
-  -- And of the pieces as they are read from the answer and the two lists of `walk_dart_map`.
-  pub read-closes-up : repeats outline ≡ false → (nodes stops : List ℕ) (k m : ℕ)
-      → let o : Outcome = ofWalk (walk outline (cellTable coords outline near)) in answer o ≡ Closed k m
-      → ClosesUp coords outline (piecesIn 0 k (cornersIn o nodes) (endsIn o stops))
-  read-closes-up = cells.read-closes-up true coords outline near
 
   -- So the part of refusal 11 after the walk never fires.
   pub test-passes : repeats outline ≡ false → (ps : List (List ℕ)) → walk outline (cellTable coords outline near) ≡ closed ps → closesUp outline (rings ps) ≡ true

@@ -1,21 +1,17 @@
 -- A table in three lists, walked. Assumes nothing.
-use mathlib.Core.Path.{_≡_, refl, sym, ap, ap₂, _∙_, subst}
+use mathlib.Core.Path.{_≡_, refl, sym, ap, ap₂, _∙_}
 use mathlib.Core.Bool.{true}
 use mathlib.Core.List.{List, [], _∷_, map}
-use Prim.Native.Nat.{ℕ, zero, suc, _+_, _-_, _≤_}
+use Prim.Native.Nat.{ℕ, zero, suc, _+_, _≤_}
 use native.Mathlib.Omega.{arith}
 use lib.ListN.{length, getD, take, replicate}
 use lib.Seq.{length-take-le, getD-take, take-all}
 use Rattle.lists.specs.Gather.{gathered, each}
-use Rattle.lists.specs.Regions.{copied, zeros}
+use Rattle.lists.specs.Regions.{copied}
 use Rattle.lists.proofs.Gather.{each-ext, each-head, each-getD, length-each}
 use Rattle.lists.proofs.Regions.{copied-fits, front-put, take-front-of}
-use Rattle.cutting.specs.Cell.{Slot}
-use Rattle.cutting.specs.Walk.{Next, starts, walkFrom, walkWith, walk, srcs, dsts, marksOf}
-use Rattle.cutting.specs.Outcome.{Outcome, refusal, pieces, ofWalk, stops}
-use Rattle.cutting.specs.Lent.{slotAt, slotsOf, pairs, stacked, answer, cornersIn, endsIn, Written}
-use Rattle.cutting.specs.declared.cut.Walked.{Walked}
-use Rattle.cutting.specs.declared.cut.Walked.the-variants.{Closed, Refused}
+use Rattle.cutting.specs.Walk.{starts, walkFrom, walkWith, walk, srcs, dsts, marksOf}
+use Rattle.cutting.specs.Lent.{slotAt, slotsOf, pairs, stacked}
 
 map-each : {A B : Type 0} (g : A → B) (n : ℕ) (f : ℕ → A) → map g (each n f) ≡ each n (λ i. g (f i))
 unfolding gathered
@@ -65,38 +61,3 @@ module _ (src dst marks : List ℕ) (n : ℕ) where
         let em : marksOf (slotsOf src dst marks n) ≡ marks = slots-marks (omega arith) ∙ take-all n marks (omega arith) in
         ap₂ (λ (m h : List ℕ). walkFrom true n src dst m h) eo eh
         ∙ sym (λ t. walkFrom true (slots-length t) (es t) (ed t) (em t) (starts (slots-length t) (es t) (ed t) (pairs outline) []))
-
-pub walked-as : (r s : Next) (w : Walked) (nodes₀ stops₀ nodes stops′ : List ℕ) → r ≡ s
-    → (w ≡ answer (ofWalk r)) × Written (ofWalk r) nodes₀ stops₀ nodes stops′ → (w ≡ answer (ofWalk s)) × Written (ofWalk s) nodes₀ stops₀ nodes stops′
-walked-as r s w nodes₀ stops₀ nodes stops′ e h = subst (λ (t : Next). (w ≡ answer (ofWalk t)) × Written (ofWalk t) nodes₀ stops₀ nodes stops′) e h
-
--- ---- what the public function makes of the outcome
-
-module _ (outline src dst marks : List ℕ) (n : ℕ) (w : Walked) (nodes₀ stops₀ nodes stops′ : List ℕ) where
-  abbrev part : Outcome
-  part = ofWalk (walk (pairs outline) (slotsOf (take n src) (take n dst) (take n marks) n))
-
-  abbrev whole : Outcome
-  whole = ofWalk (walk (pairs outline) (slotsOf src dst marks n))
-
-  same : part ≡ whole
-  same = ap (λ (t : List Slot). ofWalk (walk (pairs outline) t)) (slots-take src dst marks n)
-
-  pub as-closed : (k m : ℕ) → (w ≡ answer part) × Written part nodes₀ stops₀ nodes stops′ → w ≡ Closed k m
-      → (w ≡ answer whole) × (nodes ≡ cornersIn whole nodes₀) × (stops′ ≡ endsIn whole stops₀)
-  unfolding cornersIn endsIn
-  as-closed k m h e = go whole (subst (λ (o : Outcome). (w ≡ answer o) × Written o nodes₀ stops₀ nodes stops′) same h)
-    where
-      go : (o : Outcome) → (w ≡ answer o) × Written o nodes₀ stops₀ nodes stops′ → (w ≡ answer o) × (nodes ≡ cornersIn o nodes₀) × (stops′ ≡ endsIn o stops₀)
-      go (pieces ps) (f, g) = (f, g .0, g .1)
-      go (refusal c) (f, g) = let z : _≡_ {A = ℕ} 0 1 = cc in absurd (omega arith)
-
-  pub as-refused : (c : ℕ) (nodes″ stops″ : List ℕ) → (w ≡ answer part) × Written part nodes₀ stops₀ nodes stops′ → w ≡ Refused c
-      → nodes″ ≡ zeros (length nodes) → stops″ ≡ zeros (length stops′) → length nodes ≡ length nodes₀ → length stops′ ≡ length stops₀
-      → (w ≡ answer whole) × (nodes″ ≡ cornersIn whole nodes₀) × (stops″ ≡ endsIn whole stops₀)
-  unfolding cornersIn endsIn
-  as-refused c nodes″ stops″ h e zn zs ln ls = go whole (h .0 ∙ ap answer same)
-    where
-      go : (o : Outcome) → w ≡ answer o → (w ≡ answer o) × (nodes″ ≡ cornersIn o nodes₀) × (stops″ ≡ endsIn o stops₀)
-      go (pieces ps) f = let z : _≡_ {A = ℕ} 0 1 = cc in absurd (omega arith)
-      go (refusal d) f = (f, zn ∙ ap zeros ln, zs ∙ ap zeros ls)

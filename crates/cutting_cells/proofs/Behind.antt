@@ -9,7 +9,7 @@ use Rattle.lists.specs.Gather.{gathered}
 use Rattle.lists.specs.Regions.{put}
 use Rattle.lists.proofs.Regions.{length-put, put-none, put-append}
 use Rattle.cutting.specs.Outcome.{flat, stops}
-use Rattle.cutting.proofs.Steps.{stops-length}
+use Rattle.cutting.proofs.Runs.{stops-length}
 use Rattle.rules.specs.Operations.{Piece}
 use Rattle.rules.specs.Refusals.{Event, piece, firstRefusal}
 use Rattle.pieces.specs.Pieces.{room, events}

@@ -17,7 +17,7 @@ use Rattle.cutting.specs.Setting.{ours}
 use Rattle.cutting.specs.Outcome as Outcome
 use Rattle.cutting.specs.Outcome.{Outcome, refusal, pieces, cutOutcome, copiedOutcome}
 use Rattle.cutting.specs.Lent.{pairs}
-use Rattle.cutting.proofs.Adds.{pairs-length}
+use Rattle.cutting.proofs.Pairs.{pairs-length}
 use Rattle.entry.specs.Mesh.{Rising}
 use Rattle.rules.specs.declared.Bounds.{Bounds}
 use Rattle.rules.specs.Mesh.{Side, other}

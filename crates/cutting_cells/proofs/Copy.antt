@@ -17,9 +17,8 @@ use Rattle.cutting.specs.Cell.{repeats}
 use Rattle.cutting.specs.Outcome as Outcome
 use Rattle.cutting.specs.Outcome.{Outcome, refusal, pieces, copiedOutcome, flat}
 use Rattle.cutting.specs.Lent.{ends, pairs}
-use Rattle.cutting.proofs.Steps.{take-push}
-use Rattle.cutting.proofs.Joins.{ends-append, pairs-ends}
-use Rattle.cutting.proofs.Adds.{pairs-length}
+use Rattle.cutting.proofs.Runs.{take-push}
+use Rattle.cutting.proofs.Pairs.{ends-append, pairs-ends, pairs-length}
 use Rattle.rules.specs.declared.Bounds.{Bounds}
 use Rattle.cells.specs.declared.CutCell.{CutCell}
 use Rattle.cells.specs.Cells.{nextCorner, cutAs, cutCell}

@@ -14,7 +14,7 @@ use Rattle.lists.proofs.Search.{first-ext, has-none, and-true}
 use Rattle.lists.proofs.Gather.{gathered-ext, joined-is}
 use Rattle.cutting.specs.Edges.{Edge, edgeAt, key, sameKey}
 use Rattle.cutting.specs.Lent.{pairs}
-use Rattle.cutting.proofs.Adds.{pairs-length}
+use Rattle.cutting.proofs.Pairs.{pairs-length}
 use Rattle.rules.specs.Meetings.{Met, Scene}
 use Rattle.rules.specs.Nodes as Nodes
 use Rattle.rules.specs.Nodes.{collected, overfull, sortedNodes, alongEdge}

@@ -12,7 +12,7 @@ use Rattle.lists.proofs.Gather.{gathered-more}
 use Rattle.lists.proofs.Sort.{sortOnto-append}
 use Rattle.cutting.specs.Edges.{Edge, edgeAt, sameKey}
 use Rattle.cutting.specs.Lent.{pairs}
-use Rattle.cutting.proofs.Adds.{pairs-length, pairs-at}
+use Rattle.cutting.proofs.Pairs.{pairs-length, pairs-at}
 use Rattle.rules.specs.Nodes.{Projected, byProjection}
 use Rattle.edge_nodes.specs.Lent.{metNodes, underAt, under}
 

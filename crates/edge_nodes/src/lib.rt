@@ -5,7 +5,7 @@ mod chains;
 use chains::head_of;
 pub use chains::link_meetings;
 use chains::next_of;
-use cutting::utils::same_key;
+use keys::same_key;
 use lists::insert_at_f64;
 use lists::insert_at_u32;
 use plane::point_at;

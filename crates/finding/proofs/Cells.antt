@@ -11,7 +11,7 @@ use Rattle.lists.proofs.Gather.{each-ext, length-each, getD-each, each-getD}
 use Rattle.lists.proofs.Regions.{length-run, getD-run}
 use Rattle.cutting.specs.Edges.{edgeAt, ring}
 use Rattle.cutting.specs.Lent.{pairs}
-use Rattle.cutting.proofs.Adds.{pairs-length, pairs-at}
+use Rattle.cutting.proofs.Pairs.{pairs-length, pairs-at}
 use Rattle.entry.specs.Mesh.{mesh, prior, cellSize, Rising}
 use Rattle.rules.specs.Mesh.{cellAt, cellsOf}
 use Rattle.rules.specs.Neighbours.{descendingTo, computeDescending, lineEdges}

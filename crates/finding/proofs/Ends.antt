@@ -14,7 +14,7 @@ use Rattle.lists.specs.Regions.{run, front, put, copied}
 use Rattle.lists.proofs.Regions.{length-front, take-front-of, front-put, copied-fits, length-copied, length-run, put-append}
 use Rattle.cutting.specs.Edges.{Edge}
 use Rattle.cutting.specs.Lent.{ends, pairs}
-use Rattle.cutting.proofs.Joins.{pairs-ends}
+use Rattle.cutting.proofs.Pairs.{pairs-ends}
 use Rattle.entry.specs.Mesh.{Mesh, mesh}
 use Rattle.rules.specs.Neighbours.{subjectNet, cutterNet}
 use Rattle.rules.specs.Meetings.{Met, addedBy, meetings, Scene, sceneOf}

@@ -10,8 +10,7 @@ use Rattle.lists.specs.Regions.{run, front, put, copied, zeros}
 use Rattle.lists.proofs.Regions.{length-front, length-put, put-put, put-none, run-before, copied-fits}
 use Rattle.cutting.specs.Edges.{Edge}
 use Rattle.cutting.specs.Lent.{ends, pairs}
-use Rattle.cutting.proofs.Adds.{pairs-length}
-use Rattle.cutting.proofs.Grow.{ends-length}
+use Rattle.cutting.proofs.Pairs.{pairs-length, ends-length}
 use Rattle.entry.specs.Mesh.{Mesh, mesh, nodeCount, Rising}
 use Rattle.rules.specs.Mesh.{cellsOf}
 use Rattle.rules.specs.Snap.{weld}

@@ -18,7 +18,7 @@ use Rattle.segments.specs.declared.Meeting.{Meeting}
 use Rattle.segments.specs.declared.Meeting.the-variants.{Apart, Existing, New, Overlap}
 use Rattle.cutting.specs.Edges.{Edge, edgeAt}
 use Rattle.cutting.specs.Lent.{pairs}
-use Rattle.cutting.proofs.Adds.{pairs-length, pairs-at}
+use Rattle.cutting.proofs.Pairs.{pairs-length, pairs-at}
 use Rattle.rules.specs.declared.Bounds.{Bounds}
 use Rattle.rules.specs.SpatialIndex.{edgeBox, boxesMeet, candidates}
 use Rattle.rules.specs.Neighbours.{Net}

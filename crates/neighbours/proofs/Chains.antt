@@ -14,7 +14,7 @@ use Rattle.lists.specs.Search.{seek, first, has}
 use Rattle.lists.proofs.Search.{has-at, has-some, and-true}
 use Rattle.cutting.specs.Edges.{Edge, edgeAt, key, sameKey}
 use Rattle.cutting.specs.Lent.{pairs}
-use Rattle.cutting.proofs.Adds.{pairs-length, pairs-at}
+use Rattle.cutting.proofs.Pairs.{pairs-length, pairs-at}
 use Rattle.neighbours.specs.Chains.{lastBelow, edgeChain, onChain, Chained, linked}
 
 -- ---- the last index that passes

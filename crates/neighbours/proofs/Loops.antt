@@ -14,8 +14,7 @@ use Rattle.lists.proofs.Gather.{length-each, getD-each}
 use Rattle.lists.proofs.Regions.{put-store, length-put, put-run, length-run, getD-run, run-run, run-put, run-before, run-behind}
 use Rattle.cutting.specs.Edges.{Edge, ring}
 use Rattle.cutting.specs.Lent.{pairs, ends}
-use Rattle.cutting.proofs.Adds.{pairs-length}
-use Rattle.cutting.proofs.Grow.{ends-length}
+use Rattle.cutting.proofs.Pairs.{pairs-length, ends-length}
 use Rattle.entry.specs.Mesh.{mesh, prior, Rising}
 use Rattle.rules.specs.Mesh.{cellAt, cellsOf}
 use Rattle.rules.specs.Neighbours.{added, addedAll, descendingTo, computeDescending}

@@ -12,8 +12,7 @@ use Rattle.lists.specs.Regions.{run, put, zeros}
 use Rattle.lists.proofs.Regions.{length-put, put-before, put-in, put-behind, put-run, put-put, put-none, length-run, run-put, run-before, part-back}
 use Rattle.cutting.specs.Edges.{Edge}
 use Rattle.cutting.specs.Lent.{pairs, ends}
-use Rattle.cutting.proofs.Grow.{ends-length}
-use Rattle.cutting.proofs.Joins.{pairs-ends}
+use Rattle.cutting.proofs.Pairs.{ends-length, pairs-ends}
 use Rattle.neighbours.specs.Chains.{Chained, Threaded}
 use Rattle.neighbours.proofs.Chains.{chained-none}
 

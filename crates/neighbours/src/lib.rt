@@ -1,7 +1,7 @@
 // The edges of cells (document 01, module 5), in a region of the working list. An edge takes two numbers there. While they are written, they are on
 // chains in a second region, so that one with the same key is found without a scan of all.
-use cutting::utils::key;
-use cutting::utils::same_key;
+use keys::key;
+use keys::same_key;
 use lists::zero_u32;
 ghost use mathlib.Core.Path.{_≡_};
 ghost use mathlib.Core.List.{[]};

@@ -15,8 +15,7 @@ use Rattle.cutting.specs.Edges.{Edge, sameKey, turn}
 use Rattle.cutting.specs.Cell.{windows, orEnds, dartsAlong, ownDarts, among, repeats}
 use Rattle.cutting.specs.Lent.{ends, pairs}
 use Rattle.outlines.specs.Meets.{meets}
-use Rattle.cutting.proofs.Grow.{windows-next, windows-end, ends-more, turned-is}
-use Rattle.cutting.proofs.Heaps.{pairs-short, pairs-drop}
+use Rattle.cutting.proofs.Pairs.{windows-next, windows-end, ends-more, turned-is, pairs-short, pairs-drop}
 
 -- ---- `lay_along`
 

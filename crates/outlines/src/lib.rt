@@ -1,5 +1,5 @@
 // An outline's darts in flat lists of pairs, and whether edges of such lists are between the same two nodes, in either direction.
-use cutting::utils::same_key;
+use keys::same_key;
 ghost use mathlib.Core.Path.{_≡_};
 ghost use mathlib.Core.Bool.{cond};
 ghost use mathlib.Core.List.{map};

@@ -10,7 +10,7 @@ use Rattle.lists.specs.Regions.{front, zeros}
 use Rattle.lists.proofs.Regions.{front-put}
 use Rattle.cutting.specs.Outcome.{flat, stops}
 use Rattle.cutting.specs.Lent.{ends, pairs}
-use Rattle.cutting.proofs.Joins.{pairs-ends}
+use Rattle.cutting.proofs.Pairs.{pairs-ends}
 use Rattle.entry.specs.Mesh.{Mesh}
 use Rattle.rules.specs.Mesh.{theSubject, theCutter, cellAt, cellsOf}
 use Rattle.rules.specs.Snap.{weld}

@@ -13,7 +13,7 @@ use Rattle.lists.specs.Regions.{put, copied}
 use Rattle.lists.proofs.Search.{and-true}
 use Rattle.lists.proofs.Regions.{length-put, put-none, put-store, put-append, copied-fits, copied-not}
 use Rattle.cutting.specs.Outcome.{flat, stops}
-use Rattle.cutting.proofs.Steps.{stops-length}
+use Rattle.cutting.proofs.Runs.{stops-length}
 use Rattle.rules.specs.Refusals.{piece, firstRefusal}
 use Rattle.pieces.specs.Pieces.{room, events, PlacedBehind}
 use Rattle.pieces.specs.declared.Placed.{Placed}

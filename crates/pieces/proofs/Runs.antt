@@ -13,7 +13,7 @@ use Rattle.lists.specs.Regions.{run}
 use Rattle.lists.proofs.Gather.{each-more, length-each, getD-each, passing-append, each-ext, each-getD}
 use Rattle.lists.proofs.Regions.{length-run}
 use Rattle.cutting.specs.Outcome.{flat, stops}
-use Rattle.cutting.proofs.Steps.{stops-length}
+use Rattle.cutting.proofs.Runs.{stops-length}
 use Rattle.entry.specs.Mesh.{mesh, prior, Rising}
 use Rattle.entry.proofs.Ends.{prior-more}
 use Rattle.rules.specs.Mesh.{cellAt, cellsOf}

@@ -14,7 +14,7 @@ use borrow.Table.Elements.{take-le}
 use Rattle.lists.specs.Regions.{front}
 use Rattle.lists.proofs.Regions.{take-front-of}
 use Rattle.cutting.specs.Outcome.{flat, stops}
-use Rattle.cutting.proofs.Steps.{stops-length}
+use Rattle.cutting.proofs.Runs.{stops-length}
 use Rattle.cutting.specs.Setting.{ours}
 use Rattle.entry.specs.Mesh.{Mesh}
 use Rattle.rules.specs.Operations.{Piece, listing}

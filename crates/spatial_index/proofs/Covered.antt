@@ -12,7 +12,7 @@ use Rattle.lists.specs.Regions.{run, front}
 use Rattle.lists.proofs.Regions.{length-front, front-in, length-run, getD-run}
 use Rattle.cutting.specs.Edges.{Edge, edgeAt}
 use Rattle.cutting.specs.Lent.{pairs}
-use Rattle.cutting.proofs.Adds.{pairs-length, pairs-at}
+use Rattle.cutting.proofs.Pairs.{pairs-length, pairs-at}
 use Rattle.rules.specs.declared.Bounds.{Bounds}
 use Rattle.rules.specs.SpatialIndex.{edgeBox, boxesMeet}
 use Rattle.spatial_index.specs.Blocks.{fourOf, boxAt, blockBox, blockBoxes, Covered}

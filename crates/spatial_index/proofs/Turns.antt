@@ -15,7 +15,7 @@ use Rattle.plane.specs.Plane.{pointAt}
 use Rattle.plane.specs.declared.Point.{Point}
 use Rattle.cutting.specs.Edges.{Edge}
 use Rattle.cutting.specs.Lent.{pairs}
-use Rattle.cutting.proofs.Adds.{pairs-length, pairs-at}
+use Rattle.cutting.proofs.Pairs.{pairs-length, pairs-at}
 use Rattle.rules.specs.declared.Bounds.{Bounds}
 use Rattle.rules.specs.SpatialIndex.{stretched, boxTo, boxOf, edgeBox, boxesMeet}
 use Rattle.spatial_index.specs.Candidates.{meets}

@@ -1,6 +1,5 @@
 // Stored cells: the table is built edge by edge and walked. For each cell its pieces, a line each, or its refusal.
-use cutting::cut;
-use cutting::cut::Walked;
+use dart_walk::Walked;
 ghost use Prim.Native.Nat.{_≤_};
 ghost use lib.ListN.{length};
 
@@ -30,7 +29,7 @@ fn add_own(
             return n;
         }
         let to = from + k;
-        n = cut::add_own_edge(coords, a, b, &edges[from..to], outline, src, dst, marks, n);
+        n = dart_table::add_own_edge(coords, a, b, &edges[from..to], outline, src, dst, marks, n);
         if 1024 < n {
             return n;
         }
@@ -60,7 +59,7 @@ fn add_near(
             return n;
         }
         let to = from + k;
-        n = cut::add_near_edge(coords, a, b, &edges[from..to], src, dst, marks, n);
+        n = dart_table::add_near_edge(coords, a, b, &edges[from..to], src, dst, marks, n);
         if 1024 < n {
             return n;
         }
@@ -122,7 +121,7 @@ fn show(coords: &[f64], own: &[u32], near: &[u32]) {
         refused(10);
         return;
     }
-    let w = cut::walk_dart_map(
+    let w = dart_walk::walk_dart_map(
         &src,
         &dst,
         &marks,

@@ -7,7 +7,7 @@ use Rattle.cells.proofs.add_near.Statement.{statement}
 use Rattle.cells.proofs.add_near.Tie as tie
 use Rattle.cells.proofs.add_near.Reads as reads
 use Rattle.cells.proofs.add_near.Lts as lts
-use Rattle.cutting.proofs.cut.add_near_edge.Reads as add-near-edge-reads
+use Rattle.dart_table.proofs.add_near_edge.Reads as add-near-edge-reads
 use Rattle.edge_nodes.proofs.sorted_nodes.Reads as sorted-nodes-reads
 
 -- places of the code, each counted once

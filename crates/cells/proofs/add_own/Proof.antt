@@ -1,6 +1,6 @@
 use mathlib.Core.Path.{sym}
 use lib.Seq.{length-take-le}
-use Rattle.cutting.proofs.Fronts.{own-added}
+use Rattle.dart_table.proofs.Fronts.{own-added}
 use Rattle.cells.proofs.Own.{own-laid}
 use Rattle.cells.proofs.Cut.{along-is, along-fits}
 use borrow.Author.Needs.{needs}
@@ -8,7 +8,7 @@ use Rattle.cells.proofs.add_own.Statement.{statement}
 use Rattle.cells.proofs.add_own.Tie as tie
 use Rattle.cells.proofs.add_own.Reads as reads
 use Rattle.cells.proofs.add_own.Lts as lts
-use Rattle.cutting.proofs.cut.add_own_edge.Reads as add-own-edge-reads
+use Rattle.dart_table.proofs.add_own_edge.Reads as add-own-edge-reads
 use Rattle.edge_nodes.proofs.sorted_nodes.Reads as sorted-nodes-reads
 
 -- places of the code, each counted once

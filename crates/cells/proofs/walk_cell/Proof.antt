@@ -9,7 +9,7 @@ use Rattle.cells.proofs.walk_cell.Tie as tie
 use Rattle.cells.proofs.walk_cell.Reads as reads
 use Rattle.cells.proofs.walk_cell.Lts as lts
 use Rattle.cells.proofs.refused.Reads as refused-reads
-use Rattle.cutting.proofs.cut.walk_dart_map.Reads as walk-dart-map-reads
+use Rattle.dart_walk.proofs.walk_dart_map.Reads as walk-dart-map-reads
 
 -- places of the code, each counted once
 abbrev entry : tie.After-walk-dart-map → tie.Start

@@ -6,7 +6,7 @@ use Rattle.edge_nodes.proofs.is_under.Tie as tie
 use Rattle.edge_nodes.proofs.is_under.Reads as reads
 use Rattle.edge_nodes.proofs.is_under.Lts as lts
 use Rattle.edge_nodes.proofs.first_of.Reads as first-of-reads
-use Rattle.cutting.proofs.utils.same_key.Reads as same-key-reads
+use Rattle.keys.proofs.same_key.Reads as same-key-reads
 use Rattle.edge_nodes.proofs.second_of.Reads as second-of-reads
 
 -- places of the code, each counted once

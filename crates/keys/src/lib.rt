@@ -1,0 +1,36 @@
+// Keys of edges.
+ghost use mathlib.Core.Path.{_≡_};
+ghost use Rattle.cutting.specs.Edges.{key, sameKey};
+
+// The two node numbers of an edge, smaller first.
+pub struct SortedKey {
+    pub first: u32,
+    pub second: u32,
+}
+
+pub fn key(a: u32, b: u32) -> SortedKey
+    ensures { λ r. ⌜ (r .first, r .second) ≡ key (a, b) ⌝ }
+{
+    if a < b {
+        return SortedKey {
+            first: a,
+            second: b,
+        };
+    }
+    SortedKey {
+        first: b,
+        second: a,
+    }
+}
+
+// Whether the edges from a to b and from c to d have one key.
+pub fn same_key(a: u32, b: u32, c: u32, d: u32) -> bool
+    ensures { λ r. ⌜ r ≡ sameKey (a, b) (c, d) ⌝ }
+{
+    let k = key(a, b);
+    let l = key(c, d);
+    if k.first != l.first {
+        return false;
+    }
+    k.second == l.second
+}
