@@ -1,4 +1,1 @@
-pub mod Slices
 pub mod Shares
-pub mod Taken
-pub mod Held

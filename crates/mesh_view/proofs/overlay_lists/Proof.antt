@@ -78,23 +78,23 @@ use Rattle.rules.specs.Overlay.{lentLists, result, overlayOf}
 use Rattle.overlay.specs.declared.Answer.{Answer}
 use Rattle.overlay.proofs.Answer as R
 use Rattle.overlay.proofs.Answer.Laws as R′
-use Rattle.mesh_view.specs.Shown.{meshOf, listsOf}
-use Rattle.mesh_view.specs.declared.MeshView.{MeshView}
-use Rattle.mesh_view.specs.declared.OutputView.{OutputView}
-use Rattle.mesh_view.proofs.Slices.{val}
-use Rattle.mesh_view.proofs.Taken.{mut, shrs, muts, onto-shrs, off-shrs, off-muts, shrs-twice}
-use Rattle.mesh_view.proofs.MeshView as T
-use Rattle.mesh_view.proofs.MeshView.Laws as T′
-use Rattle.mesh_view.proofs.OutputView as O
-use Rattle.mesh_view.proofs.OutputView.Laws as O′
-use Rattle.mesh_view.proofs.view as view
-use Rattle.mesh_view.proofs.view.Symbol as view-def
-use Rattle.mesh_view.proofs.view.Symbol.{name as #mesh-view·view}
-use Rattle.mesh_view.proofs.view.Met as view-thm
-use Rattle.mesh_view.proofs.output as output
-use Rattle.mesh_view.proofs.output.Symbol as output-def
-use Rattle.mesh_view.proofs.output.Symbol.{name as #mesh-view·output}
-use Rattle.mesh_view.proofs.output.Met as output-thm
+use Rattle.views.specs.Shown.{meshOf, listsOf}
+use Rattle.views.specs.declared.MeshView.{MeshView}
+use Rattle.views.specs.declared.OutputView.{OutputView}
+use Rattle.views.proofs.Slices.{val}
+use Rattle.views.proofs.Taken.{mut, shrs, muts, onto-shrs, off-shrs, off-muts, shrs-twice}
+use Rattle.views.proofs.MeshView as T
+use Rattle.views.proofs.MeshView.Laws as T′
+use Rattle.views.proofs.OutputView as O
+use Rattle.views.proofs.OutputView.Laws as O′
+use Rattle.views.proofs.view as view
+use Rattle.views.proofs.view.Symbol as view-def
+use Rattle.views.proofs.view.Symbol.{name as #views·view}
+use Rattle.views.proofs.view.Met as view-thm
+use Rattle.views.proofs.output as output
+use Rattle.views.proofs.output.Symbol as output-def
+use Rattle.views.proofs.output.Symbol.{name as #views·output}
+use Rattle.views.proofs.output.Met as output-thm
 use Rattle.mesh_view.proofs.overlay_views as views
 use Rattle.mesh_view.proofs.overlay_views.Symbol as views-def
 use Rattle.mesh_view.proofs.overlay_views.Symbol.{name as #mesh-view·overlay-views}
@@ -480,8 +480,8 @@ module _ {M : Type 1} (𝓤 : URA M) (H : Heap 𝓤) (A : Atoms 𝓤) (W : Given
       (vint w32 op ∷ []) (refl, op-fits) $ fjoin ! $
       use1 W (‵ (hasOf κs (lists.signature .params) (lists.ended .kept) stayed a (ws zs) vals)) (id⊢ 𝓤 _) $ move ! (2 ∷ 0 ∷ []) $ done !
 
-  module _ (C : Calls 𝓤 H) (Λ : Loops 𝓤 H) (fm : FmC 𝓤 H (W .laws) C) (known-view : Triple 𝓤 (C #mesh-view·view) (View 𝓤 H A mem run))
-      (known-output : Triple 𝓤 (C #mesh-view·output) (Out 𝓤 H A mem run)) (known-views : Triple 𝓤 (C #mesh-view·overlay-views) (Views 𝓤 H A mem run)) where
+  module _ (C : Calls 𝓤 H) (Λ : Loops 𝓤 H) (fm : FmC 𝓤 H (W .laws) C) (known-view : Triple 𝓤 (C #views·view) (View 𝓤 H A mem run))
+      (known-output : Triple 𝓤 (C #views·output) (Out 𝓤 H A mem run)) (known-views : Triple 𝓤 (C #mesh-view·overlay-views) (Views 𝓤 H A mem run)) where
     walk : Are (typesAt (lists.signature .params) κs) (Ises (typesAt (lists.signature .params) κs)) a vals
         → ent 𝓤 (onEntry 𝓤 H A lists.signature κs qs a vals) (WpFn 𝓤 H C Λ code.function
         (vint w32 op ∷ vint w32 m ∷ val (s .coords) ∷ val (s .nodes) ∷ val (s .ends) ∷ val (s .kinds) ∷ val (s .families) ∷ val (c .coords) ∷ val
@@ -615,8 +615,8 @@ module _ {M : Type 1} (𝓤 : URA M) (H : Heap 𝓤) (A : Atoms 𝓤) (W : Given
         by ! (exits x v zs said l)))))))))))))))))))))))))))))))))))))))))))))))))))))
 
 module _ {M : Type 1} (𝓤 : URA M) (H : Heap 𝓤) (A : Atoms 𝓤) (W : Given 𝓤 H A) (mem : Memory → SProp 𝓤) (run : Routine → Fun 𝓤) where
-  overlay-lists-walks : (C : Calls 𝓤 H) (Λ : Loops 𝓤 H) → FmC 𝓤 H (W .laws) C → Triple 𝓤 (C #mesh-view·view) (View 𝓤 H A mem run)
-      → Triple 𝓤 (C #mesh-view·output) (Out 𝓤 H A mem run)
+  overlay-lists-walks : (C : Calls 𝓤 H) (Λ : Loops 𝓤 H) → FmC 𝓤 H (W .laws) C → Triple 𝓤 (C #views·view) (View 𝓤 H A mem run)
+      → Triple 𝓤 (C #views·output) (Out 𝓤 H A mem run)
       → Triple 𝓤 (C #mesh-view·overlay-views) (Views 𝓤 H A mem run)
       → Walks 𝓤 H A lists.ended stayed (WpFn 𝓤 H C Λ code.function) (lists.clauses 𝓤 H A mem run)
   overlay-lists-walks C Λ fm known-view known-output known-views = walked 𝓤 H A lists.ended stayed (lists.clauses 𝓤 H A mem run) (WpFn 𝓤 H C Λ code.function)
@@ -714,7 +714,7 @@ module _ {M : Type 1} (𝓤 : URA M) (H : Heap 𝓤) (A : Atoms 𝓤) (W : Given
       (are .0 .1) (are .1 .0 .1) C Λ fm known-view known-output known-views are))
 
 overlay-lists-meets : {M : Type 1} (𝓤 : URA M) (H : Heap 𝓤) (A : Atoms 𝓤) (W : Given 𝓤 H A) (mem : Memory → SProp 𝓤) (run : Routine → Fun 𝓤) (𝓣 : Tables 𝓤 H)
-    → Triple 𝓤 (𝓣 .C #mesh-view·view) (View 𝓤 H A mem run) → Triple 𝓤 (𝓣 .C #mesh-view·output) (Out 𝓤 H A mem run) → Triple 𝓤 (𝓣 .C #mesh-view·overlay-views) (Views 𝓤 H A mem run)
+    → Triple 𝓤 (𝓣 .C #views·view) (View 𝓤 H A mem run) → Triple 𝓤 (𝓣 .C #views·output) (Out 𝓤 H A mem run) → Triple 𝓤 (𝓣 .C #mesh-view·overlay-views) (Views 𝓤 H A mem run)
     → Meets 𝓤 H A lists.signature (WpFn 𝓤 H (𝓣 .C) (𝓣 .Λ) code.function) (lists.spec 𝓤 H A mem run)
 overlay-lists-meets 𝓤 H A W mem run 𝓣 known-view known-output known-views =
     walk-meets 𝓤 H A lists.ended stayed W (
@@ -775,6 +775,6 @@ overlay-lists-spec 𝓤 H 𝓜 𝓖 𝓡 =
     entered 𝓤 H (tripleOf 𝓤 H (𝓖 .A) lists.signature (lists.spec 𝓤 H (𝓖 .A) (𝓜 .mem) (𝓡 .run)))
     (tables 𝓤 H 𝓜 𝓡 code.env .C) (tables 𝓤 H 𝓜 𝓡 code.env .Λ) #mesh-view·overlay-lists code.function (code.unfolded 𝓤 H 𝓜 𝓡)
     (overlay-lists-meets 𝓤 H (𝓖 .A) (givenOf 𝓤 H 𝓜 𝓖) (𝓜 .mem) (𝓡 .run) (tablesOf 𝓤 H 𝓜 (tables 𝓤 H 𝓜 𝓡 code.env))
-    (cited 𝓤 H (View 𝓤 H (𝓖 .A) (𝓜 .mem) (𝓡 .run)) 𝓜 𝓡 code.env #mesh-view·view view-def.routine code.calls-mesh-view·view (view-thm.met 𝓤 H 𝓜 𝓖 𝓡))
-    (cited 𝓤 H (Out 𝓤 H (𝓖 .A) (𝓜 .mem) (𝓡 .run)) 𝓜 𝓡 code.env #mesh-view·output output-def.routine code.calls-mesh-view·output (output-thm.met 𝓤 H 𝓜 𝓖 𝓡))
+    (cited 𝓤 H (View 𝓤 H (𝓖 .A) (𝓜 .mem) (𝓡 .run)) 𝓜 𝓡 code.env #views·view view-def.routine code.calls-views·view (view-thm.met 𝓤 H 𝓜 𝓖 𝓡))
+    (cited 𝓤 H (Out 𝓤 H (𝓖 .A) (𝓜 .mem) (𝓡 .run)) 𝓜 𝓡 code.env #views·output output-def.routine code.calls-views·output (output-thm.met 𝓤 H 𝓜 𝓖 𝓡))
     (cited 𝓤 H (Views 𝓤 H (𝓖 .A) (𝓜 .mem) (𝓡 .run)) 𝓜 𝓡 code.env #mesh-view·overlay-views views-def.routine code.calls-mesh-view·overlay-views (views-thm.met 𝓤 H 𝓜 𝓖 𝓡)))

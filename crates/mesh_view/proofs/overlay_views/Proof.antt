@@ -83,17 +83,17 @@ use Rattle.overlay.proofs.overlay as overlay
 use Rattle.overlay.proofs.overlay.Symbol as overlay-def
 use Rattle.overlay.proofs.overlay.Symbol.{name as #overlay·overlay}
 use Rattle.overlay.proofs.overlay.Met as overlay-thm
-use Rattle.mesh_view.specs.Shown.{meshOf, listsOf}
-use Rattle.mesh_view.specs.declared.MeshView.{MeshView}
-use Rattle.mesh_view.specs.declared.OutputView.{OutputView}
-use Rattle.mesh_view.proofs.Slices.{val}
+use Rattle.views.specs.Shown.{meshOf, listsOf}
+use Rattle.views.specs.declared.MeshView.{MeshView}
+use Rattle.views.specs.declared.OutputView.{OutputView}
+use Rattle.views.proofs.Slices.{val}
 use Rattle.mesh_view.proofs.Shares.{s₁, s₂, s₃, s₄, s₅, five, cut, mend}
-use Rattle.mesh_view.proofs.Taken.{mut, OwnView, shrs, muts, view-apart, output-apart}
-use Rattle.mesh_view.proofs.Held.{output-gave, output-gave-goes}
-use Rattle.mesh_view.proofs.MeshView as T
-use Rattle.mesh_view.proofs.MeshView.Laws as T′
-use Rattle.mesh_view.proofs.OutputView as O
-use Rattle.mesh_view.proofs.OutputView.Laws as O′
+use Rattle.views.proofs.Taken.{mut, OwnView, shrs, muts, view-apart, output-apart}
+use Rattle.views.proofs.Held.{output-gave, output-gave-goes}
+use Rattle.views.proofs.MeshView as T
+use Rattle.views.proofs.MeshView.Laws as T′
+use Rattle.views.proofs.OutputView as O
+use Rattle.views.proofs.OutputView.Laws as O′
 use Rattle.mesh_view.proofs.overlay_views.Key.{name as #mesh-view·overlay-views}
 use Rattle.mesh_view.proofs.overlay_views as views
 use Rattle.mesh_view.proofs.overlay_views.Statement as stated

@@ -13,8 +13,8 @@ use denote.Exit.{yes}
 use denote.Signature.{Slot, plain, mutSlice, namedLft}
 use denote.Signature.Struct.{structAt}
 use denote.Triple.Walked.{Stay, Fields, gave-slice, stay-struct-at, stay-declared, Goes, goes-gave-slice, goes-struct-at, goes-declared}
-use Rattle.mesh_view.specs.declared.OutputView.{OutputView}
-use Rattle.mesh_view.proofs.OutputView as O
+use Rattle.views.specs.declared.OutputView.{OutputView}
+use Rattle.views.proofs.OutputView as O
 
 abbrev name : Sym
 name = O.struct (namedLft 1 0 tt ([], tt)) .name

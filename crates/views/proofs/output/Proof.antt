@@ -1,4 +1,4 @@
--- `mesh_view::output` meets its contract: a walk of its MIR, by hand. The five borrows go into the result as they are.
+-- `views::output` meets its contract: a walk of its MIR, by hand. The five borrows go into the result as they are.
 -- The parameters are spent: the result names their lifetime, so nothing is had of them at exit.
 -- Assumes nothing.
 use mathlib.Core.Path.{refl}
@@ -31,14 +31,14 @@ use denote.Triple.Spec.{Meets, tripleOf}
 use denote.Triple.Table.{entered}
 use denote.Triple.Walked.{says, Stays, stay-dropped, walkOf, goes-spent-slice, Walks, ends-at, walked, walk-meets}
 use denote.Exit.{no}
-use Rattle.mesh_view.specs.declared.OutputView.{OutputView}
-use Rattle.mesh_view.proofs.Slices.{val}
-use Rattle.mesh_view.proofs.Taken.{OwnOutput, output-shut}
-use Rattle.mesh_view.proofs.OutputView.Laws as O′
-use Rattle.mesh_view.proofs.output.Key.{name as #mesh-view·output}
-use Rattle.mesh_view.proofs.output as output
-use Rattle.mesh_view.proofs.output.Statement as stated
-use Rattle.mesh_view.proofs.output.Code as code
+use Rattle.views.specs.declared.OutputView.{OutputView}
+use Rattle.views.proofs.Slices.{val}
+use Rattle.views.proofs.Taken.{OwnOutput, output-shut}
+use Rattle.views.proofs.OutputView.Laws as O′
+use Rattle.views.proofs.output.Key.{name as #views·output}
+use Rattle.views.proofs.output as output
+use Rattle.views.proofs.output.Statement as stated
+use Rattle.views.proofs.output.Code as code
 
 abbrev stayed : Stays (output.ended .signature .params) (output.ended .kept)
 stayed = (
@@ -152,5 +152,5 @@ pub output-spec : {M : Type 1} → stated.statement M
 unfolding code.routine tablesOf
 output-spec 𝓤 H 𝓜 𝓖 𝓡 =
     entered 𝓤 H (tripleOf 𝓤 H (𝓖 .A) output.signature (output.spec 𝓤 H (𝓖 .A) (𝓜 .mem) (𝓡 .run)))
-    (tables 𝓤 H 𝓜 𝓡 code.env .C) (tables 𝓤 H 𝓜 𝓡 code.env .Λ) #mesh-view·output code.function (code.unfolded 𝓤 H 𝓜 𝓡)
+    (tables 𝓤 H 𝓜 𝓡 code.env .C) (tables 𝓤 H 𝓜 𝓡 code.env .Λ) #views·output code.function (code.unfolded 𝓤 H 𝓜 𝓡)
     (output-meets 𝓤 H (𝓖 .A) (givenOf 𝓤 H 𝓜 𝓖) (𝓜 .mem) (𝓡 .run) (tablesOf 𝓤 H 𝓜 (tables 𝓤 H 𝓜 𝓡 code.env)))

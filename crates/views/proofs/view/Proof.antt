@@ -1,4 +1,4 @@
--- `mesh_view::view` meets its contract: a walk of its MIR, by hand. A view is made of the five slices passed.
+-- `views::view` meets its contract: a walk of its MIR, by hand. A view is made of the five slices passed.
 -- A view is Copy: what it owns is had twice, once for the slices at exit, and once for the result.
 -- Assumes nothing.
 use mathlib.Core.Path.{refl}
@@ -29,14 +29,14 @@ use denote.Triple.Spec.{Meets, tripleOf}
 use denote.Triple.Table.{entered}
 use denote.Triple.Walked.{says, Stays, stay-none-slice, walkOf, goes-none-slice, Walks, ends-at, walked, walk-meets}
 use denote.Exit.{yes}
-use Rattle.mesh_view.specs.declared.MeshView.{MeshView}
-use Rattle.mesh_view.proofs.Slices.{val}
-use Rattle.mesh_view.proofs.Taken.{OwnView, view-shut, view-open, view-twice}
-use Rattle.mesh_view.proofs.MeshView.Laws as T′
-use Rattle.mesh_view.proofs.view.Key.{name as #mesh-view·view}
-use Rattle.mesh_view.proofs.view as view
-use Rattle.mesh_view.proofs.view.Statement as stated
-use Rattle.mesh_view.proofs.view.Code as code
+use Rattle.views.specs.declared.MeshView.{MeshView}
+use Rattle.views.proofs.Slices.{val}
+use Rattle.views.proofs.Taken.{OwnView, view-shut, view-open, view-twice}
+use Rattle.views.proofs.MeshView.Laws as T′
+use Rattle.views.proofs.view.Key.{name as #views·view}
+use Rattle.views.proofs.view as view
+use Rattle.views.proofs.view.Statement as stated
+use Rattle.views.proofs.view.Code as code
 
 abbrev stayed : Stays (view.ended .signature .params) (view.ended .kept)
 stayed = (
@@ -134,5 +134,5 @@ pub view-spec : {M : Type 1} → stated.statement M
 unfolding code.routine tablesOf
 view-spec 𝓤 H 𝓜 𝓖 𝓡 =
     entered 𝓤 H (tripleOf 𝓤 H (𝓖 .A) view.signature (view.spec 𝓤 H (𝓖 .A) (𝓜 .mem) (𝓡 .run)))
-    (tables 𝓤 H 𝓜 𝓡 code.env .C) (tables 𝓤 H 𝓜 𝓡 code.env .Λ) #mesh-view·view code.function (code.unfolded 𝓤 H 𝓜 𝓡)
+    (tables 𝓤 H 𝓜 𝓡 code.env .C) (tables 𝓤 H 𝓜 𝓡 code.env .Λ) #views·view code.function (code.unfolded 𝓤 H 𝓜 𝓡)
     (view-meets 𝓤 H (𝓖 .A) (givenOf 𝓤 H 𝓜 𝓖) (𝓜 .mem) (𝓡 .run) (tablesOf 𝓤 H 𝓜 (tables 𝓤 H 𝓜 𝓡 code.env)))

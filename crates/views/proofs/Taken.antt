@@ -17,13 +17,13 @@ use denote.Slice.{ShrSlice, MutSlice}
 use denote.Struct.Laws as LL
 use denote.Steps.{nothing}
 use denote.Struct.Rest.{own-open, own-shut}
-use Rattle.mesh_view.specs.declared.MeshView.{MeshView}
-use Rattle.mesh_view.specs.declared.OutputView.{OutputView}
-use Rattle.mesh_view.proofs.Slices.{val}
-use Rattle.mesh_view.proofs.MeshView as T
-use Rattle.mesh_view.proofs.MeshView.Laws as T′
-use Rattle.mesh_view.proofs.OutputView as O
-use Rattle.mesh_view.proofs.OutputView.Laws as O′
+use Rattle.views.specs.declared.MeshView.{MeshView}
+use Rattle.views.specs.declared.OutputView.{OutputView}
+use Rattle.views.proofs.Slices.{val}
+use Rattle.views.proofs.MeshView as T
+use Rattle.views.proofs.MeshView.Laws as T′
+use Rattle.views.proofs.OutputView as O
+use Rattle.views.proofs.OutputView.Laws as O′
 
 -- what a slice owns, at its machine value
 abbrev pub shr : Lifetime → Lft → (R : RattleType) → RefT (List (R .Denot)) → Fml

@@ -1,0 +1,3 @@
+pub mod Slices
+pub mod Taken
+pub mod Held
