@@ -9,7 +9,7 @@ use views::view;
 ghost use mathlib.Core.Path.{_≡_};
 ghost use Rattle.entry.specs.Mesh.{mesh};
 ghost use Rattle.rules.specs.Overlay.{lentLists, result, overlayOf};
-ghost use Rattle.views.specs.Shown.{meshOf, listsOf};
+ghost use Rattle.mesh_view.specs.Shown.{meshOf, listsOf};
 
 // Operation, meeting limit M, subject, cutter, output lists, working list.
 pub fn overlay_views<'a, 'b, 'c, 'd>(

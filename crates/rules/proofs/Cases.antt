@@ -187,15 +187,6 @@ rows =
     (square-coords ++ i ∷ -i ∷ i ∷ i ∷ half ∷ i ∷ i-half ∷ i ∷ i ∷ o ∷ []) (3 ∷ 0 ∷ 8 ∷ 5 ∷ 6 ∷ 5 ∷ 7 ∷ 5 ∷ 8 ∷ 1 ∷ 2 ∷ []) (11 ∷ []) (11 ∷ []) (7 ∷ []) (replicate 500 0))))
     ∷ overlay (case 5 9 square inner-line (fives 12 4 1 1 1 500) (result 0 1 0 0 (onLists
     (square-coords ++ half ∷ i ∷ i ∷ i ∷ []) (3 ∷ 0 ∷ 1 ∷ 2 ∷ []) (4 ∷ []) (11 ∷ []) (7 ∷ []) (replicate 500 0))))
-    -- 256 nodes on an edge pass, so that the next thing is that the first triangle has no place; 257 give 9
-    ∷ overlay (case 5 130 triangles (lines 4) (fives 28 0 0 0 0 3872) (refused 12 (noughts 28 0 0 0 0 3872)))
-    ∷ overlay (case 5 131 triangles (lines 5) (fives 30 0 0 0 0 3920) (refused 9 (noughts 30 0 0 0 0 3920)))
-    -- 1,024 slots pass, 1,026 give 10
-    ∷ slots 1024 []
-    ∷ slots 1026 (10 ∷ [])
-    -- a PGON of 256 passes, one of 257 gives 4
-    ∷ corners 256 0
-    ∷ corners 257 4
     -- tempting: a piece closes when its first node returns, not its first dart
     ∷ pieces-of (o ∷ o ∷ i ∷ -i ∷ i ∷ i ∷ -i ∷ i ∷ -i ∷ -i ∷ []) ((1, 2) ∷ (2, 0) ∷ (0, 3) ∷ (3, 4) ∷ (4, 0) ∷ (0, 1) ∷ []) (0 ∷ 1 ∷ 2 ∷ 4 ∷ 0 ∷ 3 ∷ []) (3 ∷ 6 ∷ [])
     -- the key's second node isn't sorted with the others
@@ -253,6 +244,15 @@ rows =
     ∷ set-to (record { turning = true; once = false }) (case 1 9 square welded (fives 14 9 3 3 3 500) (result 0 3 0 2 (onLists
     (square-coords ++ 0x3d61_9799_812d_ea11 ∷ o ∷ o ∷ 0x3d61_9799_812d_ea11 ∷ i ∷ i ∷ [])
     (3 ∷ 0 ∷ 6 ∷ 0 ∷ 1 ∷ 2 ∷ 0 ∷ 6 ∷ 0 ∷ []) (6 ∷ 8 ∷ 9 ∷ []) (11 ∷ 11 ∷ 11 ∷ []) (7 ∷ 3 ∷ 3 ∷ []) (replicate 500 0))))
+    -- the limits, last since they take longest: 256 nodes on an edge pass, so that the next thing is that the first triangle has no place; 257 give 9
+    ∷ overlay (case 5 130 triangles (lines 4) (fives 28 0 0 0 0 3872) (refused 12 (noughts 28 0 0 0 0 3872)))
+    ∷ overlay (case 5 131 triangles (lines 5) (fives 30 0 0 0 0 3920) (refused 9 (noughts 30 0 0 0 0 3920)))
+    -- 1,024 slots pass, 1,026 give 10
+    ∷ slots 1024 []
+    ∷ slots 1026 (10 ∷ [])
+    -- a PGON of 256 passes, one of 257 gives 4
+    ∷ corners 256 0
+    ∷ corners 257 4
     ∷ []
 
 -- ---- the test

@@ -78,7 +78,7 @@ use Rattle.rules.specs.Overlay.{lentLists, result, overlayOf}
 use Rattle.overlay.specs.declared.Answer.{Answer}
 use Rattle.overlay.proofs.Answer as R
 use Rattle.overlay.proofs.Answer.Laws as R′
-use Rattle.views.specs.Shown.{meshOf, listsOf}
+use Rattle.mesh_view.specs.Shown.{meshOf, listsOf}
 use Rattle.views.specs.declared.MeshView.{MeshView}
 use Rattle.views.specs.declared.OutputView.{OutputView}
 use Rattle.views.proofs.Slices.{val}

@@ -83,7 +83,7 @@ use Rattle.overlay.proofs.overlay as overlay
 use Rattle.overlay.proofs.overlay.Symbol as overlay-def
 use Rattle.overlay.proofs.overlay.Symbol.{name as #overlay·overlay}
 use Rattle.overlay.proofs.overlay.Met as overlay-thm
-use Rattle.views.specs.Shown.{meshOf, listsOf}
+use Rattle.mesh_view.specs.Shown.{meshOf, listsOf}
 use Rattle.views.specs.declared.MeshView.{MeshView}
 use Rattle.views.specs.declared.OutputView.{OutputView}
 use Rattle.views.proofs.Slices.{val}

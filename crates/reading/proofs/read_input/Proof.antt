@@ -37,7 +37,9 @@ clear-rest2-at-same-length c = c .before .before .before .before .before .before
 clear-rest-requires : tie.Need-clear-rest-requires
 clear-rest-requires c κs =
     let at-op = c .before .before .before .before .before .before in
-    let at-read-text = at-op .before .before .before .before .before .before .before .before .before .before .before .before .before .before .before .before .before .before .before .before .before .before in
+    let at-slice-known17 = at-op .before .before .before .before .before .before .before .before in
+    let at-slice-known13 = at-slice-known17 .before .before .before .before .before .before .before .before in
+    let at-read-text = at-slice-known13 .before .before .before .before .before .before in
     let sc-kept = at-read-text .read-text .kept .1 .0 in
     let sn-kept = at-read-text .read-text .kept .1 .1 .0 in
     let se-kept = at-read-text .read-text .kept .1 .1 .1 .0 in
@@ -48,8 +50,12 @@ clear-rest-requires c κs =
 
 clear-rest-requires-2 : tie.Need-clear-rest-requires-2
 clear-rest-requires-2 c κs =
-    let at-op = c .before .before .before .before .before .before .before .before .before .before .before .before .before .before .before .before .before .before .before .before .before .before in
-    let at-read-text = at-op .before .before .before .before .before .before .before .before .before .before .before .before .before .before .before .before .before .before .before .before .before .before in
+    let at-sk2 = c .before .before .before .before .before .before .before .before in
+    let at-clear-rest-arg5 = at-sk2 .before .before .before .before .before .before .before .before in
+    let at-op = at-clear-rest-arg5 .before .before .before .before .before .before in
+    let at-slice-known17 = at-op .before .before .before .before .before .before .before .before in
+    let at-slice-known13 = at-slice-known17 .before .before .before .before .before .before .before .before in
+    let at-read-text = at-slice-known13 .before .before .before .before .before .before in
     let cc-kept = at-read-text .read-text .kept .1 .1 .1 .1 .1 .1 .0 in
     let cn-kept = at-read-text .read-text .kept .1 .1 .1 .1 .1 .1 .1 .0 in
     let ce-kept = at-read-text .read-text .kept .1 .1 .1 .1 .1 .1 .1 .1 .0 in
@@ -135,10 +141,14 @@ same-length-10 c =
 
 returns : tie.Need-returns
 returns c =
-    let at-clear-rest2 = c .before .before .before .before .before .before .before .before .before .before in
-    let at-clear-rest = at-clear-rest2 .before .before .before .before .before .before .before .before .before .before .before .before .before .before .before .before in
+    let at-slice-known26 = c .before .before .before .before .before .before .before .before in
+    let at-clear-rest2 = at-slice-known26 .before .before in
+    let at-slice-known24 = at-clear-rest2 .before .before .before .before .before .before .before .before in
+    let at-clear-rest = at-slice-known24 .before .before .before .before .before .before .before .before in
     let at-op = at-clear-rest .before .before .before .before .before .before .before in
-    let at-read-text = at-op .before .before .before .before .before .before .before .before .before .before .before .before .before .before .before .before .before .before .before .before .before .before in
+    let at-slice-known17 = at-op .before .before .before .before .before .before .before .before in
+    let at-slice-known13 = at-slice-known17 .before .before .before .before .before .before .before .before in
+    let at-read-text = at-slice-known13 .before .before .before .before .before .before in
     let sc-last = at-read-text .read-text .last .1 .0 in
     let sn-last = at-read-text .read-text .last .1 .1 .0 in
     let se-last = at-read-text .read-text .last .1 .1 .1 .0 in
@@ -255,10 +265,14 @@ same-length-20 c =
 
 returns-2 : tie.Need-returns-2
 returns-2 c =
-    let at-clear-rest4 = c .before .before .before .before .before .before .before .before .before .before in
-    let at-clear-rest3 = at-clear-rest4 .before .before .before .before .before .before .before .before .before .before .before .before .before .before .before .before in
+    let at-slice-known36 = c .before .before .before .before .before .before .before .before in
+    let at-clear-rest4 = at-slice-known36 .before .before in
+    let at-slice-known34 = at-clear-rest4 .before .before .before .before .before .before .before .before in
+    let at-clear-rest3 = at-slice-known34 .before .before .before .before .before .before .before .before in
     let at-enum-told = at-clear-rest3 .before .before .before .before .before .before in
-    let at-read-text = at-enum-told .before .before .before .before .before .before .before .before .before .before .before .before .before .before .before .before .before .before .before .before .before .before in
+    let at-slice-known17 = at-enum-told .before .before .before .before .before .before .before .before in
+    let at-slice-known13 = at-slice-known17 .before .before .before .before .before .before .before .before in
+    let at-read-text = at-slice-known13 .before .before .before .before .before .before in
     let sc-last = at-read-text .read-text .last .1 .0 in
     let sn-last = at-read-text .read-text .last .1 .1 .0 in
     let se-last = at-read-text .read-text .last .1 .1 .1 .0 in

@@ -50,7 +50,8 @@ returns-2 : tie.Need-returns-2
 returns-2 c =
     let at-read-first = c .before .before in
     let at-else1 = at-read-first .before in
-    let at-entry = at-else1 .before .before .before .before .before .before .before .before .before .before .before .before in (
+    let at-slice-known3 = at-else1 .before .before .before .before .before .before .before .before in
+    let at-entry = at-slice-known3 .before .before .before .before in (
       sym (input-no-first _ _ (at-entry .args .s .now) (at-else1 .if1 .left) (rw (c .enum-told .given .1) at (sym (at-read-first .read-first .ensures .0)))),
       zero-le,
       zero-le,
@@ -97,11 +98,13 @@ same-length-5 c =
 
 returns-3 : tie.Need-returns-3
 returns-3 c =
-    let at-read-mesh = c .before .before .before .before .before .before .before .before .before .before .before .before in
+    let at-slice-known12 = c .before .before .before .before .before .before .before .before in
+    let at-read-mesh = at-slice-known12 .before .before .before .before in
     let at-f = at-read-mesh .before .before .before .before .before .before .before in
     let at-read-first = at-f .before .before in
     let at-else1 = at-read-first .before in
-    let at-entry = at-else1 .before .before .before .before .before .before .before .before .before .before .before .before in (
+    let at-slice-known3 = at-else1 .before .before .before .before .before .before .before .before in
+    let at-entry = at-slice-known3 .before .before .before .before in (
       sym (input-no-subject _ _ (at-entry .args .s .now) (at-else1 .if1 .left) _ _ (rw (at-f .f .given .1) at (sym (at-read-first .read-first .ensures .0)))
           (rw (c .enum-told2 .given .1) at (sym (at-read-mesh .read-mesh .ensures .0)))),
       zero-le,
@@ -119,7 +122,8 @@ returns-3 c =
 read-mesh-requires-2 : tie.Need-read-mesh-requires-2
 read-mesh-requires-2 c κs =
     let at-g = c .before .before .before .before .before .before in
-    let at-read-mesh = at-g .before .before .before .before .before .before .before .before .before .before .before .before in
+    let at-slice-known12 = at-g .before .before .before .before .before .before .before .before in
+    let at-read-mesh = at-slice-known12 .before .before .before .before in
     rw (at-g .g .given .1) at (at-read-mesh .read-mesh .ensures .1)
 
 same-length-6 : tie.Need-same-length-6
@@ -179,13 +183,16 @@ same-length-15 c =
 
 returns-4 : tie.Need-returns-4
 returns-4 c =
-    let at-read-mesh2 = c .before .before .before .before .before .before .before .before .before .before .before .before in
+    let at-slice-known17 = c .before .before .before .before .before .before .before .before in
+    let at-read-mesh2 = at-slice-known17 .before .before .before .before in
     let at-g = at-read-mesh2 .before .before .before .before .before .before .before in
-    let at-read-mesh = at-g .before .before .before .before .before .before .before .before .before .before .before .before in
+    let at-slice-known12 = at-g .before .before .before .before .before .before .before .before in
+    let at-read-mesh = at-slice-known12 .before .before .before .before in
     let at-f = at-read-mesh .before .before .before .before .before .before .before in
     let at-read-first = at-f .before .before in
     let at-else1 = at-read-first .before in
-    let at-entry = at-else1 .before .before .before .before .before .before .before .before .before .before .before .before in (
+    let at-slice-known3 = at-else1 .before .before .before .before .before .before .before .before in
+    let at-entry = at-slice-known3 .before .before .before .before in (
       sym (input-no-cutter _ _ (at-entry .args .s .now) (at-else1 .if1 .left) _ _ (rw (at-f .f .given .1) at (sym (at-read-first .read-first .ensures .0))) _ _
           (rw (at-g .g .given .1) at (sym (at-read-mesh .read-mesh .ensures .0)))
           (rw (c .enum-told3 .given .1) at (sym (at-read-mesh2 .read-mesh2 .ensures .0)))),
@@ -203,7 +210,8 @@ returns-4 c =
 
 close-requires : tie.Need-close-requires
 close-requires c κs =
-    let at-read-mesh2 = c .before .before .before .before .before .before .before .before .before .before .before .before .before in
+    let at-ce = c .before .before .before .before .before .before .before .before in
+    let at-read-mesh2 = at-ce .before .before .before .before .before in
     rw (c .before .h .given .1) at (at-read-mesh2 .read-mesh2 .ensures .1)
 
 same-length-16 : tie.Need-same-length-16
@@ -270,13 +278,16 @@ returns-5 : tie.Need-returns-5
 returns-5 c =
     let at-close = c .before .before in
     let at-h = at-close .before .before in
-    let at-read-mesh2 = at-h .before .before .before .before .before .before .before .before .before .before .before .before in
+    let at-slice-known17 = at-h .before .before .before .before .before .before .before .before in
+    let at-read-mesh2 = at-slice-known17 .before .before .before .before in
     let at-g = at-read-mesh2 .before .before .before .before .before .before .before in
-    let at-read-mesh = at-g .before .before .before .before .before .before .before .before .before .before .before .before in
+    let at-slice-known12 = at-g .before .before .before .before .before .before .before .before in
+    let at-read-mesh = at-slice-known12 .before .before .before .before in
     let at-f = at-read-mesh .before .before .before .before .before .before .before in
     let at-read-first = at-f .before .before in
     let at-else1 = at-read-first .before in
-    let at-entry = at-else1 .before .before .before .before .before .before .before .before .before .before .before .before in (
+    let at-slice-known3 = at-else1 .before .before .before .before .before .before .before .before in
+    let at-entry = at-slice-known3 .before .before .before .before in (
       sym (input-no-close _ _ (at-entry .args .s .now) (at-else1 .if1 .left) _ _ (rw (at-f .f .given .1) at (sym (at-read-first .read-first .ensures .0))) _ _
           (rw (at-g .g .given .1) at (sym (at-read-mesh .read-mesh .ensures .0))) _ _ (rw (at-h .h .given .1) at (sym (at-read-mesh2 .read-mesh2 .ensures .0)))
           (rw (c .enum-told4 .given .1) at (sym (at-close .close .ensures .0)))),
@@ -357,13 +368,16 @@ returns-6 c =
     let at-z = c .before .before in
     let at-close = at-z .before .before in
     let at-h = at-close .before .before in
-    let at-read-mesh2 = at-h .before .before .before .before .before .before .before .before .before .before .before .before in
+    let at-slice-known17 = at-h .before .before .before .before .before .before .before .before in
+    let at-read-mesh2 = at-slice-known17 .before .before .before .before in
     let at-g = at-read-mesh2 .before .before .before .before .before .before .before in
-    let at-read-mesh = at-g .before .before .before .before .before .before .before .before .before .before .before .before in
+    let at-slice-known12 = at-g .before .before .before .before .before .before .before .before in
+    let at-read-mesh = at-slice-known12 .before .before .before .before in
     let at-f = at-read-mesh .before .before .before .before .before .before .before in
     let at-read-first = at-f .before .before in
     let at-else1 = at-read-first .before in
-    let at-entry = at-else1 .before .before .before .before .before .before .before .before .before .before .before .before in
+    let at-slice-known3 = at-else1 .before .before .before .before .before .before .before .before in
+    let at-entry = at-slice-known3 .before .before .before .before in
     let l = length-drop (at-z .z .given .0 .0) (at-entry .args .s .now) in (
       sym (input-more _ _ (at-entry .args .s .now) (at-else1 .if1 .left) _ _ (rw (at-f .f .given .1) at (sym (at-read-first .read-first .ensures .0))) _ _
           (rw (at-g .g .given .1) at (sym (at-read-mesh .read-mesh .ensures .0))) _ _ (rw (at-h .h .given .1) at (sym (at-read-mesh2 .read-mesh2 .ensures .0)))
@@ -446,13 +460,16 @@ returns-7 c =
     let at-z = c .before .before in
     let at-close = at-z .before .before in
     let at-h = at-close .before .before in
-    let at-read-mesh2 = at-h .before .before .before .before .before .before .before .before .before .before .before .before in
+    let at-slice-known17 = at-h .before .before .before .before .before .before .before .before in
+    let at-read-mesh2 = at-slice-known17 .before .before .before .before in
     let at-g = at-read-mesh2 .before .before .before .before .before .before .before in
-    let at-read-mesh = at-g .before .before .before .before .before .before .before .before .before .before .before .before in
+    let at-slice-known12 = at-g .before .before .before .before .before .before .before .before in
+    let at-read-mesh = at-slice-known12 .before .before .before .before in
     let at-f = at-read-mesh .before .before .before .before .before .before .before in
     let at-read-first = at-f .before .before in
     let at-else1 = at-read-first .before in
-    let at-entry = at-else1 .before .before .before .before .before .before .before .before .before .before .before .before in
+    let at-slice-known3 = at-else1 .before .before .before .before .before .before .before .before in
+    let at-entry = at-slice-known3 .before .before .before .before in
     let l = length-drop (at-z .z .given .0 .0) (at-entry .args .s .now) in (
       sym (input-read _ _ (at-entry .args .s .now) (at-else1 .if1 .left) _ _ (rw (at-f .f .given .1) at (sym (at-read-first .read-first .ensures .0))) _ _
           (rw (at-g .g .given .1) at (sym (at-read-mesh .read-mesh .ensures .0))) _ _ (rw (at-h .h .given .1) at (sym (at-read-mesh2 .read-mesh2 .ensures .0)))

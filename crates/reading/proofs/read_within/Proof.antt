@@ -72,7 +72,8 @@ read-cells-requires : tie.Need-read-cells-requires
 read-cells-requires c κs =
     let at-n = c .before .before .before .before .before in
     let at-read-nodes = at-n .before .before .before .before in
-    let at-entry = at-read-nodes .before .before .before .before .before .before .before .before .before .before .before .before in
+    let at-slice-known3 = at-read-nodes .before .before .before .before .before .before .before .before in
+    let at-entry = at-slice-known3 .before .before .before .before in
     (rw (at-n .n .given .1) at (at-read-nodes .read-nodes .ensures .1), at-entry .pre .2, at-entry .pre .3, at-entry .pre .4, at-entry .pre .5, at-entry .pre .6)
 
 same-length-2 : tie.Need-same-length-2
@@ -122,7 +123,8 @@ returns-3 c =
 
 close-requires : tie.Need-close-requires
 close-requires c κs =
-    let at-read-cells = c .before .before .before .before .before .before .before .before .before .before .before in
+    let at-ends = c .before .before .before .before .before .before .before .before in
+    let at-read-cells = at-ends .before .before .before in
     rw (c .before .c .given .1) at (at-read-cells .read-cells .ensures .1)
 
 same-length-7 : tie.Need-same-length-7
@@ -160,7 +162,8 @@ unfolding meshOf andThen after
 returns-4 c =
     let at-close = c .before .before in
     let at-c = at-close .before .before in
-    let at-read-cells = at-c .before .before .before .before .before .before .before .before .before .before in
+    let at-slice-known7 = at-c .before .before .before .before .before .before .before .before in
+    let at-read-cells = at-slice-known7 .before .before in
     let at-n = at-read-cells .before .before .before .before .before .before in
     let at-read-nodes = at-n .before .before .before .before in
     let at-w = at-read-nodes .before .before .before in
@@ -215,7 +218,8 @@ returns-5 : tie.Need-returns-5
 returns-5 c =
     let at-close = c .before .before .before in
     let at-c = at-close .before .before in
-    let at-read-cells = at-c .before .before .before .before .before .before .before .before .before .before in
+    let at-slice-known7 = at-c .before .before .before .before .before .before .before .before in
+    let at-read-cells = at-slice-known7 .before .before in
     let at-n = at-read-cells .before .before .before .before .before .before in
     let at-read-nodes = at-n .before .before .before .before in
     let at-w = at-read-nodes .before .before .before in

@@ -132,7 +132,8 @@ returns-2 c =
 cast-ends : tie.Need-cast-ends Inv-loop μ-loop
 cast-ends c =
     let at-read-cell = c .before .before .before .before .before in
-    let at-entry = at-read-cell .before .before .before .before .before .before .before .before .before .before .before .before .before in
+    let at-slice-known4 = at-read-cell .before .before .before .before .before .before .before .before in
+    let at-entry = at-slice-known4 .before .before .before .before .before in
     let h : c .before .n .given .0 .1 .1 .0 ≤ at-entry .args .most = rw (c .before .n .given .1) at (at-read-cell .read-cell .ensures .2) in omega (arith, at-entry .pre)
 
 loop-again : tie.Need-loop-again Inv-loop μ-loop
