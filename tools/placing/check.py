@@ -1,20 +1,17 @@
-"""What `rt dev` says of a crate, and what is tried where it refuses an answer."""
+"""The proofs of a crate written and checked, and what is tried where an answer is refused."""
 import os
 import re
 import shutil
 import subprocess
-import textwrap
 
 from .answers import WORD, mentions
 from .files import below, read, write
 from .lines import wrap
+from .told import failed, offered, said
 
 TURNS = 6  # some answers fail only once others hold
 ROUNDS = 6  # the layout may put a line deeper, and it is too long again
 TRIES = 3  # ways to write an answer that failed, see rewrite.py
-SEARCH = re.compile(r"`search`: no proof of `tie\.Need-(\S+?)[ `]")
-ERROR = re.compile(r"^(/.*?):(\d+):\d+: error: (.*)", re.M)
-NOT_ITS_FAULT = "was not admitted"  # said of what names an answer that failed
 
 
 def rt(*words):
@@ -38,7 +35,8 @@ def lay_out(crate):
     """formats this crate's proofs; `rt fmt` would touch the other crates too, which may be in work"""
     files = [path for path in below(crate.proofs) if path.endswith(".antt")]
     rattle = os.path.join(os.path.dirname(os.path.realpath(shutil.which("rt"))), "rattle")
-    subprocess.run([rattle, "fmt", "--write", *files], stdout=subprocess.DEVNULL)
+    if files:
+        subprocess.run([rattle, "fmt", "--write", *files], stdout=subprocess.DEVNULL)
 
 
 def break_lines(paths, width):
@@ -58,18 +56,7 @@ def write_all(crate, proofs, laws):
         lay_out(crate)
 
 
-def failed(proof, told):
-    """the answers that the check refused; a search that failed counts for the need that it was for"""
-    names = []
-    error = rf"{re.escape(os.path.realpath(proof.path))}:\d+:\d+: error: `({WORD}+)`: (.*)"
-    for name, why in re.findall(error, told):
-        search = SEARCH.match(why)
-        if NOT_ITS_FAULT not in why:
-            names.append(search.group(1) if search else name)
-    return list(dict.fromkeys(names))
-
-
-def heads_offered(proof, crate):
+def heads(proof, crate):
     """what the check would have a loop's invariant and measure take: name -> its arguments"""
     text = read(proof.path)
     os.remove(proof.path)
@@ -77,20 +64,18 @@ def heads_offered(proof, crate):
         told, _ = rt("dev", crate.name)
     finally:
         write(proof.path, text)
-    path = re.escape(os.path.realpath(proof.path))
-    offer = re.search(rf"help: write {path} with these lines[^\n]*\n((?:    [^\n]*\n|\n)*)", told)
-    return dict(re.findall(rf"^    ({WORD}+) ((?:{WORD}+ )*)=", offer.group(1), re.M)) if offer else {}
+    return offered(proof, told)
 
 
 def renew_heads(proof, loops, crate):
     """gives invariants and measures the arguments that the code has now, if those that they use are among them"""
-    heads = heads_offered(proof, crate)
+    now = heads(proof, crate)
     for name in loops:
         m = re.search(rf"^{re.escape(name)} ([^=:]*)=((?:.|\n)*?)(?=\n\n|\Z)", proof.text, re.M)
-        if m and name in heads:
-            now = heads[name].split()
-            if all(word in now for word in m.group(1).split() if mentions(m.group(2), word)):
-                proof.text = proof.text[: m.start(1)] + " ".join(now) + " " + proof.text[m.end(1):]
+        if m and name in now:
+            used = [word for word in m.group(1).split() if mentions(m.group(2), word)]
+            if set(used) <= set(now[name].split()):
+                proof.text = proof.text[: m.start(1)] + now[name] + proof.text[m.end(1):]
         proof.left.pop(name, None)
 
 
@@ -106,16 +91,6 @@ def try_again(proof, told, crate):
     return wrong
 
 
-def errors(told):
-    """what the check refused, each in a line: the place, the answer and why"""
-    found = [
-        textwrap.shorten(f"{os.path.relpath(path)}:{line}: {why}", 200, placeholder=" ..")
-        for path, line, why in ERROR.findall(told)
-        if NOT_ITS_FAULT not in why
-    ]
-    return found or [told[-300:]]
-
-
 def checked(crate, proofs, laws):
     """writes all; what `rt dev` then prints, and whether all is proved"""
     write_all(crate, proofs, laws)
@@ -129,6 +104,6 @@ def settle(crate, proofs, laws):
         wrong = [f"{proof.function}/{name}" for proof in proofs for name in try_again(proof, told, crate)]
         if proved or not wrong:
             break
-        print("tried again with fewer names:", *sorted(wrong), flush=True)
+        print("tried again:", *sorted(wrong), flush=True)
         told, proved = checked(crate, proofs, laws)
-    return [] if proved else errors(told)
+    return [] if proved else said(told, crate, proofs)

@@ -1,6 +1,4 @@
 """The records that the check makes of a function's code: its places, and what is asked at each."""
-import difflib
-import os
 import re
 
 from .files import read
@@ -67,26 +65,3 @@ class Records:
         if kind == "After" and rest.startswith("loop") and not rest.startswith("loop-"):
             return "past-" + rest
         return rest if kind in ("After", "At") else place.lower()
-
-
-def kinds(order, parameters):
-    """the needs in order without their numbers, the length of a list at a return with the list's name"""
-    found, lists, k = [], [p.name for p in parameters if p.lent], 0
-    for need in order:
-        kind = re.sub(r"-\d+$", "", need)
-        length = kind == "same-length"
-        k = k + 1 if length and found and found[-1][0] == kind else 0
-        found.append((kind, lists[k % len(lists)] if length and lists else ""))
-    return found
-
-
-def renumbered(crate, function, records):
-    """need of the run before -> need of today; nothing where the run before isn't known"""
-    tie = f"{crate.asked(crate.before, function)}/Tie.antt"
-    parameters = crate.parameters_before(function)
-    if parameters is None or not os.path.isfile(tie):
-        return {}
-    were, now = order_of_needs(read(tie)), records.order
-    old, new = kinds(were, parameters), kinds(now, crate.parameters(function))
-    same = difflib.SequenceMatcher(None, old, new, autojunk=False).get_matching_blocks()
-    return {were[i + k]: now[j + k] for i, j, size in same for k in range(size)}

@@ -2,12 +2,13 @@
 import os
 import re
 
-from .answers import NEED, WORD, Answer, answer_of, declarations
+from .answers import WORD, Answer, answer_of, declarations
 from .closing import closed
 from .lines import wrap
 from .links import Links, places_of
 from .lists import name_lists, undo_lists
-from .records import Records, renumbered
+from .records import Records
+from .renumber import moved, renumbered
 from .undo import undo_chains, undo_links, undo_places, without_links
 
 OFFERED = re.compile(r"^-- src/\S+:\d+:\d+\n", re.M)  # the line of code that an offered answer names, which moves
@@ -16,24 +17,11 @@ NO_LISTS = 2  # no names of lists
 NO_NAMES = 3  # no names at all
 
 
-def under_number(text, moved):
-    """an answer under the number that its need has today; nothing where the need is gone"""
-    m = NEED.match(text)
-    if not m:
-        return text
-    name, need = m.groups()
-    if need not in moved:
-        return ""
-    text = re.sub(rf"tie\.Need-{re.escape(need)}(?!{WORD})", f"tie.Need-{moved[need]}", text, count=1)
-    return re.sub(rf"^{re.escape(name)}(?= )", moved[need], text, flags=re.M) if name == need else text
-
-
 def read_items(text, crate, function, records):
     """the declarations of a file, each an Answer or a text, without names of an earlier run"""
-    moved = renumbered(crate, function, records)
-    texts = declarations(text)
-    if any(old != new for old, new in moved.items()):
-        texts = [text for text in (under_number(text, moved) for text in texts) if text]
+    texts, numbers = declarations(text), moved(text, crate, function, records.order)
+    if any(old != new for old, new in numbers.items()):
+        texts = [text for text in (renumbered(text, numbers) for text in texts) if text]
     texts, links = without_links(texts)
     items = [answer_of(text, records.needs) or text for text in texts]
     for answer in answers_of(items):
