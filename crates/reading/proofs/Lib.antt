@@ -1,4 +1,1 @@
-pub mod Loops
-pub mod Many
-pub mod Patterns
 pub mod Rest

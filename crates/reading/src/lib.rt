@@ -4,14 +4,12 @@ ghost use Prim.Native.Nat.{_*_, _≤_, min};
 ghost use lib.ListN.{length, drop};
 ghost use Rattle.text.specs.Read.{atMost, limits, meshOf, inputOf};
 ghost use Rattle.reading.specs.Seen.{meshAs, meshEnd, inputAs, countsOf, subjectOf, cutterOf, cleared, fcleared, MeshRest};
-
-mod lines;
-mod words;
-
-use lines::CellsRead;
-use lines::Count;
-use lines::First;
-use words::Step;
+use reading_lines::lines;
+use reading_lines::lines::CellsRead;
+use reading_lines::lines::Count;
+use reading_lines::lines::First;
+use reading_lines::words;
+use reading_lines::words::Step;
 
 // how much of the five lists is a mesh
 pub struct Counts {
