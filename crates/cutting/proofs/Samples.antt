@@ -1,8 +1,9 @@
--- K1's cell, K10's cell, a cell with an edge traced again, also by document 01 alone, and one whose outline repeats, by computation. Assumes nothing.
+-- K1's cell, K10's cell, a cell with an edge traced again, also by document 01 alone, and one whose outline repeats, by computation; exact areas. Assumes nothing.
 use mathlib.Core.Path.{_≡_, refl}
 use mathlib.Core.Bool.{Bool, true, false}
 use mathlib.Core.List.{List, [], _∷_}
-use Prim.Native.Nat.{ℕ}
+use Prim.Native.Nat.{ℕ, _*_, _^_}
+use lib.IntN.{pos, negℤ}
 use lib.Ieee.{Float, binary64, ofBits, sub}
 use Rattle.lists.specs.Search.{seek, first}
 use Rattle.lists.specs.Gather.{all, passing, joined, tally}
@@ -31,6 +32,7 @@ use Rattle.cutting.specs.Cell.{
   doubled,
 }
 use Rattle.cutting.specs.Walk.{slot, after, onward, arrive, cross, popped, taken, rest, go, step, run, starts, walkFrom, walkWith}
+use Rattle.cutting.specs.Areas.{doubledArea}
 use Rattle.cutting.specs.Outcome.{Outcome, refusal, pieces, closesUp, tooMany, cutOutcomeWith}
 
 abbrev laid : ℕ → ℕ → List ℕ → Laid
@@ -99,3 +101,14 @@ turned = refl
 -- 1,024 slots pass, 1,026 don't
 limit : _≡_ {A = Bool × Bool} (tooMany 1024, tooMany 1026) (false, true)
 limit = refl
+
+-- doubled areas in units of 2^-2148: K1's outline 8, its two pieces 4 each, the outline the other way round -8
+areas :
+    doubledArea k1 ((0, 8) ∷ (8, 1) ∷ (1, 2) ∷ (2, 9) ∷ (9, 3) ∷ (3, 0) ∷ [])
+    ∷ doubledArea k1 (ring (3 ∷ 0 ∷ 8 ∷ 9 ∷ []))
+    ∷ doubledArea k1 (ring (9 ∷ 8 ∷ 1 ∷ 2 ∷ []))
+    ∷ doubledArea k1 (ring (3 ∷ 2 ∷ 1 ∷ 0 ∷ []))
+    ∷ []
+    ≡ pos (8 * 2 ^ 2148) ∷ pos (4 * 2 ^ 2148) ∷ pos (4 * 2 ^ 2148) ∷ negℤ (pos (8 * 2 ^ 2148)) ∷ []
+unfolding doubledArea ring hops coord mag pointAt ofBits
+areas = refl

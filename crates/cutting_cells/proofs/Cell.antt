@@ -28,7 +28,8 @@ use Rattle.rules.specs.Operations.{Piece, outcomePieces, kept}
 use Rattle.rules.specs.Refusals.{ofCell, firstRefusal}
 use Rattle.rules.proofs.Accepts.{Sound, sound}
 use Rattle.spatial_index.specs.Candidates.{meets}
-use Rattle.edge_nodes.proofs.Scene.{Stored, sorted-is}
+use Rattle.edge_nodes.specs.Stored.{Stored}
+use Rattle.edge_nodes.proofs.Scene.{sorted-is}
 use Rattle.cells.specs.declared.CutCell.{CutCell}
 use Rattle.cells.specs.Cells.{outlineIn, tableIn, candidatesFrom, cutAs, cutBy, cutCell}
 use Rattle.cells.proofs.Scene.{cut-is, copied-is, from-first, none-near, Read, read-pieces, read-refusal}

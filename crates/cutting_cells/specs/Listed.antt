@@ -18,7 +18,7 @@ use Rattle.rules.specs.Meetings.{Scene, netOf}
 use Rattle.rules.specs.Cell.{cellOf, outcomeOf}
 use Rattle.rules.specs.Operations.{Piece, kept, overCells}
 use Rattle.rules.specs.Refusals.{Event, ofCell, firstRefusal}
-use Rattle.edge_nodes.proofs.Scene.{Stored}
+use Rattle.edge_nodes.specs.Stored.{Stored}
 use Rattle.cells.specs.declared.CutCell.{CutCell}
 use Rattle.cells.specs.Cells.{cutAs, cutCell, Uncrowded}
 use Rattle.pieces.specs.Pieces.{runsOf, room, events}

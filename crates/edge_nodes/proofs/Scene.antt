@@ -18,6 +18,7 @@ use Rattle.cutting.proofs.Pairs.{pairs-length}
 use Rattle.rules.specs.Meetings.{Met, Scene}
 use Rattle.rules.specs.Nodes as Nodes
 use Rattle.rules.specs.Nodes.{collected, overfull, sortedNodes, alongEdge}
+use Rattle.edge_nodes.specs.Stored.{noMet, Stored}
 use Rattle.edge_nodes.specs.Lent.{metNodes, underAt, under, collectedIn, unlessNone, sortedIn, crowdedAt}
 
 -- ---- what is collected goes by the key alone
@@ -48,16 +49,6 @@ module _ (e f : Edge) (same : sameKey e f ≡ true) where
     same-sorted coords = one-unless coords (collectedIn subject cutter met e) ∙ ap (unlessNone coords f) same-collected
 
 -- ---- the meetings of a scene in a lent list
-
-abbrev pub noMet : Met
-noMet = record { subjectEdge = 0; cutterEdge = 0; nodes = []; point = [] }
-
--- the meetings ms stand in `met`, five numbers each
-pub record Stored (ms : List Met) (met : List ℕ) : Type 0 where
-  pub count : length met / 5 ≡ length ms
-  pub subject-at : (q : ℕ) → q < length ms → getD met (5 * q) 0 ≡ getD ms q noMet .subjectEdge
-  pub cutter-at : (q : ℕ) → q < length ms → getD met (5 * q + 1) 0 ≡ getD ms q noMet .cutterEdge
-  pub nodes-at : (q : ℕ) → q < length ms → metNodes met q ≡ getD ms q noMet .nodes
 
 -- the numbers of a meeting: its edges, how many nodes it has, the first of them, and the second or 0
 abbrev pub numbersOf : Met → List ℕ

@@ -1,3 +1,4 @@
 pub mod Lent
 pub mod Links
 pub mod Chained
+pub mod Stored

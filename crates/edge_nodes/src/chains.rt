@@ -107,7 +107,7 @@ pub fn link_meetings(
 }
 
 // The first meeting on the chain of node v: `which` is 0 for the chains by subject edges and 1 for those by cutter edges.
-pub fn head_of(met: &[u32], links: &[u32], which: usize, v: u32) -> usize
+pub(crate) fn head_of(met: &[u32], links: &[u32], which: usize, v: u32) -> usize
     requires { ⌜ length (now met) / 5 < length (now links) / 2 ⌝ }
     ensures { λ r. ⌜ r ≡ headIn (now (met .entry)) (now (links .entry)) which v ⌝ }
 {
@@ -120,7 +120,7 @@ pub fn head_of(met: &[u32], links: &[u32], which: usize, v: u32) -> usize
 }
 
 // The next meeting on the chain of meeting q.
-pub fn next_of(met: &[u32], links: &[u32], which: usize, q: usize) -> usize
+pub(crate) fn next_of(met: &[u32], links: &[u32], which: usize, q: usize) -> usize
     requires { ⌜ (length (now met) / 5 < length (now links) / 2) × (q < length (now met) / 5) ⌝ }
     ensures { λ r. ⌜ r ≡ nextIn (now (met .entry)) (now (links .entry)) which q ⌝ }
 {

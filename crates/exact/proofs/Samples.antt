@@ -2,10 +2,10 @@
 use mathlib.Core.Path.{_≡_, refl}
 use mathlib.Core.Bool.{true, false}
 use mathlib.Core.List.{List, [], _∷_}
-use lib.IntN.{pos, negsuc}
+use lib.IntN.{ℤ, pos, negsuc}
 use lib.Ieee.{Float, fin}
-use Rattle.exact.specs.Exact.{coord, mag, sign, ordered}
-use Rattle.exact.specs.Angle.{angles, orientation}
+use Rattle.exact.specs.Exact.{coord, mag, sign, signum, ordered}
+use Rattle.exact.specs.Angle.{angles, anglesNumber, orientation}
 use Rattle.exact.specs.declared.Order.{Order}
 use Rattle.exact.specs.declared.Order.the-variants.{Less, Equal, Greater}
 
@@ -31,3 +31,10 @@ pub samples : _≡_ {A = List Order}
     ∷ Greater ∷ Less ∷ Equal ∷ Greater ∷ [])
 unfolding angles orientation coord mag sign ordered
 samples = refl
+
+-- the same directions by their numbers
+pub number-samples : _≡_ {A = List ℤ}
+    (anglesNumber j o o i ∷ anglesNumber o i j o ∷ anglesNumber i o o i ∷ anglesNumber i i o i ∷ anglesNumber o o i o ∷ [])
+    (negsuc 0 ∷ pos 1 ∷ pos 1 ∷ pos 1 ∷ pos 0 ∷ [])
+unfolding coord mag sign signum
+number-samples = refl

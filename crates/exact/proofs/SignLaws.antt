@@ -4,14 +4,14 @@ use mathlib.Core.Bool.{Bool, true, false, cond, Bool·beq, true≢false, false�
 use Prim.Native.Nat.{ℕ, zero, suc, _+_, _*_, _^_, _<_}
 use native.Mathlib.Nat.{zero-mul, mul-zero, mul-pos}
 use native.Mathlib.Omega.{arith}
-use lib.Dec.{eqb}
-use lib.IntN.{ℤ, _-ℤ_, _*ℤ_}
+use lib.Dec.{ltb, eqb}
+use lib.IntN.{ℤ, pos, negsuc, _-ℤ_, _*ℤ_}
 use lib.Pow.{pow-pos}
 use lib.Ieee.{Float, unlike}
 use borrow.Author.Tests.{eq-eqb, ne-eqb, eqb-true}
-use Rattle.exact.specs.Exact.{ordered, sign, signed}
+use Rattle.exact.specs.Exact.{coord, ordered, sign, signed, signNumber, signum}
 use Rattle.exact.specs.Inner.{size, number}
-use Rattle.exact.specs.Angle.{partAt, within, cross, turn, angles}
+use Rattle.exact.specs.Angle.{partAt, within, cross, turn, turnNumber, angles, anglesNumber}
 use Rattle.exact.specs.declared.parts.Parts.{Parts}
 use Rattle.exact.specs.declared.Order.{Order}
 use Rattle.exact.specs.declared.Order.the-variants.{Less, Equal, Greater}
@@ -153,3 +153,27 @@ pub to-angles : {x y u v : Float} {a b c d : Parts} → Taken x a → Taken y b 
     → turn (number a) (number b) (number c) (number d) ≡ angles x y u v
 unfolding angles
 to-angles ta tb tc td = λ i. turn (coord-of ta i) (coord-of tb i) (coord-of tc i) (coord-of td i)
+
+-- ---- the answer's number
+
+pub sign-number : (z : ℤ) → signNumber (sign z) ≡ signum z
+unfolding sign signum
+sign-number (pos zero) = refl
+sign-number (pos (suc n)) = refl
+sign-number (negsuc n) = refl
+
+turn-number : (x y x' y' : ℤ) → signNumber (turn x y x' y') ≡ turnNumber x y x' y'
+unfolding ordered
+turn-number x y x' y' =
+    let p = partAt (sign x) (sign y) in
+    let q = partAt (sign x') (sign y') in
+    go (ltb p q) (ltb q p) (cross x y x' y')
+  where
+    go : (b d : Bool) (z : ℤ) → signNumber (within (cond b Less (cond d Greater Equal)) z) ≡ cond b (negsuc 0) (cond d (pos 1) (signum z))
+    go true d z = refl
+    go false true z = refl
+    go false false z = sign-number z
+
+pub angles-number : {r : Order} (x y u v : Float) → r ≡ angles x y u v → (r ≡ angles x y u v) × (signNumber r ≡ anglesNumber x y u v)
+unfolding angles
+angles-number x y u v e = (e, ap signNumber e ∙ turn-number (coord x) (coord y) (coord u) (coord v))

@@ -14,6 +14,7 @@ use Rattle.exact.specs.Angle.{det, orientation}
 use Rattle.exact.specs.declared.parts.Parts.{Parts}
 use Rattle.exact.specs.declared.Order.{Order}
 use Rattle.exact.proofs.Fields.{Taken, coord-of}
+use Rattle.exact.proofs.SignLaws.{sign-number}
 use Rattle.exact.proofs.Integers.{diff, diff-add, every, six, signed-mul, add-signed, sign-diff}
 
 -- ---- an empty row
@@ -82,12 +83,6 @@ unfolding orientation
 to-orientation ta tb tc td te tf = same-sign (coord-of ta) (coord-of tb) (coord-of tc) (coord-of td) (coord-of te) (coord-of tf)
 
 -- ---- the answer's number
-
-sign-number : (z : ℤ) → signNumber (sign z) ≡ signum z
-unfolding sign signum
-sign-number (pos zero) = refl
-sign-number (pos (suc n)) = refl
-sign-number (negsuc n) = refl
 
 pub with-number : {r : Order} (ax ay bx by cx cy : Float) → r ≡ orientation ax ay bx by cx cy
     → (r ≡ orientation ax ay bx by cx cy) × (signNumber r ≡ signum (det (coord ax) (coord ay) (coord bx) (coord by) (coord cx) (coord cy)))

@@ -1,8 +1,10 @@
 -- Module 2's `orient2d`, and module 6's order of directions by falling angle. Assumes nothing.
+use mathlib.Core.Bool.{cond}
 use Prim.Native.Nat.{ℕ}
-use lib.IntN.{ℤ, _-ℤ_, _*ℤ_}
+use lib.Dec.{ltb}
+use lib.IntN.{ℤ, pos, negsuc, _-ℤ_, _*ℤ_}
 use lib.Ieee.{Float, binary64, sub}
-use Rattle.exact.specs.Exact.{coord, sign, ordered}
+use Rattle.exact.specs.Exact.{coord, sign, signum, ordered}
 use Rattle.exact.specs.declared.Order.{Order}
 use Rattle.exact.specs.declared.Order.the-variants.{Less, Equal, Greater}
 
@@ -38,9 +40,22 @@ within Greater z = Greater
 abbrev pub turn : (x y x' y' : ℤ) → Order
 turn x y x' y' = within (ordered (partAt (sign x) (sign y)) (partAt (sign x') (sign y'))) (cross x y x' y')
 
+-- its number, by the parts' numbers and the cross product: −1 where x, y stands before x', y', 0 where neither does, 1 where it stands after
+abbrev pub turnNumber : (x y x' y' : ℤ) → ℤ
+turnNumber x y x' y' =
+    let p = partAt (sign x) (sign y) in
+    let q = partAt (sign x') (sign y') in
+    cond (ltb p q) (negsuc 0) (cond (ltb q p) (pos 1) (signum (cross x y x' y')))
+
 unfoldable pub angles : (x y x' y' : Float) → Order
 angles x y x' y' = turn (coord x) (coord y) (coord x') (coord y')
+
+abbrev pub anglesNumber : (x y x' y' : Float) → ℤ
+anglesNumber x y x' y' = turnNumber (coord x) (coord y) (coord x') (coord y')
 
 -- the same of the directions from p to a and from p to b. A direction is the rounded difference of two points.
 abbrev pub around : (px py ax ay bx by : Float) → Order
 around px py ax ay bx by = angles (sub binary64 ax px) (sub binary64 ay py) (sub binary64 bx px) (sub binary64 by py)
+
+abbrev pub aroundNumber : (px py ax ay bx by : Float) → ℤ
+aroundNumber px py ax ay bx by = anglesNumber (sub binary64 ax px) (sub binary64 ay py) (sub binary64 bx px) (sub binary64 by py)

@@ -1,7 +1,7 @@
 // The exact order of two directions by falling angle in (−180°, 180°].
 ghost use mathlib.Core.Path.{_≡_};
-ghost use Rattle.exact.specs.Exact.{sign};
-ghost use Rattle.exact.specs.Angle.{angles, around, partAt};
+ghost use Rattle.exact.specs.Exact.{sign, signNumber};
+ghost use Rattle.exact.specs.Angle.{angles, anglesNumber, around, aroundNumber, partAt};
 ghost use Rattle.exact.specs.Inner.{number};
 use crate::Order;
 use crate::cross::cross_sign;
@@ -23,7 +23,7 @@ fn part_of(x: Parts, y: Parts) -> u8
 
 // Less where the direction x, y stands before u, v. A zero direction is east.
 pub fn compare_angles(x: f64, y: f64, u: f64, v: f64) -> Order
-    ensures { λ r. ⌜ r ≡ angles x y u v ⌝ }
+    ensures { λ r. ⌜ (r ≡ angles x y u v) × (signNumber r ≡ anglesNumber x y u v) ⌝ }
 {
     let a = take_apart(x);
     let b = take_apart(y);
@@ -42,7 +42,7 @@ pub fn compare_angles(x: f64, y: f64, u: f64, v: f64) -> Order
 
 // The order of the directions from p to a and from p to b, each a rounded difference.
 pub fn compare_around(px: f64, py: f64, ax: f64, ay: f64, bx: f64, by: f64) -> Order
-    ensures { λ r. ⌜ r ≡ around px py ax ay bx by ⌝ }
+    ensures { λ r. ⌜ (r ≡ around px py ax ay bx by) × (signNumber r ≡ aroundNumber px py ax ay bx by) ⌝ }
 {
     compare_angles(ax - px, ay - py, bx - px, by - py)
 }

@@ -14,7 +14,6 @@ pub use angle::compare_around;
 pub use orient::orient2d;
 pub use parts::Parts;
 pub use parts::is_finite;
-pub use parts::take_apart;
 
 // How a number compares with another, or a direction; as a sign, how it compares with 0.
 pub enum Order {

@@ -19,7 +19,7 @@ pub fn is_finite(x: f64) -> bool
 }
 
 // The sign, the significand and the exponent of a float. What is not finite counts as 0.
-pub fn take_apart(x: f64) -> Parts
+pub(crate) fn take_apart(x: f64) -> Parts
     ensures { λ r. ⌜ r ≡ takeApart x ⌝ }
 {
     if is_finite(x) {

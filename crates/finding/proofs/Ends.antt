@@ -27,7 +27,8 @@ use Rattle.meetings.proofs.Reading.{length-booked, booked-at, meetings-fit, by-
 use Rattle.edge_nodes.specs.Links.{linksOf, Linked}
 use Rattle.edge_nodes.specs.Lent.{crowdedAt}
 use Rattle.edge_nodes.proofs.Linked.{linked}
-use Rattle.edge_nodes.proofs.Scene.{noMet, Stored, numbers-stored, overfull-is}
+use Rattle.edge_nodes.specs.Stored.{noMet, Stored}
+use Rattle.edge_nodes.proofs.Scene.{numbers-stored, overfull-is}
 use Rattle.finding.specs.declared.numbering.Regions.{Regions}
 use Rattle.finding.specs.declared.stages.Found.{Found}
 use Rattle.finding.specs.Nets.{Fit, Room, subjectAt, cutterAt, metAt, regionsOf, netted}

@@ -1,16 +1,14 @@
 -- The laws of searches, of tests of every index, and of counts. Assumes nothing.
 use mathlib.Core.Path.{_≡_, refl, sym, ap, ap₂, _∙_, fun-ext}
 use mathlib.Core.Bool.{Bool, true, false, _&&_, _||_, and-false, true≢false}
-use mathlib.Core.List.{List}
-use Prim.Native.Nat.{ℕ, zero, suc, _+_, _-_, _/_, _≤_, _<_}
+use Prim.Native.Nat.{ℕ, zero, suc, _+_, _-_, _≤_, _<_}
 use native.Mathlib.Nat.{not-suc-le-zero, le-antisymm}
 use native.Mathlib.Numerals.{add-one}
 use native.Mathlib.Decide.{decLe, decLt}
 use native.Mathlib.Omega.{arith}
 use lib.Dec.{ltb, eqb}
-use lib.ListN.{length}
 use borrow.Author.Tests.{lt-ltb, le-ltb, ltb-true, ltb-false, eq-eqb, ne-eqb}
-use Rattle.lists.specs.Search.{seek, first, has, every, bit, many, find, findPair}
+use Rattle.lists.specs.Search.{seek, first, has, every, bit, many}
 
 pub bit-le : (t : Bool) → bit t ≤ 1
 bit-le true = omega arith
@@ -273,11 +271,3 @@ every-some p (suc n) h = go (every n p) refl (p n) refl (λ e. every-some p n e)
     go t e false f ih = (n, omega arith, f)
     go false e true f ih = let r = ih e in (r .0, omega (arith, r .1), r .2)
     go true e true f ih = absurd (true≢false (sym (rw (e, f)) ∙ h))
-
--- ---- a list searched
-
-pub find-le : (xs : List ℕ) (x : ℕ) → find xs x ≤ length xs
-find-le xs x = first-le _ 0 (length xs) (omega arith)
-
-pub findPair-le : (xs : List ℕ) (a b : ℕ) → findPair xs a b ≤ length xs / 2
-findPair-le xs a b = first-le _ 0 (length xs / 2) (omega arith)

@@ -1,10 +1,8 @@
 -- "Lists searched by key": the first index that passes a test, and how many do. Every search of the library is this one, with another test.
 -- Assumes nothing.
 use mathlib.Core.Bool.{Bool, true, false, _&&_}
-use Prim.Native.Nat.{ℕ, zero, suc, _+_, _-_, _*_, _/_}
-use mathlib.Core.List.{List}
-use lib.Dec.{ltb, eqb}
-use lib.ListN.{length, getD}
+use Prim.Native.Nat.{ℕ, zero, suc, _+_, _-_}
+use lib.Dec.{ltb}
 
 -- the first of the m indices k, k + 1, .. that passes p; k + m where none does
 unfoldable pub seek : (ℕ → Bool) → ℕ → ℕ → ℕ
@@ -18,14 +16,6 @@ first p k n = seek p k (n - k)
 -- some index below n passes p
 abbrev pub has : (ℕ → Bool) → ℕ → Bool
 has p n = ltb (first p 0 n) n
-
--- the first place of x; the length where there is none
-abbrev pub find : List ℕ → ℕ → ℕ
-find xs x = first (λ i. eqb (getD xs i 0) x) 0 (length xs)
-
--- the first place of the pair a, b in a flat list of pairs, counted in pairs; their number where there is none
-abbrev pub findPair : List ℕ → ℕ → ℕ → ℕ
-findPair xs a b = first (λ i. eqb (getD xs (2 * i) 0) a && eqb (getD xs (2 * i + 1) 0) b) 0 (length xs / 2)
 
 -- every index below n passes p
 unfoldable pub every : ℕ → (ℕ → Bool) → Bool

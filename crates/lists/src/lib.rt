@@ -8,7 +8,5 @@ pub use floats::copy_f64;
 pub use floats::insert_at_f64;
 pub use floats::zero_f64;
 pub use numbers::copy_u32;
-pub use numbers::find_pair;
-pub use numbers::find_u32;
 pub use numbers::insert_at_u32;
 pub use numbers::zero_u32;

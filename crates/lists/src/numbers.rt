@@ -1,10 +1,9 @@
-// Lists of numbers: set to zero, copied, searched, and one number put in.
+// Lists of numbers: set to zero, copied, and one number put in.
 ghost use mathlib.Core.Path.{_≡_};
 ghost use mathlib.Core.Bool.{_&&_};
-ghost use Prim.Native.Nat.{_+_, _/_, _≤_};
+ghost use Prim.Native.Nat.{_+_};
 ghost use lib.ListN.{length};
 ghost use lib.Dec.{leb, ltb};
-ghost use Rattle.lists.specs.Search.{find, findPair};
 ghost use Rattle.lists.specs.Regions.{copied, insertAt, zeros};
 
 pub fn zero_u32(s: &mut [u32])
@@ -48,35 +47,4 @@ pub fn insert_at_u32(xs: &mut [u32], n: usize, k: usize, x: u32) -> bool
     }
     xs[i] = x;
     true
-}
-
-// The first place of x; the length where there is none.
-pub fn find_u32(xs: &[u32], x: u32) -> usize
-    ensures { λ r. ⌜ (r ≡ find (now (xs .entry)) x) × (r ≤ length (now (xs .entry))) ⌝ }
-{
-    let mut i = 0;
-    while i < xs.len() {
-        if xs[i] == x {
-            return i;
-        }
-        i += 1;
-    }
-    i
-}
-
-// The first place of the pair a, b in a flat list of pairs, counted in pairs; their number where there is none.
-pub fn find_pair(xs: &[u32], a: u32, b: u32) -> usize
-    ensures { λ r. ⌜ (r ≡ findPair (now (xs .entry)) a b) × (r ≤ length (now (xs .entry)) / 2) ⌝ }
-{
-    let n = xs.len() / 2;
-    let mut p = 0;
-    while p < n {
-        if xs[2 * p] == a {
-            if xs[2 * p + 1] == b {
-                return p;
-            }
-        }
-        p += 1;
-    }
-    p
 }

@@ -29,7 +29,8 @@ use Rattle.rules.specs.Operations.{cuts, sceneFor}
 use Rattle.rules.specs.Refusals.{firstRefusal}
 use Rattle.edge_nodes.specs.Links.{Linked}
 use Rattle.edge_nodes.proofs.Linked.{linked}
-use Rattle.edge_nodes.proofs.Scene.{noMet, Stored, numbers-stored}
+use Rattle.edge_nodes.specs.Stored.{noMet, Stored}
+use Rattle.edge_nodes.proofs.Scene.{numbers-stored}
 use Rattle.meetings.specs.Booked.{booked}
 use Rattle.meetings.proofs.Reading.{length-booked, booked-at, meetings-fit}
 use Rattle.cells.specs.Cells.{Uncrowded}

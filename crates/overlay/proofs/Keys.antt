@@ -19,7 +19,8 @@ use Rattle.rules.specs.Meetings.{Scene}
 use Rattle.rules.specs.Nodes.{collected, overfull, crowded}
 use Rattle.edge_nodes.specs.Links.{Linked}
 use Rattle.edge_nodes.specs.Lent.{collectedIn}
-use Rattle.edge_nodes.proofs.Scene.{Stored, collected-is}
+use Rattle.edge_nodes.specs.Stored.{Stored}
+use Rattle.edge_nodes.proofs.Scene.{collected-is}
 use Rattle.cells.specs.Cells.{Uncrowded}
 use Rattle.cells.proofs.Scene.{same-keys}
 use Rattle.pieces.specs.Pieces.{runsOf}

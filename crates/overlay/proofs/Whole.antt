@@ -19,7 +19,7 @@ use Rattle.rules.specs.Meetings.{Scene, addedBy, sceneOf}
 use Rattle.rules.specs.Operations.{sceneFor, kept, listingWith}
 use Rattle.rules.specs.Refusals.{Event, course, firstRefusal}
 use Rattle.rules.specs.Overlay.{Lists, lentLists, result, written, stateOf, stateWith, answered, answeredWith}
-use Rattle.edge_nodes.proofs.Scene.{Stored}
+use Rattle.edge_nodes.specs.Stored.{Stored}
 use Rattle.pieces.specs.Pieces.{runsOf, room}
 use Rattle.pieces.proofs.Room.{refused}
 use Rattle.cutting_cells.specs.declared.Listed.{Listed}

@@ -58,7 +58,7 @@ fn some_holds(coords: &[f64], nodes: &[u32], ends: &[u32], x: f64, y: f64) -> bo
 }
 
 // Whether the piece lies inside the mesh of the given cells.
-pub fn point_inside(coords: &[f64], nodes: &[u32], ends: &[u32], piece: &[u32]) -> bool
+fn point_inside(coords: &[f64], nodes: &[u32], ends: &[u32], piece: &[u32]) -> bool
     requires { ⌜ Rising (now ends) (length (now nodes)) ⌝ }
     ensures { λ r. ⌜ r ≡ pointInside (now (coords .entry)) (runsOf (now (nodes .entry)) (now (ends .entry))) (now (piece .entry)) ⌝ }
 {
@@ -90,7 +90,7 @@ fn keeps(op: u32, cutter: bool, inside: bool) -> bool
 }
 
 // Where the operation keeps the piece either way it isn't asked whether it lies inside.
-pub fn is_kept(
+fn is_kept(
     op: u32,
     cutter: bool,
     coords: &[f64],

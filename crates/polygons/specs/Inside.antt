@@ -15,7 +15,7 @@ use Rattle.plane.specs.declared.Point.{Point}
 use Rattle.polygons.specs.declared.Reached.{Reached}
 use Rattle.polygons.specs.declared.Near.{Near}
 
--- The exact sign of (ax−cx)(by−cy) − (ay−cy)(bx−cx). With a coordinate that is not finite it is neither below nor above 0, as the Rust's NaN is.
+-- The exact sign of (ax−cx)(by−cy) − (ay−cy)(bx−cx). With a coordinate that is not finite there is no such number, and c is neither left nor right.
 unfoldable pub orient2d2 : Point → Point → Point → Order
 orient2d2 a b c =
     cond ((finite (a .x) && finite (a .y)) && (finite (b .x) && finite (b .y)) && (finite (c .x) && finite (c .y)))

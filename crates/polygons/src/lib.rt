@@ -2,14 +2,12 @@
 ghost use mathlib.Core.Path.{_≡_};
 ghost use lib.ListN.{length, getD};
 ghost use lib.Ieee.{lt};
-ghost use Rattle.exact.specs.Exact.{signNumber};
 ghost use Rattle.lists.specs.Gather.{all};
 ghost use Rattle.lists.specs.Sort.{sorted};
 ghost use Rattle.plane.specs.Plane.{number};
 ghost use Rattle.polygons.specs.Corners.{cornerAt, after, previous, oriented, term, doubled, signedArea2, turned, intoCcw2};
 ghost use Rattle.polygons.specs.Inside.{clamped, orthoDist2, settle, nearer, nearest, isLess, isGreater, orient2d2, leftOf, reflex, atCorner, containsStable, inside};
 ghost use Rattle.polygons.specs.Interior.{heights, passed, widestIn, crossingAt, crossings, lowest, pointOn, atHeight, strictInteriorPoint};
-ghost use Rattle.polygons.specs.Code.{innerCode};
 ghost use Rattle.polygons.specs.Scans.{lower, closer, firstAbove, climbTo, taken, withCrossing};
 use exact::Order;
 use plane::Point;
@@ -122,7 +120,7 @@ fn doubled(coords: &[f64], corners: &[u32]) -> f64
     sum
 }
 
-pub fn signed_area2(coords: &[f64], corners: &[u32]) -> f64
+fn signed_area2(coords: &[f64], corners: &[u32]) -> f64
     ensures { λ r. ⌜ r ≡ signedArea2 (now (coords .entry)) (now (corners .entry)) ⌝ }
 {
     doubled(coords, corners) / 2.0
@@ -138,9 +136,8 @@ pub fn into_ccw2(coords: &[f64], corners: &[u32]) -> bool
 
 // ---- Inside or not
 
-pub fn orient2d2(a: Point, b: Point, c: Point) -> Order
+fn orient2d2(a: Point, b: Point, c: Point) -> Order
     ensures { λ r. ⌜ r ≡ orient2d2 a b c ⌝ }
-    ensures { λ r. ⌜ signNumber r ≡ signNumber (orient2d2 a b c) ⌝ }
 {
     let fa = exact::is_finite(a.x) & exact::is_finite(a.y);
     let fb = exact::is_finite(b.x) & exact::is_finite(b.y);
@@ -163,7 +160,7 @@ fn clamped(t: f64) -> f64
     t
 }
 
-pub fn ortho_dist2(p: Point, a: Point, b: Point) -> Reached
+fn ortho_dist2(p: Point, a: Point, b: Point) -> Reached
     ensures { λ r. ⌜ r ≡ orthoDist2 p a b ⌝ }
 {
     let ab = plane::between(a, b);
@@ -508,7 +505,6 @@ fn at_height(coords: &[f64], corners: &[u32], h: Height) -> Inner
 
 pub fn strict_interior_point(coords: &[f64], corners: &[u32]) -> Inner
     ensures { λ r. ⌜ r ≡ strictInteriorPoint (now (coords .entry)) (now (corners .entry)) ⌝ }
-    ensures { λ r. ⌜ innerCode r ≡ innerCode (strictInteriorPoint (now (coords .entry)) (now (corners .entry))) ⌝ }
 {
     if corners.len() < 3 {
         return Inner::Nowhere;

@@ -2,7 +2,7 @@
 ghost use mathlib.Core.Path.{_≡_};
 ghost use Prim.Native.Nat.{_+_, _-_, _*_, _≤_, _<_, min};
 ghost use lib.ListN.{length, take, drop};
-ghost use Rattle.text.specs.Text.{listingText, refusedText, unreadText, meshText, firstText, inputText, answerText};
+ghost use Rattle.text.specs.Text.{listingText, refusedText, unreadText, answerText};
 ghost use Rattle.printing.specs.Page.{page, written, room, laid};
 ghost use Rattle.printing.specs.Told.{mesh, told};
 
@@ -98,44 +98,4 @@ pub fn print_answer(
             )
         }
     }
-}
-
-fn put_mesh(
-    out: &mut [u8],
-    to: Put,
-    coords: &[f64],
-    nodes: &[u32],
-    ends: &[u32],
-    kinds: &[u8],
-    families: &[u32],
-) -> Put
-    ensures { λ r. ⌜ page r (now (out .exit)) ≡ written (page to (now (out .entry))) (meshText (mesh (now (coords .entry)) (now (nodes .entry)) (now (ends .entry)) (now (kinds .entry)) (now (families .entry)))) ⌝ }
-{
-    let a = lines::put_bytes(out, to, b"(mesh\n");
-    let b = lines::put_body(out, a, coords, nodes, ends, kinds, families);
-    lines::put_bytes(out, b, b")\n")
-}
-
-// The text of an input, from the list's first place on.
-pub fn print_input(
-    out: &mut [u8],
-    op: u32,
-    m: u32,
-    sc: &[f64],
-    sn: &[u32],
-    se: &[u32],
-    sk: &[u8],
-    sf: &[u32],
-    cc: &[f64],
-    cn: &[u32],
-    ce: &[u32],
-    ck: &[u8],
-    cf: &[u32],
-) -> Put
-    ensures { λ r. ⌜ (r ≡ room (length (now (out .entry))) (inputText op m (mesh (now (sc .entry)) (now (sn .entry)) (now (se .entry)) (now (sk .entry)) (now (sf .entry))) (mesh (now (cc .entry)) (now (cn .entry)) (now (ce .entry)) (now (ck .entry)) (now (cf .entry))))) × (now (out .exit) ≡ laid (now (out .entry)) (inputText op m (mesh (now (sc .entry)) (now (sn .entry)) (now (se .entry)) (now (sk .entry)) (now (sf .entry))) (mesh (now (cc .entry)) (now (cn .entry)) (now (ce .entry)) (now (ck .entry)) (now (cf .entry))))) ⌝ }
-{
-    let a = lines::put_first(out, Put::At(0), op, m);
-    let b = put_mesh(out, a, sc, sn, se, sk, sf);
-    let c = put_mesh(out, b, cc, cn, ce, ck, cf);
-    lines::put_bytes(out, c, b")\n")
 }

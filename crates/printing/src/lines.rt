@@ -4,7 +4,7 @@ ghost use mathlib.Core.List.{_++_};
 ghost use Prim.Native.Nat.{_-_};
 ghost use lib.ListN.{take, drop};
 ghost use lib.Ieee.{toBits, binary64};
-ghost use Rattle.text.specs.Text.{space, decimal, hex, nodeText, nodesText, numbersText, cellText, cellsText, bodyText, firstText, countText};
+ghost use Rattle.text.specs.Text.{space, decimal, hex, nodeText, nodesText, numbersText, cellText, cellsText, bodyText, countText};
 ghost use Rattle.printing.specs.Page.{page, written};
 ghost use Rattle.printing.specs.Told.{bits, mesh};
 use crate::Put;
@@ -151,16 +151,6 @@ pub(crate) fn put_body(
 {
     let a = put_nodes(out, to, coords);
     put_cells(out, a, nodes, ends, kinds, families)
-}
-
-// the first line of an input
-pub(crate) fn put_first(out: &mut [u8], to: Put, op: u32, m: u32) -> Put
-    ensures { λ r. ⌜ page r (now (out .exit)) ≡ written (page to (now (out .entry))) (firstText op m) ⌝ }
-{
-    let a = put_bytes(out, to, b"(overlay ");
-    let b = put_decimal(out, a, op);
-    let c = put_number(out, b, m);
-    put_bytes(out, c, b"\n")
 }
 
 pub(crate) fn put_count(out: &mut [u8], to: Put, pieces: u32, points: u32, doubled: u32) -> Put

@@ -1,2 +1,3 @@
 pub mod Answers
 pub mod Sizes
+pub mod K1

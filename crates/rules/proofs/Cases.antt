@@ -1,9 +1,10 @@
 -- The cases K1 to K10 of document 01, the limits named behind them, and what it is tempting to get wrong, as one table and one theorem. Assumes nothing.
 use mathlib.Core.Bool.{Bool, true, false}
 use mathlib.Core.List.{List, [], _∷_, _++_, map}
-use Prim.Native.Nat.{ℕ, _+_, _*_}
+use Prim.Native.Nat.{ℕ, _+_, _*_, _^_}
 use lib.Dec.{T, eqb}
 use lib.ListN.{replicate}
+use lib.IntN.{ℤ, pos, negsuc}
 use lib.Ieee.{binary64, ofBits}
 use Rattle.lists.specs.Search.{bit}
 use Rattle.lists.specs.Gather.{each, joined}
@@ -12,17 +13,20 @@ use Rattle.segments.specs.Meet.{meeting}
 use Rattle.polygons.specs.Interior.{strictInteriorPoint}
 use Rattle.segments.specs.Code.{code}
 use Rattle.polygons.specs.Code.{innerCode}
-use Rattle.cutting.specs.Edges.{Edge}
+use Rattle.cutting.specs.Edges.{Edge, ring}
 use Rattle.cutting.specs.Cell.{Laid, Slot, standsBefore, cellTable}
 use Rattle.cutting.specs.Setting.{Setting, base}
 use Rattle.cutting.specs.Outcome.{Outcome, refusal, pieces, cutOutcome, flat, stops}
+use Rattle.cutting.specs.Areas.{doubledArea}
 use Rattle.entry.specs.Mesh.{Mesh}
 use Rattle.entry.specs.Refused.{meshOf}
 use Rattle.rules.specs.Mesh.{Side, theSubject, theCutter}
 use Rattle.rules.specs.Snap.{weld}
 use Rattle.rules.specs.SpatialIndex.{edgeBox, candidates}
-use Rattle.rules.specs.Meetings.{sceneOf}
+use Rattle.rules.specs.Meetings.{Scene, sceneOf}
 use Rattle.rules.specs.Nodes.{alongEdge}
+use Rattle.rules.specs.Cell.{outlineOf}
+use Rattle.rules.specs.Operations.{piecesOf}
 use Rattle.rules.specs.Overlay.{Lists, Result, result, overlayWith, overlayOf}
 use Rattle.rules.specs.Forward.{forwardEdge, forwardCell}
 use Rattle.rules.proofs.Tables.{Case, case, lent, onLists, floats, both, same, rightBy}
@@ -43,6 +47,7 @@ data Row : Type 0 where
   nodes-along : List ℕ → Edge → List ℕ → List ℕ → Row  -- coordinates, a key, the nodes collected: the sorted nodes
   weld-of : Mesh → Mesh → List ℕ → Row  -- two meshes: the numbers of the cutter's nodes
   near-box : List ℕ → Edge → Edge → List ℕ → Row  -- coordinates, an edge, another: it as a candidate
+  areas-of : Mesh → Mesh → List ℕ → Row  -- two meshes: the exact doubled areas of the subject's first outline as cut and of its pieces, a sign and a size each
   forward-of : Mesh → Mesh → Side → Bool → Row  -- two meshes and one of them: whether its first cell's edges are all forward
 
 -- ---- numbers, meshes and lists of the rows
@@ -84,6 +89,10 @@ seg ax ay bx by = record { a = point ax ay; b = point bx by }
 -- K1's subject and cutter, and K10's line
 abbrev square : Mesh
 square = lent (o ∷ o ∷ ii ∷ o ∷ ii ∷ ii ∷ o ∷ ii ∷ []) (0 ∷ 1 ∷ 2 ∷ 3 ∷ []) (4 ∷ []) (8 ∷ []) (7 ∷ [])
+
+-- the same corners the other way round
+abbrev clockwise : Mesh
+clockwise = lent (o ∷ o ∷ o ∷ ii ∷ ii ∷ ii ∷ ii ∷ o ∷ []) (0 ∷ 1 ∷ 2 ∷ 3 ∷ []) (4 ∷ []) (8 ∷ []) (7 ∷ [])
 
 abbrev strip : Mesh
 strip = lent (i ∷ -i ∷ iii ∷ -i ∷ iii ∷ iii ∷ i ∷ iii ∷ []) (0 ∷ 1 ∷ 2 ∷ 3 ∷ []) (4 ∷ []) (11 ∷ []) (0 ∷ [])
@@ -164,6 +173,9 @@ rows =
     -- K1, with one place more in each list than its answer takes
     overlay (case 0 9 square strip (fives 21 9 3 3 3 500) (result 0 2 2 0
     (onLists (cut-coords ++ ii ∷ []) (3 ∷ 0 ∷ 8 ∷ 9 ∷ 9 ∷ 8 ∷ 1 ∷ 2 ∷ 5 ∷ []) (4 ∷ 8 ∷ 5 ∷ []) (11 ∷ 11 ∷ 5 ∷ []) (7 ∷ 7 ∷ 5 ∷ []) (replicate 500 0))))
+    -- its areas, in units of 2^-2148: the outline's is 8, each piece's 4; clockwise they are below 0
+    ∷ areas-of square strip (0 ∷ (8 * 2 ^ 2148) ∷ 0 ∷ (4 * 2 ^ 2148) ∷ 0 ∷ (4 * 2 ^ 2148) ∷ [])
+    ∷ areas-of clockwise away (1 ∷ (8 * 2 ^ 2148) ∷ 1 ∷ (8 * 2 ^ 2148) ∷ [])
     -- K2 to K7
     ∷ meeting-of (seg o o ii o) (seg i iii i -i) (2 ∷ i ∷ o ∷ [])
     ∷ meeting-of (seg o o ii o) (seg i o iii o) (3 ∷ 3 ∷ 2 ∷ [])
@@ -279,8 +291,17 @@ cutInto (pieces ps) ns es = both (same (flat ps) ns) (same (stops 0 ps) es)
 abbrev no-edges : List Laid
 no-edges = []
 
+-- whether it is below 0, and its size
+abbrev sign-size : ℤ → List ℕ
+sign-size (pos n) = 0 ∷ n ∷ []
+sign-size (negsuc n) = 1 ∷ (n + 1) ∷ []
+
+-- the outline's, then the pieces'
+abbrev areasOf : Scene → List ℤ
+areasOf sc = map (doubledArea (sc .coords)) (outlineOf sc theSubject 0 ∷ map ring (piecesOf sc theSubject 0))
+
 holds : Row → Bool
-unfolding rightBy code innerCode forwardEdge forwardCell
+unfolding rightBy code innerCode doubledArea forwardEdge forwardCell
 holds (overlay c) = rightBy overlayOf (c ∷ [])
 holds (set-to v c) = rightBy (overlayWith v) (c ∷ [])
 holds (meeting-of s t m) = same (code (meeting s t)) m
@@ -292,6 +313,7 @@ holds (corners n r) = eqb (meshOf false (pgon n)) r
 holds (nodes-along coords k ns ms) = same (alongEdge (floats coords) k ns) ms
 holds (weld-of s c ns) = same (weld s c) ns
 holds (near-box coords e f js) = same (candidates (floats coords) (f ∷ []) (edgeBox (floats coords) e)) js
+holds (areas-of s c ns) = same (joined sign-size (areasOf (sceneOf false s c))) ns
 holds (forward-of s c w t) = eqb (bit (forwardCell (sceneOf false s c) w 0)) (bit t)
 
 all-hold : List Row → Bool

@@ -1,7 +1,6 @@
 pub mod Endings
 pub mod Accepts
 pub mod Course
-pub mod Turns
 pub mod Parts
 pub mod Once
 pub mod Lengths

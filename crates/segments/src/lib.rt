@@ -4,7 +4,6 @@ ghost use Prim.Native.Nat.{_<_};
 ghost use Rattle.plane.specs.Plane.{cross, larger, scale, tolerance, inUnit};
 ghost use Rattle.segments.specs.Colinear.{spread, parameters, orderable, isFirst, isSecond, leads, ofOrder, colinear};
 ghost use Rattle.segments.specs.Meet.{near, settled, crossing, meeting};
-ghost use Rattle.segments.specs.Code.{code};
 ghost use Rattle.segments.specs.Scans.{exchanged, exchangedIds, swept};
 use plane::Point;
 use plane::along;
@@ -254,7 +253,6 @@ fn crossing(s: Segment, o: Segment, v1: Point, v2: Point, v3: Point, eps: f64) -
 impl Segment {
     pub fn intersect(self, other: Segment) -> Meeting
         ensures { λ r. ⌜ r ≡ meeting self other ⌝ }
-        ensures { λ r. ⌜ code r ≡ code (meeting self other) ⌝ }
     {
         let v1 = between(self.a, self.b);
         let v2 = between(other.a, other.b);

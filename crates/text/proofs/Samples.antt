@@ -60,11 +60,11 @@ use Rattle.text.specs.Read.{
 }
 use Rattle.text.specs.Inputs.{Input, textOf, given, read}
 
-abbrev texts : List String → List ℕ
+abbrev pub texts : List String → List ℕ
 texts [] = []
 texts (l ∷ ls) = bytes l ++ texts ls
 
-abbrev k1Subject : Bits
+abbrev pub k1Subject : Bits
 k1Subject =
     record {
       coords = 0x0000000000000000 ∷ 0x0000000000000000 ∷ 0x4000000000000000 ∷ 0x0000000000000000 ∷ 0x4000000000000000 ∷ 0x4000000000000000 ∷
@@ -75,7 +75,7 @@ k1Subject =
       families = 7 ∷ [];
     }
 
-abbrev k1Cutter : Bits
+abbrev pub k1Cutter : Bits
 k1Cutter =
     record {
       coords = 0x3ff0000000000000 ∷ 0xbff0000000000000 ∷ 0x4008000000000000 ∷ 0xbff0000000000000 ∷ 0x4008000000000000 ∷ 0x4008000000000000 ∷
@@ -86,10 +86,10 @@ k1Cutter =
       families = 0 ∷ [];
     }
 
-abbrev k1 : Input
+abbrev pub k1 : Input
 k1 = record { op = 0; m = 9; subject = k1Subject; cutter = k1Cutter }
 
-abbrev k1Text : List ℕ
+abbrev pub k1Text : List ℕ
 k1Text =
     texts
     ("(overlay 0 9\n" ∷
@@ -122,7 +122,7 @@ k1-text : textOf k1 ≡ k1Text
 unfolding inputText firstText meshText bodyText nodesText nodeText hex hexTo glyph decimal decimalTo cellsText cellText numbersText
 k1-text = refl
 
-k1-read : inputOf most most k1Text ≡ got (given k1) []
+pub k1-read : inputOf most most k1Text ≡ got (given k1) []
 unfolding inputOf firstOf meshOf nodesOf cellsOf repeated nodeStep nodeOf entryStep entriesOf headOf cellOf addCell cellStep decimalOf moreOf hexOf digitVal
     hexVal wordOf after andThen orElse read
 k1-read = refl
@@ -139,7 +139,9 @@ k1Answer =
       families = 7 ∷ 7 ∷ [];
     }
 
-k1-answer : answerText (overlay k1Answer 2 2 0) ≡ texts
+abbrev pub k1Printed : List ℕ
+k1Printed =
+    texts
     ("(overlay\n" ∷
     "(node 0000000000000000 0000000000000000)\n" ∷
     "(node 4000000000000000 0000000000000000)\n" ∷
@@ -156,6 +158,8 @@ k1-answer : answerText (overlay k1Answer 2 2 0) ≡ texts
     "(count 2 2 0)\n" ∷
     ")\n" ∷
     [])
+
+k1-answer : answerText (overlay k1Answer 2 2 0) ≡ k1Printed
 unfolding answerText listingText countText bodyText nodesText nodeText hex hexTo glyph decimal decimalTo cellsText cellText numbersText
 k1-answer = refl
 

@@ -29,7 +29,7 @@ returns-2 c =
     let at-else1 = else1 (point-at-of-point-at2 at-point-at2) in
     let g = entry at-else1 .args in
     stands-meet (g .coords .now) (g .a) (g .b) (g .c) (g .d) _ _ _ _ _ (at-else1 .if1 .left) (point-at-of-point-at2 at-point-at2 .point-at .ensures)
-    (at-point-at2 .point-at2 .ensures) (point-at3-at-returns-2 c .point-at3 .ensures) (c .before .compare-around .ensures) (c .is-less .ensures)
+    (at-point-at2 .point-at2 .ensures) (point-at3-at-returns-2 c .point-at3 .ensures) (c .before .compare-around .ensures .0) (c .is-less .ensures)
 
 pub stands-spec : {M : Type 1} → statement M
 stands-spec = tie.close (tie.spec returns (λ c κs. search needs) (λ c κs. search needs) (λ c κs. search needs) (λ c κs. search needs) (λ c κs. search needs) returns-2)

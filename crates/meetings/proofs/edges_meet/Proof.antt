@@ -20,7 +20,7 @@ returns : tie.Need-returns
 returns c =
     let at-point-at2 = point-at2-of-point-at3 (point-at3-at-returns c) in
     simp (
-      c .intersect .ensures .0,
+      c .intersect .ensures,
       c .before .point-at4 .ensures,
       point-at3-at-returns c .point-at3 .ensures,
       at-point-at2 .point-at2 .ensures,

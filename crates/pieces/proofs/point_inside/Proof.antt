@@ -16,13 +16,13 @@ p-at-returns-2 c = c .before .before
 
 returns : tie.Need-returns
 unfolding someHolds pointInside
-returns c = simp (← strict-interior-point-at-returns c .strict-interior-point .ensures .0, c .enum-told .given .1)
+returns c = simp (← strict-interior-point-at-returns c .strict-interior-point .ensures, c .enum-told .given .1)
 
 returns-2 : tie.Need-returns-2
 unfolding pointInside
 returns-2 c =
     let at-strict-interior-point = strict-interior-point-of-p (p-at-returns-2 c) in
-    simp (← at-strict-interior-point .strict-interior-point .ensures .0, p-at-returns-2 c .p .given .1, c .some-holds .ensures)
+    simp (← at-strict-interior-point .strict-interior-point .ensures, p-at-returns-2 c .p .given .1, c .some-holds .ensures)
 
 pub point-inside-spec : {M : Type 1} → statement M
 point-inside-spec = tie.close (tie.spec (λ c κs. search needs) (λ c. search needs) (λ c. search needs) returns (λ c κs. search needs) returns-2)

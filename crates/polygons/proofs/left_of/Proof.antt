@@ -18,7 +18,7 @@ returns c =
     let at-corner-at = corner-at-of-corner-at2 (corner-at2-at-returns c) in
     simp (
       c .is-greater .ensures,
-      ← c .before .orient2d2 .ensures .0,
+      ← c .before .orient2d2 .ensures,
       ← corner-at2-at-returns c .corner-at2 .ensures,
       ← at-corner-at .corner-at .ensures,
     )

@@ -1,7 +1,5 @@
 -- `polygons::orient2d2` meets its contract: each answer is what the tests that led there pick.
 -- Assumes nothing.
-use Rattle.exact.specs.Exact.{signNumber}
-use Rattle.plane.proofs.Laws.{both}
 use borrow.Author.Needs.{needs}
 use Rattle.polygons.specs.Inside.{orient2d2}
 use Rattle.polygons.proofs.orient2d2.Statement.{statement}
@@ -35,7 +33,7 @@ returns c =
     let at-is-finite5 = is-finite5-of-is-finite6 (is-finite6-at-returns c) in
     let at-is-finite3 = is-finite3-of-is-finite4 (is-finite4-of-is-finite5 at-is-finite5) in
     let at-is-finite = is-finite-of-is-finite2 (is-finite2-of-is-finite3 at-is-finite3) in
-    both signNumber (simp (
+    simp (
       c .orient2d .ensures .0,
       c .before .if1 .taken,
       ← is-finite6-at-returns c .is-finite6 .ensures,
@@ -44,7 +42,7 @@ returns c =
       ← at-is-finite3 .is-finite3 .ensures,
       ← is-finite2-of-is-finite3 at-is-finite3 .is-finite2 .ensures,
       ← at-is-finite .is-finite .ensures,
-    ))
+    )
 
 returns-2 : tie.Need-returns-2
 unfolding orient2d2
@@ -52,7 +50,7 @@ returns-2 c =
     let at-is-finite5 = is-finite5-of-is-finite6 (is-finite6-at-returns-2 c) in
     let at-is-finite3 = is-finite3-of-is-finite4 (is-finite4-of-is-finite5 at-is-finite5) in
     let at-is-finite = is-finite-of-is-finite2 (is-finite2-of-is-finite3 at-is-finite3) in
-    both signNumber (simp (
+    simp (
       c .if1 .left,
       ← c .before .is-finite6 .ensures,
       ← at-is-finite5 .is-finite5 .ensures,
@@ -60,7 +58,7 @@ returns-2 c =
       ← at-is-finite3 .is-finite3 .ensures,
       ← is-finite2-of-is-finite3 at-is-finite3 .is-finite2 .ensures,
       ← at-is-finite .is-finite .ensures,
-    ))
+    )
 
 pub orient2d2-spec : {M : Type 1} → statement M
 orient2d2-spec = tie.close (tie.spec (λ c κs. search needs) (λ c κs. search needs) (λ c κs. search needs) (λ c κs. search needs) (λ c κs. search needs)

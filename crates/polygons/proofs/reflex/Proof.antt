@@ -21,7 +21,7 @@ returns c =
     let at-corner-at2 = corner-at2-of-corner-at3 (corner-at3-at-returns c) in
     simp (
       c .is-less .ensures,
-      ← c .before .orient2d2 .ensures .0,
+      ← c .before .orient2d2 .ensures,
       ← corner-at3-at-returns c .corner-at3 .ensures,
       ← at-corner-at2 .corner-at2 .ensures,
       ← corner-at-of-corner-at2 at-corner-at2 .corner-at .ensures,

@@ -5,7 +5,7 @@ use native.Mathlib.Nat.{le-antisymm}
 use Rattle.exact.specs.declared.Order.the-variants.{Less, Equal, Greater}
 use Rattle.exact.proofs.Orders.{ordered-less, ordered-greater, ordered-equal}
 use Rattle.exact.proofs.Fields.{Taken, taken, short}
-use Rattle.exact.proofs.SignLaws.{by-part, to-angles}
+use Rattle.exact.proofs.SignLaws.{by-part, to-angles, angles-number}
 use Rattle.exact.proofs.angle.compare_angles.Statement.{statement}
 use Rattle.exact.proofs.angle.compare_angles.Tie as tie
 
@@ -59,25 +59,28 @@ returns : tie.Need-returns
 returns c =
     let at-part-of = part-of-of-part-of2 (part-of2-at-returns c) in
     let t = parts (take-apart4-of-part-of at-part-of) in
-    by-part Less _ _ _ _ (at-part-of .part-of .ensures) (c .before .part-of2 .ensures) (ordered-less (c .if1 .taken)) ∙ to-angles (t .0) (t .1) (t .2) (t .3)
+    angles-number _ _ _ _
+    (by-part Less _ _ _ _ (at-part-of .part-of .ensures) (c .before .part-of2 .ensures) (ordered-less (c .if1 .taken)) ∙ to-angles (t .0) (t .1) (t .2) (t .3))
 
 returns-2 : tie.Need-returns-2
 returns-2 c =
     let at-part-of2 = part-of2-of-else1 (else1-at-returns-2 c) in
     let at-take-apart4 = take-apart4-of-part-of (part-of-of-part-of2 at-part-of2) in
     let t = parts (at-take-apart4) in
-    by-part Greater _ _ _ _ (part-of-of-part-of2 at-part-of2 .part-of .ensures) (at-part-of2 .part-of2 .ensures) (ordered-greater (c .if2 .taken)) ∙ to-angles
-    (t .0) (t .1) (t .2) (t .3)
+    angles-number _ _ _ _
+    (by-part Greater _ _ _ _ (part-of-of-part-of2 at-part-of2 .part-of .ensures) (at-part-of2 .part-of2 .ensures) (ordered-greater (c .if2 .taken))
+    ∙ to-angles (t .0) (t .1) (t .2) (t .3))
 
 returns-3 : tie.Need-returns-3
 returns-3 c =
     let at-part-of2 = part-of2-of-else1 (else1-at-returns-3 c) in
     let at-take-apart4 = take-apart4-of-part-of (part-of-of-part-of2 at-part-of2) in
     let t = parts (at-take-apart4) in
-    c .cross-sign .ensures
+    angles-number _ _ _ _
+    (c .cross-sign .ensures
     ∙ by-part Equal _ _ _ _ (part-of-of-part-of2 at-part-of2 .part-of .ensures) (at-part-of2 .part-of2 .ensures)
     (ordered-equal (le-antisymm (c .before .if2 .left) (else1-at-returns-3 c .if1 .left)))
-    ∙ to-angles (t .0) (t .1) (t .2) (t .3)
+    ∙ to-angles (t .0) (t .1) (t .2) (t .3))
 
 pub compare-angles-spec : {M : Type 1} → statement M
 compare-angles-spec =

@@ -1,7 +1,5 @@
 -- `segments::Segment::intersect` meets its contract: each answer is what the tests that led there pick.
 -- Assumes nothing.
-use Rattle.segments.specs.Code.{code}
-use Rattle.plane.proofs.Laws.{both}
 use borrow.Author.Needs.{needs}
 use Rattle.segments.specs.Meet.{meeting}
 use Rattle.segments.proofs.Segment.intersect.Statement.{statement}
@@ -59,7 +57,7 @@ returns c =
     let at-dot = dot-of-dot2 (dot2-at-returns c) in
     let at-between3 = between3-of-tolerance (tolerance-of-dot at-dot) in
     let at-between = between-of-between2 (between2-of-between3 at-between3) in
-    both code (simp (
+    simp (
       c .if1 .taken,
       ← c .before .dot2 .ensures,
       ← at-dot .dot .ensures,
@@ -67,7 +65,7 @@ returns c =
       ← at-between3 .between3 .ensures,
       ← between2-of-between3 at-between3 .between2 .ensures,
       ← at-between .between .ensures,
-    ))
+    )
 
 returns-2 : tie.Need-returns-2
 unfolding meeting
@@ -78,7 +76,7 @@ returns-2 c =
     let at-dot = dot-of-dot2 (dot2-of-else1 at-else1) in
     let at-between3 = between3-of-tolerance (tolerance-of-dot at-dot) in
     let at-between = between-of-between2 (between2-of-between3 at-between3) in
-    both code (simp (
+    simp (
       c .if3 .taken,
       ← c .before .magnitude2 .ensures,
       ← at-cross2 .cross2 .ensures,
@@ -92,7 +90,7 @@ returns-2 c =
       ← at-between3 .between3 .ensures,
       ← between2-of-between3 at-between3 .between2 .ensures,
       ← at-between .between .ensures,
-    ))
+    )
 
 returns-3 : tie.Need-returns-3
 unfolding meeting
@@ -103,7 +101,7 @@ returns-3 c =
     let at-dot = dot-of-dot2 (dot2-of-else1 at-else1) in
     let at-between3 = between3-of-tolerance (tolerance-of-dot at-dot) in
     let at-between = between-of-between2 (between2-of-between3 at-between3) in
-    both code (simp (
+    simp (
       c .colinear .ensures,
       c .before .if3 .left,
       ← magnitude2-at-returns-3 c .magnitude2 .ensures,
@@ -118,7 +116,7 @@ returns-3 c =
       ← at-between3 .between3 .ensures,
       ← between2-of-between3 at-between3 .between2 .ensures,
       ← at-between .between .ensures,
-    ))
+    )
 
 returns-4 : tie.Need-returns-4
 unfolding meeting
@@ -127,7 +125,7 @@ returns-4 c =
     let at-dot2 = dot2-of-else1 (else1 at-cross) in
     let at-tolerance = tolerance-of-dot (dot-of-dot2 at-dot2) in
     let at-between2 = between2-of-between3 (between3-of-tolerance at-tolerance) in
-    both code (simp (
+    simp (
       c .crossing .ensures,
       c .before .if2 .left,
       ← magnitude-at-returns-4 c .magnitude .ensures,
@@ -139,7 +137,7 @@ returns-4 c =
       ← between3-of-tolerance at-tolerance .between3 .ensures,
       ← at-between2 .between2 .ensures,
       ← between-of-between2 at-between2 .between .ensures,
-    ))
+    )
 
 pub intersect-spec : {M : Type 1} → statement M
 intersect-spec = tie.close (tie.spec (λ c κs. search needs) (λ c κs. search needs) (λ c κs. search needs) (λ c κs. search needs) (λ c κs. search needs)
