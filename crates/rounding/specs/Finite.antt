@@ -1,0 +1,21 @@
+-- What every coordinate of a scene is once the entry passes, and what the order along an edge is then; the theorems stand in proofs/Finite.antt. Assumes
+-- nothing.
+use mathlib.Core.Logic.{_⊎_}
+use mathlib.Core.Path.{_≡_}
+use mathlib.Core.Bool.{true}
+use Prim.Native.Nat.{_*_, _^_, _≤_}
+use lib.Dec.{T}
+use lib.Ieee.{Float, binary64, fits, eq}
+use lib.Ieee.Scale.{finite}
+use Rattle.exact.specs.Exact.{mag}
+use Rattle.rules.specs.Nodes.{negative, totalBefore}
+
+-- an f64 that is finite and at most 2^42 in size; `mag` counts units of 2^-1074
+pub record Bounded (x : Float) : Type 0 where
+  pub fit : fits binary64 x ≡ true
+  pub end : T (finite x)
+  pub size : mag x ≤ 2 ^ 42 * 2 ^ 1074
+
+-- "total order (−0 before +0)": one is before the other, or they are equal by value and sign
+abbrev pub Ordered : Float → Float → Type 0
+Ordered x y = (totalBefore x y ≡ true) ⊎ ((totalBefore y x ≡ true) ⊎ ((eq x y ≡ true) × (negative x ≡ negative y)))
