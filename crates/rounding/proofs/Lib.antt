@@ -4,5 +4,7 @@ pub mod Operations
 pub mod Along
 pub mod Booked
 pub mod Points
+pub mod Nodes
+pub mod Pieces
 pub mod Projections
 pub mod Finite

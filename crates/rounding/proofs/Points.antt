@@ -15,9 +15,9 @@ use Rattle.lists.specs.Regions.{run}
 use Rattle.lists.proofs.Gather.{length-each, getD-each, in-list, mem-at}
 use Rattle.lists.proofs.Regions.{length-run, getD-run}
 use Rattle.entry.specs.Mesh.{Mesh, nodeCount, prior, cellSize}
-use Rattle.entry.specs.Refused.{coordOk, entryOf}
+use Rattle.entry.specs.Refused.{coordOk}
 use Rattle.entry.specs.Passed.{Placed, Sound}
-use Rattle.entry.proofs.Passed.{passed, cell-within, corner-below, node-within}
+use Rattle.entry.proofs.Passed.{cell-within, corner-below, node-within}
 use Rattle.plane.specs.Plane.{pointAt}
 use Rattle.segments.specs.Meet.{meeting}
 use Rattle.segments.specs.declared.Meeting.{Meeting}
@@ -60,12 +60,12 @@ module _ (n : ℕ) where
   abbrev pub Both : Edge → Type 0
   Both e = (e .0 < n) × (e .1 < n)
 
-  hops-under : (x : ℕ) (ys : List ℕ) → x < n → Each Under ys → Each Both (hops x ys)
+  pub hops-under : (x : ℕ) (ys : List ℕ) → x < n → Each Under ys → Each Both (hops x ys)
   unfolding hops
   hops-under x [] h k = each-none Both
   hops-under x (y ∷ ys) h k = each-cons (x, y) (hops y ys) (h, k y (List·Memᴰ·head refl)) (hops-under y ys (k y (List·Memᴰ·head refl)) (λ z m. k z (List·Memᴰ·tail m)))
 
-  ring-under : (xs : List ℕ) → Each Under xs → Each Both (ring xs)
+  pub ring-under : (xs : List ℕ) → Each Under xs → Each Both (ring xs)
   unfolding ring
   ring-under [] h = each-none Both
   ring-under (x ∷ xs) h =
@@ -84,20 +84,21 @@ module _ (n : ℕ) where
   addedAll-under es [] h k = h
   addedAll-under es (f ∷ fs) h k = addedAll-under (added es f) fs (added-under es f h (k f (List·Memᴰ·head refl))) (λ z m. k z (List·Memᴰ·tail m))
 
-  descending-under : (i : ℕ) (cells : List (List ℕ)) → i ≤ length cells → ((j : ℕ) → j < length cells → Each Under (getD cells j [])) → Each Both (descendingTo i cells)
+  pub descending-under : (i : ℕ) (cells : List (List ℕ)) → i ≤ length cells → ((j : ℕ) → j < length cells → Each Under (getD cells j [])) → Each Both (descendingTo i cells)
   unfolding descendingTo
   descending-under zero cells h k = each-none Both
   descending-under (suc i) cells h k = addedAll-under (descendingTo i cells) (ring (getD cells i [])) (descending-under i cells (omega arith) k) (ring-under (getD cells i []) (k i (omega arith)))
 
-module _ (s : Mesh) (ok : Sound false s) where
-  corners-under : (i : ℕ) → i < length (s .ends) → Each (Under (nodeCount s)) (cellAt s i)
+-- those of a mesh of lines or of cells
+module _ (lines : Bool) (s : Mesh) (ok : Sound lines s) where
+  pub corners-under : (i : ℕ) → i < length (s .ends) → Each (Under (nodeCount s)) (cellAt s i)
   unfolding cellAt
   corners-under i h x m =
       let r = mem-at (run (s .nodes) (prior (s .ends) i) (cellSize (s .ends) i)) x m in
       let long : length (run (s .nodes) (prior (s .ends) i) (cellSize (s .ends) i)) ≡ cellSize (s .ends) i =
-      length-run (s .nodes) (prior (s .ends) i) (cellSize (s .ends) i) (cell-within false s ok i h) in
+      length-run (s .nodes) (prior (s .ends) i) (cellSize (s .ends) i) (cell-within lines s ok i h) in
       let l : r .0 < cellSize (s .ends) i = omega (arith, r .1) in
-      subst (λ (k : ℕ). k < nodeCount s) (sym (getD-run (s .nodes) (prior (s .ends) i) (cellSize (s .ends) i) (r .0) 0 l) ∙ r .2 0) (corner-below false s ok i h (r .0) l)
+      subst (λ (k : ℕ). k < nodeCount s) (sym (getD-run (s .nodes) (prior (s .ends) i) (cellSize (s .ends) i) (r .0) 0 l) ∙ r .2 0) (corner-below lines s ok i h (r .0) l)
 
   pub edges-under : Each (Both (nodeCount s)) (subjectNet s .edges)
   unfolding subjectNet cellsOf

@@ -10,7 +10,7 @@ use lib.Pow.{pow-pos}
 use lib.IntN.{pos, natAbs, _+ℤ_, _-ℤ_, _*ℤ_}
 use lib.Ieee.{Float, nan, inf, fin, binary64, lt, eq}
 use lib.Ieee.Bits.{is-true}
-use lib.Ieee.Fits.{add-fits, sub-fits, mul-fits}
+use lib.Ieee.Fits.{sub-fits, mul-fits}
 use lib.Ieee.Scale.{finite}
 use Rattle.exact.specs.Exact.{coord}
 use Rattle.plane.specs.Plane.{_⊕_, _⊖_, _⊗_, between, dot}

@@ -8,7 +8,7 @@ use lib.Dec.{ltb}
 use lib.IntN.{ℤ, pos, negsuc, negℤ, natAbs, _+ℤ_, _-ℤ_, _*ℤ_}
 use borrow.Author.Tests.{ltb-true, ltb-false}
 use Rattle.exact.specs.Exact.{signed}
-use Rattle.exact.proofs.Integers.{diff, diff-same, diff-neg, diff-add, diff-mul, every, signed-diff}
+use Rattle.exact.proofs.Integers.{diff, diff-neg, diff-add, every, signed-diff}
 use Rattle.rounding.proofs.Nearest.{Close}
 
 pub abs-diff : (a b : ℕ) → natAbs (diff a b) ≡ (a - b) + (b - a)
