@@ -1,5 +1,5 @@
--- Once the entry passes, every coordinate of the scene, lent or new, is finite and at most 2^42 in size. So each is its exact coordinate, the answer holds
--- no NaN, and the order along an edge is total. Assumes nothing.
+-- Once the entry passes, every coordinate of the scene, lent or new, is finite and at most 2^42 in size. So each is its exact coordinate, areas are exact,
+-- the order along an edge is total, and no answer holds a NaN. Assumes nothing.
 use mathlib.Core.Path.{_≡_, sym, subst}
 use mathlib.Core.Logic.{_⊎_, inl, inr}
 use mathlib.Core.Bool.{true, false}
@@ -31,14 +31,14 @@ use Rattle.rules.specs.Overlay.{Lists, Result, written, answered, answeredWith,
 use Rattle.rules.specs.Demand3.{Accepted}
 use Rattle.rules.proofs.Accepts.{accepted}
 use Rattle.rounding.specs.Points.{Doubles}
-use Rattle.rounding.specs.Finite.{Bounded, Ordered}
+use Rattle.rounding.specs.Finite.{Bounded, NodeOf, Ordered}
 use Rattle.rounding.proofs.Booked.{allowed-bounded, new-point}
 use Rattle.rounding.proofs.Nodes.{each-joined, many-cells, cells-under, cutter-under, meetings-stand, collected-under, key-under, outline-under}
 use Rattle.rounding.proofs.Pieces.{pieces-under}
 use Rattle.rounding.proofs.Projections.{BoundedPoint, projection-finite, finite-number, numbers-ordered}
 use Rattle.rounding.proofs.Points.{Each, each-join, each-none, each-cons, Both, corners-under, edges-under, mesh-allowed, allowed-ends, Origin, meetings-origin}
 
--- what every theorem below takes: the entry passes, and the lists are of f64
+-- What every theorem below takes: the entry passes, and the coordinates are f64, as in every list of f64 that a caller lends.
 module _ (op m : ℕ) (s c : Mesh) (w : ℕ) (pass : entryOf op m s c w ≡ 0) (subject : Doubles (s .coords)) (cutter : Doubles (c .coords)) where
   abbrev lent : List Float
   lent = s .coords ++ c .coords
@@ -89,11 +89,11 @@ module _ (op m : ℕ) (s c : Mesh) (w : ℕ) (pass : entryOf op m s c w ≡ 0) (
 
   -- ---- the nodes of the scene
 
-  abbrev pub NodeOf : ℕ → Type 0
-  NodeOf n = n < length (sceneFor op s c .coords) / 2
+  abbrev Node : ℕ → Type 0
+  Node n = NodeOf (sceneFor op s c) n
 
   -- Both coordinates of a node are numbers, and the exact ones are these themselves.
-  pub exact-node : (n : ℕ) → NodeOf n → let p = pointAt (sceneFor op s c .coords) n in
+  pub exact-node : (n : ℕ) → NodeOf (sceneFor op s c) n → let p = pointAt (sceneFor op s c .coords) n in
       HasValue (p .x) (minus (p .x)) (mag (p .x)) (2 ^ 1074) × HasValue (p .y) (minus (p .y)) (mag (p .y)) (2 ^ 1074)
   unfolding pointAt
   exact-node n h = (exact-at-new (2 * n) (omega arith), exact-at-new (2 * n + 1) (omega arith))
@@ -101,7 +101,7 @@ module _ (op m : ℕ) (s c : Mesh) (w : ℕ) (pass : entryOf op m s c w ≡ 0) (
   lent-even : length lent ≡ 2 * (nodeCount s + nodeCount c)
   lent-even = let p = passed op m s c w pass in omega (arith, length-append (s .coords) (c .coords), p .subject .even, p .cutter .even)
 
-  lent-node : (n : ℕ) → n < nodeCount s + nodeCount c → NodeOf n
+  lent-node : (n : ℕ) → n < nodeCount s + nodeCount c → NodeOf (sceneFor op s c) n
   lent-node n h = omega (arith, h, scene-length, lent-even, length-append (s .coords) (c .coords))
 
   subject-all : Each (Both (nodeCount s + nodeCount c)) (subjectNet s .edges)
@@ -111,7 +111,7 @@ module _ (op m : ℕ) (s c : Mesh) (w : ℕ) (pass : entryOf op m s c w ≡ 0) (
   cutter-all = cutter-under s c (eqb op 5) (passed op m s c w pass .cutter)
 
   -- those that meetings name
-  met-nodes : (mt : Met) → List·Memᴰ mt (sceneFor op s c .met) → Each NodeOf (mt .nodes)
+  met-nodes : (mt : Met) → List·Memᴰ mt (sceneFor op s c .met) → Each Node (mt .nodes)
   unfolding sceneOf meetings
   met-nodes mt h n k =
       let a : 2 * n + 1 < length lent + length (addedBy (sceneFor op s c .met)) =
@@ -126,7 +126,7 @@ module _ (op m : ℕ) (s c : Mesh) (w : ℕ) (pass : entryOf op m s c w ≡ 0) (
   edge-nodes theCutter e h = let b = cutter-all e h in (lent-node (e .0) (b .0), lent-node (e .1) (b .1))
 
   -- the corners of cells
-  cell-nodes : (v : Side) (i : ℕ) → i < length (netOf (sceneFor op s c) v .cells) → Each NodeOf (cellOf (sceneFor op s c) v i)
+  cell-nodes : (v : Side) (i : ℕ) → i < length (netOf (sceneFor op s c) v .cells) → Each Node (cellOf (sceneFor op s c) v i)
   unfolding sceneOf subjectNet cutterNet cellsOf
   cell-nodes theSubject i h x k =
       let n = length-each (length (s .ends)) (cellAt s) in
@@ -135,7 +135,7 @@ module _ (op m : ℕ) (s c : Mesh) (w : ℕ) (pass : entryOf op m s c w ≡ 0) (
       (subst (List·Memᴰ x) (getD-each (length (s .ends)) (cellAt s) i [] l) k) in omega (arith, b))
   cell-nodes theCutter i h x k = lent-node x (cells-under s c (eqb op 5) (passed op m s c w pass .cutter) i h x k)
 
-  scene-some : (v : Side) (i : ℕ) → i < length (netOf (sceneFor op s c) v .cells) → NodeOf 0
+  scene-some : (v : Side) (i : ℕ) → i < length (netOf (sceneFor op s c) v .cells) → NodeOf (sceneFor op s c) 0
   unfolding sceneOf subjectNet cutterNet cellsOf
   scene-some theSubject i h =
       let ok = passed op m s c w pass .subject in
@@ -148,22 +148,22 @@ module _ (op m : ℕ) (s c : Mesh) (w : ℕ) (pass : entryOf op m s c w ≡ 0) (
 
   -- An outline as cut leads from node to node of the scene: its area is a sum of products of exact coordinates.
   pub outline-nodes : (v : Side) (i : ℕ) → i < length (netOf (sceneFor op s c) v .cells) → (e : Edge) → List·Memᴰ e (outlineOf (sceneFor op s c) v i)
-      → NodeOf (e .0) × NodeOf (e .1)
+      → NodeOf (sceneFor op s c) (e .0) × NodeOf (sceneFor op s c) (e .1)
   outline-nodes v i h = outline-under (sceneFor op s c) (length (sceneFor op s c .coords) / 2) met-nodes v i (cell-nodes v i h)
 
   -- So do the pieces of a cell before any are dropped.
   pub piece-nodes : (v : Side) (i : ℕ) → i < length (netOf (sceneFor op s c) v .cells) → (p : List ℕ) → List·Memᴰ p (piecesOf (sceneFor op s c) v i)
-      → (n : ℕ) → List·Memᴰ n p → NodeOf n
+      → (n : ℕ) → List·Memᴰ n p → NodeOf (sceneFor op s c) n
   piece-nodes v i h p k n l =
       pieces-under (length (sceneFor op s c .coords) / 2) (scene-some v i h) (sceneFor op s c) met-nodes v (edge-nodes (other v)) i (cell-nodes v i h) p k n l
 
   -- ---- the order along an edge
 
-  node-bounded : (n : ℕ) → NodeOf n → BoundedPoint (pointAt (sceneFor op s c .coords) n)
+  node-bounded : (n : ℕ) → NodeOf (sceneFor op s c) n → BoundedPoint (pointAt (sceneFor op s c .coords) n)
   unfolding pointAt
   node-bounded n h = record { x = scene-finite (2 * n) (omega arith); y = scene-finite (2 * n + 1) (omega arith) }
 
-  nodes-ordered : (k : Edge) (a b : ℕ) → NodeOf (k .0) → NodeOf (k .1) → NodeOf a → NodeOf b
+  nodes-ordered : (k : Edge) (a b : ℕ) → NodeOf (sceneFor op s c) (k .0) → NodeOf (sceneFor op s c) (k .1) → NodeOf (sceneFor op s c) a → NodeOf (sceneFor op s c) b
       → let x = projected (sceneFor op s c .coords) k a .along in let y = projected (sceneFor op s c .coords) k b .along in
       (number x ≡ true) × (number y ≡ true) × Ordered x y
   nodes-ordered k a b f g h i =
@@ -181,7 +181,7 @@ module _ (op m : ℕ) (s c : Mesh) (w : ℕ) (pass : entryOf op m s c w ≡ 0) (
   projections-ordered v e h a b i j =
       let n = length (sceneFor op s c .coords) / 2 in
       let k : Both n (key e) = key-under (sceneFor op s c) n met-nodes e (edge-nodes v e h) in
-      let all : Each NodeOf (key e .0 ∷ collected (sceneFor op s c) e) =
+      let all : Each Node (key e .0 ∷ collected (sceneFor op s c) e) =
       each-cons (key e .0) (collected (sceneFor op s c) e) (k .0) (collected-under (sceneFor op s c) n met-nodes e) in
       nodes-ordered (key e) a b (k .0) (k .1) (all a i) (all b j)
 
