@@ -15,7 +15,7 @@ use Rattle.rules.specs.Meetings.{Scene}
 
 -- ---- the order along an edge
 
--- "total order (−0 before +0)", of floats that are numbers
+-- "total order (−0 before +0)", of floats that are numbers; projections are (`projections-ordered`, rounding/proofs/Finite.antt)
 abbrev pub negative : Float → Bool
 negative nan = false
 negative (inf s) = s
