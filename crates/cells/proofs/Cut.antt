@@ -13,7 +13,7 @@ use Rattle.cutting.specs.Edges.{Edge}
 use Rattle.cutting.specs.Cell.{Laid, Slot, newTo, innerWith, cellTable, repeats}
 use Rattle.cutting.specs.Walk.{walk}
 use Rattle.cutting.specs.Outcome.{Outcome, pieces, refusal, ofWalk, flat}
-use Rattle.cutting.specs.Lent.{slotsOf, ends, pairs}
+use Rattle.cutting.specs.Lent.{slotsOf, flatEdges, pairs}
 use Rattle.dart_walk.specs.Answer.{answer, cornersIn, endsIn}
 use Rattle.dart_walk.specs.declared.Walked.{Walked}
 use Rattle.dart_walk.specs.declared.Walked.the-variants.{Closed, Refused}
@@ -39,7 +39,7 @@ module _ (coords : List Float) (outline : List Edge) (near : List Laid) where
 
 -- ---- the outline in a list
 
-module _ (coords : List Float) (outline : List Edge) (w : List ℕ) (n : ℕ) (few : n ≤ 1024) (put-in : n ≤ 1024 → take n w ≡ ends outline) where
+module _ (coords : List Float) (outline : List Edge) (w : List ℕ) (n : ℕ) (few : n ≤ 1024) (put-in : n ≤ 1024 → take n w ≡ flatEdges outline) where
   read-back : pairs (take n w) ≡ outline
   read-back = ap pairs (put-in few) ∙ pairs-ends outline
 
@@ -59,7 +59,7 @@ module _ (coords : List Float) (subject cutter : List Edge) (met : List ℕ) (ne
   abbrev others : List Laid
   others = nearIn coords subject cutter met near (candidatesFrom coords near b first)
 
-  pub cut-as-lent : (w : List ℕ) (n : ℕ) (r : CutCell) → n ≤ 1024 → (n ≤ 1024 → take n w ≡ ends own)
+  pub cut-as-lent : (w : List ℕ) (n : ℕ) (r : CutCell) → n ≤ 1024 → (n ≤ 1024 → take n w ≡ flatEdges own)
       → r ≡ cutBy (pairs (take n w)) (cellTable coords (pairs (take n w)) others) → r ≡ cutCell coords subject cutter met near cell b first
   unfolding cutCell tableIn
   cut-as-lent w n r few put-in e = as-lent coords own w n few put-in others r e

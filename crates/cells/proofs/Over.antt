@@ -11,10 +11,10 @@ use lib.Seq.{drop-cons}
 use lib.Ieee.{Float}
 use Rattle.cutting.specs.Edges.{Edge, edgeAt, key, hops, ring}
 use Rattle.cutting.specs.Cell.{Laid, ownDarts, outlineDarts, among, repeats}
-use Rattle.cutting.specs.Lent.{ends, pairs}
+use Rattle.cutting.specs.Lent.{flatEdges, pairs}
 use Rattle.dart_table.proofs.Adds.{darts-length}
 use Rattle.cutting.proofs.Pairs.{ends-length, pairs-ends}
-use Rattle.outlines.specs.Meets.{meets}
+use Rattle.outlines.specs.Meets.{edgesMeet}
 use Rattle.outlines.proofs.Flat.{Holds}
 use Rattle.outlines.proofs.Appended.{meets-append, repeats-append}
 use Rattle.lists.specs.Gather.{joined}
@@ -93,7 +93,7 @@ laid-own e ns xs r list list′ q few p =
 -- read back
 module _ (darts : List Edge) (r : ℕ) (list list′ : List ℕ) (v : LaidIn darts r list list′) where
   pub laid-read : pairs (take r list′) ≡ darts
-  laid-read = ap (λ (l : List ℕ). pairs (take r l)) (v .held) ∙ ap pairs (take-front-of list (ends darts) r (ends-length darts ∙ sym (v .count))) ∙ pairs-ends darts
+  laid-read = ap (λ (l : List ℕ). pairs (take r l)) (v .held) ∙ ap pairs (take-front-of list (flatEdges darts) r (ends-length darts ∙ sym (v .count))) ∙ pairs-ends darts
 
 -- ---- `meets_later` and `outline_repeats`
 
@@ -135,35 +135,35 @@ module _ (coords : List Float) (subject cutter : List Edge) (met cell : List ℕ
         drop-cons (ring cell) j (0, 0) (omega (arith, h, length-ring cell)) ∙ ap₂ (λ (f : Edge) (k : ℕ). f ∷ drop k (ring cell)) edge-is (sym (add-one j)) in
         ap (λ (es : List Edge). outlineDarts (map laid es)) next
 
-    module _ (ds : List Edge) (t : Bool) (et : t ≡ meets ds (ownDarts (laid e))) where
-      both-meet : meets ds (from j) ≡ t || meets ds (from (j + 1))
-      both-meet = ap (meets ds) from-next ∙ meets-append ds (ownDarts (laid e)) (from (j + 1)) ∙ ap (λ (x : Bool). x || meets ds (from (j + 1))) (sym et)
+    module _ (ds : List Edge) (t : Bool) (et : t ≡ edgesMeet ds (ownDarts (laid e))) where
+      both-meet : edgesMeet ds (from j) ≡ t || edgesMeet ds (from (j + 1))
+      both-meet = ap (edgesMeet ds) from-next ∙ meets-append ds (ownDarts (laid e)) (from (j + 1)) ∙ ap (λ (x : Bool). x || edgesMeet ds (from (j + 1))) (sym et)
 
-      pub meets-now : t ≡ true → meets ds (from j) ≡ true
-      meets-now f = both-meet ∙ ap (λ (x : Bool). x || meets ds (from (j + 1))) f
+      pub meets-now : t ≡ true → edgesMeet ds (from j) ≡ true
+      meets-now f = both-meet ∙ ap (λ (x : Bool). x || edgesMeet ds (from (j + 1))) f
 
-      pub meets-on : t ≡ false → meets ds (from j) ≡ meets ds (from (j + 1))
-      meets-on f = both-meet ∙ ap (λ (x : Bool). x || meets ds (from (j + 1))) f
+      pub meets-on : t ≡ false → edgesMeet ds (from j) ≡ edgesMeet ds (from (j + 1))
+      meets-on f = both-meet ∙ ap (λ (x : Bool). x || edgesMeet ds (from (j + 1))) f
 
     module _ (t : Bool) (et : t ≡ repeats (ownDarts (laid e))) where
-      both-repeat : (u : Bool) → u ≡ meets (ownDarts (laid e)) (from (j + 1)) → repeats (from j) ≡ t || u || repeats (from (j + 1))
+      both-repeat : (u : Bool) → u ≡ edgesMeet (ownDarts (laid e)) (from (j + 1)) → repeats (from j) ≡ t || u || repeats (from (j + 1))
       both-repeat u eu = ap repeats from-next ∙ repeats-append (ownDarts (laid e)) (from (j + 1)) ∙ ap₂ (λ (x y : Bool). x || y || repeats (from (j + 1))) (sym et) (sym eu)
 
       pub repeats-now : t ≡ true → repeats (from j) ≡ true
-      repeats-now f = both-repeat (meets (ownDarts (laid e)) (from (j + 1))) refl ∙ ap (λ (x : Bool). x || meets (ownDarts (laid e)) (from (j + 1)) || repeats (from (j + 1))) f
+      repeats-now f = both-repeat (edgesMeet (ownDarts (laid e)) (from (j + 1))) refl ∙ ap (λ (x : Bool). x || edgesMeet (ownDarts (laid e)) (from (j + 1)) || repeats (from (j + 1))) f
 
-      module _ (f : t ≡ false) (u : Bool) (eu : u ≡ meets (ownDarts (laid e)) (from (j + 1))) where
+      module _ (f : t ≡ false) (u : Bool) (eu : u ≡ edgesMeet (ownDarts (laid e)) (from (j + 1))) where
         pub repeats-later : u ≡ true → repeats (from j) ≡ true
         repeats-later g = both-repeat u eu ∙ ap₂ (λ (x y : Bool). x || y || repeats (from (j + 1))) f g
 
         pub repeats-on : u ≡ false → repeats (from j) ≡ repeats (from (j + 1))
         repeats-on g = both-repeat u eu ∙ ap₂ (λ (x y : Bool). x || y || repeats (from (j + 1))) f g
 
-  pub meets-out : (ds : List Edge) (j : ℕ) → length cell ≤ j → meets ds (from j) ≡ false
-  unfolding meets among
-  meets-out ds j h = ap (meets ds) (none-from j h) ∙ none ds
+  pub meets-out : (ds : List Edge) (j : ℕ) → length cell ≤ j → edgesMeet ds (from j) ≡ false
+  unfolding edgesMeet among
+  meets-out ds j h = ap (edgesMeet ds) (none-from j h) ∙ none ds
     where
-      none : (es : List Edge) → meets es [] ≡ false
+      none : (es : List Edge) → edgesMeet es [] ≡ false
       none [] = refl
       none (e ∷ es) = none es
 

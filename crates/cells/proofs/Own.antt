@@ -13,7 +13,7 @@ use Rattle.lists.specs.Sort.{sortOnto, sorted}
 use Rattle.lists.proofs.Gather.{joined-snoc}
 use Rattle.cutting.specs.Edges.{Edge, edgeAt, hops, ring}
 use Rattle.cutting.specs.Cell.{Laid, ownDarts, outlineDarts, edgeSlots, standsBefore, cellTable}
-use Rattle.cutting.specs.Lent.{slotsOf, ends}
+use Rattle.cutting.specs.Lent.{slotsOf, flatEdges}
 use Rattle.dart_table.specs.Table.{Added, Outlined}
 use Rattle.dart_table.proofs.Joins.{outline-more, none-near, own-turn, own-full}
 use Rattle.edge_nodes.specs.Lent.{collectedIn}
@@ -85,7 +85,7 @@ pub record Outlining (coords : List Float) (subject cutter : List Edge) (met cel
   pub counted : length done ≡ i
   pub left : done ++ sidesFrom cell i ≡ ring cell
   pub count : n ≡ 2 * length (outlineDarts (map (laidIn coords subject cutter met) done))
-  pub outlined : take n outline ≡ ends (outlineDarts (map (laidIn coords subject cutter met) done))
+  pub outlined : take n outline ≡ flatEdges (outlineDarts (map (laidIn coords subject cutter met) done))
   pub held : slotsOf src dst marks n ≡ sorted (standsBefore coords) (edgeSlots 1 (outlineDarts (map (laidIn coords subject cutter met) done)))
 
 module _ (coords : List Float) (subject cutter : List Edge) (met cell outline₀ src₀ dst₀ marks₀ : List ℕ) where
@@ -96,7 +96,7 @@ module _ (coords : List Float) (subject cutter : List Edge) (met cell outline₀
   Outlining₀ = Outlining coords subject cutter met cell outline₀ src₀ dst₀ marks₀
 
   pub outline-start : Outlining₀ outline₀ src₀ dst₀ marks₀ 0 0
-  unfolding slotsOf sortOnto edgeSlots outlineDarts ends joined gathered
+  unfolding slotsOf sortOnto edgeSlots outlineDarts flatEdges joined gathered
   outline-start = record {
     same-outline = refl;
     same-src = refl;
@@ -140,7 +140,7 @@ module _ (coords : List Float) (subject cutter : List Edge) (met cell outline₀
         outline-turn few room lo ls′ ld lm =
             let more : map laid (v .done ++ e ∷ []) ≡ ls ++ laid e ∷ [] = map-append laid (v .done) (e ∷ []) in
             let fits : n ≤ length outline = omega (arith, v .small, v .same-outline) in
-            let put-in : take (n + 2 * length (ownDarts (laid e))) outline′ ≡ ends (outlineDarts (ls ++ laid e ∷ [])) = outline-more outline outline′ n ls
+            let put-in : take (n + 2 * length (ownDarts (laid e))) outline′ ≡ flatEdges (outlineDarts (ls ++ laid e ∷ [])) = outline-more outline outline′ n ls
             (laid e) fits (v .outlined) (got .1 .grows few) in
             let darts : length (outlineDarts (ls ++ laid e ∷ [])) ≡ length (outlineDarts ls) + length (ownDarts (laid e)) = ap length
             (joined-snoc ownDarts ls (laid e)) ∙ length-append (outlineDarts ls) (ownDarts (laid e)) in
@@ -155,14 +155,14 @@ module _ (coords : List Float) (subject cutter : List Edge) (met cell outline₀
               counted = omega (arith, length-append (v .done) (e ∷ []), v .counted);
               left = append-assoc (v .done) (e ∷ []) (sidesFrom cell (i + 1)) ∙ split;
               count = omega (arith, got .0 .count, v .count, darts, ap (λ (l : List Laid). length (outlineDarts l)) more);
-              outlined = ap (λ (k : ℕ). take k outline′) (got .0 .count) ∙ put-in ∙ ap (λ (l : List Laid). ends (outlineDarts l)) (sym more);
+              outlined = ap (λ (k : ℕ). take k outline′) (got .0 .count) ∙ put-in ∙ ap (λ (l : List Laid). flatEdges (outlineDarts l)) (sym more);
               held = own-turn coords src dst marks src′ dst′ marks′ n r ls (laid e) (got .0) few (v .held) ∙ ap
                   (λ (l : List Laid). sorted (standsBefore coords) (edgeSlots 1 (outlineDarts l))) (sym more);
             }
 
         -- too many at this edge are too many in all
         pub outline-over : 1024 < r → Held (cellTable coords (outlineIn coords subject cutter met cell) []) r src′ dst′ marks′ ×
-            (r ≤ 1024 → take r outline′ ≡ ends (outlineIn coords subject cutter met cell))
+            (r ≤ 1024 → take r outline′ ≡ flatEdges (outlineIn coords subject cutter met cell))
         unfolding outlineIn
         outline-over many =
             let all : 1024 < length (cellTable coords (outlineDarts (ls ++ laid e ∷ map laid (sidesFrom cell (i + 1)))) []) = own-full coords src dst marks
@@ -175,7 +175,7 @@ module _ (coords : List Float) (subject cutter : List Edge) (met cell outline₀
             )
 
     pub outline-end : length cell ≤ i → Held (cellTable coords (outlineIn coords subject cutter met cell) []) n src dst marks ×
-        (n ≤ 1024 → take n outline ≡ ends (outlineIn coords subject cutter met cell))
+        (n ≤ 1024 → take n outline ≡ flatEdges (outlineIn coords subject cutter met cell))
     unfolding outlineIn
     outline-end past =
         let at : i ≡ length cell = le-antisymm (v .low) past in
@@ -185,5 +185,5 @@ module _ (coords : List Float) (subject cutter : List Edge) (met cell outline₀
                 (outlineDarts (map laid (ring cell)));
             over = λ many. absurd (omega (arith, many, v .small));
           },
-          λ few. v .outlined ∙ ap (λ (es : List Edge). ends (outlineDarts (map laid es))) all,
+          λ few. v .outlined ∙ ap (λ (es : List Edge). flatEdges (outlineDarts (map laid es))) all,
         )

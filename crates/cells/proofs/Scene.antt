@@ -21,7 +21,7 @@ use Rattle.rules.specs.Mesh.{Side, other}
 use Rattle.rules.specs.SpatialIndex.{boxOf, candidates}
 use Rattle.rules.specs.Meetings.{Scene, netOf}
 use Rattle.rules.specs.Nodes.{sortedNodes}
-use Rattle.rules.specs.Cell.{laid, dartsOf, outlineBy, tableBy, outcomeBy, cellOf, nearOf, outlineOf, tableWith, outcomeOf, outcomeWith}
+use Rattle.rules.specs.Cell.{laid, dartsOf, nearEdges, treatedBy, treated, cellOf, nearOf, outcomeOf}
 use Rattle.spatial_index.specs.Candidates.{meets}
 use Rattle.spatial_index.proofs.Candidates.{places-next, places-end, candidates-from}
 use Rattle.edge_nodes.specs.Lent.{collectedIn, sortedIn, crowdedAt}
@@ -34,12 +34,6 @@ use Rattle.cells.specs.Cells.{laidIn, outlineIn, nearIn, tableIn, candid
 -- ---- refusal 9 passed
 
 module _ (subject cutter : List Edge) (met links : List ℕ) (es : List Edge) where
-  pub not-overfull : Linked subject cutter met links → has (crowdedAt es subject cutter met) (length es) ≡ false → Uncrowded subject cutter met links es
-  not-overfull chained none = record {
-    linked = chained;
-    few = λ i h. ltb-false 256 (length (collectedIn subject cutter met (edgeAt es i))) (has-none (crowdedAt es subject cutter met) (length es) i none h);
-  }
-
   -- and so of edges that have their keys among these
   pub same-keys : Uncrowded subject cutter met links es → (fs : List Edge)
       → ((i : ℕ) → i < length fs → (k : ℕ) × (k < length es) × (sameKey (edgeAt es k) (edgeAt fs i) ≡ true)) → Uncrowded subject cutter met links fs
@@ -74,7 +68,8 @@ module _ (sc : Scene) (subject cutter : List Edge) (met : List ℕ) (same : (e :
   unfolding outlineIn dartsOf
   outline-is cell = ap (λ (f : Edge → Laid). outlineDarts (map f (ring cell))) laid-is
 
-  pub table-is : (es : List Edge) (cell : List ℕ) (j : ℕ) (js : List ℕ) → tableIn (sc .coords) subject cutter met es (j ∷ js) cell ≡ tableBy true sc es cell (j ∷ js)
+  pub table-is : (es : List Edge) (cell : List ℕ) (j : ℕ) (js : List ℕ) → tableIn (sc .coords) subject cutter met es (j ∷ js) cell
+      ≡ cellTable (sc .coords) (dartsOf sc cell) (nearEdges sc es (j ∷ js))
   unfolding tableIn nearIn
   table-is es cell j js = ap₂ (λ (o : List Edge) (f : Edge → Laid). cellTable (sc .coords) o (map (λ i. f (edgeAt es i)) (j ∷ js))) (outline-is cell) laid-is
 
@@ -93,21 +88,21 @@ module _ (sc : Scene) (w : Side) (i k : ℕ) (at : k ≡ first (meets (sc .coord
   -- a cell with candidates comes to what the rules say of it, and is doubled where they say so
   pub cut-is : (subject cutter : List Edge) (met : List ℕ) → ((e : Edge) → sortedIn (sc .coords) subject cutter met e ≡ sortedNodes sc e) → k < length es
       → cutCell (sc .coords) subject cutter met es (cellOf sc w i) box k ≡ cutAs (outcomeOf sc w i)
-  unfolding cutCell cutBy nearOf outlineOf tableWith outcomeWith
+  unfolding cutCell cutBy nearOf treated
   cut-is subject cutter met same h =
       let cell = cellOf sc w i in
       let near = from-first (sc .coords) es box k at h in
       ap (λ (js : List ℕ). cutBy (outlineIn (sc .coords) subject cutter met cell) (tableIn (sc .coords) subject cutter met es js cell)) (near .0)
       ∙ ap₂ (λ (o : List Edge) (t : List Slot). cutAs (cutOutcome o t)) (outline-is sc subject cutter met same cell) (table-is sc subject cutter met same es cell k rest)
-      ∙ ap (λ (js : List ℕ). cutAs (outcomeBy ours (outlineBy sc cell js) (tableBy true sc es cell js) cell js)) (sym (near .1))
+      ∙ ap (λ (js : List ℕ). cutAs (treatedBy sc w i js .outcome ours)) (sym (near .1))
 
   -- one without is copied
   pub copied-is : length es ≤ k → outcomeOf sc w i ≡ copiedOutcome (cellOf sc w i)
-  unfolding nearOf outlineOf tableWith outcomeWith
+  unfolding nearOf treated
   copied-is h =
       let cell = cellOf sc w i in
       let none = none-near (sc .coords) es box k at h in
-      ap (λ (js : List ℕ). outcomeBy ours (outlineBy sc cell js) (tableBy true sc es cell js) cell js) none
+      ap (λ (js : List ℕ). treatedBy sc w i js .outcome ours) none
 
 -- ---- the answer read
 

@@ -9,7 +9,7 @@ use Rattle.cutting.specs.Edges.{Edge, edgeAt, ring}
 use Rattle.cutting.specs.Cell.{Laid, outlineDarts, Slot, cellTable}
 use Rattle.cutting.specs.Outcome as Outcome
 use Rattle.cutting.specs.Outcome.{Outcome, pieces, refusal, cutOutcome, flat}
-use Rattle.cutting.specs.Lent.{slotsOf, ends}
+use Rattle.cutting.specs.Lent.{slotsOf, flatEdges}
 use Rattle.rules.specs.declared.Bounds.{Bounds}
 use Rattle.spatial_index.specs.Candidates.{placesFrom, meets}
 use Rattle.edge_nodes.specs.Lent.{collectedIn, sortedIn}
@@ -70,7 +70,7 @@ outlineFrom coords subject cutter met cell k = outlineDarts (map (laidIn coords 
 pub record LaidIn (darts : List Edge) (r : ℕ) (list list′ : List ℕ) : Type 0 where
   pub count : r ≡ 2 * length darts
   pub few : r ≤ 518
-  pub held : list′ ≡ front list (ends darts)
+  pub held : list′ ≡ front list (flatEdges darts)
 
 -- Three lists hold the r slots of t in front; where r is over 1,024, so are the slots of t.
 pub record Held (t : List Slot) (r : ℕ) (src dst marks : List ℕ) : Type 0 where

@@ -17,8 +17,8 @@ ghost use Rattle.cutting.specs.Edges.{ring};
 ghost use Rattle.cutting.specs.Cell.{ownDarts, nearDarts, cellTable, repeats};
 ghost use Rattle.cutting.specs.Walk.{walk};
 ghost use Rattle.cutting.specs.Outcome.{refusal, ofWalk};
-ghost use Rattle.outlines.specs.Meets.{meets};
-ghost use Rattle.cutting.specs.Lent.{slotsOf, ends, pairs};
+ghost use Rattle.outlines.specs.Meets.{edgesMeet};
+ghost use Rattle.cutting.specs.Lent.{slotsOf, flatEdges, pairs};
 ghost use Rattle.dart_table.specs.Table.{tableIn, withEdges, Added, Outlined};
 ghost use Rattle.spatial_index.specs.Blocks.{Covered};
 ghost use Rattle.edge_nodes.specs.Lent.{collectedIn};
@@ -99,7 +99,7 @@ fn own_darts(
 ) -> usize
     requires { ⌜ Uncrowded (pairs (now subject)) (pairs (now cutter)) (now met) (now links) (ring (now cell)) × (1024 ≤ length (now outline)) × (1024 ≤ length (now src)) × (1024 ≤ length (now dst)) × (1024 ≤ length (now marks)) ⌝ }
     ensures { λ r. ⌜ Held (cellTable (now (coords .entry)) (outlineIn (now (coords .entry)) (pairs (now (subject .entry))) (pairs (now (cutter .entry))) (now (met .entry)) (now (cell .entry))) []) r (now (src .exit)) (now (dst .exit)) (now (marks .exit))
-        × (r ≤ 1024 → take r (now (outline .exit)) ≡ ends (outlineIn (now (coords .entry)) (pairs (now (subject .entry))) (pairs (now (cutter .entry))) (now (met .entry)) (now (cell .entry)))) ⌝ }
+        × (r ≤ 1024 → take r (now (outline .exit)) ≡ flatEdges (outlineIn (now (coords .entry)) (pairs (now (subject .entry))) (pairs (now (cutter .entry))) (now (met .entry)) (now (cell .entry)))) ⌝ }
 {
     let mut n: usize = 0;
     let mut i: usize = 0;
@@ -162,7 +162,7 @@ fn meets_later(
     k: usize,
 ) -> bool
     requires { ⌜ Uncrowded (pairs (now subject)) (pairs (now cutter)) (now met) (now links) (ring (now cell)) ⌝ }
-    ensures { λ r. ⌜ r ≡ meets (pairs (now (darts .entry)))
+    ensures { λ r. ⌜ r ≡ edgesMeet (pairs (now (darts .entry)))
         (outlineFrom (now (coords .entry)) (pairs (now (subject .entry))) (pairs (now (cutter .entry))) (now (met .entry)) (now (cell .entry)) k) ⌝ }
 {
     let mut others = [0u32; 518];

@@ -16,40 +16,40 @@ use Rattle.cutting.specs.Edges.{Edge, ring, rings, times}
 use Rattle.cutting.specs.Cell.{Laid, inner, Slot, cellTable, doubled, repeats}
 use Rattle.cutting.specs.Walk.{Next, more, closed, stuck, broken, srcs, dsts, walkWith}
 use Rattle.cutting.specs.Outcome.{Outcome, refusal, pieces, ofWalk, walked, closesUp, afterWalk, tooMany, cutOutcomeWith, copiedOutcome}
-use Rattle.cutting.specs.Areas.{term, doubledArea, doubledAreas, Closes, ClosesUp, Round}
+use Rattle.cutting.specs.Areas.{exactTerm, doubledArea, doubledAreas, Closes, ClosesUp, Round}
 use Rattle.cutting.proofs.EdgeLaws.{hit-self}
 use Rattle.cutting.proofs.Tables.{even, closes}
 use Rattle.cutting.proofs.Sums.{sum, sum-append, sum-even}
 use Rattle.cutting.proofs.CellLaws.{sorted-table}
 use Rattle.cutting.proofs.Repeats.{repeats-not}
 use Rattle.cutting.proofs.Once.{never-doubled}
-use Rattle.cutting.proofs.Ends.{Ended, ends}
+use Rattle.cutting.proofs.Ends.{Ended, walk-ended}
 use Rattle.cutting.proofs.Onward.{Free, never-stuck}
 
 -- ---- areas
 
 module _ (coords : List Float) where
   -- turned round, a term changes its sign
-  term-odd : (a b : ℕ) → term coords a b ≡ negℤ (term coords b a)
+  term-odd : (a b : ℕ) → exactTerm coords a b ≡ negℤ (exactTerm coords b a)
   term-odd a b = back (coord (pointAt coords a .x)) (coord (pointAt coords a .y)) (coord (pointAt coords b .x)) (coord (pointAt coords b .y))
     where
       back : (x y x′ y′ : ℤ) → x *ℤ y′ -ℤ y *ℤ x′ ≡ negℤ (x′ *ℤ y -ℤ y′ *ℤ x)
       back x y x′ y′ = ap₂ (λ (u v : ℤ). u +ℤ negℤ v) (*ℤ-comm x y′) (*ℤ-comm y x′) ∙ +ℤ-comm (y′ *ℤ x) (negℤ (x′ *ℤ y)) ∙ ap (λ (u : ℤ). negℤ (x′ *ℤ y) +ℤ u)
           (sym (negℤ-negℤ (y′ *ℤ x))) ∙ sym (negℤ-+ℤ (x′ *ℤ y) (negℤ (y′ *ℤ x)))
 
-  area-sum : (es : List Edge) → doubledArea coords es ≡ sum (term coords) es
+  area-sum : (es : List Edge) → doubledArea coords es ≡ sum (exactTerm coords) es
   unfolding doubledArea sum
   area-sum [] = refl
-  area-sum (e ∷ es) = ap (λ (z : ℤ). term coords (e .0) (e .1) +ℤ z) (area-sum es)
+  area-sum (e ∷ es) = ap (λ (z : ℤ). exactTerm coords (e .0) (e .1) +ℤ z) (area-sum es)
 
-  areas-sum : (ps : List (List ℕ)) → doubledAreas coords ps ≡ sum (term coords) (rings ps)
+  areas-sum : (ps : List (List ℕ)) → doubledAreas coords ps ≡ sum (exactTerm coords) (rings ps)
   unfolding doubledAreas rings sum
   areas-sum [] = refl
-  areas-sum (p ∷ ps) = ap₂ (λ (y z : ℤ). y +ℤ z) (area-sum (ring p)) (areas-sum ps) ∙ sym (sum-append (term coords) (ring p) (rings ps))
+  areas-sum (p ∷ ps) = ap₂ (λ (y z : ℤ). y +ℤ z) (area-sum (ring p)) (areas-sum ps) ∙ sym (sum-append (exactTerm coords) (ring p) (rings ps))
 
   areas : (outline : List Edge) (ps : List (List ℕ)) → ((a b : ℕ) → times a b (rings ps) + times b a outline ≡ times b a (rings ps) + times a b outline)
       → doubledAreas coords ps ≡ doubledArea coords outline
-  areas outline ps h = areas-sum ps ∙ sum-even (term coords) term-odd (rings ps) outline h ∙ sym (area-sum outline)
+  areas outline ps h = areas-sum ps ∙ sum-even (exactTerm coords) term-odd (rings ps) outline h ∙ sym (area-sum outline)
 
 -- ---- the after-walk test
 
@@ -87,7 +87,7 @@ module _ (turning : Bool) (coords : List Float) (outline : List Edge) (near : Li
   pub walk-ends : ((ps : List (List ℕ)) × (walkWith turning outline (cellTable coords outline near) ≡ closed ps)) ⊎
       (walkWith turning outline (cellTable coords outline near) ≡ stuck)
   walk-ends = pick (walkWith turning outline (cellTable coords outline near)) refl
-      (ends turning outline (inner outline near) (cellTable coords outline near) (sorted-table true coords outline near))
+      (walk-ended turning outline (inner outline near) (cellTable coords outline near) (sorted-table true coords outline near))
     where
       pick : (r : Next) → walkWith turning outline (cellTable coords outline near) ≡ r → Ended r
           → ((ps : List (List ℕ)) × (walkWith turning outline (cellTable coords outline near) ≡ closed ps)) ⊎ (walkWith turning outline (cellTable coords outline near) ≡ stuck)
@@ -157,7 +157,7 @@ pub round-closes : (coords : List Float) (outline : List Edge) (near : List Laid
     → (ps : List (List ℕ)) × (walkWith true outline (cellTable coords outline near) ≡ closed ps)
 round-closes coords outline near round =
     pick (walkWith true outline (cellTable coords outline near)) refl
-    (ends true outline (inner outline near) (cellTable coords outline near) (sorted-table true coords outline near))
+    (walk-ended true outline (inner outline near) (cellTable coords outline near) (sorted-table true coords outline near))
     (never-stuck outline (inner outline near) (cellTable coords outline near) (sorted-table true coords outline near) round)
   where
     pick : (r : Next) → walkWith true outline (cellTable coords outline near) ≡ r → Ended r

@@ -9,7 +9,7 @@ use borrow.Author.Tests.{eqb-true, eqb-false}
 use Rattle.lists.specs.Search.{bit}
 use Rattle.lists.specs.Gather.{tally, slimAfter}
 use Rattle.lists.proofs.Gather.{tally-append}
-use Rattle.cutting.specs.Edges.{Edge, turn, hops}
+use Rattle.cutting.specs.Edges.{Edge, reversedIf, hops}
 use Rattle.cutting.specs.Areas.{leaving, entering}
 
 abbrev pub Leads : ℕ → ℕ → List Edge → Type 0
@@ -28,21 +28,21 @@ unfolding tally
 leads-edge x z a = omega arith
 
 -- the other way
-leaving-turned : (a : ℕ) (es : List Edge) → leaving a (map (turn true) es) ≡ entering a es
+leaving-turned : (a : ℕ) (es : List Edge) → leaving a (map (reversedIf true) es) ≡ entering a es
 unfolding tally
 leaving-turned a [] = refl
 leaving-turned a (e ∷ es) = ap (λ (k : ℕ). bit (eqb (e .1) a) + k) (leaving-turned a es)
 
-entering-turned : (a : ℕ) (es : List Edge) → entering a (map (turn true) es) ≡ leaving a es
+entering-turned : (a : ℕ) (es : List Edge) → entering a (map (reversedIf true) es) ≡ leaving a es
 unfolding tally
 entering-turned a [] = refl
 entering-turned a (e ∷ es) = ap (λ (k : ℕ). bit (eqb (e .0) a) + k) (entering-turned a es)
 
-not-turned : (es : List Edge) → map (turn false) es ≡ es
+not-turned : (es : List Edge) → map (reversedIf false) es ≡ es
 not-turned [] = refl
 not-turned (e ∷ es) = ap (λ (l : List Edge). e ∷ l) (not-turned es)
 
-pub leads-turned : (x z : ℕ) (es : List Edge) (t : Bool) → (t ≡ true → Leads z x es) → (t ≡ false → Leads x z es) → Leads x z (map (turn t) es)
+pub leads-turned : (x z : ℕ) (es : List Edge) (t : Bool) → (t ≡ true → Leads z x es) → (t ≡ false → Leads x z es) → Leads x z (map (reversedIf t) es)
 leads-turned x z es true h k = λ a. omega (arith, h refl a, leaving-turned a es, entering-turned a es)
 leads-turned x z es false h k = subst (Leads x z) (sym (not-turned es)) (k refl)
 
@@ -62,7 +62,7 @@ leads-hops x (y ∷ ys) z = go (eqb x y) (leads-hops x ys z) (leads-hops y ys z)
     go false h k = leads-on x y z ((x, y) ∷ []) (hops y (slimAfter eqb y (ys ++ z ∷ []))) (leads-edge x y) k
 
 -- `inv` turns what leads along the key into what leads along the edge
-pub leads-key : (x z : ℕ) (es : List Edge) → Leads (min x z) (max x z) es → Leads x z (map (turn (eqb z (min x z))) es)
+pub leads-key : (x z : ℕ) (es : List Edge) → Leads (min x z) (max x z) es → Leads x z (map (reversedIf (eqb z (min x z))) es)
 leads-key x z es h = leads-turned x z es (eqb z (min x z)) turned kept
   where
     at : (a u v : ℕ) → u ≡ v → bit (eqb u a) ≡ bit (eqb v a)

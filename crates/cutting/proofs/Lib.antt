@@ -18,4 +18,5 @@ pub mod Sums
 pub mod Tabled
 pub mod Tables
 pub mod Turning
+pub mod Ways
 mod Samples

@@ -16,17 +16,17 @@ use Rattle.lists.proofs.Search.{many-change, many-some, first-some}
 use Rattle.lists.proofs.Gather.{tally-append}
 use Rattle.cutting.specs.Edges.{Edge}
 use Rattle.cutting.specs.Cell.{Slot, edgeSlots, reverseMark, table}
-use Rattle.cutting.specs.Walk.{State, Phase, between, along, Next, more, closed, stuck, broken, orElse, openAt, after, slot, srcs, dsts, marksOf, walkFrom, walkWith}
-use Rattle.cutting.specs.Walk.{run, step, go, rest, taken, popped, cross, arrive, onward}
+use Rattle.cutting.specs.Walk.{State, Phase, resting, onSlot, Next, more, closed, stuck, broken, orElse, openAt, nextOpen, srcs, dsts, marksOf, walkSteps, walkFrom, walkWith}
+use Rattle.cutting.proofs.Ways.{reverseOf, Way, ends, missing, passes, begins, lost, closes, goes, stops, Led, steps-keep}
 use Rattle.cutting.specs.Areas.{leaving, entering}
 use Rattle.cutting.proofs.EdgeLaws.{both}
-use Rattle.cutting.proofs.Rounds.{after-open, after-at}
+use Rattle.cutting.proofs.Rounds.{nextOpen-open, nextOpen-at}
 use Rattle.cutting.proofs.Kept.{slot-hit}
 
 -- where a node has an unmarked slot, one is found
-after-some : (n : ℕ) (src marks : List ℕ) (a r : ℕ) → r < n → 0 < many (openAt src marks a) n → after true n src marks a r < n
-unfolding after
-after-some n src marks a r r< some = late (ltb (first test (r + 1) n) n) refl
+nextOpen-some : (n : ℕ) (src marks : List ℕ) (a r : ℕ) → r < n → 0 < many (openAt src marks a) n → nextOpen true n src marks a r < n
+unfolding nextOpen
+nextOpen-some n src marks a r r< some = late (ltb (first test (r + 1) n) n) refl
   where
     test : ℕ → Bool
     test = openAt src marks a
@@ -83,91 +83,65 @@ module _ (n : ℕ) (src dst : List ℕ) where
 
   -- between pieces each node is even; on a slot, but for the piece's first node and the slot's own
   abbrev pub Even : List ℕ → Phase → Type 0
-  Even marks between = (a : ℕ) → out a marks ≡ into a marks
-  Even marks (along start mid i) = (i < n) × (getD marks i 0 ≡ 0) × ((a : ℕ) → out a marks + bit (eqb start a) ≡ into a marks + bit (eqb (getD src i 0) a))
+  Even marks resting = (a : ℕ) → out a marks ≡ into a marks
+  Even marks (onSlot start mid i) = (i < n) × (getD marks i 0 ≡ 0) × ((a : ℕ) → out a marks + bit (eqb start a) ≡ into a marks + bit (eqb (getD src i 0) a))
 
   pub record Going (marks : List ℕ) (phase : Phase) : Type 0 where
     pub long : n ≤ length marks
     pub even : Even marks phase
 
+  abbrev Goes : ℕ → State → Type 0
+  Goes k s = Going (s .marks) (s .phase)
+
   abbrev pub Free : Next → Type 0
-  Free (more s) = Going (s .marks) (s .phase)
+  Free (more s) = Unit {0}
   Free (closed ps) = Unit {0}
   Free stuck = ⊥
   Free broken = Unit {0}
 
-  popped-free : (marks heap : List ℕ) (done : List (List ℕ)) (i : ℕ) → i < n → (t : Bool) → eqb (getD marks i 0) 0 ≡ t → Going marks between
-      → Free (popped true n src dst marks heap done i t)
-  unfolding popped
-  popped-free marks heap done i i< true e k = record { long = k .long; even = (i<, eqb-true (getD marks i 0) 0 e, λ a. omega (arith, k .even a)) }
-  popped-free marks heap done i i< false e k = record { long = k .long; even = k .even }
+  -- once the slot i is walked, the other node takes its place
+  moved : (marks : List ℕ) (start : ℕ) (mid : List ℕ) (i : ℕ) → Going marks (onSlot start mid i) → (a : ℕ)
+      → out a (set marks i 1) + bit (eqb start a) ≡ into a (set marks i 1) + bit (eqb (getD dst i 0) a)
+  moved marks start mid i k a =
+      omega (arith, k .even .2 a, out-mark a marks i (k .even .0) (k .long) (k .even .1), into-mark a marks i (k .even .0) (k .long) (k .even .1))
 
-  taken-free : (marks heap : List ℕ) (done : List (List ℕ)) (i : ℕ) (t : Bool) → ltb i n ≡ t → Going marks between → Free (taken true n src dst marks heap done i t)
-  unfolding taken
-  taken-free marks heap done i true l k = popped-free marks heap done i (ltb-true i n l) (eqb (getD marks i 0) 0) refl k
-  taken-free marks heap done i false l k = tt
+  -- where the piece goes on, there is an unmarked slot
+  found-on : (marks : List ℕ) (start : ℕ) (mid : List ℕ) (i : ℕ) → Going marks (onSlot start mid i) → reverseOf n src dst i < n → (getD dst i 0 ≡ start → ⊥)
+      → nextOpen true n src (set marks i 1) (getD dst i 0) (reverseOf n src dst i) < n
+  unfolding out
+  found-on marks start mid i k r< apart =
+      let y = getD dst i 0 in
+      let here : bit (eqb y y) ≡ 1 = ap bit (eq-eqb y y refl) in
+      let there : bit (eqb start y) ≡ 0 = ap bit (ne-eqb start y (λ q. apart (sym q))) in
+      nextOpen-some n src (set marks i 1) y (reverseOf n src dst i) r< (omega (arith, moved marks start mid i k y))
 
-  rest-free : (marks heap : List ℕ) (done : List (List ℕ)) → Going marks between → Free (rest true n src dst marks heap done)
-  unfolding rest
-  rest-free marks [] done k = tt
-  rest-free marks (i ∷ heap) done k = taken-free marks heap done i (ltb i n) refl k
+  step-free : (m : ℕ) {s : State} {t : Next} → Way true n src dst s t → Goes (suc m) s → Led Goes Free m t
+  step-free m ends k = tt
+  step-free m (missing h) k = tt
+  step-free m (passes i< e) k = record { long = k .long; even = k .even }
+  step-free m (begins i< e) k = record { long = k .long; even = (i<, e, λ a. omega (arith, k .even a)) }
+  step-free m (lost h) k = tt
+  step-free m (closes {marks = marks} {start = start} {i = i} {mid = mid} r< back) k = record {
+    long = omega (arith, k .long, length-set marks i 1);
+    even = λ a. omega (arith, moved marks start mid i k a, ap (λ (x : ℕ). bit (eqb x a)) back);
+  }
+  step-free m (goes {marks = marks} {start = start} {i = i} {mid = mid} r< apart {j = j} found j<) k =
+      let y = getD dst i 0 in
+      let r = reverseOf n src dst i in
+      let j<′ = found-on marks start mid i k r< apart in
+      let at : getD src j 0 ≡ y = ap (λ (x : ℕ). getD src x 0) found ∙ nextOpen-at true n src (set marks i 1) y r (slot-hit n src dst y (getD src i 0) r< .0) j<′ in
+      record {
+        long = omega (arith, k .long, length-set marks i 1);
+        even = (
+          j<,
+          ap (λ (x : ℕ). getD (set marks i 1) x 0) found ∙ nextOpen-open true n src (set marks i 1) y r j<′,
+          λ a. omega (arith, moved marks start mid i k a, ap (λ (x : ℕ). bit (eqb x a)) at),
+        );
+      }
+  step-free m (stops {marks = marks} {start = start} {i = i} {mid = mid} r< apart none) k = omega (arith, found-on marks start mid i k r< apart, none)
 
-  module _ (marks heap : List ℕ) (done : List (List ℕ)) (start : ℕ) (mid : List ℕ) (i r : ℕ) (r< : r < n) (e : getD src r 0 ≡ getD dst i 0)
-      (k : Going marks (along start mid i)) where
-    -- once the slot is walked, the other node takes its place
-    moved : (a : ℕ) → out a (set marks i 1) + bit (eqb start a) ≡ into a (set marks i 1) + bit (eqb (getD dst i 0) a)
-    moved a = omega (arith, k .even .2 a, out-mark a marks i (k .even .0) (k .long) (k .even .1), into-mark a marks i (k .even .0) (k .long) (k .even .1))
-
-    onward-free : (j : ℕ) → (t : Bool) → ltb j n ≡ t → j < n → getD src j 0 ≡ getD dst i 0 → getD (set marks i 1) j 0 ≡ 0
-        → Free (onward true n src dst (set marks i 1) (r ∷ heap) done start (mid ++ getD dst i 0 ∷ []) j t)
-    unfolding onward
-    onward-free j true l j< at at′ = record {
-      long = omega (arith, k .long, length-set marks i 1);
-      even = (j<, at′, λ a. omega (arith, moved a, ap (λ (x : ℕ). bit (eqb x a)) at));
-    }
-    onward-free j false l j< at at′ = omega (arith, ltb-false j n l)
-
-    arrive-free : (t : Bool) → eqb (getD dst i 0) start ≡ t → Free (arrive true n src dst (set marks i 1) (r ∷ heap) done start mid (getD dst i 0) r t)
-    unfolding arrive out
-    arrive-free true t = record {
-      long = omega (arith, k .long, length-set marks i 1);
-      even = λ a. omega (arith, moved a, ap (λ (x : ℕ). bit (eqb x a)) (eqb-true (getD dst i 0) start t));
-    }
-    arrive-free false t =
-        let y = getD dst i 0 in
-        let here : bit (eqb y y) ≡ 1 = ap bit (eq-eqb y y refl) in
-        let there : bit (eqb start y) ≡ 0 = ap bit (ne-eqb start y (λ q. eqb-false y start t (sym q))) in
-        let some : 0 < out y (set marks i 1) = omega (arith, moved y) in
-        let j = after true n src (set marks i 1) y r in
-        let j< = after-some n src (set marks i 1) y r r< some in
-        onward-free j (ltb j n) refl j< (after-at true n src (set marks i 1) y r e j<) (after-open true n src (set marks i 1) y r j<)
-
-  cross-free : (marks heap : List ℕ) (done : List (List ℕ)) (start : ℕ) (mid : List ℕ) (i : ℕ) → Going marks (along start mid i) → (t : Bool)
-      → ltb (slot n src dst (getD dst i 0) (getD src i 0)) n ≡ t
-      → Free (cross true n src dst (set marks i 1) heap done start mid (getD dst i 0) (slot n src dst (getD dst i 0) (getD src i 0)) t)
-  unfolding cross
-  cross-free marks heap done start mid i k true l =
-      let r = slot n src dst (getD dst i 0) (getD src i 0) in
-      let r< = ltb-true r n l in
-      arrive-free marks heap done start mid i r r< (slot-hit n src dst (getD dst i 0) (getD src i 0) r< .0) k (eqb (getD dst i 0) start) refl
-  cross-free marks heap done start mid i k false l = tt
-
-  go-free : (phase : Phase) (marks heap : List ℕ) (done : List (List ℕ)) → Going marks phase → Free (go true n src dst phase marks heap done)
-  unfolding go
-  go-free between marks heap done k = rest-free marks heap done k
-  go-free (along start mid i) marks heap done k = cross-free marks heap done start mid i k (ltb (slot n src dst (getD dst i 0) (getD src i 0)) n) refl
-
-  on-next : (m : ℕ) → ((u : State) → Free (more u) → Free (run true n src dst m u)) → (t : Next) → Free t
-      → Free (elim t [ more u ↦ run true n src dst m u | closed ps ↦ closed ps | stuck ↦ stuck | broken ↦ broken ])
-  on-next m again (more u) h = again u h
-  on-next m again (closed ps) h = tt
-  on-next m again stuck h = h
-  on-next m again broken h = tt
-
-  run-free : (m : ℕ) (s : State) → Free (more s) → Free (run true n src dst m s)
-  unfolding run step
-  run-free zero s k = tt
-  run-free (suc m) s k = on-next m (λ u h. run-free m u h) (step true n src dst s) (go-free (s .phase) (s .marks) (s .heap) (s .done) k)
+  steps-free : (m : ℕ) (s : State) → Goes m s → Free (walkSteps true n src dst m s)
+  steps-free = steps-keep true n src dst Goes Free (λ k s t w h. step-free k w h) (λ s k. tt)
 
 -- ---- a cell's table
 
@@ -232,5 +206,5 @@ module _ (outline inner : List Edge) (t : List Slot) (sorted : (p : Slot → Boo
 
   pub never-stuck : ((a : ℕ) → leaving a outline ≡ entering a outline) → Free (length t) (srcs t) (dsts t) (walkWith true outline t)
   unfolding walkWith walkFrom
-  never-stuck round = run-free (length t) (srcs t) (dsts t) _ _ (record
+  never-stuck round = steps-free (length t) (srcs t) (dsts t) _ _ (record
       { long = omega (arith, length-map t (λ s. s .mark)); even = λ a. omega (arith, out-table a, into-table a, round a) })

@@ -11,7 +11,8 @@ use Rattle.exact.specs.declared.Order.{Order}
 use Rattle.plane.specs.Plane.{between, pointAt}
 use Rattle.plane.specs.declared.Point.{Point}
 use Rattle.cutting.specs.Edges.{Edge, key, sameKey}
-use Rattle.cutting.specs.Cell.{isLess, stands}
+use Rattle.exact.specs.Exact.{isLess}
+use Rattle.cutting.specs.Cell.{stands}
 
 module _ (a b c d k k′ l l′ : ℕ) (ek : _≡_ {A = Edge} (k, k′) (key (a, b))) (el : _≡_ {A = Edge} (l, l′) (key (c, d))) where
   pub keys-apart : (k ≡ l → ⊥) → false ≡ sameKey (a, b) (c, d)

@@ -11,9 +11,9 @@ use Rattle.lists.specs.Gather.{joined}
 use Rattle.lists.specs.Regions.{put}
 use Rattle.lists.proofs.Gather.{joined-snoc, joined-append}
 use Rattle.lists.proofs.Regions.{put-store}
-use Rattle.cutting.specs.Edges.{Edge, turn, hops, edgeAt}
+use Rattle.cutting.specs.Edges.{Edge, reversedIf, hops, edgeAt}
 use Rattle.cutting.specs.Cell.{windows}
-use Rattle.cutting.specs.Lent.{ends, pairs}
+use Rattle.cutting.specs.Lent.{flatEdges, pairs}
 
 -- ---- along a list of nodes
 
@@ -39,23 +39,23 @@ windows-length x [] = refl
 windows-length x (y ∷ ns) = ap suc (windows-length y ns)
 
 -- a window, turned by its two ends
-pub turned-is : (inv : Bool) (p q : ℕ) → _≡_ {A = Edge} (cond inv q p, cond inv p q) (turn inv (p, q))
+pub turned-is : (inv : Bool) (p q : ℕ) → _≡_ {A = Edge} (cond inv q p, cond inv p q) (reversedIf inv (p, q))
 turned-is true p q = refl
 turned-is false p q = refl
 
 -- ---- a flat list of edges
 
-pub ends-length : (es : List Edge) → length (ends es) ≡ 2 * length es
-unfolding ends joined
+pub ends-length : (es : List Edge) → length (flatEdges es) ≡ 2 * length es
+unfolding flatEdges joined
 ends-length [] = refl
 ends-length (e ∷ es) = omega (arith, ends-length es)
 
-pub ends-append : (es fs : List Edge) → ends (es ++ fs) ≡ ends es ++ ends fs
-unfolding ends
+pub ends-append : (es fs : List Edge) → flatEdges (es ++ fs) ≡ flatEdges es ++ flatEdges fs
+unfolding flatEdges
 ends-append es fs = joined-append (λ e. e .0 ∷ e .1 ∷ []) es fs
 
-pub pairs-ends : (es : List Edge) → pairs (ends es) ≡ es
-unfolding ends pairs joined
+pub pairs-ends : (es : List Edge) → pairs (flatEdges es) ≡ es
+unfolding flatEdges pairs joined
 pairs-ends [] = refl
 pairs-ends (e ∷ es) = ap (λ (fs : List Edge). e ∷ fs) (pairs-ends es)
 
@@ -90,12 +90,12 @@ pairs-drop xs i h =
 
 -- two entries behind the edges that an outline has
 pub ends-more : (w v : List ℕ) (n k a b : ℕ) (done : List Edge) (e : Edge) → n ≤ length w → k ≡ n + 2 * length done → k + 2 ≤ length w
-    → v ≡ put w n (ends done) → a ≡ e .0 → b ≡ e .1 → set (set v k a) (k + 1) b ≡ put w n (ends (done ++ e ∷ []))
-unfolding ends
+    → v ≡ put w n (flatEdges done) → a ≡ e .0 → b ≡ e .1 → set (set v k a) (k + 1) b ≡ put w n (flatEdges (done ++ e ∷ []))
+unfolding flatEdges
 ends-more w v n k a b done e h l m q ea eb =
     let len = ends-length done in
-    let at : k ≡ n + length (ends done) = omega arith in
-    let at′ : k + 1 ≡ n + length (ends done ++ a ∷ []) = omega (arith, length-append (ends done) (a ∷ [])) in
-    (λ t. set (set (q t) (at t) a) (at′ t) b) ∙ ap (λ (u : List ℕ). set u (n + length (ends done ++ a ∷ [])) b) (put-store w n h (ends done) a 0 (omega arith))
-    ∙ put-store w n h (ends done ++ a ∷ []) b 0 (omega arith)
-    ∙ ap (put w n) (append-assoc (ends done) (a ∷ []) (b ∷ []) ∙ ap₂ (λ (x y : ℕ). ends done ++ x ∷ y ∷ []) ea eb ∙ sym (joined-snoc (λ e. e .0 ∷ e .1 ∷ []) done e))
+    let at : k ≡ n + length (flatEdges done) = omega arith in
+    let at′ : k + 1 ≡ n + length (flatEdges done ++ a ∷ []) = omega (arith, length-append (flatEdges done) (a ∷ [])) in
+    (λ t. set (set (q t) (at t) a) (at′ t) b) ∙ ap (λ (u : List ℕ). set u (n + length (flatEdges done ++ a ∷ [])) b) (put-store w n h (flatEdges done) a 0 (omega arith))
+    ∙ put-store w n h (flatEdges done ++ a ∷ []) b 0 (omega arith)
+    ∙ ap (put w n) (append-assoc (flatEdges done) (a ∷ []) (b ∷ []) ∙ ap₂ (λ (x y : ℕ). flatEdges done ++ x ∷ y ∷ []) ea eb ∙ sym (joined-snoc (λ e. e .0 ∷ e .1 ∷ []) done e))

@@ -10,33 +10,33 @@ use lib.Seq.{getD-set-same, getD-set-other}
 use borrow.Author.Tests.{ltb-true, lt-ltb, le-ltb, eqb-true, eq-eqb, ne-eqb}
 use Rattle.lists.specs.Search.{bit, many, first}
 use Rattle.lists.proofs.Search.{many-change, first-hit, and-true}
-use Rattle.cutting.specs.Walk.{openAt, orElse, after}
+use Rattle.cutting.specs.Walk.{openAt, orElse, nextOpen}
 use Rattle.cutting.proofs.EdgeLaws.{both}
 
 module _ (turning : Bool) (n : ℕ) (src marks : List ℕ) (a r : ℕ) where
-  pub after-late : (j : ℕ) → j ≡ first (openAt src marks a) (r + 1) n → j < n → j ≡ after turning n src marks a r
-  unfolding after
-  after-late j e h = rw (← e, lt-ltb j n h)
+  pub nextOpen-late : (j : ℕ) → j ≡ first (openAt src marks a) (r + 1) n → j < n → j ≡ nextOpen turning n src marks a r
+  unfolding nextOpen
+  nextOpen-late j e h = rw (← e, lt-ltb j n h)
 
   module _ (j : ℕ) (e : j ≡ first (openAt src marks a) (r + 1) n) (h : n ≤ j) (k : ℕ) (f : k ≡ first (openAt src marks a) 0 r) where
-    pub after-early : k < r → k ≡ after turning n src marks a r
-    unfolding after
-    after-early l = rw (← e, ← f, le-ltb j n h, lt-ltb k r l)
+    pub nextOpen-early : k < r → k ≡ nextOpen turning n src marks a r
+    unfolding nextOpen
+    nextOpen-early l = rw (← e, ← f, le-ltb j n h, lt-ltb k r l)
 
     -- nothing but r is left
-    after-last : r ≤ k → (t : Bool) → turning && eqb (getD marks r 0) 0 ≡ t → orElse t r n ≡ after turning n src marks a r
-    unfolding after
-    after-last l t q = rw (← e, ← f, le-ltb j n h, le-ltb k r l, q)
+    nextOpen-last : r ≤ k → (t : Bool) → turning && eqb (getD marks r 0) 0 ≡ t → orElse t r n ≡ nextOpen turning n src marks a r
+    unfolding nextOpen
+    nextOpen-last l t q = rw (← e, ← f, le-ltb j n h, le-ltb k r l, q)
 
-    pub after-back : r ≤ k → turning ≡ true → getD marks r 0 ≡ 0 → r ≡ after turning n src marks a r
-    after-back l t m = after-last l true (ap₂ (λ (x y : Bool). x && y) t (eq-eqb (getD marks r 0) 0 m))
+    pub nextOpen-back : r ≤ k → turning ≡ true → getD marks r 0 ≡ 0 → r ≡ nextOpen turning n src marks a r
+    nextOpen-back l t m = nextOpen-last l true (ap₂ (λ (x y : Bool). x && y) t (eq-eqb (getD marks r 0) 0 m))
 
-    pub after-none : r ≤ k → (getD marks r 0 ≡ 0 → ⊥) → n ≡ after turning n src marks a r
-    after-none l m = after-last l false (ap (λ (x : Bool). turning && x) (ne-eqb (getD marks r 0) 0 m) ∙ and-false turning)
+    pub nextOpen-none : r ≤ k → (getD marks r 0 ≡ 0 → ⊥) → n ≡ nextOpen turning n src marks a r
+    nextOpen-none l m = nextOpen-last l false (ap (λ (x : Bool). turning && x) (ne-eqb (getD marks r 0) 0 m) ∙ and-false turning)
 
   -- what holds of each unmarked slot of the node, and of r where that is unmarked, holds of the slot found
-  found : (P : ℕ → Type 0) → ((j : ℕ) → openAt src marks a j ≡ true → P j) → (getD marks r 0 ≡ 0 → P r) → after turning n src marks a r < n → P (after turning n src marks a r)
-  unfolding after
+  found : (P : ℕ → Type 0) → ((j : ℕ) → openAt src marks a j ≡ true → P j) → (getD marks r 0 ≡ 0 → P r) → nextOpen turning n src marks a r < n → P (nextOpen turning n src marks a r)
+  unfolding nextOpen
   found P hit last l = late (ltb (first test (r + 1) n) n) refl l
     where
       test : ℕ → Bool
@@ -56,11 +56,11 @@ module _ (turning : Bool) (n : ℕ) (src marks : List ℕ) (a r : ℕ) where
       late false e l = early (ltb (first test 0 r) r) refl l
 
   -- it is unmarked, and at the node where r is
-  pub after-open : after turning n src marks a r < n → getD marks (after turning n src marks a r) 0 ≡ 0
-  after-open = found (λ j. getD marks j 0 ≡ 0) (λ j e. both (getD src j 0) a (getD marks j 0) 0 e .1) (λ e. e)
+  pub nextOpen-open : nextOpen turning n src marks a r < n → getD marks (nextOpen turning n src marks a r) 0 ≡ 0
+  nextOpen-open = found (λ j. getD marks j 0 ≡ 0) (λ j e. both (getD src j 0) a (getD marks j 0) 0 e .1) (λ e. e)
 
-  pub after-at : getD src r 0 ≡ a → after turning n src marks a r < n → getD src (after turning n src marks a r) 0 ≡ a
-  after-at at = found (λ j. getD src j 0 ≡ a) (λ j e. both (getD src j 0) a (getD marks j 0) 0 e .0) (λ e. at)
+  pub nextOpen-at : getD src r 0 ≡ a → nextOpen turning n src marks a r < n → getD src (nextOpen turning n src marks a r) 0 ≡ a
+  nextOpen-at at = found (λ j. getD src j 0 ≡ a) (λ j e. both (getD src j 0) a (getD marks j 0) 0 e .0) (λ e. at)
 
 unfoldable pub unmarked : ℕ → List ℕ → ℕ
 unmarked n marks = many (λ i. eqb (getD marks i 0) 0) n

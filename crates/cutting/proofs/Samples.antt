@@ -31,7 +31,7 @@ use Rattle.cutting.specs.Cell.{
   cellTableWith,
   doubled,
 }
-use Rattle.cutting.specs.Walk.{slot, after, onward, arrive, cross, popped, taken, rest, go, step, run, starts, walkFrom, walkWith}
+use Rattle.cutting.specs.Walk.{slot, nextOpen, begin, rest, onward, arrive, follow, step, walkSteps, starts, walkFrom, walkWith}
 use Rattle.cutting.specs.Areas.{doubledArea}
 use Rattle.cutting.specs.Outcome.{Outcome, refusal, pieces, closesUp, tooMany, cutOutcomeWith}
 
@@ -68,7 +68,7 @@ whole = laid 0 1 [] ∷ laid 1 2 [] ∷ laid 2 3 [] ∷ laid 3 0 [] ∷ []
 -- what a cell comes to by a setting, and whether it is doubled
 unfoldable cut : Setting → List Float → List Laid → List Laid → Outcome × Bool
 unfolding outlineDarts ownDarts dartsAlong joined hops isNew newTo first seek nearDarts innerWith edgeSlots table stands cellTableWith insert sortOnto angles
-    coord mag sign ordered between pointAt sub ofBits tally doubled slot after onward arrive cross popped taken rest go step run starts walkFrom walkWith all
+    coord mag sign ordered between pointAt sub ofBits tally doubled slot nextOpen begin rest onward arrive follow step walkSteps starts walkFrom walkWith all
     passing times ring rings among repeats closesUp cutOutcomeWith
 cut v coords own near =
     let outline = outlineDarts own in

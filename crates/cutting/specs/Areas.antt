@@ -11,8 +11,8 @@ use Rattle.plane.specs.Plane.{pointAt}
 use Rattle.cutting.specs.Edges.{Edge, ring, rings, times}
 
 -- x·y' − y·x' from node a to node b, a whole number of 2^-2148
-abbrev pub term : List Float → ℕ → ℕ → ℤ
-term coords a b =
+abbrev pub exactTerm : List Float → ℕ → ℕ → ℤ
+exactTerm coords a b =
     let p = pointAt coords a in
     let q = pointAt coords b in
     coord (p .x) *ℤ coord (q .y) -ℤ coord (p .y) *ℤ coord (q .x)
@@ -20,7 +20,7 @@ term coords a b =
 -- the doubled signed area: the exact sum over directed edges
 unfoldable pub doubledArea : List Float → List Edge → ℤ
 doubledArea coords [] = pos 0
-doubledArea coords (e ∷ es) = term coords (e .0) (e .1) +ℤ doubledArea coords es
+doubledArea coords (e ∷ es) = exactTerm coords (e .0) (e .1) +ℤ doubledArea coords es
 
 -- those of all pieces together
 unfoldable pub doubledAreas : List Float → List (List ℕ) → ℤ

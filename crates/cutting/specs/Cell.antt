@@ -7,12 +7,11 @@ use lib.ListN.{getD}
 use lib.Ieee.{Float}
 use Rattle.lists.specs.Gather.{tally, passing, joined}
 use Rattle.lists.specs.Sort.{sorted}
+use Rattle.exact.specs.Exact.{isLess}
 use Rattle.exact.specs.Angle.{angles}
-use Rattle.exact.specs.declared.Order.{Order}
-use Rattle.exact.specs.declared.Order.the-variants.{Less, Equal, Greater}
 use Rattle.plane.specs.Plane.{between, pointAt}
 use Rattle.plane.specs.declared.Point.{Point}
-use Rattle.cutting.specs.Edges.{Edge, key, sameKey, turn, hops, ring}
+use Rattle.cutting.specs.Edges.{Edge, key, sameKey, reversedIf, hops, ring}
 
 -- an edge with its sorted nodes; none where nothing was collected on it
 pub record Laid : Type 0 where
@@ -33,7 +32,7 @@ orEnds e (n ∷ ns) = n ∷ ns
 
 -- `inv`: each window the other way where the edge's second node is the first of the nodes
 unfoldable pub dartsAlong : ℕ → List ℕ → List Edge
-dartsAlong second ns = map (turn (eqb second (getD ns 0 0))) (windows ns)
+dartsAlong second ns = map (reversedIf (eqb second (getD ns 0 0))) (windows ns)
 
 -- of one of the cell's own edges
 unfoldable pub ownDarts : Laid → List Edge
@@ -114,11 +113,6 @@ inner outline near = innerWith true outline near
 
 abbrev pub direction : List Float → ℕ → ℕ → Point
 direction coords a b = between (pointAt coords a) (pointAt coords b)
-
-abbrev pub isLess : Order → Bool
-isLess Less = true
-isLess Equal = false
-isLess Greater = false
 
 -- the slot from a to b stands before the one from c to d
 unfoldable pub stands : List Float → ℕ → ℕ → ℕ → ℕ → Bool

@@ -20,9 +20,9 @@ abbrev pub sameKey : Edge → Edge → Bool
 sameKey e f = eqb (key e .0) (key f .0) && eqb (key e .1) (key f .1)
 
 -- the other way where the flag is true
-abbrev pub turn : Bool → Edge → Edge
-turn true e = (e .1, e .0)
-turn false e = e
+abbrev pub reversedIf : Bool → Edge → Edge
+reversedIf true e = (e .1, e .0)
+reversedIf false e = e
 
 -- from x through the nodes ys
 unfoldable pub hops : ℕ → List ℕ → List Edge

@@ -14,8 +14,8 @@ unfoldable pub slotsOf : List ℕ → List ℕ → List ℕ → ℕ → List Slo
 slotsOf src dst marks n = each n (slotAt src dst marks)
 
 -- edges as a flat list of nodes, and read from one
-unfoldable pub ends : List Edge → List ℕ
-ends es = joined (λ e. e .0 ∷ e .1 ∷ []) es
+unfoldable pub flatEdges : List Edge → List ℕ
+flatEdges es = joined (λ e. e .0 ∷ e .1 ∷ []) es
 
 unfoldable pub pairs : List ℕ → List Edge
 pairs [] = []

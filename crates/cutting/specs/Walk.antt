@@ -10,8 +10,8 @@ use Rattle.cutting.specs.Cell.{Slot}
 
 -- where a walk stands: between two pieces, or on a slot, with the piece's first corner and its others so far
 pub data Phase : Type 0 where
-  between : Phase
-  along : ℕ → List ℕ → ℕ → Phase
+  resting : Phase
+  onSlot : ℕ → List ℕ → ℕ → Phase
 
 -- the heap's end stands first in `heap`
 pub record State : Type 0 where
@@ -19,6 +19,9 @@ pub record State : Type 0 where
   pub heap : List ℕ
   pub done : List (List ℕ)
   pub phase : Phase
+
+abbrev pub state : List ℕ → List ℕ → List (List ℕ) → Phase → State
+state marks heap done phase = record { marks = marks; heap = heap; done = done; phase = phase }
 
 -- what a step leads to: a further state, the pieces once the heap is empty, refusal 11, or what no cell's table comes to (no slot for a dart, or too few steps)
 pub data Next : Type 0 where
@@ -44,56 +47,49 @@ unfoldable pub slot : ℕ → List ℕ → List ℕ → ℕ → ℕ → ℕ
 slot n src dst a b = first (leads src dst a b) 0 n
 
 -- the first unmarked slot of the node a after its slot r, going round; r itself last, where the walk may turn back; n where there is none
-unfoldable pub after : Bool → ℕ → List ℕ → List ℕ → ℕ → ℕ → ℕ
-after turning n src marks a r =
+unfoldable pub nextOpen : Bool → ℕ → List ℕ → List ℕ → ℕ → ℕ → ℕ
+nextOpen turning n src marks a r =
     let late = first (openAt src marks a) (r + 1) n in
     let early = first (openAt src marks a) 0 r in
     orElse (ltb late n) late (orElse (ltb early r) early (orElse (turning && eqb (getD marks r 0) 0) r n))
 
 -- whether the walk may turn back along the reverse of the dart it came by; a table of n slots: slot i leads from the node src i to the node dst i
 module _ (turning : Bool) (n : ℕ) (src dst : List ℕ) where
-  -- onto the slot j
-  unfoldable pub onward : List ℕ → List ℕ → List (List ℕ) → ℕ → List ℕ → ℕ → Bool → Next
-  onward marks heap done start mid j true = more (record { marks = marks; heap = heap; done = done; phase = along start mid j })
-  onward marks heap done start mid j false = stuck
+  -- the slot i is taken off the heap: unmarked, it begins a piece; marked, it is passed over
+  unfoldable pub begin : State → ℕ → Next
+  begin s i =
+      let from : Phase = elim (eqb (getD (s .marks) i 0) 0) [ true ↦ onSlot (getD src i 0) [] i | false ↦ resting ] in
+      elim (ltb i n) [ true ↦ more (state (s .marks) (s .heap) (s .done) from) | false ↦ broken ]
 
-  -- at the node y, reached by a slot whose reverse is r: a piece closes when its first node returns
-  unfoldable pub arrive : List ℕ → List ℕ → List (List ℕ) → ℕ → List ℕ → ℕ → ℕ → Bool → Next
-  arrive marks heap done start mid y r true = more (record { marks = marks; heap = heap; done = done ++ (start ∷ mid) ∷ []; phase = between })
-  arrive marks heap done start mid y r false = let j = after turning n src marks y r in onward marks heap done start (mid ++ y ∷ []) j (ltb j n)
+  -- between two pieces
+  unfoldable pub rest : State → Next
+  rest s = elim (s .heap) [ [] ↦ closed (s .done) | i ∷ heap ↦ begin (state (s .marks) heap (s .done) resting) i ]
 
-  -- the reverse goes onto the heap, unmarked as it is
-  unfoldable pub cross : List ℕ → List ℕ → List (List ℕ) → ℕ → List ℕ → ℕ → ℕ → Bool → Next
-  cross marks heap done start mid y r true = arrive marks (r ∷ heap) done start mid y r (eqb y start)
-  cross marks heap done start mid y r false = broken
+  -- a piece of the corners `start` and `mid` goes on along the slot j
+  unfoldable pub onward : State → ℕ → List ℕ → ℕ → Next
+  onward s start mid j = elim (ltb j n) [ true ↦ more (state (s .marks) (s .heap) (s .done) (onSlot start mid j)) | false ↦ stuck ]
 
-  -- a marked slot is passed over
-  unfoldable pub popped : List ℕ → List ℕ → List (List ℕ) → ℕ → Bool → Next
-  popped marks heap done i true = more (record { marks = marks; heap = heap; done = done; phase = along (getD src i 0) [] i })
-  popped marks heap done i false = more (record { marks = marks; heap = heap; done = done; phase = between })
+  -- It comes to the node y, by a slot whose reverse is r, and closes when its first node returns.
+  unfoldable pub arrive : State → ℕ → List ℕ → ℕ → ℕ → Next
+  arrive s start mid y r = elim (eqb y start) [
+    | true ↦ more (state (s .marks) (s .heap) (s .done ++ (start ∷ mid) ∷ []) resting)
+    | false ↦ onward s start (mid ++ y ∷ []) (nextOpen turning n src (s .marks) y r)
+  ]
 
-  unfoldable pub taken : List ℕ → List ℕ → List (List ℕ) → ℕ → Bool → Next
-  taken marks heap done i true = popped marks heap done i (eqb (getD marks i 0) 0)
-  taken marks heap done i false = broken
-
-  unfoldable pub rest : List ℕ → List ℕ → List (List ℕ) → Next
-  rest marks [] done = closed done
-  rest marks (i ∷ heap) done = taken marks heap done i (ltb i n)
-
-  unfoldable pub go : Phase → List ℕ → List ℕ → List (List ℕ) → Next
-  go between marks heap done = rest marks heap done
-  go (along start mid i) marks heap done =
+  -- along the slot i: it is marked, and its reverse goes onto the heap, unmarked as it is
+  unfoldable pub follow : State → ℕ → List ℕ → ℕ → Next
+  follow s start mid i =
       let y = getD dst i 0 in
       let r = slot n src dst y (getD src i 0) in
-      cross (set marks i 1) heap done start mid y r (ltb r n)
+      elim (ltb r n) [ true ↦ arrive (state (set (s .marks) i 1) (r ∷ s .heap) (s .done) (s .phase)) start mid y r | false ↦ broken ]
 
   unfoldable pub step : State → Next
-  step s = go (s .phase) (s .marks) (s .heap) (s .done)
+  step s = elim (s .phase) [ resting ↦ rest s | onSlot start mid i ↦ follow s start mid i ]
 
   -- at most k steps
-  unfoldable pub run : ℕ → State → Next
-  run zero s = broken
-  run (suc k) s = elim (step s) [ more t ↦ run k t | closed ps ↦ closed ps | stuck ↦ stuck | broken ↦ broken ]
+  unfoldable pub walkSteps : ℕ → State → Next
+  walkSteps zero s = broken
+  walkSteps (suc k) s = elim (step s) [ more t ↦ walkSteps k t | closed ps ↦ closed ps | stuck ↦ stuck | broken ↦ broken ]
 
 -- the first slots of the outline darts, the last dart's first
 unfoldable pub starts : ℕ → List ℕ → List ℕ → List Edge → List ℕ → List ℕ
@@ -102,7 +98,7 @@ starts n src dst (e ∷ es) heap = starts n src dst es (slot n src dst (e .0) (e
 
 -- a step marks a slot or takes one off the heap, and puts one on it only where it marks: so many steps do
 unfoldable pub walkFrom : Bool → ℕ → List ℕ → List ℕ → List ℕ → List ℕ → Next
-walkFrom turning n src dst marks heap = run turning n src dst (2 * n + length heap + 1) (record { marks = marks; heap = heap; done = []; phase = between })
+walkFrom turning n src dst marks heap = walkSteps turning n src dst (2 * n + length heap + 1) (state marks heap [] resting)
 
 abbrev pub srcs : List Slot → List ℕ
 srcs t = map (λ s. s .src) t

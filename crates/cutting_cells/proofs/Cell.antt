@@ -23,7 +23,7 @@ use Rattle.rules.specs.declared.Bounds.{Bounds}
 use Rattle.rules.specs.Mesh.{Side, other}
 use Rattle.rules.specs.SpatialIndex.{boxOf, candidates}
 use Rattle.rules.specs.Meetings.{Scene, netOf}
-use Rattle.rules.specs.Cell.{cellOf, nearOf, outcomeOf, kindBy, kindOf}
+use Rattle.rules.specs.Cell.{cellOf, nearOf, outcomeOf, treatedBy, treated, kindOf}
 use Rattle.rules.specs.Operations.{Piece, outcomePieces, kept}
 use Rattle.rules.specs.Refusals.{ofCell, firstRefusal}
 use Rattle.rules.proofs.Accepts.{Sound, sound}
@@ -62,12 +62,12 @@ module _ (sc : Scene) (w : Side) (i k : ℕ) (at : k ≡ first (meets (sc .coord
       go false h = ap cutAs (sym (copied-is sc w i k at (ltb-false k (length es) h)))
 
   kind-at : (kind : ℕ) → getD (netOf sc w .kinds) i 0 ≡ kind → cond (ltb k (length es)) 11 kind ≡ kindOf sc w i
-  unfolding kindOf nearOf
+  unfolding treated nearOf
   kind-at kind e = go (ltb k (length es)) refl
     where
-      go : (t : Bool) → ltb k (length es) ≡ t → cond t 11 kind ≡ kindBy (getD (netOf sc w .kinds) i 0) (candidates (sc .coords) es box)
-      go true h = sym (ap (kindBy (getD (netOf sc w .kinds) i 0)) (from-first (sc .coords) es box k at (ltb-true k (length es) h) .1))
-      go false h = sym (ap (kindBy (getD (netOf sc w .kinds) i 0)) (none-near (sc .coords) es box k at (ltb-false k (length es) h)) ∙ e)
+      go : (t : Bool) → ltb k (length es) ≡ t → cond t 11 kind ≡ treatedBy sc w i (candidates (sc .coords) es box) .kind
+      go true h = sym (ap (λ (js : List ℕ). treatedBy sc w i js .kind) (from-first (sc .coords) es box k at (ltb-true k (length es) h) .1))
+      go false h = sym (ap (λ (js : List ℕ). treatedBy sc w i js .kind) (none-near (sc .coords) es box k at (ltb-false k (length es) h)) ∙ e)
 
 -- ---- what the answer is read by
 

@@ -16,7 +16,7 @@ use Rattle.cutting.specs.Edges.{Edge, ring}
 use Rattle.cutting.specs.Cell.{repeats}
 use Rattle.cutting.specs.Outcome as Outcome
 use Rattle.cutting.specs.Outcome.{Outcome, refusal, pieces, copiedOutcome, flat}
-use Rattle.cutting.specs.Lent.{ends, pairs}
+use Rattle.cutting.specs.Lent.{flatEdges, pairs}
 use Rattle.cutting.proofs.Runs.{take-push}
 use Rattle.cutting.proofs.Pairs.{ends-append, pairs-ends, pairs-length}
 use Rattle.rules.specs.declared.Bounds.{Bounds}
@@ -34,10 +34,10 @@ pub record Sided (cell list : List ℕ) (i : ℕ) : Type 0 where
   pub counted : length done ≡ i
   pub within : i ≤ length cell
   pub long : length list ≡ 512
-  pub held : take (2 * i) list ≡ ends done
+  pub held : take (2 * i) list ≡ flatEdges done
 
 pub sided-none : (cell : List ℕ) → Sided cell (replicate 512 0) 0
-unfolding ends joined
+unfolding flatEdges joined
 sided-none cell = record { done = []; left = sides-all cell; counted = refl; within = omega arith; long = length-replicate {A = ℕ} 512 0; held = refl }
 
 two-more : (xs : List ℕ) (i a b : ℕ) → 2 * i + 1 < length xs → take (2 * (i + 1)) (set (set xs (2 * i) a) (2 * i + 1) b) ≡ take (2 * i) xs ++ a ∷ b ∷ []
@@ -47,8 +47,8 @@ two-more xs i a b h =
     ∙ take-push (set xs (2 * i) a) (2 * i + 1) b (omega (arith, h, length-set xs (2 * i) a))
     ∙ ap (λ (l : List ℕ). l ++ b ∷ []) (take-push xs (2 * i) a (omega (arith, h))) ∙ append-assoc (take (2 * i) xs) (a ∷ []) (b ∷ [])
 
-ends-one : (a b : ℕ) → ends ((a, b) ∷ []) ≡ a ∷ b ∷ []
-unfolding ends joined
+ends-one : (a b : ℕ) → flatEdges ((a, b) ∷ []) ≡ a ∷ b ∷ []
+unfolding flatEdges joined
 ends-one a b = refl
 
 pub sided-more : (cell list : List ℕ) (i b : ℕ) → length cell ≤ 256 → Sided cell list i → i < length cell → b ≡ nextCorner cell i

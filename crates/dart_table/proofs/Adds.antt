@@ -15,10 +15,10 @@ use Rattle.lists.specs.Sort.{sortOnto}
 use Rattle.lists.specs.Regions.{put}
 use Rattle.lists.proofs.Search.{many-has, many-some, first-hit, first-some}
 use Rattle.lists.proofs.Gather.{tally-each}
-use Rattle.cutting.specs.Edges.{Edge, key, turn}
+use Rattle.cutting.specs.Edges.{Edge, key, reversedIf}
 use Rattle.cutting.specs.Cell.{windows, orEnds, dartsAlong, ownDarts, nearDarts, edgeSlots, reverseMark, names, isNew, standsBefore}
 use Rattle.cutting.specs.Walk.{leads, slot}
-use Rattle.cutting.specs.Lent.{slotAt, slotsOf, ends}
+use Rattle.cutting.specs.Lent.{slotAt, slotsOf, flatEdges}
 use Rattle.dart_table.specs.Table.{Table, tableIn, withDarts, withEdge, withEdges, Inserted, Added, Outlined}
 use Rattle.dart_table.proofs.Grow.{the-same}
 use Rattle.cutting.proofs.Pairs.{windows-next, windows-end, windows-length}
@@ -29,7 +29,7 @@ use Rattle.dart_table.proofs.Fronts.{as-table}
 pub darts-length : (second : ℕ) (ns : List ℕ) → 0 < length ns → length (dartsAlong second ns) ≡ length ns - 1
 unfolding dartsAlong
 darts-length second [] h = absurd (omega arith)
-darts-length second (x ∷ ns) h = omega (arith, length-map (windows (x ∷ ns)) (turn (eqb second x)), windows-length x ns)
+darts-length second (x ∷ ns) h = omega (arith, length-map (windows (x ∷ ns)) (reversedIf (eqb second x)), windows-length x ns)
 
 windows-count : (ns : List ℕ) → 0 < length ns → length (windows ns) ≡ length ns - 1
 windows-count [] h = absurd (omega arith)
@@ -43,8 +43,8 @@ module _ (coords : List Float) (second : ℕ) (nodes outline src dst marks : Lis
   )
 
   pub darts-fit : (outline′ src′ dst′ marks′ : List ℕ) → r ≤ 1024
-      → (outline′ ≡ put outline n (ends (map (turn (eqb second (getD nodes 0 0))) (windows nodes)))) × Inserted
-      (sortOnto (standsBefore coords) (slotsOf src dst marks n) (edgeSlots reverseMark (map (turn (eqb second (getD nodes 0 0))) (windows nodes))))
+      → (outline′ ≡ put outline n (flatEdges (map (reversedIf (eqb second (getD nodes 0 0))) (windows nodes)))) × Inserted
+      (sortOnto (standsBefore coords) (slotsOf src dst marks n) (edgeSlots reverseMark (map (reversedIf (eqb second (getD nodes 0 0))) (windows nodes))))
       (n + 2 * length (windows nodes)) src dst marks src′ dst′ marks′
       → Added coords reverseMark (dartsAlong second nodes) n r src dst marks src′ dst′ marks′ × Outlined (dartsAlong second nodes) n r outline outline′
   unfolding dartsAlong

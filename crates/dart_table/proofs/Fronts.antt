@@ -18,7 +18,7 @@ use Rattle.cutting.specs.Edges.{Edge}
 use Rattle.cutting.specs.Cell.{Slot, edgeSlots, standsBefore}
 use Rattle.cutting.specs.Walk.{srcs, dsts, marksOf}
 use Rattle.cutting.specs.Outcome.{tooMany}
-use Rattle.cutting.specs.Lent.{slotAt, slotsOf, ends}
+use Rattle.cutting.specs.Lent.{slotAt, slotsOf, flatEdges}
 use Rattle.dart_table.specs.Table.{Table, tableIn, withDarts, outlineWith, Added, Outlined}
 use Rattle.cutting.proofs.CellLaws as cell
 use Rattle.cutting.proofs.Tabled.{slots-length, slots-srcs, slots-dsts, slots-marks}
@@ -114,15 +114,15 @@ module _ (es : List Edge) (n r : ℕ) (outline outline′ : List ℕ) (count : r
   pub outlined : outline′ ≡ outlineWith es n outline → Outlined es n r outline outline′
   unfolding outlineWith
   outlined e = record {
-    grows = λ h. e ∙ ap (λ (b : Bool). cond b outline (put outline n (ends es))) (le-ltb 1024 (n + 2 * length es) (omega arith));
-    full = λ h. e ∙ ap (λ (b : Bool). cond b outline (put outline n (ends es))) (lt-ltb 1024 (n + 2 * length es) (omega arith));
+    grows = λ h. e ∙ ap (λ (b : Bool). cond b outline (put outline n (flatEdges es))) (le-ltb 1024 (n + 2 * length es) (omega arith));
+    full = λ h. e ∙ ap (λ (b : Bool). cond b outline (put outline n (flatEdges es))) (lt-ltb 1024 (n + 2 * length es) (omega arith));
   }
 
   pub as-outline : Outlined es n r outline outline′ → outline′ ≡ outlineWith es n outline
   unfolding outlineWith
   as-outline o = go (tooMany (n + 2 * length es)) refl
     where
-      go : (b : Bool) → tooMany (n + 2 * length es) ≡ b → outline′ ≡ cond b outline (put outline n (ends es))
+      go : (b : Bool) → tooMany (n + 2 * length es) ≡ b → outline′ ≡ cond b outline (put outline n (flatEdges es))
       go true e = o .full (omega (arith, count, ltb-true 1024 (n + 2 * length es) e))
       go false e = o .grows (omega (arith, count, ltb-false 1024 (n + 2 * length es) e))
 

@@ -12,9 +12,9 @@ use Rattle.lists.specs.Sort.{insert, sortOnto}
 use Rattle.lists.specs.Regions.{put}
 use Rattle.lists.proofs.Sort.{sortOnto-append}
 use Rattle.lists.proofs.Regions.{put-none}
-use Rattle.cutting.specs.Edges.{Edge, turn}
+use Rattle.cutting.specs.Edges.{Edge, reversedIf}
 use Rattle.cutting.specs.Cell.{Slot, edgeSlots, reverseMark, windows, standsBefore}
-use Rattle.cutting.specs.Lent.{slotsOf, ends}
+use Rattle.cutting.specs.Lent.{slotsOf, flatEdges}
 use Rattle.dart_table.specs.Table.{Inserted}
 use Rattle.cutting.proofs.CellLaws.{slots-append}
 use Rattle.cutting.proofs.Pairs.{windows-next, windows-end, ends-more, turned-is}
@@ -77,13 +77,13 @@ pub record Laying (coords : List Float) (inv : Bool) (nodes outline₀ src₀ ds
   pub done : List Edge
   pub count : k ≡ n + 2 * i
   pub counted : length done ≡ i
-  pub left : done ++ map (turn inv) (windows (drop i nodes)) ≡ map (turn inv) (windows nodes)
-  pub outlined : outline ≡ put outline₀ n (ends done)
+  pub left : done ++ map (reversedIf inv) (windows (drop i nodes)) ≡ map (reversedIf inv) (windows nodes)
+  pub outlined : outline ≡ put outline₀ n (flatEdges done)
   pub inserted : Inserted (sortOnto (standsBefore coords) (slotsOf src₀ dst₀ marks₀ n) (edgeSlots reverseMark done)) k src₀ dst₀ marks₀ src dst marks
 
 module _ (coords : List Float) (inv : Bool) (nodes outline₀ src₀ dst₀ marks₀ : List ℕ) (n : ℕ) where
   pub lay-start : Laying coords inv nodes outline₀ src₀ dst₀ marks₀ n outline₀ src₀ dst₀ marks₀ 0 n
-  unfolding sortOnto edgeSlots ends joined
+  unfolding sortOnto edgeSlots flatEdges joined
   lay-start = record {
     same-outline = refl;
     same-src = refl;
@@ -105,7 +105,7 @@ module _ (coords : List Float) (inv : Bool) (nodes outline₀ src₀ dst₀ mark
         → Inserted (sortOnto (standsBefore coords) (slotsOf src dst marks k) (edgeSlots reverseMark ((a, b) ∷ []))) (k + 2) src dst marks src′ dst′ marks′
         → Laying coords inv nodes outline₀ src₀ dst₀ marks₀ n (set (set outline k a) (k + 1) b) src′ dst′ marks′ (i + 1) (k + 2)
     lay-turn a b src′ dst′ marks′ h fits ea eb lo ls ld lm ins =
-        let e : Edge = turn inv (getD nodes i 0, getD nodes (i + 1) 0) in
+        let e : Edge = reversedIf inv (getD nodes i 0, getD nodes (i + 1) 0) in
         let is-e : _≡_ {A = Edge} (a, b) e = ap₂ (λ x y. (x, y)) ea eb ∙ turned-is inv (getD nodes i 0) (getD nodes (i + 1) 0) in
         record {
           same-outline = lo ∙ v .same-outline;
@@ -116,7 +116,7 @@ module _ (coords : List Float) (inv : Bool) (nodes outline₀ src₀ dst₀ mark
           done = v .done ++ e ∷ [];
           count = omega (arith, v .count);
           counted = omega (arith, length-append (v .done) (e ∷ []), v .counted);
-          left = append-assoc (v .done) (e ∷ []) (map (turn inv) (windows (drop (i + 1) nodes))) ∙ ap (λ (es : List Edge). v .done ++ map (turn inv) es)
+          left = append-assoc (v .done) (e ∷ []) (map (reversedIf inv) (windows (drop (i + 1) nodes))) ∙ ap (λ (es : List Edge). v .done ++ map (reversedIf inv) es)
               (sym (windows-next nodes i h)) ∙ v .left;
           outlined = ends-more outline₀ outline n k a b (v .done) e (omega (arith, v .count)) (omega (arith, v .count, v .counted)) fits (v .outlined)
               (ap (λ (x : Edge). x .0) is-e) (ap (λ (x : Edge). x .1) is-e);
@@ -124,14 +124,14 @@ module _ (coords : List Float) (inv : Bool) (nodes outline₀ src₀ dst₀ mark
               (the-same _ _ _ _ _ _ _ _ _ _ (ap (λ (x : Edge). sortOnto (standsBefore coords) (slotsOf src dst marks k) (edgeSlots reverseMark (x ∷ []))) is-e) refl ins);
         }
 
-    pub lay-end : length nodes ≤ i + 1 → (outline ≡ put outline₀ n (ends (map (turn inv) (windows nodes)))) × Inserted
-        (sortOnto (standsBefore coords) (slotsOf src₀ dst₀ marks₀ n) (edgeSlots reverseMark (map (turn inv) (windows nodes)))) (n + 2 * length (windows nodes))
+    pub lay-end : length nodes ≤ i + 1 → (outline ≡ put outline₀ n (flatEdges (map (reversedIf inv) (windows nodes)))) × Inserted
+        (sortOnto (standsBefore coords) (slotsOf src₀ dst₀ marks₀ n) (edgeSlots reverseMark (map (reversedIf inv) (windows nodes)))) (n + 2 * length (windows nodes))
         src₀ dst₀ marks₀ src dst marks
     lay-end h =
-        let all : v .done ≡ map (turn inv) (windows nodes) = sym (append-nil (v .done)) ∙ ap (λ (es : List Edge). v .done ++ map (turn inv) es)
+        let all : v .done ≡ map (reversedIf inv) (windows nodes) = sym (append-nil (v .done)) ∙ ap (λ (es : List Edge). v .done ++ map (reversedIf inv) es)
         (sym (windows-end nodes i h)) ∙ v .left in
-        let len : length (v .done) ≡ length (windows nodes) = ap length all ∙ length-map (windows nodes) (turn inv) in (
-          v .outlined ∙ ap (λ (es : List Edge). put outline₀ n (ends es)) all,
+        let len : length (v .done) ≡ length (windows nodes) = ap length all ∙ length-map (windows nodes) (reversedIf inv) in (
+          v .outlined ∙ ap (λ (es : List Edge). put outline₀ n (flatEdges es)) all,
           the-same _ _ _ _ _ _ _ _ _ _ (ap (λ (es : List Edge). sortOnto (standsBefore coords) (slotsOf src₀ dst₀ marks₀ n) (edgeSlots reverseMark es)) all)
               (omega (arith, v .count, v .counted, len)) (v .inserted),
         )

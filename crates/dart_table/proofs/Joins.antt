@@ -18,7 +18,7 @@ use Rattle.lists.proofs.Sort.{sortOnto-append, length-sorted, sorted-tally}
 use Rattle.cutting.specs.Edges.{Edge}
 use Rattle.cutting.specs.Cell.{Laid, ownDarts, outlineDarts, nearDarts, Slot, edgeSlots, reverseMark, table, names, isNew, newTo, inner, innerWith}
 use Rattle.cutting.specs.Cell.{standsBefore, cellTable, cellTableWith, repeats}
-use Rattle.cutting.specs.Lent.{slotsOf, ends}
+use Rattle.cutting.specs.Lent.{slotsOf, flatEdges}
 use Rattle.dart_table.specs.Table.{Table, tableIn, withDarts, withEdge, withEdges, Added}
 use Rattle.cutting.specs.Walk.{walk}
 use Rattle.cutting.specs.Outcome.{Outcome, refusal, ofWalk, tooMany, cutOutcome}
@@ -32,20 +32,20 @@ use Rattle.cutting.proofs.Tabled as tabled
 -- ---- the outline's flat list
 
 -- the first entries, after those of some darts have been put behind the first n
-pub take-put-ends : (w : List ℕ) (n : ℕ) (es : List Edge) → n ≤ length w → take (n + 2 * length es) (put w n (ends es)) ≡ take n w ++ ends es
+pub take-put-ends : (w : List ℕ) (n : ℕ) (es : List Edge) → n ≤ length w → take (n + 2 * length es) (put w n (flatEdges es)) ≡ take n w ++ flatEdges es
 unfolding put front
 take-put-ends w n es h =
     let k = length-take-le n w h in
-    ap (take (n + 2 * length es)) (sym (append-assoc (take n w) (ends es) (drop (length (ends es)) (drop n w))))
-    ∙ take-at (take n w ++ ends es) (drop (length (ends es)) (drop n w)) (n + 2 * length es) (omega (arith, length-append (take n w) (ends es), k, ends-length es))
+    ap (take (n + 2 * length es)) (sym (append-assoc (take n w) (flatEdges es) (drop (length (flatEdges es)) (drop n w))))
+    ∙ take-at (take n w ++ flatEdges es) (drop (length (flatEdges es)) (drop n w)) (n + 2 * length es) (omega (arith, length-append (take n w) (flatEdges es), k, ends-length es))
 
 -- one own edge more
-pub outline-more : (w w′ : List ℕ) (n : ℕ) (own : List Laid) (l : Laid) → n ≤ length w → take n w ≡ ends (outlineDarts own) → w′ ≡ put w n (ends (ownDarts l))
-    → take (n + 2 * length (ownDarts l)) w′ ≡ ends (outlineDarts (own ++ l ∷ []))
+pub outline-more : (w w′ : List ℕ) (n : ℕ) (own : List Laid) (l : Laid) → n ≤ length w → take n w ≡ flatEdges (outlineDarts own) → w′ ≡ put w n (flatEdges (ownDarts l))
+    → take (n + 2 * length (ownDarts l)) w′ ≡ flatEdges (outlineDarts (own ++ l ∷ []))
 unfolding outlineDarts
 outline-more w w′ n own l h e f =
-    ap (take (n + 2 * length (ownDarts l))) f ∙ take-put-ends w n (ownDarts l) h ∙ ap (λ (xs : List ℕ). xs ++ ends (ownDarts l)) e
-    ∙ sym (ap ends (joined-snoc ownDarts own l) ∙ ends-append (joined ownDarts own) (ownDarts l))
+    ap (take (n + 2 * length (ownDarts l))) f ∙ take-put-ends w n (ownDarts l) h ∙ ap (λ (xs : List ℕ). xs ++ flatEdges (ownDarts l)) e
+    ∙ sym (ap flatEdges (joined-snoc ownDarts own l) ∙ ends-append (joined ownDarts own) (ownDarts l))
 
 -- ---- the table
 

@@ -11,7 +11,7 @@ use Rattle.cutting.specs.Edges.{Edge}
 use Rattle.cutting.specs.Cell.{Slot, edgeSlots, isNew, standsBefore}
 use Rattle.cutting.specs.Walk.{srcs, dsts, marksOf}
 use Rattle.cutting.specs.Outcome.{tooMany}
-use Rattle.cutting.specs.Lent.{slotsOf, ends}
+use Rattle.cutting.specs.Lent.{slotsOf, flatEdges}
 
 -- a table of so many slots, at the front of three lists
 pub record Table : Type 0 where
@@ -50,7 +50,7 @@ withEdges coords (e ∷ es) t = cond (tooMany (t .slots)) t (withEdges coords es
 
 -- the outline of n entries with more darts
 unfoldable pub outlineWith : List Edge → ℕ → List ℕ → List ℕ
-outlineWith darts n outline = unlessFull (n + 2 * length darts) (put outline n (ends darts)) outline
+outlineWith darts n outline = unlessFull (n + 2 * length darts) (put outline n (flatEdges darts)) outline
 
 -- ---- what only inner functions' contracts and laws cite
 
@@ -69,5 +69,5 @@ pub record Added (coords : List Float) (back : ℕ) (es : List Edge) (n r : ℕ)
 
 -- An outline's list with n entries takes those of the darts, up to r; nothing changes where r is over 1,024.
 pub record Outlined (darts : List Edge) (n r : ℕ) (outline outline′ : List ℕ) : Type 0 where
-  pub grows : r ≤ 1024 → outline′ ≡ put outline n (ends darts)
+  pub grows : r ≤ 1024 → outline′ ≡ put outline n (flatEdges darts)
   pub full : 1024 < r → outline′ ≡ outline

@@ -9,10 +9,11 @@ ghost use lib.ListN.{length, getD};
 ghost use Rattle.lists.specs.Search.{first};
 ghost use Rattle.lists.specs.Sort.{insert, sortOnto};
 ghost use Rattle.lists.specs.Regions.{put};
-ghost use Rattle.cutting.specs.Edges.{turn};
-ghost use Rattle.cutting.specs.Cell.{windows, dartsAlong, ownDarts, nearDarts, edgeSlots, reverseMark, isLess, stands, standsBefore};
+ghost use Rattle.cutting.specs.Edges.{reversedIf};
+ghost use Rattle.exact.specs.Exact.{isLess};
+ghost use Rattle.cutting.specs.Cell.{windows, dartsAlong, ownDarts, nearDarts, edgeSlots, reverseMark, stands, standsBefore};
 ghost use Rattle.cutting.specs.Walk.{slot};
-ghost use Rattle.cutting.specs.Lent.{slotsOf, ends};
+ghost use Rattle.cutting.specs.Lent.{slotsOf, flatEdges};
 ghost use Rattle.dart_table.specs.Table.{tableIn, withDarts, withEdge, withEdges, outlineWith, Inserted, Added, Outlined};
 
 fn is_less(o: Order) -> bool
@@ -112,8 +113,8 @@ fn add_along(
     n: usize,
 )
     requires { ⌜ (n + 2 * length (now nodes) ≤ length (now outline) + 2) × (n + 2 * length (now nodes) ≤ length (now src) + 2) × (n + 2 * length (now nodes) ≤ length (now dst) + 2) × (n + 2 * length (now nodes) ≤ length (now marks) + 2) ⌝ }
-    ensures { λ _. ⌜ now (outline .exit) ≡ put (now (outline .entry)) n (ends (map (turn inv) (windows (now (nodes .entry))))) ⌝ }
-    ensures { λ _. ⌜ Inserted (sortOnto (standsBefore (now (coords .entry))) (slotsOf (now (src .entry)) (now (dst .entry)) (now (marks .entry)) n) (edgeSlots reverseMark (map (turn inv) (windows (now (nodes .entry)))))) (n + 2 * length (windows (now (nodes .entry)))) (now (src .entry)) (now (dst .entry)) (now (marks .entry)) (now (src .exit)) (now (dst .exit)) (now (marks .exit)) ⌝ }
+    ensures { λ _. ⌜ now (outline .exit) ≡ put (now (outline .entry)) n (flatEdges (map (reversedIf inv) (windows (now (nodes .entry))))) ⌝ }
+    ensures { λ _. ⌜ Inserted (sortOnto (standsBefore (now (coords .entry))) (slotsOf (now (src .entry)) (now (dst .entry)) (now (marks .entry)) n) (edgeSlots reverseMark (map (reversedIf inv) (windows (now (nodes .entry)))))) (n + 2 * length (windows (now (nodes .entry)))) (now (src .entry)) (now (dst .entry)) (now (marks .entry)) (now (src .exit)) (now (dst .exit)) (now (marks .exit)) ⌝ }
 {
     let mut i = 0;
     let mut k = n;

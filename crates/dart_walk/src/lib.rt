@@ -6,7 +6,7 @@ ghost use mathlib.Core.List.{[]};
 ghost use Prim.Native.Nat.{_*_, _≤_, _<_};
 ghost use lib.ListN.{length};
 ghost use Rattle.lists.specs.Search.{first};
-ghost use Rattle.cutting.specs.Walk.{openAt, after, starts, walkFrom, walk};
+ghost use Rattle.cutting.specs.Walk.{openAt, nextOpen, starts, walkFrom, walk};
 ghost use Rattle.cutting.specs.Outcome.{ofWalk};
 ghost use Rattle.cutting.specs.Lent.{slotsOf, pairs, stacked};
 ghost use Rattle.dart_walk.specs.Answer.{Room, Written, closedWith, answer, cornersIn, endsIn};
@@ -37,7 +37,7 @@ fn first_open(src: &[u32], marks: &[u32], a: u32, k: usize, n: usize) -> usize
 // The first unmarked slot of the node a after its slot r, going round, r itself last; n where there is none.
 fn next_open(src: &[u32], marks: &[u32], n: usize, a: u32, r: usize) -> usize
     requires { ⌜ (n ≤ length (now src)) × (n ≤ length (now marks)) × (r < n) ⌝ }
-    ensures { λ j. ⌜ j ≡ after true n (now (src .entry)) (now (marks .entry)) a r ⌝ }
+    ensures { λ j. ⌜ j ≡ nextOpen true n (now (src .entry)) (now (marks .entry)) a r ⌝ }
 {
     let late = first_open(src, marks, a, r + 1, n);
     if late < n {

@@ -95,7 +95,7 @@ module _ (h : ℕ) (es : List Edge) (met : List ℕ) (which heads nexts : ℕ) (
         head = λ c b. none c b ∙ sym (first-end (onChain h es met which c) n m (omega (arith, e)));
         next = λ p a b. absurd (omega (arith, e));
         before = λ i b. refl;
-        between = λ i a b. refl;
+        gap = λ i a b. refl;
         behind = λ i a. refl;
       }
 
@@ -135,7 +135,7 @@ module _ (h : ℕ) (es : List Edge) (met : List ℕ) (which heads nexts : ℕ) (
           head = λ k b. at (heads + k) ∙ head-turn k b (ℕ-discrete k c);
           next = λ p a b. at (nexts + p) ∙ next-turn p a b (ℕ-discrete p q);
           before = λ i b. at i ∙ other i (λ z. omega (arith, z)) (λ z. omega (arith, z)) ∙ inv .before i b;
-          between = λ i a b. at i ∙ other i (λ z. omega (arith, z)) (λ z. omega (arith, z)) ∙ inv .between i a (omega arith);
+          gap = λ i a b. at i ∙ other i (λ z. omega (arith, z)) (λ z. omega (arith, z)) ∙ inv .gap i a (omega arith);
           behind = λ i a. at i ∙ other i (λ z. omega (arith, z)) (λ z. omega (arith, z)) ∙ inv .behind i a;
         }
 
@@ -213,7 +213,7 @@ module _ (h : ℕ) (w₀ f : List ℕ) (from s base met which heads nexts : ℕ)
         head = r .head;
         next = r .next;
         before = λ i c. r .before i c ∙ f-before i c;
-        between = λ i c d. r .between i c d ∙ f-behind i c;
+        gap = λ i c d. r .gap i c d ∙ f-behind i c;
         behind = λ i c. r .behind i c ∙ f-behind i (omega arith);
       }
 
@@ -237,7 +237,7 @@ module _ (h : ℕ) (subject cutter : List Edge) (met : List ℕ) (to n : ℕ) (w
       let k : ℕ = j - 2 * h in
       let e : j ≡ 2 * h + k = omega arith in
       let f : to + j ≡ to + 2 * h + k = omega arith in
-      two .between (to + j) (omega arith) (omega arith) ∙ ap (λ (i : ℕ). getD w₁ i 0) f ∙ one .next k (omega arith) (omega (arith, n-is)) ∙ sym
+      two .gap (to + j) (omega arith) (omega arith) ∙ ap (λ (i : ℕ). getD w₁ i 0) f ∙ one .next k (omega arith) (omega (arith, n-is)) ∙ sym
       (subject-next h subject cutter met k (omega (arith, n-is)))
       ∙ ap (λ (i : ℕ). getD links i 0) (sym e)
   place j l (no a) (no b) (no c) =

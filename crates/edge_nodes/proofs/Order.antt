@@ -18,7 +18,7 @@ use Rattle.rules.specs.Nodes.{Projected, totalBefore, byProjection}
 use Rattle.edge_nodes.specs.Lent.{listed}
 
 abbrev made : Float → ℕ → Projected
-made x v = record { along = x; node = v }
+made x v = record { projection = x; node = v }
 
 -- x stands before the one at i
 abbrev pub stands : List Float → Float → ℕ → Bool
@@ -37,18 +37,18 @@ moved-map g f x (suc k) (suc i) = moved-map g (λ j. f (suc j)) x k i
 
 module _ (along : List Float) (nodes : List ℕ) (n : ℕ) (x : Float) (v : ℕ) (l : n < length along) (m : n < length nodes) where
   abbrev at : ℕ → Projected
-  at i = record { along = getD along i nan; node = getD nodes i 0 }
+  at i = record { projection = getD along i nan; node = getD nodes i 0 }
 
   pub put-both : (k : ℕ) → k ≤ n → k ≡ first (stands along x) 0 n
-      → listed (insertAt along n k x) (insertAt nodes n k v) (n + 1) ≡ insert byProjection (record { along = x; node = v }) (listed along nodes n)
+      → listed (insertAt along n k x) (insertAt nodes n k v) (n + 1) ≡ insert byProjection (record { projection = x; node = v }) (listed along nodes n)
   unfolding listed
   put-both k h e =
-      let r : Projected = record { along = x; node = v } in
-      let one : (i : ℕ) → i < suc n → getD (insertAt along n k x) i nan ≡ moved at r k i .along =
-      λ i b. getD-insertAt along n k x h l i nan (omega arith) ∙ sym (moved-map (λ (p : Projected). p .along) at r k i) in
+      let r : Projected = record { projection = x; node = v } in
+      let one : (i : ℕ) → i < suc n → getD (insertAt along n k x) i nan ≡ moved at r k i .projection =
+      λ i b. getD-insertAt along n k x h l i nan (omega arith) ∙ sym (moved-map (λ (p : Projected). p .projection) at r k i) in
       let two : (i : ℕ) → i < suc n → getD (insertAt nodes n k v) i 0 ≡ moved at r k i .node =
       λ i b. getD-insertAt nodes n k v h m i 0 (omega arith) ∙ sym (moved-map (λ (p : Projected). p .node) at r k i) in
-      ap (λ (c : ℕ). each c (λ i. record { along = getD (insertAt along n k x) i nan; node = getD (insertAt nodes n k v) i 0 })) (add-one n)
-      ∙ each-ext (suc n) (λ i. record { along = getD (insertAt along n k x) i nan; node = getD (insertAt nodes n k v) i 0 }) (moved at r k)
+      ap (λ (c : ℕ). each c (λ i. record { projection = getD (insertAt along n k x) i nan; node = getD (insertAt nodes n k v) i 0 })) (add-one n)
+      ∙ each-ext (suc n) (λ i. record { projection = getD (insertAt along n k x) i nan; node = getD (insertAt nodes n k v) i 0 }) (moved at r k)
       (λ i b. ap₂ (λ (a : Float) (c : ℕ). made a c) (one i b) (two i b))
       ∙ ap (λ (c : ℕ). each (suc n) (moved at r c)) e ∙ sym (insert-each byProjection r n at)

@@ -40,14 +40,6 @@ module _ (e f : Edge) (same : sameKey e f ≡ true) where
     unfolding collectedIn
     same-collected = ap₂ (λ (l r : List ℕ). l ++ r) (one-under (length met / 5) subject met 0) (one-under (length met / 5) cutter met 1)
 
-    one-unless : (coords : List Float) (ns : List ℕ) → unlessNone coords e ns ≡ unlessNone coords f ns
-    one-unless coords [] = refl
-    one-unless coords (n ∷ ns) = ap (λ (k : Edge). alongEdge coords k (n ∷ ns)) one-key
-
-    pub same-sorted : (coords : List Float) → sortedIn coords subject cutter met e ≡ sortedIn coords subject cutter met f
-    unfolding sortedIn
-    same-sorted coords = one-unless coords (collectedIn subject cutter met e) ∙ ap (unlessNone coords f) same-collected
-
 -- ---- the meetings of a scene in a lent list
 
 -- the numbers of a meeting: its edges, how many nodes it has, the first of them, and the second or 0

@@ -8,14 +8,14 @@ use lib.IntN.{ℤ, pos, negsuc}
 use lib.Ieee.{Float, nan, inf, fin, up, down, lt, eq, div, ofBits, binary64}
 use lib.Pow.{pow-pos}
 use borrow.Author.Tests.{lt-ltb, le-ltb, ne-eqb}
-use Rattle.rules.specs.Nodes.{negative}
+use Rattle.rules.specs.Nodes.{signBit}
 
 up-pos : (e : ℤ) → 0 < up e
 up-pos (pos k) = pow-pos k
 up-pos (negsuc k) = omega arith
 
 pub negative-is : (x : Float) → lt x (ofBits binary64 0) || (eq x (ofBits binary64 0) && lt (div binary64 (ofBits binary64 0x3ff0_0000_0000_0000) x)
-    (ofBits binary64 0)) ≡ negative x
+    (ofBits binary64 0)) ≡ signBit x
 unfolding lt eq div ofBits
 negative-is nan = refl
 negative-is (inf false) = refl

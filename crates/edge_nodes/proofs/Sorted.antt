@@ -24,7 +24,7 @@ pub map-listed : (along : List Float) (nodes : List ℕ) (n : ℕ) → n ≤ len
 unfolding listed gathered
 map-listed along nodes zero h = refl
 map-listed along nodes (suc n) h =
-    map-append nodeIn (listed along nodes n) (record { along = getD along n nan; node = getD nodes n 0 } ∷ [])
+    map-append nodeIn (listed along nodes n) (record { projection = getD along n nan; node = getD nodes n 0 } ∷ [])
     ∙ ap (λ (l : List ℕ). l ++ (getD nodes n 0 ∷ [])) (map-listed along nodes n (omega arith)) ∙ sym (take-suc nodes n 0 h)
 
 none-in : (xs : List ℕ) → length xs ≡ 0 → xs ≡ []

@@ -18,7 +18,7 @@ pub record Chained (h : ℕ) (es : List Edge) (met : List ℕ) (which heads next
   pub head : (c : ℕ) → c < h → getD w′ (heads + c) 0 ≡ first (onChain h es met which c) q (length met / 5)
   pub next : (p : ℕ) → q ≤ p → p < length met / 5 → getD w′ (nexts + p) 0 ≡ nextAt h es met which p
   pub before : (i : ℕ) → i < heads → getD w′ i 0 ≡ getD w i 0
-  pub between : (i : ℕ) → heads + h ≤ i → i < nexts + q → getD w′ i 0 ≡ getD w i 0
+  pub gap : (i : ℕ) → heads + h ≤ i → i < nexts + q → getD w′ i 0 ≡ getD w i 0
   pub behind : (i : ℕ) → nexts + length met / 5 ≤ i → getD w′ i 0 ≡ getD w i 0
 
 -- ---- as they are read

@@ -13,7 +13,7 @@ use Rattle.edge_nodes.specs.declared.Along.{Along}
 
 -- the first n nodes with their projections
 unfoldable pub listed : List Float → List ℕ → ℕ → List Projected
-listed along nodes n = each n (λ i. record { along = getD along i nan; node = getD nodes i 0 })
+listed along nodes n = each n (λ i. record { projection = getD along i nan; node = getD nodes i 0 })
 
 -- the nodes of meeting q
 unfoldable pub metNodes : List ℕ → ℕ → List ℕ

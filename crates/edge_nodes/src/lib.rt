@@ -21,7 +21,7 @@ ghost use Rattle.lists.specs.Sort.{insert, sortOnto};
 ghost use Rattle.lists.specs.Regions.{front};
 ghost use Rattle.cutting.specs.Edges.{edgeAt, key, sameKey};
 ghost use Rattle.cutting.specs.Lent.{pairs};
-ghost use Rattle.rules.specs.Nodes.{negative, totalBefore, projected, byProjection};
+ghost use Rattle.rules.specs.Nodes.{signBit, totalBefore, projected, byProjection};
 ghost use Rattle.edge_nodes.specs.Links.{Linked};
 ghost use Rattle.edge_nodes.specs.Chained.{Chains};
 ghost use Rattle.edge_nodes.specs.Lent.{listed, metNodes, underAt, under, collectedIn, sortedIn, crowdedAt, pushed, filled};
@@ -45,7 +45,7 @@ fn upper(a: u32, b: u32) -> u32
 }
 
 fn is_negative(x: f64) -> bool
-    ensures { λ r. ⌜ r ≡ negative x ⌝ }
+    ensures { λ r. ⌜ r ≡ signBit x ⌝ }
 {
     (x < 0.0) | ((x == 0.0) & (1.0 / x < 0.0))
 }
@@ -60,7 +60,7 @@ fn total_before(x: f64, y: f64) -> bool
 
 // How far the node v lies along the key of a, b.
 fn projection(coords: &[f64], a: u32, b: u32, v: u32) -> f64
-    ensures { λ r. ⌜ r ≡ projected (now (coords .entry)) (key (a, b)) v .along ⌝ }
+    ensures { λ r. ⌜ r ≡ projected (now (coords .entry)) (key (a, b)) v .projection ⌝ }
 {
     let p = point_at(coords, lower(a, b));
     let q = point_at(coords, upper(a, b));

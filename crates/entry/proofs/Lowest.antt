@@ -9,7 +9,8 @@ use lib.Dec.{eqb, leb}
 use lib.ListN.{length}
 use borrow.Author.Tests.{eq-eqb, ne-eqb, le-leb, lt-leb}
 use Rattle.entry.specs.Mesh.{Mesh, nodeCount}
-use Rattle.entry.specs.Refused.{callOk, shapeOk, coordsOk, kindsOk, nodesOk, cellsOk, workOk, entryOf, meshOf, lower}
+use Rattle.entry.specs.Refused.{callOk, shapeOk, coordsOk, kindsOk, nodesOk, cellsOk, workOk, entryOf}
+use Rattle.entry.specs.ByMesh.{meshRefusal, lowerRefusal}
 
 -- none, or above k
 abbrev Over : ℕ → ℕ → Type 0
@@ -19,26 +20,26 @@ over : (t : Bool) (k j x : ℕ) → k < j → Over k x → Over k (cond (not t) 
 over true k j x h o = o
 over false k j x h o = inr h
 
-lower-left : (k y : ℕ) → 0 < k → Over k y → lower k y ≡ k
-unfolding lower
+lower-left : (k y : ℕ) → 0 < k → Over k y → lowerRefusal k y ≡ k
+unfolding lowerRefusal
 lower-left k y h (inl e) = rw (ne-eqb k 0 (λ z. omega (arith, z, h)), eq-eqb y 0 e)
 lower-left k y h (inr l) = rw (ne-eqb k 0 (λ z. omega (arith, z, h)), ne-eqb y 0 (λ z. omega (arith, z, l)), le-leb k y (omega (arith, l)))
 
-lower-right : (k x : ℕ) → 0 < k → Over k x → lower x k ≡ k
-unfolding lower
+lower-right : (k x : ℕ) → 0 < k → Over k x → lowerRefusal x k ≡ k
+unfolding lowerRefusal
 lower-right k x h (inl e) = rw (eq-eqb x 0 e)
 lower-right k x h (inr l) = rw (ne-eqb x 0 (λ z. omega (arith, z, l)), ne-eqb k 0 (λ z. omega (arith, z, h)), lt-leb x k l)
 
-lower-same : (k : ℕ) → 0 < k → lower k k ≡ k
-unfolding lower
+lower-same : (k : ℕ) → 0 < k → lowerRefusal k k ≡ k
+unfolding lowerRefusal
 lower-same k h = rw (ne-eqb k 0 (λ z. omega (arith, z, h)), le-leb k k (omega arith))
 
-lower-none : lower 0 0 ≡ 0
-unfolding lower
+lower-none : lowerRefusal 0 0 ≡ 0
+unfolding lowerRefusal
 lower-none = refl
 
 -- a test of both meshes, with what is asked after it
-level : (a b : Bool) (k x y : ℕ) → 0 < k → Over k x → Over k y → lower (cond (not a) k x) (cond (not b) k y) ≡ cond (not (a && b)) k (lower x y)
+level : (a b : Bool) (k x y : ℕ) → 0 < k → Over k x → Over k y → lowerRefusal (cond (not a) k x) (cond (not b) k y) ≡ cond (not (a && b)) k (lowerRefusal x y)
 level true true k x y h o q = refl
 level true false k x y h o q = lower-right k x h o
 level false true k x y h o q = lower-left k y h q
@@ -48,7 +49,7 @@ level false false k x y h o q = lower-same k h
 abbrev chain : Bool → Bool → Bool → Bool → Bool → ℕ → ℕ
 chain a b c d e z = cond (not a) 2 (cond (not b) 3 (cond (not c) 4 (cond (not d) 5 (cond (not e) 6 z))))
 
-lower-chain : (a b c d e a′ b′ c′ d′ e′ : Bool) → lower (chain a b c d e 0) (chain a′ b′ c′ d′ e′ 0) ≡ chain (a && a′) (b && b′) (c && c′) (d && d′) (e && e′) 0
+lower-chain : (a b c d e a′ b′ c′ d′ e′ : Bool) → lowerRefusal (chain a b c d e 0) (chain a′ b′ c′ d′ e′ 0) ≡ chain (a && a′) (b && b′) (c && c′) (d && d′) (e && e′) 0
 lower-chain a b c d e a′ b′ c′ d′ e′ =
     level a a′ 2 _ _ (omega arith) (three 2 b c d e (omega arith)) (three 2 b′ c′ d′ e′ (omega arith))
     ∙ ap (λ (x : ℕ). cond (not (a && a′)) 2 x) (level b b′ 3 _ _ (omega arith) (four 3 c d e (omega arith)) (four 3 c′ d′ e′ (omega arith))
@@ -77,8 +78,8 @@ chain-end true true true true false z = refl
 chain-end true true true true true z = refl
 
 -- where the lower of two is 0, both are
-pub lower-zero : (a b : ℕ) → lower a b ≡ 0 → (a ≡ 0) × (b ≡ 0)
-unfolding lower
+pub lower-zero : (a b : ℕ) → lowerRefusal a b ≡ 0 → (a ≡ 0) × (b ≡ 0)
+unfolding lowerRefusal
 lower-zero zero b h = (refl, h)
 lower-zero (suc n) zero h = absurd (suc-ne-zero n (rw (ne-eqb (suc n) 0 (suc-ne-zero n)) at h))
 lower-zero (suc n) (suc m) h = absurd (go (leb (suc n) (suc m)) (rw (ne-eqb (suc n) 0 (suc-ne-zero n), ne-eqb (suc m) 0 (suc-ne-zero m)) at h))
@@ -91,8 +92,8 @@ lower-zero (suc n) (suc m) h = absurd (go (leb (suc n) (suc m)) (rw (ne-eqb (suc
 
 module _ (op m : ℕ) (s c : Mesh) (w : ℕ) where
   by-mesh : entryOf op m s c w ≡ cond (not (callOk op m)) 1
-      (cond (eqb (lower (meshOf false s) (meshOf (eqb op 5) c)) 0) (cond (not (workOk m s c w)) 7 0) (lower (meshOf false s) (meshOf (eqb op 5) c)))
-  unfolding entryOf meshOf
+      (cond (eqb (lowerRefusal (meshRefusal false s) (meshRefusal (eqb op 5) c)) 0) (cond (not (workOk m s c w)) 7 0) (lowerRefusal (meshRefusal false s) (meshRefusal (eqb op 5) c)))
+  unfolding entryOf meshRefusal
   by-mesh = ap (λ (x : ℕ). cond (not (callOk op m)) 1 x)
       (chain-end (shapeOk s && shapeOk c) (coordsOk (s .coords) && coordsOk (c .coords)) (kindsOk false (s .kinds) (s .ends) && kindsOk (eqb op 5) (c .kinds) (c .ends))
       (nodesOk (s .nodes) (nodeCount s) && nodesOk (c .nodes) (nodeCount c)) (cellsOk (s .nodes) (s .ends) && cellsOk (c .nodes) (c .ends)) (cond (not (workOk m s c w)) 7 0)
@@ -103,7 +104,7 @@ module _ (op m : ℕ) (s c : Mesh) (w : ℕ) where
   pub at-call : callOk op m ≡ false → 1 ≡ entryOf op m s c w
   at-call h = sym (by-mesh ∙ rw h)
 
-  module _ (r : ℕ) (call : callOk op m ≡ true) (e : r ≡ lower (meshOf false s) (meshOf (eqb op 5) c)) where
+  module _ (r : ℕ) (call : callOk op m ≡ true) (e : r ≡ lowerRefusal (meshRefusal false s) (meshRefusal (eqb op 5) c)) where
     pub at-mesh : (r ≡ 0 → ⊥) → r ≡ entryOf op m s c w
     at-mesh h = sym (by-mesh ∙ rw (call, ← e, ne-eqb r 0 h))
 

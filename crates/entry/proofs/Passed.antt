@@ -11,7 +11,8 @@ use lib.ListN.{length, getD}
 use borrow.Author.Tests.{eqb-true, leb-true, ltb-true, eq-eqb}
 use Rattle.lists.proofs.Search.{and-true, every-at}
 use Rattle.entry.specs.Mesh.{Mesh, nodeCount, prior, cellSize}
-use Rattle.entry.specs.Refused.{callOk, endsOk, shapeOk, coordOk, coordsOk, kindOk, kindsOk, nodesOk, absent, cellOk, cellsOk, workOk, entryOf, meshOf}
+use Rattle.entry.specs.Refused.{callOk, endsOk, shapeOk, coordOk, coordsOk, kindOk, kindsOk, nodesOk, absent, cellOk, cellsOk, workOk, entryOf}
+use Rattle.entry.specs.ByMesh.{meshRefusal}
 use Rattle.entry.specs.Passed.{Placed, Sound, Passed}
 use Rattle.entry.proofs.Ends.{end-at, end-last}
 
@@ -160,8 +161,8 @@ module _ (lines : Bool) (m : Mesh) (shape : shapeOk m ≡ true) (coords : coords
         once = once-at;
       }
 
-pub mesh-sound : (lines : Bool) (m : Mesh) → meshOf lines m ≡ 0 → Sound lines m
-unfolding meshOf
+pub mesh-sound : (lines : Bool) (m : Mesh) → meshRefusal lines m ≡ 0 → Sound lines m
+unfolding meshRefusal
 mesh-sound lines m h =
     let a = asked (shapeOk m) 1 _ h in
     let b = asked (coordsOk (m .coords)) 2 _ (a .1) in
@@ -200,7 +201,7 @@ call-parts op m h =
     (leb-true op 5 (q .0), leb-true 1 m (q .1), leb-true m 65536 (p .1))
 
 -- the numbers of two meshes that pass are far from wrapping
-pub room-most : (op m : ℕ) (s c : Mesh) (lines : Bool) → callOk op m ≡ true → meshOf false s ≡ 0 → meshOf lines c ≡ 0
+pub room-most : (op m : ℕ) (s c : Mesh) (lines : Bool) → callOk op m ≡ true → meshRefusal false s ≡ 0 → meshRefusal lines c ≡ 0
     → 16 * ((nodeCount s + nodeCount c) + (length (s .nodes) + length (c .nodes)) + m) + 64 ≤ 3670080
 room-most op m s c lines call a b =
     let p = mesh-sound false s a in

@@ -1,3 +1,4 @@
 pub mod Mesh
 pub mod Refused
+pub mod ByMesh
 pub mod Passed

@@ -74,18 +74,3 @@ entryOf op m s c w =
     (cond (not (nodesOk (s .nodes) (nodeCount s) && nodesOk (c .nodes) (nodeCount c))) 5
     (cond (not (cellsOk (s .nodes) (s .ends) && cellsOk (c .nodes) (c .ends))) 6
     (cond (not (workOk m s c w)) 7 0))))))
-
--- ---- mesh by mesh, as the code goes
-
--- the lowest of 2 to 6 that one mesh is refused for, or 0
-unfoldable pub meshOf : Bool → Mesh → ℕ
-meshOf lines m =
-    cond (not (shapeOk m)) 2
-    (cond (not (coordsOk (m .coords))) 3
-    (cond (not (kindsOk lines (m .kinds) (m .ends))) 4
-    (cond (not (nodesOk (m .nodes) (nodeCount m))) 5
-    (cond (not (cellsOk (m .nodes) (m .ends))) 6 0))))
-
--- the lower of two refusals, where 0 is none
-unfoldable pub lower : ℕ → ℕ → ℕ
-lower a b = cond (eqb a 0) b (cond (eqb b 0) a (cond (leb a b) a b))

@@ -6,7 +6,8 @@ use crate::nodes::nodes_ok;
 use crate::shape::shape_ok;
 ghost use mathlib.Core.Path.{_≡_};
 ghost use Rattle.entry.specs.Mesh.{mesh};
-ghost use Rattle.entry.specs.Refused.{callOk, meshOf, lower, entryOf};
+ghost use Rattle.entry.specs.Refused.{callOk, entryOf};
+ghost use Rattle.entry.specs.ByMesh.{meshRefusal, lowerRefusal};
 
 fn call_ok(op: u32, m: u32) -> bool
     ensures { λ r. ⌜ r ≡ callOk op m ⌝ }
@@ -21,7 +22,7 @@ fn call_ok(op: u32, m: u32) -> bool
 }
 
 fn mesh_of(lines: bool, c: &[f64], n: &[u32], e: &[u32], k: &[u8], f: &[u32]) -> u32
-    ensures { λ r. ⌜ r ≡ meshOf lines (mesh (now (c .entry)) (now (n .entry)) (now (e .entry)) (now (k .entry)) (now (f .entry))) ⌝ }
+    ensures { λ r. ⌜ r ≡ meshRefusal lines (mesh (now (c .entry)) (now (n .entry)) (now (e .entry)) (now (k .entry)) (now (f .entry))) ⌝ }
 {
     if !shape_ok(c, n, e, k, f) {
         return 2;
@@ -42,7 +43,7 @@ fn mesh_of(lines: bool, c: &[f64], n: &[u32], e: &[u32], k: &[u8], f: &[u32]) ->
 }
 
 fn lower(a: u32, b: u32) -> u32
-    ensures { λ r. ⌜ r ≡ lower a b ⌝ }
+    ensures { λ r. ⌜ r ≡ lowerRefusal a b ⌝ }
 {
     if a == 0 {
         return b;

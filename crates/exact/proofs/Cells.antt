@@ -9,7 +9,7 @@ use native.Mathlib.Omega.{arith}
 use lib.ListN.{length, getD, set, length-set}
 use lib.Pow.{pow-add, shl-exact}
 use Rattle.exact.proofs.TwoWords.{scaled-of}
-use Rattle.exact.specs.InnerRows.{value, Row, Grown, Added}
+use Rattle.exact.specs.InnerRows.{value, Row, RowGrown, RowAdded}
 
 -- the weight of a cell
 pub place : (i : ℕ) → 2 ^ (32 * suc i) ≡ 2 ^ 32 * 2 ^ (32 * i)
@@ -118,7 +118,7 @@ pub added : (a b : ℕ) → a < 2 ^ 64 → b < 2 ^ 64 → a % 2 ^ 32 + (a / 2 ^ 
 added a b h k = omega arith
 
 pub grown : (xs : List ℕ) (v e : ℕ) → v < 2 ^ 64 → length xs ≡ 136 → e < 4288
-    → Grown 1 (v * 2 ^ e) xs (bump3 xs (e / 32) (lo v e % 2 ^ 32) (lo v e / 2 ^ 32 + hi v e % 2 ^ 32) (hi v e / 2 ^ 32))
+    → RowGrown 1 (v * 2 ^ e) xs (bump3 xs (e / 32) (lo v e % 2 ^ 32) (lo v e / 2 ^ 32 + hi v e % 2 ^ 32) (hi v e / 2 ^ 32))
 grown xs v e hv l he = record {
   total = value-bump3 xs (e / 32) _ _ _ (omega arith) ∙ ap (λ (n : ℕ). value xs + n) (word v e hv);
   row = λ n u. row-bump3 xs (e / 32) _ _ _ n (added _ _ (omega arith) (omega arith)) u;
@@ -146,8 +146,8 @@ fits₂ xs v e r =
 
 -- ---- two words of a product, and a term with its sign
 
-pub grown-product : (xs ys zs : List ℕ) (l h m n e f : ℕ) → Grown 1 (l * 2 ^ (e + f)) xs ys → Grown 1 (h * 2 ^ (e + f + 64)) ys zs → h * 2 ^ 64 + l ≡ m * n
-    → Grown 2 (m * 2 ^ e * (n * 2 ^ f)) xs zs
+pub grown-product : (xs ys zs : List ℕ) (l h m n e f : ℕ) → RowGrown 1 (l * 2 ^ (e + f)) xs ys → RowGrown 1 (h * 2 ^ (e + f + 64)) ys zs → h * 2 ^ 64 + l ≡ m * n
+    → RowGrown 2 (m * 2 ^ e * (n * 2 ^ f)) xs zs
 grown-product xs ys zs l h m n e f a b w = record {
   total = b .total ∙ ap (λ (x : ℕ). x + h * 2 ^ (e + f + 64)) (a .total) ∙ add-assoc (value xs) (l * 2 ^ (e + f)) (h * 2 ^ (e + f + 64))
       ∙ ap (λ (x : ℕ). value xs + x) sum;
@@ -163,16 +163,16 @@ grown-product xs ys zs l h m n e f a b w = record {
 kept : {xs : List ℕ} (k : ℕ) → Row k xs → Row (k + 2) xs
 kept k r = row-more (k + 2) r (omega arith)
 
-pub added-less : {t : ℕ} {p n n' : List ℕ} {s : Bool} → s ≡ true → Grown 2 t n n' → Added s t p n p n'
-added-less {t} {p} {n} {n'} {s} e g = subst (λ (b : Bool). Added b t p n p n') (sym e) record {
+pub added-less : {t : ℕ} {p n n' : List ℕ} {s : Bool} → s ≡ true → RowGrown 2 t n n' → RowAdded s t p n p n'
+added-less {t} {p} {n} {n'} {s} e g = subst (λ (b : Bool). RowAdded b t p n p n') (sym e) record {
   more = sym (add-zero (value p));
   less = g .total;
   row = λ k r. kept k r;
   row' = g .row;
 }
 
-pub added-more : {t : ℕ} {p n p' : List ℕ} {s : Bool} → s ≡ false → Grown 2 t p p' → Added s t p n p' n
-added-more {t} {p} {n} {p'} {s} e g = subst (λ (b : Bool). Added b t p n p' n) (sym e) record {
+pub added-more : {t : ℕ} {p n p' : List ℕ} {s : Bool} → s ≡ false → RowGrown 2 t p p' → RowAdded s t p n p' n
+added-more {t} {p} {n} {p'} {s} e g = subst (λ (b : Bool). RowAdded b t p n p' n) (sym e) record {
   more = g .total;
   less = sym (add-zero (value n));
   row = g .row;

@@ -15,7 +15,7 @@ use lib.Ieee.Bits.{ofBits-toBits}
 use lib.Ieee.Digits.{size-lt, size-le}
 use lib.Ieee.Scale.{finite}
 use Rattle.exact.specs.Exact.{mag, minus, signed, coord, takeApart}
-use Rattle.exact.specs.Inner.{Short, size, number}
+use Rattle.exact.specs.Inner.{Short, size, signedSize}
 use Rattle.exact.specs.declared.parts.Parts.{Parts}
 
 pub finite-not-nan : (x : Float) → T (finite x) → T (not (isNan x))
@@ -133,6 +133,6 @@ taken {x} {r} h e = subst (Taken x) (sym e) (go (finite x) refl)
 pub short : {x : Float} {r : Parts} → Taken x r → Short r
 short t = record { digits = omega (arith, t .digits); range = t .range }
 
-pub coord-of : {x : Float} {r : Parts} → Taken x r → number r ≡ coord x
+pub coord-of : {x : Float} {r : Parts} → Taken x r → signedSize r ≡ coord x
 unfolding coord
 coord-of t = λ i. signed (t .sign i) (t .value i)

@@ -9,7 +9,7 @@ use lib.IntN.{_-ℤ_}
 use lib.Pow.{pow-add, pow-mono, shl-lt, shl-exact}
 use lib.Ieee.{Float}
 use Rattle.exact.specs.Exact.{signed}
-use Rattle.exact.specs.Inner.{Short, size, number}
+use Rattle.exact.specs.Inner.{Short, size, signedSize}
 use Rattle.exact.specs.InnerNear.{Close, Aligned, Holds}
 use Rattle.exact.specs.declared.parts.Parts.{Parts}
 use Rattle.exact.specs.declared.orient.Window.{Window}
@@ -50,13 +50,13 @@ module _ (a b : Parts) (h : a .e ≡ b .e) where
   sum : (k m n : ℕ) → m ≡ k + n → m * 2 ^ a .e ≡ k * 2 ^ a .e + n * 2 ^ a .e
   sum k m n e = ap (λ (x : ℕ). x * 2 ^ a .e) e ∙ add-mul k n (2 ^ a .e)
 
-  pub less-more : Bool·beq (a .neg) (b .neg) ≡ true → b .m ≤ a .m → signed (a .neg) ((a .m - b .m) * 2 ^ a .e) ≡ number a -ℤ number b
+  pub less-more : Bool·beq (a .neg) (b .neg) ≡ true → b .m ≤ a .m → signed (a .neg) ((a .m - b .m) * 2 ^ a .e) ≡ signedSize a -ℤ signedSize b
   less-more e l = minus-like-more (a .neg) (b .neg) ((a .m - b .m) * 2 ^ a .e) (size a) (size b) e (omega (arith, size-b, sum (a .m - b .m) (a .m) (b .m) (omega arith)))
 
-  pub less-less : Bool·beq (a .neg) (b .neg) ≡ true → a .m ≤ b .m → signed (not (a .neg)) ((b .m - a .m) * 2 ^ a .e) ≡ number a -ℤ number b
+  pub less-less : Bool·beq (a .neg) (b .neg) ≡ true → a .m ≤ b .m → signed (not (a .neg)) ((b .m - a .m) * 2 ^ a .e) ≡ signedSize a -ℤ signedSize b
   less-less e l = minus-like-less (a .neg) (b .neg) ((b .m - a .m) * 2 ^ a .e) (size a) (size b) e (omega (arith, size-b, sum (b .m - a .m) (b .m) (a .m) (omega arith)))
 
-  pub less-unlike : Bool·beq (a .neg) (b .neg) ≡ false → signed (a .neg) ((a .m + b .m) * 2 ^ a .e) ≡ number a -ℤ number b
+  pub less-unlike : Bool·beq (a .neg) (b .neg) ≡ false → signed (a .neg) ((a .m + b .m) * 2 ^ a .e) ≡ signedSize a -ℤ signedSize b
   less-unlike e = minus-unlike (a .neg) (b .neg) ((a .m + b .m) * 2 ^ a .e) (size a) (size b) e (omega (arith, size-b, sum (a .m) (a .m + b .m) (b .m) refl))
 
 -- two aligned numbers may be taken from each other, and the difference multiplied

@@ -10,8 +10,8 @@ use lib.Pow.{pow-pos}
 use lib.Ieee.{Float, unlike}
 use borrow.Author.Tests.{eq-eqb, ne-eqb, eqb-true}
 use Rattle.exact.specs.Exact.{coord, ordered, sign, signed, signNumber, signum}
-use Rattle.exact.specs.Inner.{size, number}
-use Rattle.exact.specs.Angle.{partAt, within, cross, turn, turnNumber, angles, anglesNumber}
+use Rattle.exact.specs.Inner.{size, signedSize}
+use Rattle.exact.specs.Angle.{partAt, within, crossProduct, turn, turnNumber, angles, anglesNumber}
 use Rattle.exact.specs.declared.parts.Parts.{Parts}
 use Rattle.exact.specs.declared.Order.{Order}
 use Rattle.exact.specs.declared.Order.the-variants.{Less, Equal, Greater}
@@ -89,39 +89,39 @@ module _ (a b c d : Parts) where
   abbrev pub neg' : Bool
   neg' = unlike (c .neg) (d .neg)
 
-  crossed : sign (signed neg (size a * size b) -ℤ signed neg' (size c * size d)) ≡ sign (number a *ℤ number b -ℤ number c *ℤ number d)
+  crossed : sign (signed neg (size a * size b) -ℤ signed neg' (size c * size d)) ≡ sign (signedSize a *ℤ signedSize b -ℤ signedSize c *ℤ signedSize d)
   crossed = ap₂ (λ (x y : ℤ). sign (x -ℤ y)) (sym (signed-mul (a .neg) (b .neg) (size a) (size b))) (sym (signed-mul (c .neg) (d .neg) (size c) (size d)))
 
-  pub cross-neg : Bool·beq neg neg' ≡ true → neg ≡ true → ordered (size c * size d) (size a * size b) ≡ sign (number a *ℤ number b -ℤ number c *ℤ number d)
+  pub cross-neg : Bool·beq neg neg' ≡ true → neg ≡ true → ordered (size c * size d) (size a * size b) ≡ sign (signedSize a *ℤ signedSize b -ℤ signedSize c *ℤ signedSize d)
   cross-neg e f = both-neg neg neg' (size a * size b) (size c * size d) e f ∙ crossed
 
-  pub cross-pos : Bool·beq neg neg' ≡ true → neg ≡ false → ordered (size a * size b) (size c * size d) ≡ sign (number a *ℤ number b -ℤ number c *ℤ number d)
+  pub cross-pos : Bool·beq neg neg' ≡ true → neg ≡ false → ordered (size a * size b) (size c * size d) ≡ sign (signedSize a *ℤ signedSize b -ℤ signedSize c *ℤ signedSize d)
   cross-pos e f = both-pos neg neg' (size a * size b) (size c * size d) e f ∙ crossed
 
-  pub cross-none : size a * size b ≡ 0 → size c * size d ≡ 0 → Equal ≡ sign (number a *ℤ number b -ℤ number c *ℤ number d)
+  pub cross-none : size a * size b ≡ 0 → size c * size d ≡ 0 → Equal ≡ sign (signedSize a *ℤ signedSize b -ℤ signedSize c *ℤ signedSize d)
   cross-none e f = apart-none neg neg' (size a * size b) (size c * size d) e f ∙ crossed
 
-  pub cross-less : Bool·beq neg neg' ≡ false → neg ≡ true → 0 < size a * size b + size c * size d → Less ≡ sign (number a *ℤ number b -ℤ number c *ℤ number d)
+  pub cross-less : Bool·beq neg neg' ≡ false → neg ≡ true → 0 < size a * size b + size c * size d → Less ≡ sign (signedSize a *ℤ signedSize b -ℤ signedSize c *ℤ signedSize d)
   cross-less e f h = apart-neg neg neg' (size a * size b) (size c * size d) e f h ∙ crossed
 
-  pub cross-greater : Bool·beq neg neg' ≡ false → neg ≡ false → 0 < size a * size b + size c * size d → Greater ≡ sign (number a *ℤ number b -ℤ number c *ℤ number d)
+  pub cross-greater : Bool·beq neg neg' ≡ false → neg ≡ false → 0 < size a * size b + size c * size d → Greater ≡ sign (signedSize a *ℤ signedSize b -ℤ signedSize c *ℤ signedSize d)
   cross-greater e f h = apart-pos neg neg' (size a * size b) (size c * size d) e f h ∙ crossed
 
 -- ---- the part of the plane
 module _ (x y : Parts) where
-  pub part-below : (y .m ≡ 0 → ⊥) → y .neg ≡ true → 2 ≡ partAt (sign (number x)) (sign (number y))
-  part-below h e = sym (ap (partAt (sign (number x))) (sign-neg (y .neg) (size y) e (size-some (y .m) (y .e) h)))
+  pub part-below : (y .m ≡ 0 → ⊥) → y .neg ≡ true → 2 ≡ partAt (sign (signedSize x)) (sign (signedSize y))
+  part-below h e = sym (ap (partAt (sign (signedSize x))) (sign-neg (y .neg) (size y) e (size-some (y .m) (y .e) h)))
 
-  pub part-above : (y .m ≡ 0 → ⊥) → y .neg ≡ false → 0 ≡ partAt (sign (number x)) (sign (number y))
-  part-above h e = sym (ap (partAt (sign (number x))) (sign-pos (y .neg) (size y) e (size-some (y .m) (y .e) h)))
+  pub part-above : (y .m ≡ 0 → ⊥) → y .neg ≡ false → 0 ≡ partAt (sign (signedSize x)) (sign (signedSize y))
+  part-above h e = sym (ap (partAt (sign (signedSize x))) (sign-pos (y .neg) (size y) e (size-some (y .m) (y .e) h)))
 
-  pub part-west : (x .m ≡ 0 → ⊥) → x .neg ≡ true → y .m ≡ 0 → 0 ≡ partAt (sign (number x)) (sign (number y))
+  pub part-west : (x .m ≡ 0 → ⊥) → x .neg ≡ true → y .m ≡ 0 → 0 ≡ partAt (sign (signedSize x)) (sign (signedSize y))
   part-west h e z = sym (ap₂ partAt (sign-neg (x .neg) (size x) e (size-some (x .m) (x .e) h)) (sign-none (y .neg) (size y) (size-none (y .m) (y .e) z)))
 
-  pub part-east : (x .m ≡ 0 → ⊥) → x .neg ≡ false → y .m ≡ 0 → 1 ≡ partAt (sign (number x)) (sign (number y))
+  pub part-east : (x .m ≡ 0 → ⊥) → x .neg ≡ false → y .m ≡ 0 → 1 ≡ partAt (sign (signedSize x)) (sign (signedSize y))
   part-east h e z = sym (ap₂ partAt (sign-pos (x .neg) (size x) e (size-some (x .m) (x .e) h)) (sign-none (y .neg) (size y) (size-none (y .m) (y .e) z)))
 
-  pub part-none : x .m ≡ 0 → y .m ≡ 0 → 1 ≡ partAt (sign (number x)) (sign (number y))
+  pub part-none : x .m ≡ 0 → y .m ≡ 0 → 1 ≡ partAt (sign (signedSize x)) (sign (signedSize y))
   part-none e z = sym (ap₂ partAt (sign-none (x .neg) (size x) (size-none (x .m) (x .e) e)) (sign-none (y .neg) (size y) (size-none (y .m) (y .e) z)))
 
 -- ---- a product that is zero, or is not
@@ -146,11 +146,11 @@ some (suc p) e t = omega arith
 
 -- by the parts, where their order is o
 pub by-part : {s t : ℕ} (o : Order) (x y x' y' : ℤ) → s ≡ partAt (sign x) (sign y) → t ≡ partAt (sign x') (sign y') → ordered s t ≡ o
-    → within o (cross x y x' y') ≡ turn x y x' y'
-by-part o x y x' y' p q h = ap (λ (o : Order). within o (cross x y x' y')) (sym h ∙ ap₂ (λ (m n : ℕ). ordered m n) p q)
+    → within o (crossProduct x y x' y') ≡ turn x y x' y'
+by-part o x y x' y' p q h = ap (λ (o : Order). within o (crossProduct x y x' y')) (sym h ∙ ap₂ (λ (m n : ℕ). ordered m n) p q)
 
 pub to-angles : {x y u v : Float} {a b c d : Parts} → Taken x a → Taken y b → Taken u c → Taken v d
-    → turn (number a) (number b) (number c) (number d) ≡ angles x y u v
+    → turn (signedSize a) (signedSize b) (signedSize c) (signedSize d) ≡ angles x y u v
 unfolding angles
 to-angles ta tb tc td = λ i. turn (coord-of ta i) (coord-of tb i) (coord-of tc i) (coord-of td i)
 
@@ -167,7 +167,7 @@ unfolding ordered
 turn-number x y x' y' =
     let p = partAt (sign x) (sign y) in
     let q = partAt (sign x') (sign y') in
-    go (ltb p q) (ltb q p) (cross x y x' y')
+    go (ltb p q) (ltb q p) (crossProduct x y x' y')
   where
     go : (b d : Bool) (z : ℤ) → signNumber (within (cond b Less (cond d Greater Equal)) z) ≡ cond b (negsuc 0) (cond d (pos 1) (signum z))
     go true d z = refl

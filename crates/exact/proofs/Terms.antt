@@ -8,8 +8,8 @@ use lib.IntN.{ℤ, pos, negsuc, negℤ, _+ℤ_, _-ℤ_, _*ℤ_}
 use lib.ListN.{getD, replicate, length-replicate}
 use lib.Ieee.{Float, unlike}
 use Rattle.exact.specs.Exact.{coord, ordered, sign, signNumber, signum}
-use Rattle.exact.specs.Inner.{size, number}
-use Rattle.exact.specs.InnerRows.{value, Row, Added}
+use Rattle.exact.specs.Inner.{size, signedSize}
+use Rattle.exact.specs.InnerRows.{value, Row, RowAdded}
 use Rattle.exact.specs.Angle.{det, orientation}
 use Rattle.exact.specs.declared.parts.Parts.{Parts}
 use Rattle.exact.specs.declared.Order.{Order}
@@ -41,8 +41,8 @@ zero-row = record { long = length-replicate {A = ℕ} 136 0; low = λ k. omega (
 abbrev pub net : List ℕ → List ℕ → ℤ
 net p n = diff (value p) (value n)
 
-pub term : (u : Bool) (a b : Parts) {p n p' n' : List ℕ} → Added (unlike (unlike (a .neg) (b .neg)) u) (size a * size b) p n p' n'
-    → net p' n' ≡ net p n +ℤ cond u (negℤ (number a *ℤ number b)) (number a *ℤ number b)
+pub term : (u : Bool) (a b : Parts) {p n p' n' : List ℕ} → RowAdded (unlike (unlike (a .neg) (b .neg)) u) (size a * size b) p n p' n'
+    → net p' n' ≡ net p n +ℤ cond u (negℤ (signedSize a *ℤ signedSize b)) (signedSize a *ℤ signedSize b)
 term u a b {p} {n} d =
     ap₂ diff (d .more) (d .less) ∙ add-signed u (value p) (value n) (unlike (a .neg) (b .neg)) (size a * size b)
     ∙ ap (λ (z : ℤ). net p n +ℤ cond u (negℤ z) z) (sym (signed-mul (a .neg) (b .neg) (size a) (size b)))
@@ -78,7 +78,7 @@ pub same-sign : {a a' b b' c c' d d' e e' f f' : ℤ} → a ≡ a' → b ≡ b' 
 same-sign p q r s t u = λ i. sign (det (p i) (q i) (r i) (s i) (t i) (u i))
 
 pub to-orientation : {ax ay bx by cx cy : Float} {a b c d e f : Parts} → Taken ax a → Taken ay b → Taken bx c → Taken by d → Taken cx e → Taken cy f
-    → sign (det (number a) (number b) (number c) (number d) (number e) (number f)) ≡ orientation ax ay bx by cx cy
+    → sign (det (signedSize a) (signedSize b) (signedSize c) (signedSize d) (signedSize e) (signedSize f)) ≡ orientation ax ay bx by cx cy
 unfolding orientation
 to-orientation ta tb tc td te tf = same-sign (coord-of ta) (coord-of tb) (coord-of tc) (coord-of td) (coord-of te) (coord-of tf)
 

@@ -28,8 +28,8 @@ partAt Equal Equal = 1
 partAt Greater Equal = 1
 partAt x Less = 2
 
-abbrev pub cross : (x y x' y' : ℤ) → ℤ
-cross x y x' y' = x *ℤ y' -ℤ y *ℤ x'
+abbrev pub crossProduct : (x y x' y' : ℤ) → ℤ
+crossProduct x y x' y' = x *ℤ y' -ℤ y *ℤ x'
 
 -- Less where the direction x, y stands before x', y': by the order of their parts, and within one part by the sign of the cross product.
 abbrev pub within : Order → ℤ → Order
@@ -38,14 +38,14 @@ within Equal z = sign z
 within Greater z = Greater
 
 abbrev pub turn : (x y x' y' : ℤ) → Order
-turn x y x' y' = within (ordered (partAt (sign x) (sign y)) (partAt (sign x') (sign y'))) (cross x y x' y')
+turn x y x' y' = within (ordered (partAt (sign x) (sign y)) (partAt (sign x') (sign y'))) (crossProduct x y x' y')
 
 -- its number, by the parts' numbers and the cross product: −1 where x, y stands before x', y', 0 where neither does, 1 where it stands after
 abbrev pub turnNumber : (x y x' y' : ℤ) → ℤ
 turnNumber x y x' y' =
     let p = partAt (sign x) (sign y) in
     let q = partAt (sign x') (sign y') in
-    cond (ltb p q) (negsuc 0) (cond (ltb q p) (pos 1) (signum (cross x y x' y')))
+    cond (ltb p q) (negsuc 0) (cond (ltb q p) (pos 1) (signum (crossProduct x y x' y')))
 
 unfoldable pub angles : (x y x' y' : Float) → Order
 angles x y x' y' = turn (coord x) (coord y) (coord x') (coord y')

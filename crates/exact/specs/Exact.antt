@@ -46,6 +46,16 @@ sign (pos zero) = Equal
 sign (pos (suc n)) = Greater
 sign (negsuc n) = Less
 
+abbrev pub isLess : Order → Bool
+isLess Less = true
+isLess Equal = false
+isLess Greater = false
+
+abbrev pub isGreater : Order → Bool
+isGreater Less = false
+isGreater Equal = false
+isGreater Greater = true
+
 -- the number of each case as a sign: -1, 0 or 1
 abbrev pub signNumber : Order → ℤ
 signNumber Less = negsuc 0

@@ -10,8 +10,8 @@ use Rattle.exact.specs.declared.words.Wide.{Wide}
 abbrev pub size : Parts → ℕ
 size p = p .m * 2 ^ p .e
 
-abbrev pub number : Parts → ℤ
-number p = signed (p .neg) (size p)
+abbrev pub signedSize : Parts → ℤ
+signedSize p = signed (p .neg) (size p)
 
 -- parts whose products fit two words
 pub record Short (p : Parts) : Type 0 where

@@ -1,7 +1,7 @@
 -- Cited only by the contracts of inner functions: numbers whose exponents are close. Assumes nothing.
 use mathlib.Core.Path.{_≡_}
 use Prim.Native.Nat.{ℕ, _+_, _^_, _≤_, _<_}
-use Rattle.exact.specs.Inner.{number}
+use Rattle.exact.specs.Inner.{signedSize}
 use Rattle.exact.specs.declared.parts.Parts.{Parts}
 use Rattle.exact.specs.declared.orient.Window.{Window}
 
@@ -18,6 +18,6 @@ pub record Close (base : ℕ) (p : Parts) : Type 0 where
 
 -- the same number, with the exponent base
 pub record Aligned (base : ℕ) (p r : Parts) : Type 0 where
-  pub same : number r ≡ number p
+  pub same : signedSize r ≡ signedSize p
   pub digits : r .m < 2 ^ 62
   pub exponent : r .e ≡ base

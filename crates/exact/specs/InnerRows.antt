@@ -15,12 +15,12 @@ pub record Row (n : ℕ) (xs : List ℕ) : Type 0 where
   pub low : (k : ℕ) → getD xs k 0 ≤ n * 2 ^ 34
 
 -- the number of a row has grown by t
-pub record Grown (steps t : ℕ) (xs ys : List ℕ) : Type 0 where
+pub record RowGrown (steps t : ℕ) (xs ys : List ℕ) : Type 0 where
   pub total : value ys ≡ value xs + t
   pub row : (k : ℕ) → Row k xs → Row (k + steps) ys
 
 -- the number that two rows stand for, p less n, has grown by t, or fallen by it where s is true
-pub record Added (s : Bool) (t : ℕ) (p n p' n' : List ℕ) : Type 0 where
+pub record RowAdded (s : Bool) (t : ℕ) (p n p' n' : List ℕ) : Type 0 where
   pub more : value p' ≡ value p + cond s 0 t
   pub less : value n' ≡ value n + cond s t 0
   pub row : (k : ℕ) → Row k p → Row (k + 2) p'

@@ -2,7 +2,7 @@
 ghost use mathlib.Core.Path.{_≡_};
 ghost use Rattle.exact.specs.Exact.{sign, signNumber};
 ghost use Rattle.exact.specs.Angle.{angles, anglesNumber, around, aroundNumber, partAt};
-ghost use Rattle.exact.specs.Inner.{number};
+ghost use Rattle.exact.specs.Inner.{signedSize};
 use crate::Order;
 use crate::cross::cross_sign;
 use crate::parts::Parts;
@@ -10,7 +10,7 @@ use crate::parts::take_apart;
 
 // The part of the plane that a direction points into, by falling angle.
 fn part_of(x: Parts, y: Parts) -> u8
-    ensures { λ r. ⌜ r ≡ partAt (sign (number x)) (sign (number y)) ⌝ }
+    ensures { λ r. ⌜ r ≡ partAt (sign (signedSize x)) (sign (signedSize y)) ⌝ }
 {
     if y.m != 0 {
         if y.neg { 2 } else { 0 }

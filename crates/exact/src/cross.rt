@@ -4,7 +4,7 @@ ghost use Prim.Native.Nat.{_*_};
 ghost use lib.Dec.{eqb};
 ghost use lib.IntN.{_-ℤ_, _*ℤ_};
 ghost use Rattle.exact.specs.Exact.{ordered, sign};
-ghost use Rattle.exact.specs.Inner.{Short, number, size};
+ghost use Rattle.exact.specs.Inner.{Short, signedSize, size};
 use crate::Order;
 use crate::parts::Parts;
 use crate::words::compare_scaled;
@@ -27,7 +27,7 @@ fn vanishes(a: Parts, b: Parts) -> bool
 
 pub(crate) fn cross_sign(a: Parts, b: Parts, c: Parts, d: Parts) -> Order
     requires { ⌜ (Short a) × (Short b) × (Short c) × (Short d) ⌝ }
-    ensures { λ r. ⌜ r ≡ sign (number a *ℤ number b -ℤ number c *ℤ number d) ⌝ }
+    ensures { λ r. ⌜ r ≡ sign (signedSize a *ℤ signedSize b -ℤ signedSize c *ℤ signedSize d) ⌝ }
 {
     let s = a.neg != b.neg;
     let t = c.neg != d.neg;

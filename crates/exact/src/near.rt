@@ -5,7 +5,7 @@ ghost use Prim.Native.Nat.{_^_, _<_, _≤_};
 ghost use lib.IntN.{_-ℤ_};
 ghost use Rattle.exact.specs.Exact.{sign};
 ghost use Rattle.exact.specs.Angle.{det};
-ghost use Rattle.exact.specs.Inner.{number};
+ghost use Rattle.exact.specs.Inner.{signedSize};
 ghost use Rattle.exact.specs.InnerNear.{Aligned, Close};
 use crate::Order;
 use crate::cross::cross_sign;
@@ -33,7 +33,7 @@ fn align(p: Parts, base: usize) -> Parts
 
 fn minus(a: Parts, b: Parts) -> Parts
     requires { ⌜ (a .m < 2 ^ 62) × (b .m < 2 ^ 62) × (a .e ≡ b .e) ⌝ }
-    ensures { λ r. ⌜ (number r ≡ number a -ℤ number b) × (r .m < 2 ^ 63) × (r .e ≡ a .e) ⌝ }
+    ensures { λ r. ⌜ (signedSize r ≡ signedSize a -ℤ signedSize b) × (r .m < 2 ^ 63) × (r .e ≡ a .e) ⌝ }
 {
     if a.neg == b.neg {
         if b.m <= a.m {
@@ -69,7 +69,7 @@ pub(crate) fn orient_near(
     base: usize,
 ) -> Order
     requires { ⌜ (Close base ax) × (Close base ay) × (Close base bx) × (Close base by) × (Close base cx) × (Close base cy) × (base ≤ 2045) ⌝ }
-    ensures { λ r. ⌜ r ≡ sign (det (number ax) (number ay) (number bx) (number by) (number cx) (number cy)) ⌝ }
+    ensures { λ r. ⌜ r ≡ sign (det (signedSize ax) (signedSize ay) (signedSize bx) (signedSize by) (signedSize cx) (signedSize cy)) ⌝ }
 {
     let x = align(cx, base);
     let y = align(cy, base);

@@ -5,8 +5,8 @@ ghost use Prim.Native.Nat.{_*_, _^_, _<_};
 ghost use lib.Ieee.{unlike};
 ghost use Rattle.exact.specs.Exact.{ordered, sign};
 ghost use Rattle.exact.specs.Angle.{det};
-ghost use Rattle.exact.specs.Inner.{Short, number, size};
-ghost use Rattle.exact.specs.InnerRows.{Added, Grown, Row, value};
+ghost use Rattle.exact.specs.Inner.{Short, signedSize, size};
+ghost use Rattle.exact.specs.InnerRows.{RowAdded, RowGrown, Row, value};
 use crate::Order;
 use crate::parts::Parts;
 use crate::words::product;
@@ -14,7 +14,7 @@ use crate::words::product;
 // v · 2^e is added to the number that the cells stand for. Nothing is carried.
 fn add_word(acc: &mut [u64; 136], v: u64, e: usize)
     requires { ⌜ (e < 4288) × Row 64 (now acc) ⌝ }
-    ensures { λ _. ⌜ Grown 1 (v * 2 ^ e) (now (acc .entry)) (now (acc .exit)) ⌝ }
+    ensures { λ _. ⌜ RowGrown 1 (v * 2 ^ e) (now (acc .entry)) (now (acc .exit)) ⌝ }
 {
     let j = e / 32;
     let r = e % 32;
@@ -27,7 +27,7 @@ fn add_word(acc: &mut [u64; 136], v: u64, e: usize)
 
 fn add_product(acc: &mut [u64; 136], a: Parts, b: Parts)
     requires { ⌜ (Short a) × (Short b) × Row 60 (now acc) ⌝ }
-    ensures { λ _. ⌜ Grown 2 (size a * size b) (now (acc .entry)) (now (acc .exit)) ⌝ }
+    ensures { λ _. ⌜ RowGrown 2 (size a * size b) (now (acc .entry)) (now (acc .exit)) ⌝ }
 {
     let w = product(a.m, b.m);
     let e = a.e + b.e;
@@ -38,7 +38,7 @@ fn add_product(acc: &mut [u64; 136], a: Parts, b: Parts)
 // The product of a and b, or where minus is true its negative, is added to p less n.
 fn add_term(p: &mut [u64; 136], n: &mut [u64; 136], a: Parts, b: Parts, minus: bool)
     requires { ⌜ (Short a) × (Short b) × Row 60 (now p) × Row 60 (now n) ⌝ }
-    ensures { λ _. ⌜ Added (unlike (unlike (a .neg) (b .neg)) minus) (size a * size b) (now (p .entry)) (now (n .entry)) (now (p .exit)) (now (n .exit)) ⌝ }
+    ensures { λ _. ⌜ RowAdded (unlike (unlike (a .neg) (b .neg)) minus) (size a * size b) (now (p .entry)) (now (n .entry)) (now (p .exit)) (now (n .exit)) ⌝ }
 {
     if (a.neg != b.neg) != minus {
         add_product(n, a, b);
@@ -82,7 +82,7 @@ fn compare_cells(p: &[u64; 136], n: &[u64; 136]) -> Order
 // The sign of (ax−cx)(by−cy) − (ay−cy)(bx−cx).
 pub(crate) fn orient_far(ax: Parts, ay: Parts, bx: Parts, by: Parts, cx: Parts, cy: Parts) -> Order
     requires { ⌜ (Short ax) × (Short ay) × (Short bx) × (Short by) × (Short cx) × (Short cy) ⌝ }
-    ensures { λ r. ⌜ r ≡ sign (det (number ax) (number ay) (number bx) (number by) (number cx) (number cy)) ⌝ }
+    ensures { λ r. ⌜ r ≡ sign (det (signedSize ax) (signedSize ay) (signedSize bx) (signedSize by) (signedSize cx) (signedSize cy)) ⌝ }
 {
     let mut p = [0u64; 136];
     let mut n = [0u64; 136];

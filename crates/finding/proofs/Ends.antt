@@ -13,7 +13,7 @@ use Rattle.lists.specs.Gather.{joined}
 use Rattle.lists.specs.Regions.{run, front, put, copied}
 use Rattle.lists.proofs.Regions.{length-front, take-front-of, front-put, copied-fits, length-copied, length-run, put-append}
 use Rattle.cutting.specs.Edges.{Edge}
-use Rattle.cutting.specs.Lent.{ends, pairs}
+use Rattle.cutting.specs.Lent.{flatEdges, pairs}
 use Rattle.cutting.proofs.Pairs.{pairs-ends}
 use Rattle.entry.specs.Mesh.{Mesh, mesh}
 use Rattle.rules.specs.Neighbours.{subjectNet, cutterNet}
@@ -31,7 +31,7 @@ use Rattle.edge_nodes.specs.Stored.{noMet, Stored}
 use Rattle.edge_nodes.proofs.Scene.{numbers-stored, overfull-is}
 use Rattle.finding.specs.declared.numbering.Regions.{Regions}
 use Rattle.finding.specs.declared.stages.Found.{Found}
-use Rattle.finding.specs.Nets.{Fit, Room, subjectAt, cutterAt, metAt, regionsOf, netted}
+use Rattle.finding.specs.Nets.{Fit, NetRoom, subjectAt, cutterAt, metAt, regionsOf, netted}
 use Rattle.finding.specs.Found.{foundEvents, foundAs, refusedAs, chains, linksIn, worked, bothFull}
 use Rattle.finding.proofs.Whole.{length-held, subjects-held, cutters-held, subjects-before, cutters-before}
 use Rattle.finding.proofs.Held.{with, subjects-found, cutters-found, met-found, behind-found, worked-with, links-long}
@@ -95,7 +95,7 @@ parts-asked w a b c i j k l fits few held =
 -- ---- `find`
 
 module _ (op m : ℕ) (sc cc : List Float) (sn se cn ce : List ℕ) (fs : Fit false (mesh sc sn se [] [])) (fc : Fit (eqb op 5) (mesh cc cn ce [] [])) (w₀ : List ℕ)
-    (room : Room m (mesh sc sn se [] []) (mesh cc cn ce [] []) (length w₀)) (most : m ≤ 65536) (oc : List Float) where
+    (room : NetRoom m (mesh sc sn se [] []) (mesh cc cn ce [] []) (length w₀)) (most : m ≤ 65536) (oc : List Float) where
   abbrev lines : Bool
   lines = eqb op 5
 
@@ -123,7 +123,7 @@ module _ (op m : ℕ) (sc cc : List Float) (sn se cn ce : List ℕ) (fs : Fit fa
   len : length (sc ++ cc) ≡ placed
   len = length-append sc cc
 
-  pub room₀ : Room 0 s c (length w₀)
+  pub room₀ : NetRoom 0 s c (length w₀)
   room₀ = omega (arith, room)
 
   -- what `find` answers
@@ -250,11 +250,11 @@ module _ (op m : ℕ) (sc cc : List Float) (sn se cn ce : List ℕ) (fs : Fit fa
         held : (a n : Regions → ℕ) → run w (a r) (n r) ≡ run (with op sc cc sn se cn ce fs fc w₀ room₀ zs) (a (regionsOf lines s c)) (n (regionsOf lines s c))
         held a n = ap₂ (λ (x : Regions) (v : List ℕ). run v (a x) (n x)) re is
 
-        subjects-lent : run w (r .from) (2 * r .subject) ≡ ends subjects
+        subjects-lent : run w (r .from) (2 * r .subject) ≡ flatEdges subjects
         unfolding regionsOf
         subjects-lent = held (λ x. x .from) (λ x. 2 * x .subject) ∙ subjects-found op sc cc sn se cn ce fs fc w₀ room₀ zs
 
-        cutters-lent : run w (r .at) (2 * r .cutter) ≡ ends cutters
+        cutters-lent : run w (r .at) (2 * r .cutter) ≡ flatEdges cutters
         unfolding regionsOf
         cutters-lent = held (λ x. x .at) (λ x. 2 * x .cutter) ∙ cutters-found op sc cc sn se cn ce fs fc w₀ room₀ zs
 
@@ -310,7 +310,7 @@ module _ (op m : ℕ) (sc cc : List Float) (sn se cn ce : List ℕ) (fs : Fit fa
         pub work-is : w₃ ≡ worked op s c w₀
         work-is = work-with ∙ sym (worked-with op sc cc sn se cn ce fs fc w₀ room₀)
 
-        lent-linked : Linked (pairs (ends subjects)) (pairs (ends cutters)) (booked (scene .met)) (linksIn op s c)
+        lent-linked : Linked (pairs (flatEdges subjects)) (pairs (flatEdges cutters)) (booked (scene .met)) (linksIn op s c)
         unfolding sceneOf
         lent-linked = rw (pairs-ends subjects, pairs-ends cutters) (linked (chains s c) subjects cutters (booked (scene .met)) (omega arith))
 
@@ -338,13 +338,13 @@ module _ (op m : ℕ) (sc cc : List Float) (sn se cn ce : List ℕ) (fs : Fit fa
           numbers-stored (scene .met) (booked (scene .met)) (length-booked (scene .met)) (λ q i h l. booked-at (scene .met) q i noMet h l)
           (λ q h. meetings-fit (sc ++ cc) (subjectNet s) (cutterNet lines s c) q noMet h .3)
 
-      full-is : (es : List Edge) → has (crowdedAt (pairs (ends es)) (pairs (ends subjects)) (pairs (ends cutters)) (booked (scene .met))) (length (ends es) / 2) ≡ overfull scene es
+      full-is : (es : List Edge) → has (crowdedAt (pairs (flatEdges es)) (pairs (flatEdges subjects)) (pairs (flatEdges cutters)) (booked (scene .met))) (length (flatEdges es) / 2) ≡ overfull scene es
       unfolding sceneOf
       full-is es =
-          ap₂ (λ (a b : List Edge). has (crowdedAt (pairs (ends es)) a b (booked (scene .met))) (length (ends es) / 2)) (pairs-ends subjects) (pairs-ends cutters)
-          ∙ overfull-is scene (booked (scene .met)) stored (ends es) ∙ ap (overfull scene) (pairs-ends es)
+          ap₂ (λ (a b : List Edge). has (crowdedAt (pairs (flatEdges es)) a b (booked (scene .met))) (length (flatEdges es) / 2)) (pairs-ends subjects) (pairs-ends cutters)
+          ∙ overfull-is scene (booked (scene .met)) stored (flatEdges es) ∙ ap (overfull scene) (pairs-ends es)
 
-      crowded-is : bothFull (ends subjects) (ends cutters) (booked (scene .met)) ≡ crowded scene
+      crowded-is : bothFull (flatEdges subjects) (flatEdges cutters) (booked (scene .met)) ≡ crowded scene
       unfolding crowded sceneOf bothFull
       crowded-is = ap₂ (λ (a b : Bool). a || b) (full-is subjects) (full-is cutters)
 
@@ -375,7 +375,7 @@ module _ (op m : ℕ) (sc cc : List Float) (sn se cn ce : List ℕ) (fs : Fit fa
         b-is =
             let with-links = work-with h he w₃ le in
             be ∙ ap₂ (λ (x y : List ℕ). bothFull x y (run w₃ (r .base) (5 * k))) (subjects-lent w₃ (linksIn op s c) with-links) (cutters-lent w₃ (linksIn op s c) with-links)
-            ∙ ap (bothFull (ends subjects) (ends cutters)) (met-lent w₃ (linksIn op s c) with-links) ∙ crowded-is
+            ∙ ap (bothFull (flatEdges subjects) (flatEdges cutters)) (met-lent w₃ (linksIn op s c) with-links) ∙ crowded-is
 
         end-code : (q n : ℕ) → cond b 9 0 ≡ firstRefusal m (length oc / 2) q n (foundEvents op s c)
         unfolding foundEvents

@@ -10,7 +10,7 @@ use lib.Seq.{take-at, drop-at, drop-drop}
 use lib.Ieee.{Float}
 use Rattle.lists.specs.Regions.{run, front, put}
 use Rattle.lists.proofs.Regions.{length-put, drop-put, run-before}
-use Rattle.cutting.specs.Lent.{ends}
+use Rattle.cutting.specs.Lent.{flatEdges}
 use Rattle.entry.specs.Mesh.{Mesh, mesh, nodeCount}
 use Rattle.rules.specs.Neighbours.{subjectNet, cutterNet}
 use Rattle.rules.specs.Meetings.{Met}
@@ -19,7 +19,7 @@ use Rattle.edge_nodes.specs.Links.{linksOf}
 use Rattle.edge_nodes.proofs.Linked.{length-links}
 use Rattle.meetings.specs.Booked.{booked}
 use Rattle.meetings.proofs.Reading.{length-booked}
-use Rattle.finding.specs.Nets.{Fit, Room, cutterEntries, subjectAt, cutterAt, metAt, netted}
+use Rattle.finding.specs.Nets.{Fit, NetRoom, cutterEntries, subjectAt, cutterAt, metAt, netted}
 use Rattle.finding.specs.Found.{chains, linksIn, worked}
 use Rattle.finding.proofs.Whole.{length-held, entries-held, subjects-held, cutters-held, subjects-before, cutters-before}
 
@@ -43,7 +43,7 @@ module _ (w : List ℕ) (b : ℕ) (hb : b ≤ length w) (xs ys : List ℕ) where
 -- ---- the regions, with zs behind the meetings
 
 module _ (op : ℕ) (sc cc : List Float) (sn se cn ce : List ℕ) (fs : Fit false (mesh sc sn se [] [])) (fc : Fit (eqb op 5) (mesh cc cn ce [] [])) (w₀ : List ℕ)
-    (room : Room 0 (mesh sc sn se [] []) (mesh cc cn ce [] []) (length w₀)) where
+    (room : NetRoom 0 (mesh sc sn se [] []) (mesh cc cn ce [] []) (length w₀)) where
   abbrev lines : Bool
   lines = eqb op 5
 
@@ -69,11 +69,11 @@ module _ (op : ℕ) (sc cc : List Float) (sn se cn ce : List ℕ) (fs : Fit fals
     pub entries-found : run (with zs) (nodeCount c) (length cn) ≡ cutterEntries s c
     entries-found = before (nodeCount c) (length cn) (omega arith) ∙ entries-held lines sc cc sn se cn ce fs fc w₀ room
 
-    pub subjects-found : run (with zs) (subjectAt s c) (2 * length (subjectNet s .edges)) ≡ ends (subjectNet s .edges)
+    pub subjects-found : run (with zs) (subjectAt s c) (2 * length (subjectNet s .edges)) ≡ flatEdges (subjectNet s .edges)
     subjects-found =
         before (subjectAt s c) (2 * length (subjectNet s .edges)) (subjects-before lines sc cc sn se cn ce fs fc w₀ room .0) ∙ subjects-held lines sc cc sn se cn ce fs fc w₀ room
 
-    pub cutters-found : run (with zs) (cond lines (nodeCount c) (cutterAt s c)) (2 * length (cutterNet lines s c .edges)) ≡ ends (cutterNet lines s c .edges)
+    pub cutters-found : run (with zs) (cond lines (nodeCount c) (cutterAt s c)) (2 * length (cutterNet lines s c .edges)) ≡ flatEdges (cutterNet lines s c .edges)
     cutters-found =
         before (cond lines (nodeCount c) (cutterAt s c)) (2 * length (cutterNet lines s c .edges)) (cutters-before lines sc cc sn se cn ce fs fc w₀ room .0)
         ∙ cutters-held lines sc cc sn se cn ce fs fc w₀ room
@@ -92,7 +92,7 @@ module _ (op : ℕ) (sc cc : List Float) (sn se cn ce : List ℕ) (fs : Fit fals
   links-long =
       omega (arith, length-links (chains s c) (sceneFor op s c .subject .edges) (sceneFor op s c .cutter .edges) (booked met), length-booked met)
 
-  pub length-worked : (m : ℕ) → Room m s c (length w₀) → length met ≤ m → length (worked op s c w₀) ≡ length w₀
+  pub length-worked : (m : ℕ) → NetRoom m s c (length w₀) → length met ≤ m → length (worked op s c w₀) ≡ length w₀
   unfolding worked
   length-worked m more few =
       let same = length-held lines sc cc sn se cn ce fs fc w₀ room in

@@ -5,7 +5,7 @@ use native.Mathlib.Omega.{arith}
 use lib.Dec.{eqb}
 use Rattle.entry.specs.Mesh.{Mesh}
 use Rattle.entry.specs.Passed.{Sound, Passed}
-use Rattle.finding.specs.Nets.{plain, Fit, Room}
+use Rattle.finding.specs.Nets.{plain, Fit, NetRoom}
 
 abbrev pub bare : Mesh → Mesh
 bare m = plain (m .coords) (m .nodes) (m .ends)
@@ -24,5 +24,5 @@ fit-of lines m ok =
     }
 
 -- the `requires` of `find`
-pub ready : (op m : ℕ) (s c : Mesh) (w : ℕ) → Passed op m s c w → (m ≤ 65536) × Fit false (bare s) × Fit (eqb op 5) (bare c) × Room m (bare s) (bare c) w
+pub ready : (op m : ℕ) (s c : Mesh) (w : ℕ) → Passed op m s c w → (m ≤ 65536) × Fit false (bare s) × Fit (eqb op 5) (bare c) × NetRoom m (bare s) (bare c) w
 ready op m s c w ok = (ok .most, fit-of false s (ok .subject), fit-of (eqb op 5) c (ok .cutter), omega (arith, ok .room))

@@ -12,7 +12,7 @@ use lib.Ieee.{Float}
 use Rattle.lists.specs.Gather.{joined}
 use Rattle.lists.specs.Regions.{run, front}
 use Rattle.cutting.specs.Edges.{Edge}
-use Rattle.cutting.specs.Lent.{ends}
+use Rattle.cutting.specs.Lent.{flatEdges}
 use Rattle.entry.specs.Mesh.{Mesh}
 use Rattle.rules.specs.Meetings.{Met, Scene, sceneOf}
 use Rattle.rules.specs.Nodes.{crowded}
@@ -22,7 +22,7 @@ use Rattle.rules.proofs.Course.{points-fit, points-over}
 use Rattle.edge_nodes.specs.Links.{linksOf}
 use Rattle.meetings.specs.Booked.{booked}
 use Rattle.finding.specs.declared.stages.Found.{Found}
-use Rattle.finding.specs.Nets.{Fit, Room, cutterEntries, regionsOf}
+use Rattle.finding.specs.Nets.{Fit, NetRoom, cutterEntries, regionsOf}
 use Rattle.finding.specs.Found.{foundEvents, foundAs, refusedAs, chains, linksIn, worked}
 use Rattle.finding.proofs.Passed.{bare}
 use Rattle.finding.proofs.Whole.{subjects-before, cutters-before}
@@ -33,8 +33,8 @@ use Rattle.finding.proofs.Scenes.{subjects-bare, cutters-bare, weld-bar
 -- both nets, the meetings and their links, in the regions that the answer names
 pub record Holds (op : ℕ) (s c : Mesh) (r : Found) (w : List ℕ) : Type 0 where
   pub entries : run w (r .regions .entries) (length (c .nodes)) ≡ cutterEntries s c
-  pub subject : run w (r .regions .from) (2 * r .regions .subject) ≡ ends (sceneFor op s c .subject .edges)
-  pub cutter : run w (r .regions .at) (2 * r .regions .cutter) ≡ ends (sceneFor op s c .cutter .edges)
+  pub subject : run w (r .regions .from) (2 * r .regions .subject) ≡ flatEdges (sceneFor op s c .subject .edges)
+  pub cutter : run w (r .regions .at) (2 * r .regions .cutter) ≡ flatEdges (sceneFor op s c .cutter .edges)
   pub met : run w (r .regions .base) (5 * r .met) ≡ booked (sceneFor op s c .met)
   pub links : run w (r .regions .base + 5 * r .met) (2 * (chains s c + r .met)) ≡ linksIn op s c
   pub entries-fit : r .regions .entries + length (c .nodes) ≤ r .regions .base
@@ -69,7 +69,7 @@ module _ (op m : ℕ) (s c : Mesh) where
         go (no h) e = absurd (omega (arith, sym (points-over points (joined ofMeeting (scene .met)) m p q n (omega (arith, h))) ∙ e))
 
   -- the contract of `find`, for the meshes without kinds and families as it has them
-  module _ (most : m ≤ 65536) (fs : Fit false (bare s)) (fc : Fit (eqb op 5) (bare c)) (w₀ : List ℕ) (room : Room m (bare s) (bare c) (length w₀))
+  module _ (most : m ≤ 65536) (fs : Fit false (bare s)) (fc : Fit (eqb op 5) (bare c)) (w₀ : List ℕ) (room : NetRoom m (bare s) (bare c) (length w₀))
       (oc oc′ : List Float) (w′ : List ℕ) (r : Found)
       (told : ((q n : ℕ) → r .code ≡ firstRefusal m (length oc / 2) q n (foundEvents op (bare s) (bare c))) × ((r .code ≡ 0 → ⊥) → r ≡ refusedAs (r .code))
       × (r .code ≡ 0 → (r ≡ foundAs op (bare s) (bare c)) × (oc′ ≡ front oc (sceneFor op (bare s) (bare c) .coords)) × (w′ ≡ worked op (bare s) (bare c) w₀))) where
@@ -89,7 +89,7 @@ module _ (op m : ℕ) (s c : Mesh) where
       pub calm : crowded scene ≡ false
       calm = not-crowded (length oc / 2) 0 0 none
 
-      room₀ : Room 0 (bare s) (bare c) (length w₀)
+      room₀ : NetRoom 0 (bare s) (bare c) (length w₀)
       room₀ = omega (arith, room)
 
       few : length (sceneFor op (bare s) (bare c) .met) ≤ m
@@ -108,8 +108,8 @@ module _ (op m : ℕ) (s c : Mesh) where
             entries = entries-found op (s .coords) (c .coords) (s .nodes) (s .ends) (c .nodes) (c .ends) fs fc w₀ room₀ (linksIn op (bare s) (bare c)) ∙ ap
                 (λ (ws : List ℕ). map (λ n. getD ws n 0) (c .nodes)) (weld-bare (eqb op 5) s c);
             subject = subjects-found op (s .coords) (c .coords) (s .nodes) (s .ends) (c .nodes) (c .ends) fs fc w₀ room₀ (linksIn op (bare s) (bare c)) ∙ ap
-                ends (subjects-bare (eqb op 5) s c);
-            cutter = cutters-found op (s .coords) (c .coords) (s .nodes) (s .ends) (c .nodes) (c .ends) fs fc w₀ room₀ (linksIn op (bare s) (bare c)) ∙ ap ends
+                flatEdges (subjects-bare (eqb op 5) s c);
+            cutter = cutters-found op (s .coords) (c .coords) (s .nodes) (s .ends) (c .nodes) (c .ends) fs fc w₀ room₀ (linksIn op (bare s) (bare c)) ∙ ap flatEdges
                 (cutters-bare (eqb op 5) s c);
             met = met-found op (s .coords) (c .coords) (s .nodes) (s .ends) (c .nodes) (c .ends) fs fc w₀ room₀ (linksIn op (bare s) (bare c)) ∙ ap booked (met-bare op s c);
             links =

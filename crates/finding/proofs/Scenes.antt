@@ -9,7 +9,7 @@ use lib.Ieee.{Float}
 use Rattle.lists.specs.Gather.{joined}
 use Rattle.lists.specs.Regions.{front, put, zeros}
 use Rattle.cutting.specs.Edges.{Edge}
-use Rattle.cutting.specs.Lent.{ends}
+use Rattle.cutting.specs.Lent.{flatEdges}
 use Rattle.entry.specs.Mesh.{Mesh, nodeCount}
 use Rattle.rules.specs.Mesh.{cellAt, cellsOf, Side, theSubject, theCutter}
 use Rattle.rules.specs.Snap.{usedNodes, sortedIndicesFor, weld}
@@ -60,15 +60,6 @@ module _ (lines : Bool) (s c : Mesh) where
         base = metAt s c;
       })
       subjects-bare cutters-bare
-
-  pub netted-bare : (w : List ℕ) → netted lines (bare s) (bare c) w ≡ netted lines s c w
-  unfolding netted
-  netted-bare w =
-      let filled : List ℕ → List Edge → List Edge → List ℕ =
-      λ ws es fs. put (put (put (put (put (front w (ws ++ zeros (nodeCount s))) (nodeCount c) (map (λ n. getD ws n 0) (c .nodes))) (copiedAt s c) (s .nodes))
-      (subjectAt s c) (ends es)) (cutterAt s c)
-      (cond lines [] (ends fs))) (metAt s c) (zeros (chainRoom s c)) in
-      ap (λ (ws : List ℕ). filled ws (subjectNet (bare s) .edges) (cutterNet lines (bare s) (bare c) .edges)) weld-bare ∙ ap₂ (filled (weld s c)) subjects-bare cutters-bare
 
 module _ (op : ℕ) (s c : Mesh) where
   pub met-bare : sceneFor op (bare s) (bare c) .met ≡ sceneFor op s c .met

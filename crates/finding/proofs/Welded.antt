@@ -55,10 +55,3 @@ numbers-read s c w₀ z cn b =
     (λ k h. front-in w₀ (weld s c ++ z) k 0 (omega (arith, length-append (weld s c) z, length-weld s c)) ∙ List·getD-append (weld s c) z 0 k (omega (arith, length-weld s c)))
 
 -- ---- what is written: each number is that of a node of one of the meshes
-pub entries-below : (s c : Mesh) → Below (nodeCount c) (c .nodes) → Below (nodeCount s + nodeCount c) (cutterEntries s c)
-entries-below s c b i h =
-    let number : ℕ → ℕ = λ n. getD (weld s c) n 0 in
-    let l : i < length (c .nodes) = omega (arith, length-map (c .nodes) number) in
-    let is : getD (cutterEntries s c) i 0 ≡ number (getD (c .nodes) i 0) =
-    getD-any (cutterEntries s c) i 0 (number 0) h ∙ List·getD-map number (c .nodes) i 0 in
-    omega (arith, is, weld-below s c (getD (c .nodes) i 0) (omega (arith, length-weld s c, b i l)))

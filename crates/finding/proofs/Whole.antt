@@ -9,7 +9,7 @@ use lib.Ieee.{Float}
 use Rattle.lists.specs.Regions.{run, front, put, copied, zeros}
 use Rattle.lists.proofs.Regions.{length-front, length-put, put-put, put-none, run-before, copied-fits}
 use Rattle.cutting.specs.Edges.{Edge}
-use Rattle.cutting.specs.Lent.{ends, pairs}
+use Rattle.cutting.specs.Lent.{flatEdges, pairs}
 use Rattle.cutting.proofs.Pairs.{pairs-length, ends-length}
 use Rattle.entry.specs.Mesh.{Mesh, mesh, nodeCount, Rising}
 use Rattle.rules.specs.Mesh.{cellsOf}
@@ -19,7 +19,7 @@ use Rattle.snap.proofs.Welds.{weld-lists, length-weld}
 use Rattle.neighbours.proofs.Edges.{ends-pairs}
 use Rattle.neighbours.proofs.Threads.{put-swap}
 use Rattle.finding.specs.declared.numbering.Regions.{Regions}
-use Rattle.finding.specs.Nets.{Fit, Room, cutterEntries, copiedAt, subjectAt, cutterAt, metAt, chainRoom, regionsOf, netted}
+use Rattle.finding.specs.Nets.{Fit, NetRoom, cutterEntries, copiedAt, subjectAt, cutterAt, metAt, chainRoom, regionsOf, netted}
 use Rattle.finding.proofs.Cells.{cellsIn, cells-lists, cells-renumbered, few-edges, prior-two, line-pairs}
 use Rattle.finding.proofs.Layers as layers
 use Rattle.finding.proofs.Welded.{numbers-read}
@@ -96,7 +96,7 @@ module _ (lines : Bool) (sc cc : List Float) (sn se cn ce : List ℕ) where
 
     -- ---- from call to call
 
-    module _ (w₀ : List ℕ) (room : Room 0 s c (length w₀)) where
+    module _ (w₀ : List ℕ) (room : NetRoom 0 s c (length w₀)) where
       abbrev numbers : List ℕ
       numbers = front w₀ (weld s c ++ zeros (nodeCount s))
 
@@ -107,29 +107,29 @@ module _ (lines : Bool) (sc cc : List Float) (sn se cn ce : List ℕ) where
 
       -- what is written behind the subject's edges
       abbrev behind : List ℕ
-      behind = cond lines [] (ends cutters)
+      behind = cond lines [] (flatEdges cutters)
 
       few-behind : length behind ≤ 2 * length cn
       few-behind = go lines
         where
-          go : (t : Bool) → length (cond t [] (ends cutters)) ≤ 2 * length cn
+          go : (t : Bool) → length (cond t [] (flatEdges cutters)) ≤ 2 * length cn
           go true = omega arith
           go false = omega (arith, ends-length cutters, few-cutters)
 
       h₁ : nodeCount c + length entries ≤ copiedAt s c
       h₁ = omega (arith, length-entries)
 
-      h₃ : subjectAt s c + length (ends subjects) ≤ cutterAt s c
+      h₃ : subjectAt s c + length (flatEdges subjects) ≤ cutterAt s c
       h₃ = omega (arith, ends-length subjects, few-subjects)
 
       h₄ : (xs : List ℕ) → length xs ≤ 2 * length cn → cutterAt s c + length xs ≤ length numbers
       h₄ xs h = omega (arith, h, room, length-numbers)
 
       abbrev two : List ℕ
-      two = layers.two numbers entries sn (ends subjects) behind (nodeCount c) (copiedAt s c) (subjectAt s c) (cutterAt s c)
+      two = layers.two numbers entries sn (flatEdges subjects) behind (nodeCount c) (copiedAt s c) (subjectAt s c) (cutterAt s c)
 
       abbrev three : List ℕ
-      three = layers.three numbers entries sn (ends subjects) behind (nodeCount c) (copiedAt s c) (subjectAt s c) (cutterAt s c)
+      three = layers.three numbers entries sn (flatEdges subjects) behind (nodeCount c) (copiedAt s c) (subjectAt s c) (cutterAt s c)
 
       -- where the edges had their chains
       abbrev clear : List ℕ
@@ -139,13 +139,13 @@ module _ (lines : Bool) (sc cc : List Float) (sn se cn ce : List ℕ) where
       length-clear = length-replicate {A = ℕ} (chainRoom s c) 0
 
       length-three : length three ≡ length w₀
-      length-three = layers.length-three numbers entries sn (ends subjects) behind (nodeCount c) (copiedAt s c) (subjectAt s c) (cutterAt s c) h₁ (omega arith)
+      length-three = layers.length-three numbers entries sn (flatEdges subjects) behind (nodeCount c) (copiedAt s c) (subjectAt s c) (cutterAt s c) h₁ (omega arith)
           h₃ (h₄ behind few-behind) ∙ length-numbers
 
       module _ (w₁ w₂ w₃ w₄ : List ℕ) (k : ℕ) (d₁ : w₁ ≡ front w₀ (weld (mesh sc sn [] [] []) (mesh cc cn [] [] []) ++ zeros (length sc / 2)))
           (d₂ : w₂ ≡ put w₁ (nodeCount c) (map (λ n. getD w₁ n 0) cn)) (d₃ : w₃ ≡ copied w₂ (copiedAt s c) sn)
           (d₄ : (k ≡ length (computeDescending (cellsOf (mesh [] (run w₃ (copiedAt s c) (length sn)) se [] []))))
-          × (w₄ ≡ put (put w₃ (subjectAt s c) (ends (computeDescending (cellsOf (mesh [] (run w₃ (copiedAt s c) (length sn)) se [] []))))) (metAt s c)
+          × (w₄ ≡ put (put w₃ (subjectAt s c) (flatEdges (computeDescending (cellsOf (mesh [] (run w₃ (copiedAt s c) (length sn)) se [] []))))) (metAt s c)
           (zeros (chainRoom s c)))) where
         one-is : w₁ ≡ numbers
         one-is = d₁ ∙ ap (λ (l : List ℕ). front w₀ (l ++ zeros (nodeCount s))) (sym (weld-lists sc cc sn cn se ce [] [] [] []))
@@ -157,7 +157,7 @@ module _ (lines : Bool) (sc cc : List Float) (sn se cn ce : List ℕ) where
 
         three-is : w₃ ≡ two
         three-is =
-            let len = layers.length-one numbers entries sn (ends subjects) behind (nodeCount c) (copiedAt s c) (subjectAt s c) (cutterAt s c) h₁ (omega arith)
+            let len = layers.length-one numbers entries sn (flatEdges subjects) behind (nodeCount c) (copiedAt s c) (subjectAt s c) (cutterAt s c) h₁ (omega arith)
             h₃ (h₄ behind few-behind) in
             d₃ ∙ ap (λ (w : List ℕ). copied w (copiedAt s c) sn) two-is ∙ copied-fits (put numbers (nodeCount c) entries) (copiedAt s c) sn
             (omega (arith, len, room, length-numbers))
@@ -165,7 +165,7 @@ module _ (lines : Bool) (sc cc : List Float) (sn se cn ce : List ℕ) where
         subject-read : run w₃ (copiedAt s c) (length sn) ≡ sn
         subject-read =
             ap (λ (w : List ℕ). run w (copiedAt s c) (length sn)) three-is
-            ∙ layers.second-two numbers entries sn (ends subjects) behind (nodeCount c) (copiedAt s c) (subjectAt s c) (cutterAt s c) h₁ (omega arith) h₃ (h₄ behind few-behind)
+            ∙ layers.second-two numbers entries sn (flatEdges subjects) behind (nodeCount c) (copiedAt s c) (subjectAt s c) (cutterAt s c) h₁ (omega arith) h₃ (h₄ behind few-behind)
 
         found-are : computeDescending (cellsOf (mesh [] (run w₃ (copiedAt s c) (length sn)) se [] [])) ≡ subjects
         found-are = ap (λ (ns : List ℕ). computeDescending (cellsIn ns se)) subject-read ∙ sym subjects-are
@@ -174,7 +174,7 @@ module _ (lines : Bool) (sc cc : List Float) (sn se cn ce : List ℕ) where
         k-is = d₄ .0 ∙ ap length found-are
 
         four-is : w₄ ≡ put three (metAt s c) clear
-        four-is = d₄ .1 ∙ ap₂ (λ (w : List ℕ) (es : List Edge). put (put w (subjectAt s c) (ends es)) (metAt s c) clear) three-is found-are
+        four-is = d₄ .1 ∙ ap₂ (λ (w : List ℕ) (es : List Edge). put (put w (subjectAt s c) (flatEdges es)) (metAt s c) clear) three-is found-are
 
         regions-are : (a l : ℕ) → a ≡ cond lines (nodeCount c) (cutterAt s c) → l ≡ length cutters
             → regionsWith (nodeCount c) (subjectAt s c) k a l (metAt s c) ≡ regionsOf lines s c
@@ -184,13 +184,13 @@ module _ (lines : Bool) (sc cc : List Float) (sn se cn ce : List ℕ) where
             ∙ ap₂ (λ (i j : ℕ). regionsWith (nodeCount c) (subjectAt s c) (length subjects) i j (metAt s c)) p q
 
         -- the zeros again
-        again : put (put (put three (metAt s c) clear) (cutterAt s c) (ends cutters)) (metAt s c) clear ≡ put (put three (cutterAt s c) (ends cutters)) (metAt s c) clear
+        again : put (put (put three (metAt s c) clear) (cutterAt s c) (flatEdges cutters)) (metAt s c) clear ≡ put (put three (cutterAt s c) (flatEdges cutters)) (metAt s c) clear
         again =
-            let few : cutterAt s c + length (ends cutters) ≤ metAt s c = omega (arith, ends-length cutters, few-cutters) in
-            let long : length (put three (cutterAt s c) (ends cutters)) ≡ length w₀ = length-put three (cutterAt s c) (omega (arith, room, length-three))
-            (ends cutters) (omega (arith, few, room, length-three)) ∙ length-three in
-            ap (λ (w : List ℕ). put w (metAt s c) clear) (put-swap three (cutterAt s c) (metAt s c) (ends cutters) clear few (omega (arith, room, length-three, length-clear)))
-            ∙ put-put (put three (cutterAt s c) (ends cutters)) (metAt s c) (omega (arith, room, long)) clear clear (omega arith)
+            let few : cutterAt s c + length (flatEdges cutters) ≤ metAt s c = omega (arith, ends-length cutters, few-cutters) in
+            let long : length (put three (cutterAt s c) (flatEdges cutters)) ≡ length w₀ = length-put three (cutterAt s c) (omega (arith, room, length-three))
+            (flatEdges cutters) (omega (arith, few, room, length-three)) ∙ length-three in
+            ap (λ (w : List ℕ). put w (metAt s c) clear) (put-swap three (cutterAt s c) (metAt s c) (flatEdges cutters) clear few (omega (arith, room, length-three, length-clear)))
+            ∙ put-put (put three (cutterAt s c) (flatEdges cutters)) (metAt s c) (omega (arith, room, long)) clear clear (omega arith)
 
         -- of lines
         pub lines-end : lines ≡ true
@@ -200,25 +200,25 @@ module _ (lines : Bool) (sc cc : List Float) (sn se cn ce : List ℕ) where
           regions-are (nodeCount c) (length cn / 2) (sym (ap (λ (t : Bool). cond t (nodeCount c) (cutterAt s c)) e))
               (omega (arith, ap length (cutters-lines e), pairs-length entries, length-entries)),
           four-is ∙ ap (λ (w : List ℕ). put w (metAt s c) clear) (sym (put-none three (cutterAt s c)) ∙ ap
-              (λ (t : Bool). put three (cutterAt s c) (cond t [] (ends cutters))) (sym e)),
+              (λ (t : Bool). put three (cutterAt s c) (cond t [] (flatEdges cutters))) (sym e)),
         )
 
         -- of cells
         pub cells-end : lines ≡ false → (w₅ : List ℕ) (l : ℕ)
             → (l ≡ length (computeDescending (cellsOf (mesh [] (run w₄ (nodeCount c) (length cn)) ce [] []))))
-            × (w₅ ≡ put (put w₄ (cutterAt s c) (ends (computeDescending (cellsOf (mesh [] (run w₄ (nodeCount c) (length cn)) ce [] []))))) (metAt s c) (zeros (chainRoom s c)))
+            × (w₅ ≡ put (put w₄ (cutterAt s c) (flatEdges (computeDescending (cellsOf (mesh [] (run w₄ (nodeCount c) (length cn)) ce [] []))))) (metAt s c) (zeros (chainRoom s c)))
             → (regionsWith (nodeCount c) (subjectAt s c) k (cutterAt s c) l (metAt s c) ≡ regionsOf lines s c) × (w₅ ≡ netted lines s c w₀)
         unfolding netted
         cells-end e w₅ l d₅ =
             let read : run w₄ (nodeCount c) (length cn) ≡ entries =
             ap₂ (λ (w : List ℕ) (n : ℕ). run w (nodeCount c) n) four-is (sym length-entries)
             ∙ run-before three (metAt s c) (omega (arith, room, length-three)) clear (nodeCount c) (length entries) (omega (arith, length-entries))
-            ∙ layers.first-three numbers entries sn (ends subjects) behind (nodeCount c) (copiedAt s c) (subjectAt s c) (cutterAt s c) h₁ (omega arith) h₃ (h₄ behind few-behind) in
+            ∙ layers.first-three numbers entries sn (flatEdges subjects) behind (nodeCount c) (copiedAt s c) (subjectAt s c) (cutterAt s c) h₁ (omega arith) h₃ (h₄ behind few-behind) in
             let are : computeDescending (cellsOf (mesh [] (run w₄ (nodeCount c) (length cn)) ce [] [])) ≡ cutters =
             ap (λ (ns : List ℕ). computeDescending (cellsIn ns ce)) read ∙ sym (cutters-cells e) in (
               regions-are (cutterAt s c) l (sym (ap (λ (t : Bool). cond t (nodeCount c) (cutterAt s c)) e)) (d₅ .0 ∙ ap length are),
-              d₅ .1 ∙ ap₂ (λ (w : List ℕ) (es : List Edge). put (put w (cutterAt s c) (ends es)) (metAt s c) clear) four-is are ∙ again
-                  ∙ ap (λ (t : Bool). put (put three (cutterAt s c) (cond t [] (ends cutters))) (metAt s c) clear) (sym e),
+              d₅ .1 ∙ ap₂ (λ (w : List ℕ) (es : List Edge). put (put w (cutterAt s c) (flatEdges es)) (metAt s c) clear) four-is are ∙ again
+                  ∙ ap (λ (t : Bool). put (put three (cutterAt s c) (cond t [] (flatEdges cutters))) (metAt s c) clear) (sym e),
             )
 
       -- ---- what the regions hold
@@ -228,10 +228,10 @@ module _ (lines : Bool) (sc cc : List Float) (sn se cn ce : List ℕ) where
 
       -- without the zeros
       abbrev four : List ℕ
-      four = layers.four numbers entries sn (ends subjects) behind (nodeCount c) (copiedAt s c) (subjectAt s c) (cutterAt s c)
+      four = layers.four numbers entries sn (flatEdges subjects) behind (nodeCount c) (copiedAt s c) (subjectAt s c) (cutterAt s c)
 
       length-four : length four ≡ length w₀
-      length-four = layers.length-four numbers entries sn (ends subjects) behind (nodeCount c) (copiedAt s c) (subjectAt s c) (cutterAt s c) h₁ (omega arith)
+      length-four = layers.length-four numbers entries sn (flatEdges subjects) behind (nodeCount c) (copiedAt s c) (subjectAt s c) (cutterAt s c) h₁ (omega arith)
           h₃ (h₄ behind few-behind) ∙ length-numbers
 
       pub length-held : length held ≡ length w₀
@@ -243,31 +243,31 @@ module _ (lines : Bool) (sc cc : List Float) (sn se cn ce : List ℕ) where
       before a n h = run-before four (metAt s c) (omega (arith, room, length-four)) clear a n h
 
       entries-whole : run held (nodeCount c) (length entries) ≡ entries
-      entries-whole = before (nodeCount c) (length entries) (omega (arith, length-entries)) ∙ layers.first-four numbers entries sn (ends subjects) behind
+      entries-whole = before (nodeCount c) (length entries) (omega (arith, length-entries)) ∙ layers.first-four numbers entries sn (flatEdges subjects) behind
           (nodeCount c) (copiedAt s c) (subjectAt s c) (cutterAt s c) h₁ (omega arith) h₃ (h₄ behind few-behind)
 
       pub entries-held : run held (nodeCount c) (length cn) ≡ entries
       entries-held = ap (run held (nodeCount c)) (sym length-entries) ∙ entries-whole
 
-      pub subjects-held : run held (subjectAt s c) (2 * length subjects) ≡ ends subjects
+      pub subjects-held : run held (subjectAt s c) (2 * length subjects) ≡ flatEdges subjects
       subjects-held =
-          ap (run held (subjectAt s c)) (sym (ends-length subjects)) ∙ before (subjectAt s c) (length (ends subjects)) (omega (arith, ends-length subjects, few-subjects))
-          ∙ layers.third-four numbers entries sn (ends subjects) behind (nodeCount c) (copiedAt s c) (subjectAt s c) (cutterAt s c) h₁ (omega arith) h₃ (h₄ behind few-behind)
+          ap (run held (subjectAt s c)) (sym (ends-length subjects)) ∙ before (subjectAt s c) (length (flatEdges subjects)) (omega (arith, ends-length subjects, few-subjects))
+          ∙ layers.third-four numbers entries sn (flatEdges subjects) behind (nodeCount c) (copiedAt s c) (subjectAt s c) (cutterAt s c) h₁ (omega arith) h₃ (h₄ behind few-behind)
 
       behind-held : run held (cutterAt s c) (length behind) ≡ behind
-      behind-held = before (cutterAt s c) (length behind) (omega (arith, few-behind)) ∙ layers.fourth-four numbers entries sn (ends subjects) behind
+      behind-held = before (cutterAt s c) (length behind) (omega (arith, few-behind)) ∙ layers.fourth-four numbers entries sn (flatEdges subjects) behind
           (nodeCount c) (copiedAt s c) (subjectAt s c) (cutterAt s c) h₁ (omega arith) h₃ (h₄ behind few-behind)
 
-      pub cutters-held : run held (cond lines (nodeCount c) (cutterAt s c)) (2 * length cutters) ≡ ends cutters
+      pub cutters-held : run held (cond lines (nodeCount c) (cutterAt s c)) (2 * length cutters) ≡ flatEdges cutters
       cutters-held = go lines refl
         where
-          go : (t : Bool) → lines ≡ t → run held (cond t (nodeCount c) (cutterAt s c)) (2 * length cutters) ≡ ends cutters
+          go : (t : Bool) → lines ≡ t → run held (cond t (nodeCount c) (cutterAt s c)) (2 * length cutters) ≡ flatEdges cutters
           go true e =
-              let as-pairs : ends cutters ≡ entries = ap ends (cutters-lines e) ∙ ends-pairs entries (length ce) (line-count e) in
+              let as-pairs : flatEdges cutters ≡ entries = ap flatEdges (cutters-lines e) ∙ ends-pairs entries (length ce) (line-count e) in
               let n : 2 * length cutters ≡ length entries = omega (arith, ends-length cutters, ap length as-pairs) in
               ap (run held (nodeCount c)) n ∙ entries-whole ∙ sym as-pairs
           go false e =
-              let is : behind ≡ ends cutters = ap (λ (t : Bool). cond t [] (ends cutters)) e in
+              let is : behind ≡ flatEdges cutters = ap (λ (t : Bool). cond t [] (flatEdges cutters)) e in
               let n : 2 * length cutters ≡ length behind = omega (arith, ends-length cutters, ap length is) in
               ap (run held (cutterAt s c)) n ∙ behind-held ∙ is
 

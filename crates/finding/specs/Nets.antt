@@ -6,7 +6,7 @@ use Prim.Native.Nat.{ℕ, _+_, _*_, _≤_, _<_}
 use lib.ListN.{length, getD}
 use lib.Ieee.{Float}
 use Rattle.lists.specs.Regions.{front, put, zeros}
-use Rattle.cutting.specs.Lent.{ends}
+use Rattle.cutting.specs.Lent.{flatEdges}
 use Rattle.entry.specs.Mesh.{Mesh, mesh, nodeCount, prior, cellSize}
 use Rattle.rules.specs.Snap.{weld}
 use Rattle.rules.specs.Neighbours.{subjectNet, cutterNet}
@@ -30,8 +30,8 @@ pub record Fit (lines : Bool) (m : Mesh) : Type 0 where
   pub two : lines ≡ true → (i : ℕ) → i < length (m .ends) → cellSize (m .ends) i ≡ 2
 
 -- a working list of w numbers, for the edges on chains, and for m meetings and their links
-abbrev pub Room : ℕ → Mesh → Mesh → ℕ → Type 0
-Room m s c w = 3 * (nodeCount s + nodeCount c) + 4 * (length (s .nodes) + length (c .nodes)) + 7 * m + 2 ≤ w
+abbrev pub NetRoom : ℕ → Mesh → Mesh → ℕ → Type 0
+NetRoom m s c w = 3 * (nodeCount s + nodeCount c) + 4 * (length (s .nodes) + length (c .nodes)) + 7 * m + 2 ≤ w
 
 -- ---- the regions
 
@@ -74,5 +74,5 @@ unfoldable pub netted : Bool → Mesh → Mesh → List ℕ → List ℕ
 netted lines s c w =
     let numbers = front w (weld s c ++ zeros (nodeCount s)) in
     let entries = put (put numbers (nodeCount c) (cutterEntries s c)) (copiedAt s c) (s .nodes) in
-    let edges = put (put entries (subjectAt s c) (ends (subjectNet s .edges))) (cutterAt s c) (cond lines [] (ends (cutterNet lines s c .edges))) in
+    let edges = put (put entries (subjectAt s c) (flatEdges (subjectNet s .edges))) (cutterAt s c) (cond lines [] (flatEdges (cutterNet lines s c .edges))) in
     put edges (metAt s c) (zeros (chainRoom s c))

@@ -8,7 +8,7 @@ ghost use Prim.Native.Nat.{_+_, _≤_};
 ghost use lib.ListN.{length, getD};
 ghost use Rattle.lists.specs.Regions.{put};
 ghost use Rattle.snap.specs.Steps.{Below};
-ghost use Rattle.finding.specs.Nets.{plain, Fit, Room, regionsOf, netted};
+ghost use Rattle.finding.specs.Nets.{plain, Fit, NetRoom, regionsOf, netted};
 use lists::copy_u32;
 use neighbours::compute_descending;
 use snap::duplicates_from;
@@ -48,7 +48,7 @@ pub(crate) fn nets(
     w: &mut [u32],
 ) -> Regions
     requires { ⌜ Fit false (plain (now sc) (now sn) (now se)) × Fit lines (plain (now cc) (now cn) (now ce))
-        × Room 0 (plain (now sc) (now sn) (now se)) (plain (now cc) (now cn) (now ce)) (length (now w)) ⌝ }
+        × NetRoom 0 (plain (now sc) (now sn) (now se)) (plain (now cc) (now cn) (now ce)) (length (now w)) ⌝ }
     ensures { λ r. ⌜ (r ≡ regionsOf lines (plain (now (sc .entry)) (now (sn .entry)) (now (se .entry))) (plain (now (cc .entry)) (now (cn .entry)) (now (ce .entry))))
         × (now (w .exit) ≡ netted lines (plain (now (sc .entry)) (now (sn .entry)) (now (se .entry))) (plain (now (cc .entry)) (now (cn .entry)) (now (ce .entry))) (now (w .entry))) ⌝ }
 {

@@ -10,7 +10,7 @@ ghost use Rattle.cutting.specs.Lent.{pairs};
 ghost use Rattle.edge_nodes.specs.Links.{Linked};
 ghost use Rattle.rules.specs.Operations.{sceneFor};
 ghost use Rattle.rules.specs.Refusals.{firstRefusal};
-ghost use Rattle.finding.specs.Nets.{plain, Fit, Room};
+ghost use Rattle.finding.specs.Nets.{plain, Fit, NetRoom};
 ghost use Rattle.finding.specs.Found.{bothFull, foundEvents, foundAs, refusedAs, worked};
 use crate::numbering::Regions;
 use crate::numbering::nets;
@@ -107,7 +107,7 @@ pub fn find(
     w: &mut [u32],
 ) -> Found
     requires { ⌜ (m ≤ 65536) × Fit false (plain (now sc) (now sn) (now se)) × Fit (eqb op 5) (plain (now cc) (now cn) (now ce))
-        × Room m (plain (now sc) (now sn) (now se)) (plain (now cc) (now cn) (now ce)) (length (now w)) ⌝ }
+        × NetRoom m (plain (now sc) (now sn) (now se)) (plain (now cc) (now cn) (now ce)) (length (now w)) ⌝ }
     ensures { λ r. ⌜ ((q n : ℕ) → r .code ≡ firstRefusal m (length (now (oc .entry)) / 2) q n
         (foundEvents op (plain (now (sc .entry)) (now (sn .entry)) (now (se .entry))) (plain (now (cc .entry)) (now (cn .entry)) (now (ce .entry)))))
         × ((r .code ≡ 0 → ⊥) → r ≡ refusedAs (r .code))

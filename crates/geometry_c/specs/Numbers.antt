@@ -56,5 +56,5 @@ innerPoint (Inside x y) l = newPoint x y l
 abbrev pub pointOf : Float → Float → Point
 pointOf x y = record { x = x; y = y }
 
-unfoldable pub segmentOf : Float → Float → Float → Float → Segment
-segmentOf x y u v = record { a = pointOf x y; b = pointOf u v }
+unfoldable pub segmentFrom : Float → Float → Float → Float → Segment
+segmentFrom x y u v = record { a = pointOf x y; b = pointOf u v }

@@ -7,7 +7,7 @@ ghost use Rattle.segments.specs.Meet.{meeting};
 ghost use Rattle.polygons.specs.Corners.{oriented, turned};
 ghost use Rattle.polygons.specs.Inside.{containsStable};
 ghost use Rattle.polygons.specs.Interior.{strictInteriorPoint};
-ghost use Rattle.geometry_c.specs.Numbers.{sideNumber, idNumber, meetNumber, newPoint, meetPoint, innerNumber, innerPoint, pointOf, segmentOf};
+ghost use Rattle.geometry_c.specs.Numbers.{sideNumber, idNumber, meetNumber, newPoint, meetPoint, innerNumber, innerPoint, pointOf, segmentFrom};
 use exact::Order;
 use plane::Point;
 use polygons::Inner;
@@ -95,7 +95,7 @@ fn put_meeting(m: Meeting, point: &mut [f64])
 }
 
 fn segment_of(x: f64, y: f64, u: f64, v: f64) -> Segment
-    ensures { λ r. ⌜ r ≡ segmentOf x y u v ⌝ }
+    ensures { λ r. ⌜ r ≡ segmentFrom x y u v ⌝ }
 {
     Segment {
         a: Point { x, y },
@@ -116,8 +116,8 @@ pub extern "C" fn geometry_meet(
     y4: f64,
     point: &mut [f64],
 ) -> u8
-    ensures { λ r. ⌜ r ≡ meetNumber (meeting (segmentOf x1 y1 x2 y2) (segmentOf x3 y3 x4 y4)) ⌝ }
-    ensures { λ _. ⌜ now (point .exit) ≡ meetPoint (meeting (segmentOf x1 y1 x2 y2) (segmentOf x3 y3 x4 y4)) (now (point .entry)) ⌝ }
+    ensures { λ r. ⌜ r ≡ meetNumber (meeting (segmentFrom x1 y1 x2 y2) (segmentFrom x3 y3 x4 y4)) ⌝ }
+    ensures { λ _. ⌜ now (point .exit) ≡ meetPoint (meeting (segmentFrom x1 y1 x2 y2) (segmentFrom x3 y3 x4 y4)) (now (point .entry)) ⌝ }
 {
     let s = segment_of(x1, y1, x2, y2);
     let o = segment_of(x3, y3, x4, y4);

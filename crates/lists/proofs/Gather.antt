@@ -195,11 +195,6 @@ module _ {A : Type 0} where
         go true a b = a
         go false a b = ap (λ (l : List A). y ∷ l) b
 
-    -- one element more: it is dropped where it equals the last that stayed
-    pub slim-none : (z : A) → slim same (z ∷ []) ≡ z ∷ []
-    unfolding slim slimAfter
-    slim-none z = refl
-
     pub slim-snoc : (xs : List A) (z d : A) → 0 < length xs
         → slim same (xs ++ z ∷ []) ≡ slim same xs ++ cond (same (getD (slim same xs) (length (slim same xs) - 1) d) z) [] (z ∷ [])
     unfolding slim
@@ -230,12 +225,6 @@ module _ {A : Type 0} where
     slim-some [] h = h
     slim-some (x ∷ xs) h = omega arith
 
-    -- the first one stays, and so does the last, where only equals count as equal
-    pub slim-first : (xs : List A) (d : A) → getD (slim same xs) 0 d ≡ getD xs 0 d
-    unfolding slim
-    slim-first [] d = refl
-    slim-first (x ∷ xs) d = refl
-
     module _ (equal : (x y : A) → same x y ≡ true → x ≡ y) where
       after-last : (x : A) (ys : List A) → lastOf x (slimAfter same x ys) ≡ lastOf x ys
       unfolding slimAfter lastOf
@@ -246,15 +235,6 @@ module _ {A : Type 0} where
               → (let l : List A = elim t [ true ↦ slimAfter same x ys | false ↦ y ∷ slimAfter same y ys ] in lastOf x l ≡ lastOf y ys)
           go true e a b = a ∙ ap (λ (v : A). lastOf v ys) (equal x y e)
           go false e a b = b
-
-      pub slim-last : (xs : List A) (d : A) → getD (slim same xs) (length (slim same xs) - 1) d ≡ getD xs (length xs - 1) d
-      unfolding slim
-      slim-last [] d = refl
-      slim-last (x ∷ xs) d =
-          let ys : List A = slimAfter same x xs in
-          let j : length (x ∷ ys) - 1 ≡ length ys = omega arith in
-          let k : length (x ∷ xs) - 1 ≡ length xs = omega arith in
-          ap (λ (n : ℕ). getD (x ∷ ys) n d) j ∙ sym (lastOf-is x ys d) ∙ after-last x xs ∙ lastOf-is x xs d ∙ ap (λ (n : ℕ). getD (x ∷ xs) n d) (sym k)
 
   -- ---- what stands in gathered and passing lists
 
@@ -427,11 +407,3 @@ places-rise p (suc n) j k l h = go (p n) (λ m. places-rise p n j k l m) h
     go false ih h =
         let q : places p n ++ [] ≡ places p n = append-nil (places p n) in
         omega (arith, ih (omega (arith, h, ap length q)), ap (λ (m : List ℕ). getD m j 0) q, ap (λ (m : List ℕ). getD m k 0) q)
-
--- each number below n that passes is one of them
-pub in-places : (p : ℕ → Bool) (n i : ℕ) → i < n → p i ≡ true → List·Memᴰ i (places p n)
-in-places p n i h e = in-gathered n (λ k. cond (p k) (k ∷ []) []) i i h (go (p i) e)
-  where
-    go : (t : Bool) → t ≡ true → List·Memᴰ i (cond t (i ∷ []) [])
-    go true q = List·Memᴰ·head refl
-    go false q = absurd (true≢false (sym q))

@@ -76,21 +76,6 @@ module _ {A : Type 0} where
     pub full-refused : k ≤ n → length w ≤ n → (false ≡ (leb k n && ltb n (length w))) × (w ≡ insertAt w n k x)
     full-refused h l = (rw (le-leb k n h, le-ltb n (length w) l), sym (insertAt-full h l))
 
-    pub take-insertAt : k ≤ n → n < length w → take (n + 1) (insertAt w n k x) ≡ putIn k x (take n w)
-    take-insertAt h l =
-        let tk : length (take n w) ≡ n = length-take-le n w (omega arith) in
-        ap (take (n + 1)) (insertAt-fits h l) ∙ take-front-of w (putIn k x (take n w)) (n + 1) (omega (arith, length-putIn k x (take n w) (omega arith)))
-
-    pub length-insertAt : length (insertAt w n k x) ≡ length w
-    length-insertAt = go (decLe k n) (decLt n (length w))
-      where
-        go : Dec (k ≤ n) → Dec (n < length w) → length (insertAt w n k x) ≡ length w
-        go (no h) l = ap length (insertAt-beyond (omega (arith, h)))
-        go (yes h) (no l) = ap length (insertAt-full h (omega (arith, l)))
-        go (yes h) (yes l) =
-            let tk : length (take n w) ≡ n = length-take-le n w (omega (arith, l)) in
-            ap length (insertAt-fits h l) ∙ length-front w (putIn k x (take n w)) (omega (arith, length-putIn k x (take n w) (omega (arith, h, tk)), l))
-
     pub getD-insertAt : k ≤ n → n < length w → (i : ℕ) (d : A) → i ≤ n → getD (insertAt w n k x) i d ≡ moved (λ j. getD w j d) x k i
     getD-insertAt h l i d b =
         let tk : length (take n w) ≡ n = length-take-le n w (omega arith) in

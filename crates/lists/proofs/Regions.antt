@@ -235,14 +235,6 @@ module _ {A : Type 0} where
     pub lent : take (length xs) (take (length w - b) (drop b w)) ≡ xs
     lent = ap (take (length xs)) part-is ∙ take-front (drop b w₀) xs
 
-    pub returned : (ys zs : List A) → length xs ≤ length zs → ys ≡ front (take (length w - b) (drop b w)) zs → back w b ys ≡ put w₀ b zs
-    unfolding put
-    returned ys zs h y =
-        let none : drop (length w - b) (drop b w) ≡ [] = drop-of-length-le (drop b w) (le-of-eq (length-drop b w)) in
-        let t : take b w ≡ take b w₀ = ap (take b) e ∙ take-put w₀ b hb xs in
-        let f : ys ≡ front (drop b w₀) zs = y ∙ ap (λ (p : List A). front p zs) part-is ∙ front-front (drop b w₀) xs zs h in
-        rw (none, append-nil, t, f)
-
   -- ---- a copy, element by element
 
   module _ (w : List A) (b : ℕ) (xs : List A) where

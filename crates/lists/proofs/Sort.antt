@@ -113,32 +113,6 @@ module _ {A : Type 0} (before : A → A → Bool) where
 
   -- ---- a list sorted in its place, by insertion of the next element into those before it
 
-  pub sort-more : (xs : List A) (k : ℕ) (d : A) → k < length xs → sorted before (take (k + 1) xs) ≡ insert before (getD xs k d) (sorted before (take k xs))
-  sort-more xs k d h = ap (λ (j : ℕ). sorted before (take j xs)) (add-one k) ∙ ap (sorted before) (take-suc xs k d h) ∙ sortOnto-snoc [] (take k xs) (getD xs k d)
-
-  pub sort-start : (s₀ : List A) → s₀ ≡ front s₀ (sorted before (take 0 s₀))
-  unfolding front sortOnto
-  sort-start s₀ = refl
-
-  pub sort-turn : (s₀ s : List A) (k : ℕ) (d : A) → k < length s₀ → s ≡ front s₀ (sorted before (take k s₀))
-      → front s (insert before (getD s k d) (take k s)) ≡ front s₀ (sorted before (take (k + 1) s₀))
-  sort-turn s₀ s k d h e =
-      let xs : List A = sorted before (take k s₀) in
-      let x : A = getD s₀ k d in
-      let len : length xs ≡ k = length-sorted (take k s₀) ∙ length-take-le k s₀ (omega arith) in
-      let x-is : getD s k d ≡ x = ap (λ (l : List A). getD l k d) e ∙ front-behind s₀ xs k d (le-of-eq len) in
-      let xs-is : take k s ≡ xs = ap (take k) e ∙ take-front-of s₀ xs k len in
-      ap₂ (λ (y : A) (ys : List A). front s (insert before y ys)) x-is xs-is ∙ ap (λ (l : List A). front l (insert before x xs)) e
-      ∙ front-front s₀ xs (insert before x xs) (omega (arith, length-insert x xs)) ∙ ap (front s₀) (sym (sort-more s₀ k d h))
-
-  pub sort-end : (s₀ s : List A) (k : ℕ) → k ≤ length s₀ → length s₀ ≤ k → s ≡ front s₀ (sorted before (take k s₀)) → s ≡ sorted before s₀
-  unfolding front
-  sort-end s₀ s k a b e =
-      let xs : List A = sorted before (take k s₀) in
-      let all : take k s₀ ≡ s₀ = take-all k s₀ b in
-      let none : drop (length xs) s₀ ≡ [] = drop-of-length-le s₀ {i = length xs} (omega (arith, length-sorted (take k s₀), ap length all)) in
-      e ∙ ap (λ (l : List A). xs ++ l) none ∙ append-nil xs ∙ ap (sorted before) all
-
   -- ---- what stands first stays first, where nothing that is put in stands before it
 
   module _ (x : A) where

@@ -38,28 +38,6 @@ booked-at (x ∷ ms) (suc q) k d h l =
     let at : 5 * suc q + k ≡ 5 + (5 * q + k) = omega arith in
     ap (λ (i : ℕ). getD (bookOf x ++ booked ms) i 0) at ∙ getD-append-add (bookOf x) (booked ms) (5 * q + k) 0 ∙ booked-at ms q k d (omega arith) l
 
--- the same in the working list
-read-at : (w : List ℕ) (base : ℕ) (ms : List Met) (q k : ℕ) (d : Met) → base ≤ length w → q < length ms → k < 5
-    → getD (put w base (booked ms)) (base + 5 * q + k) 0 ≡ getD (bookOf (getD ms q d)) k 0
-read-at w base ms q k d hb h l =
-    let at : base + 5 * q + k ≡ base + (5 * q + k) = omega arith in
-    ap (λ (i : ℕ). getD (put w base (booked ms)) i 0) at ∙ put-in w base hb (booked ms) (5 * q + k) 0 (omega (arith, length-booked ms)) ∙ booked-at ms q k d h l
-
--- meeting q, read number by number
-pub meeting-read : (w : List ℕ) (base : ℕ) (ms : List Met) (q : ℕ) (d : Met) → base ≤ length w → q < length ms
-    → let v : List ℕ = put w base (booked ms) in
-    let x : Met = getD ms q d in
-    (getD v (base + 5 * q) 0 ≡ x .subjectEdge) × (getD v (base + 5 * q + 1) 0 ≡ x .cutterEdge) × (getD v (base + 5 * q + 2) 0 ≡ length (x .nodes))
-    × (getD v (base + 5 * q + 3) 0 ≡ getD (x .nodes) 0 0) × (getD v (base + 5 * q + 4) 0 ≡ getD (x .nodes) 1 0)
-meeting-read w base ms q d hb h =
-    let at : base + 5 * q ≡ base + 5 * q + 0 = omega arith in (
-      ap (λ (i : ℕ). getD (put w base (booked ms)) i 0) at ∙ read-at w base ms q 0 d hb h (omega arith),
-      read-at w base ms q 1 d hb h (omega arith),
-      read-at w base ms q 2 d hb h (omega arith),
-      read-at w base ms q 3 d hb h (omega arith),
-      read-at w base ms q 4 d hb h (omega arith),
-    )
-
 -- ---- a meeting's edges are edges of the nets, and it has one or two nodes
 
 module _ (coords : List Float) (s c : Net) where

@@ -12,7 +12,7 @@ use Rattle.lists.specs.Search.{has}
 use Rattle.lists.specs.Gather.{gathered, each, joined}
 use Rattle.lists.proofs.Gather.{each-head, each-ext, each-more, joined-snoc}
 use Rattle.cutting.specs.Edges.{Edge, edgeAt, sameKey, hops, ring}
-use Rattle.cutting.specs.Lent.{pairs, ends}
+use Rattle.cutting.specs.Lent.{pairs, flatEdges}
 use Rattle.rules.specs.Neighbours.{added, addedAll}
 use Rattle.neighbours.specs.Cells.{next}
 
@@ -92,12 +92,12 @@ length-addedAll (f ∷ fs) es =
 
 -- ---- flat
 
-pub ends-snoc : (es : List Edge) (e : Edge) → ends (es ++ e ∷ []) ≡ ends es ++ (e .0 ∷ e .1 ∷ [])
-unfolding ends
+pub ends-snoc : (es : List Edge) (e : Edge) → flatEdges (es ++ e ∷ []) ≡ flatEdges es ++ (e .0 ∷ e .1 ∷ [])
+unfolding flatEdges
 ends-snoc es e = joined-snoc (λ f. f .0 ∷ f .1 ∷ []) es e
 
-pub ends-pairs : (xs : List ℕ) (k : ℕ) → length xs ≡ 2 * k → ends (pairs xs) ≡ xs
-unfolding ends pairs joined
+pub ends-pairs : (xs : List ℕ) (k : ℕ) → length xs ≡ 2 * k → flatEdges (pairs xs) ≡ xs
+unfolding flatEdges pairs joined
 ends-pairs [] k h = refl
 ends-pairs (a ∷ []) k h = absurd (omega (arith, h))
 ends-pairs (a ∷ b ∷ xs) zero h = absurd (omega (arith, h))

@@ -13,7 +13,7 @@ use Rattle.lists.specs.Regions.{run, put, zeros}
 use Rattle.lists.proofs.Gather.{length-each, getD-each}
 use Rattle.lists.proofs.Regions.{put-store, length-put, put-run, length-run, getD-run, run-run, run-put, run-before, run-behind}
 use Rattle.cutting.specs.Edges.{Edge, ring}
-use Rattle.cutting.specs.Lent.{pairs, ends}
+use Rattle.cutting.specs.Lent.{pairs, flatEdges}
 use Rattle.cutting.proofs.Pairs.{pairs-length, ends-length}
 use Rattle.entry.specs.Mesh.{mesh, prior, Rising}
 use Rattle.rules.specs.Mesh.{cellAt, cellsOf}
@@ -68,7 +68,7 @@ module _ (w : List ℕ) (base k a b scratch h n : ℕ) (below : base + 2 * k + 2
   pub hit : has (keyAt edges a b) (length (pairs edges)) ≡ true → (k ≡ length (added es (a, b))) × Threaded h n base scratch w (added es (a, b)) w
   unfolding added
   hit e =
-      let same : put w base (ends es) ≡ w = ap (put w base) (ends-pairs xs k held) ∙ put-run w base (omega arith) (2 * k) (omega arith) in
+      let same : put w base (flatEdges es) ≡ w = ap (put w base) (ends-pairs xs k held) ∙ put-run w base (omega arith) (2 * k) (omega arith) in
       rw (as-run true e) (
         sym count-es,
         record { whole = sym (ap (λ (u : List ℕ). put u scratch ls) same ∙ put-run w scratch (omega arith) (h + n) fits); chained = is },
@@ -81,10 +81,10 @@ module _ (w : List ℕ) (base k a b scratch h n : ℕ) (below : base + 2 * k + 2
   length-v : length v ≡ length w
   length-v = length-set (set w (base + 2 * k) a) (base + 2 * k + 1) b ∙ length-set w (base + 2 * k) a
 
-  flat : ends (es ++ (a, b) ∷ []) ≡ xs ++ (a ∷ b ∷ [])
+  flat : flatEdges (es ++ (a, b) ∷ []) ≡ xs ++ (a ∷ b ∷ [])
   flat = ends-snoc es (a, b) ∙ ap (λ (l : List ℕ). l ++ (a ∷ b ∷ [])) (ends-pairs xs k held)
 
-  v-is : v ≡ put w base (ends (es ++ (a, b) ∷ []))
+  v-is : v ≡ put w base (flatEdges (es ++ (a, b) ∷ []))
   v-is =
       let l₁ : length (xs ++ (a ∷ [])) ≡ 2 * k + 1 = simp (length-append, held) in
       let at₁ : base + 2 * k ≡ base + length xs = omega (arith, held) in
@@ -98,7 +98,7 @@ module _ (w : List ℕ) (base k a b scratch h n : ℕ) (below : base + 2 * k + 2
   links-v : take (scratch + (h + n) - scratch) (drop scratch v) ≡ ls
   links-v =
       part-is v scratch (h + n) ∙ ap (λ (u : List ℕ). run u scratch (h + n)) v-is
-      ∙ run-behind w base (omega arith) (ends (es ++ (a, b) ∷ [])) scratch (h + n) (omega (arith, ends-length (es ++ (a, b) ∷ []), length-append es ((a, b) ∷ []), count-es))
+      ∙ run-behind w base (omega arith) (flatEdges (es ++ (a, b) ∷ [])) scratch (h + n) (omega (arith, ends-length (es ++ (a, b) ∷ []), length-append es ((a, b) ∷ []), count-es))
 
   -- u is w with the edge, and comes back with other links
   as-long : (u ms : List ℕ) → length u ≡ length w → ms ≡ linked h (take (scratch + (h + n) - scratch) (drop scratch u)) k (edgeChain h (a, b)) → length ms ≡ h + n
@@ -148,7 +148,7 @@ module _ (w₀ : List ℕ) (at m base k scratch h n : ℕ) (h₁ : at + m ≤ ba
   pub cell-start : Filled w₀ at m base k scratch h n w₀ k 0
   unfolding addedTo addedAll gathered
   cell-start =
-      let same : put w₀ base (ends es₀) ≡ w₀ = ap (put w₀ base) (ends-pairs (run w₀ base (2 * k)) k held₀) ∙ put-run w₀ base (omega arith) (2 * k) (omega arith) in (
+      let same : put w₀ base (flatEdges es₀) ≡ w₀ = ap (put w₀ base) (ends-pairs (run w₀ base (2 * k)) k held₀) ∙ put-run w₀ base (omega arith) (2 * k) (omega arith) in (
         omega arith,
         omega arith,
         refl,
@@ -314,7 +314,7 @@ module _ (w₀ cells : List ℕ) (at total base scratch h n : ℕ) (h₁ : at + 
           → (r ≡ length (computeDescending (cellsIn (run (put-back w₀ ys) at total) cells)))
           × Threaded h n base scratch (put-back w₀ ys) (computeDescending (cellsIn (run (put-back w₀ ys) at total) cells)) w₂ × (r ≤ total)
           → (r ≡ length (computeDescending (cellsIn (run w₀ at total) cells)))
-          × (put-back w₂ zs₂ ≡ put (put w₀ base (ends (computeDescending (cellsIn (run w₀ at total) cells)))) scratch (zeros (h + n)))
+          × (put-back w₂ zs₂ ≡ put (put w₀ base (flatEdges (computeDescending (cellsIn (run w₀ at total) cells)))) scratch (zeros (h + n)))
       whole-end r got =
           let same : run (put-back w₀ ys) at total ≡ run w₀ at total =
           ap (λ (u : List ℕ). run u at total) w₁-is ∙ run-before w₀ scratch (omega arith) zs at total (omega arith) in
@@ -322,5 +322,5 @@ module _ (w₀ cells : List ℕ) (at total base scratch h n : ℕ) (h₁ : at + 
           let are : es ≡ computeDescending (cellsIn (run w₀ at total) cells) = ap (λ (l : List ℕ). computeDescending (cellsIn l cells)) same in (
             got .0 ∙ ap length are,
             w₃-is ∙ cleared-around h n scratch w₀ h₃ base (put-back w₀ ys) w₂ es w₁-is (got .1) (omega (arith, got .0, got .2))
-                ∙ ap (λ (l : List Edge). put (put w₀ base (ends l)) scratch zs) are,
+                ∙ ap (λ (l : List Edge). put (put w₀ base (flatEdges l)) scratch zs) are,
           )

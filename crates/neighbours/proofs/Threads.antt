@@ -11,7 +11,7 @@ use Rattle.lists.specs.Gather.{joined}
 use Rattle.lists.specs.Regions.{run, put, zeros}
 use Rattle.lists.proofs.Regions.{length-put, put-before, put-in, put-behind, put-run, put-put, put-none, length-run, run-put, run-before, part-back}
 use Rattle.cutting.specs.Edges.{Edge}
-use Rattle.cutting.specs.Lent.{pairs, ends}
+use Rattle.cutting.specs.Lent.{pairs, flatEdges}
 use Rattle.cutting.proofs.Pairs.{ends-length, pairs-ends}
 use Rattle.neighbours.specs.Chains.{Chained, Threaded}
 use Rattle.neighbours.proofs.Chains.{chained-none}
@@ -67,7 +67,7 @@ length-short w b n = omega (arith, length-take n (drop b w))
 module _ (h n base scratch : ℕ) (w₀ : List ℕ) (fits : scratch + (h + n) ≤ length w₀) where
   -- no edges yet
   pub threaded-none : base ≤ scratch → run w₀ scratch (h + n) ≡ zeros (h + n) → Threaded h n base scratch w₀ [] w₀
-  unfolding ends joined
+  unfolding flatEdges joined
   threaded-none below clear =
       record {
         whole = sym (ap (λ (u : List ℕ). put u scratch (run w₀ scratch (h + n))) (put-none w₀ base) ∙ put-run w₀ scratch (omega arith) (h + n) fits);
@@ -78,34 +78,34 @@ module _ (h n base scratch : ℕ) (w₀ : List ℕ) (fits : scratch + (h + n) �
     abbrev ls : List ℕ
     ls = run w scratch (h + n)
 
-    flat : length (ends es) ≡ 2 * length es
+    flat : length (flatEdges es) ≡ 2 * length es
     flat = ends-length es
 
-    with : length (put w₀ base (ends es)) ≡ length w₀
-    with = length-put w₀ base (omega arith) (ends es) (omega (arith, flat))
+    with : length (put w₀ base (flatEdges es)) ≡ length w₀
+    with = length-put w₀ base (omega arith) (flatEdges es) (omega (arith, flat))
 
     pub threaded-length : length w ≡ length w₀
     threaded-length =
-        ap length (t .whole) ∙ length-put (put w₀ base (ends es)) scratch (omega (arith, with)) ls (omega (arith, with, length-short w scratch (h + n))) ∙ with
+        ap length (t .whole) ∙ length-put (put w₀ base (flatEdges es)) scratch (omega (arith, with)) ls (omega (arith, with, length-short w scratch (h + n))) ∙ with
 
     pub length-links : length (run w scratch (h + n)) ≡ h + n
     length-links = length-run w scratch (h + n) (omega (arith, threaded-length))
 
-    before : (a c : ℕ) → a + c ≤ scratch → run w a c ≡ run (put w₀ base (ends es)) a c
-    before a c l = ap (λ (u : List ℕ). run u a c) (t .whole) ∙ run-before (put w₀ base (ends es)) scratch (omega (arith, with)) ls a c l
+    before : (a c : ℕ) → a + c ≤ scratch → run w a c ≡ run (put w₀ base (flatEdges es)) a c
+    before a c l = ap (λ (u : List ℕ). run u a c) (t .whole) ∙ run-before (put w₀ base (flatEdges es)) scratch (omega (arith, with)) ls a c l
 
     -- what is read of w: what stands before the edges, and the edges
     pub read-before : (a c : ℕ) → a + c ≤ base → run w a c ≡ run w₀ a c
-    read-before a c l = before a c (omega arith) ∙ run-before w₀ base (omega arith) (ends es) a c l
+    read-before a c l = before a c (omega arith) ∙ run-before w₀ base (omega arith) (flatEdges es) a c l
 
     pub read-one : (i : ℕ) → i < base → getD w i 0 ≡ getD w₀ i 0
     read-one i l =
-        ap (λ (u : List ℕ). getD u i 0) (t .whole) ∙ put-before (put w₀ base (ends es)) scratch (omega (arith, with)) ls i 0 (omega arith)
-        ∙ put-before w₀ base (omega arith) (ends es) i 0 l
+        ap (λ (u : List ℕ). getD u i 0) (t .whole) ∙ put-before (put w₀ base (flatEdges es)) scratch (omega (arith, with)) ls i 0 (omega arith)
+        ∙ put-before w₀ base (omega arith) (flatEdges es) i 0 l
 
     pub read-edges : (k : ℕ) → k ≡ length es → pairs (run w base (2 * k)) ≡ es
     read-edges k e =
-        ap pairs (before base (2 * k) (omega (arith, e)) ∙ run-put w₀ base (omega arith) (ends es) (2 * k) (omega (arith, e, flat))) ∙ pairs-ends es
+        ap pairs (before base (2 * k) (omega (arith, e)) ∙ run-put w₀ base (omega arith) (flatEdges es) (2 * k) (omega (arith, e, flat))) ∙ pairs-ends es
 
     pub ready : (k : ℕ) → k ≡ length es → Chained h (pairs (run w base (2 * k))) (run w scratch (h + n))
     ready k e = rw (read-edges k e) (t .chained)
@@ -114,8 +114,8 @@ module _ (h n base scratch : ℕ) (w₀ : List ℕ) (fits : scratch + (h + n) �
     pub threaded-on : (gs : List Edge) (w′ : List ℕ) → Threaded h n base scratch w gs w′ → length w′ ≡ length w → length es ≤ length gs
         → base + 2 * length gs ≤ scratch → Threaded h n base scratch w₀ gs w′
     threaded-on gs w′ u long more room′ =
-        let xs : List ℕ = ends es in
-        let ys : List ℕ = ends gs in
+        let xs : List ℕ = flatEdges es in
+        let ys : List ℕ = flatEdges gs in
         let ms : List ℕ = run w′ scratch (h + n) in
         let v : List ℕ = put w₀ base xs in
         let ly : length ys ≡ 2 * length gs = ends-length gs in
@@ -148,9 +148,9 @@ module _ (h n scratch : ℕ) (w₀ : List ℕ) (fits : scratch + (h + n) ≤ len
 
   -- w₁ with zeros there, w₂ with edges and their chains, w₃ with zeros again
   pub cleared-around : (base : ℕ) (w₁ w₂ : List ℕ) (es : List Edge) → w₁ ≡ put w₀ scratch (zeros (h + n)) → Threaded h n base scratch w₁ es w₂ → base + 2 * length es ≤ scratch
-      → put w₂ scratch (zeros (h + n)) ≡ put (put w₀ base (ends es)) scratch (zeros (h + n))
+      → put w₂ scratch (zeros (h + n)) ≡ put (put w₀ base (flatEdges es)) scratch (zeros (h + n))
   cleared-around base w₁ w₂ es e t room =
-      let xs : List ℕ = ends es in
+      let xs : List ℕ = flatEdges es in
       let lx : length xs ≡ 2 * length es = ends-length es in
       let l₁ : length w₁ ≡ length w₀ = ap length e ∙ length-put w₀ scratch (omega arith) zs (omega (arith, lz)) in
       let lx₁ : length (put w₁ base xs) ≡ length w₁ = length-put w₁ base (omega (arith, l₁)) xs (omega (arith, l₁, lx)) in

@@ -7,7 +7,7 @@ use lib.Dec.{eqb}
 use lib.ListN.{length, getD, set}
 use Rattle.lists.specs.Regions.{run, put}
 use Rattle.cutting.specs.Edges.{Edge, edgeAt, key}
-use Rattle.cutting.specs.Lent.{ends}
+use Rattle.cutting.specs.Lent.{flatEdges}
 
 -- 1 + the last index below n that passes p; 0 where none does
 unfoldable pub lastBelow : (ℕ → Bool) → ℕ → ℕ
@@ -36,5 +36,5 @@ linked h links k c = set (set links (h + k) (getD links c 0)) c (k + 1)
 
 -- w has become w′: it holds edges from base on, and their chains in the h + n numbers from scratch on; nothing else has changed
 pub record Threaded (h n base scratch : ℕ) (w : List ℕ) (es : List Edge) (w′ : List ℕ) : Type 0 where
-  pub whole : w′ ≡ put (put w base (ends es)) scratch (run w′ scratch (h + n))
+  pub whole : w′ ≡ put (put w base (flatEdges es)) scratch (run w′ scratch (h + n))
   pub chained : Chained h es (run w′ scratch (h + n))

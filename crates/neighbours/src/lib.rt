@@ -10,7 +10,7 @@ ghost use lib.ListN.{length};
 ghost use Rattle.lists.specs.Search.{has};
 ghost use Rattle.lists.specs.Regions.{run, put, zeros};
 ghost use Rattle.cutting.specs.Edges.{edgeAt, sameKey, ring};
-ghost use Rattle.cutting.specs.Lent.{pairs, ends};
+ghost use Rattle.cutting.specs.Lent.{pairs, flatEdges};
 ghost use Rattle.entry.specs.Mesh.{mesh, Rising};
 ghost use Rattle.rules.specs.Mesh.{cellsOf};
 ghost use Rattle.rules.specs.Neighbours.{added, addedAll, computeDescending};
@@ -172,7 +172,7 @@ pub fn compute_descending(
 ) -> usize
     requires { ⌜ (at + total ≤ base) × (base + 2 * total ≤ scratch) × (scratch + (h + n) ≤ length (now w)) × (total ≤ n) × (total ≤ 65536) × (0 < h) × (Rising (now cells) total) ⌝ }
     ensures { λ r. ⌜ (r ≡ length (computeDescending (cellsOf (mesh [] (run (now (w .entry)) at total) (now (cells .entry)) [] []))))
-        × (now (w .exit) ≡ put (put (now (w .entry)) base (ends (computeDescending (cellsOf (mesh [] (run (now (w .entry)) at total) (now (cells .entry)) [] []))))) scratch (zeros (h + n))) ⌝ }
+        × (now (w .exit) ≡ put (put (now (w .entry)) base (flatEdges (computeDescending (cellsOf (mesh [] (run (now (w .entry)) at total) (now (cells .entry)) [] []))))) scratch (zeros (h + n))) ⌝ }
 {
     let t = scratch + (h + n);
     zero_u32(&mut w[scratch..t]);

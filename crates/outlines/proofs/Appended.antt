@@ -5,7 +5,7 @@ use mathlib.Core.List.{List, [], _∷_, _++_}
 use lib.Dec.{eqb}
 use Rattle.cutting.specs.Edges.{Edge, sameKey}
 use Rattle.cutting.specs.Cell.{among, repeats}
-use Rattle.outlines.specs.Meets.{meets}
+use Rattle.outlines.specs.Meets.{edgesMeet}
 
 among-append : (e : Edge) (xs ys : List Edge) → among e (xs ++ ys) ≡ among e xs || among e ys
 unfolding among
@@ -16,10 +16,10 @@ among-append e (x ∷ xs) ys = go (sameKey x e) (among-append e xs ys)
     go true ih = refl
     go false ih = ih
 
-pub meets-append : (xs ys zs : List Edge) → meets xs (ys ++ zs) ≡ meets xs ys || meets xs zs
-unfolding meets
+pub meets-append : (xs ys zs : List Edge) → edgesMeet xs (ys ++ zs) ≡ edgesMeet xs ys || edgesMeet xs zs
+unfolding edgesMeet
 meets-append [] ys zs = refl
-meets-append (x ∷ xs) ys zs = ap₂ (λ (s t : Bool). s || t) (among-append x ys zs) (meets-append xs ys zs) ∙ go (among x ys) (among x zs) (meets xs ys) (meets xs zs)
+meets-append (x ∷ xs) ys zs = ap₂ (λ (s t : Bool). s || t) (among-append x ys zs) (meets-append xs ys zs) ∙ go (among x ys) (among x zs) (edgesMeet xs ys) (edgesMeet xs zs)
   where
     go : (a b m n : Bool) → (a || b) || (m || n) ≡ (a || m) || (b || n)
     go true b m n = refl
@@ -27,12 +27,12 @@ meets-append (x ∷ xs) ys zs = ap₂ (λ (s t : Bool). s || t) (among-append x 
     go false true false n = refl
     go false false m n = refl
 
-pub repeats-append : (xs ys : List Edge) → repeats (xs ++ ys) ≡ repeats xs || meets xs ys || repeats ys
-unfolding repeats meets
+pub repeats-append : (xs ys : List Edge) → repeats (xs ++ ys) ≡ repeats xs || edgesMeet xs ys || repeats ys
+unfolding repeats edgesMeet
 repeats-append [] ys = refl
 repeats-append (x ∷ xs) ys =
     ap₂ (λ (s t : Bool). eqb (x .0) (x .1) || s || t) (among-append x xs ys) (repeats-append xs ys) ∙ go (eqb (x .0) (x .1)) (among x xs) (among x ys)
-    (repeats xs) (meets xs ys) (repeats ys)
+    (repeats xs) (edgesMeet xs ys) (repeats ys)
   where
     go : (l a b r m y : Bool) → (l || (a || b)) || ((r || m) || y) ≡ (((l || a) || r) || (b || m)) || y
     go true a b r m y = refl

@@ -11,17 +11,17 @@ use borrow.Author.Tests.{eq-eqb, ne-eqb}
 use Rattle.lists.specs.Gather.{joined}
 use Rattle.lists.specs.Regions.{front, put}
 use Rattle.lists.proofs.Regions.{put-none, front-put}
-use Rattle.cutting.specs.Edges.{Edge, sameKey, turn}
+use Rattle.cutting.specs.Edges.{Edge, sameKey, reversedIf}
 use Rattle.cutting.specs.Cell.{windows, orEnds, dartsAlong, ownDarts, among, repeats}
-use Rattle.cutting.specs.Lent.{ends, pairs}
-use Rattle.outlines.specs.Meets.{meets}
+use Rattle.cutting.specs.Lent.{flatEdges, pairs}
+use Rattle.outlines.specs.Meets.{edgesMeet}
 use Rattle.cutting.proofs.Pairs.{windows-next, windows-end, ends-more, turned-is, pairs-short, pairs-drop}
 
 -- ---- `lay_along`
 
 -- a list comes to hold the darts in front: r entries
 abbrev pub Holds : List Edge → ℕ → List ℕ → List ℕ → Type 0
-Holds darts r list list′ = (r ≡ 2 * length darts) × (list′ ≡ front list (ends darts))
+Holds darts r list list′ = (r ≡ 2 * length darts) × (list′ ≡ front list (flatEdges darts))
 
 pub record Laying (inv : Bool) (nodes list₀ list : List ℕ) (i k : ℕ) : Type 0 where
   pub same : length list ≡ length list₀
@@ -29,12 +29,12 @@ pub record Laying (inv : Bool) (nodes list₀ list : List ℕ) (i k : ℕ) : Typ
   pub done : List Edge
   pub count : k ≡ 2 * i
   pub counted : length done ≡ i
-  pub left : done ++ map (turn inv) (windows (drop i nodes)) ≡ map (turn inv) (windows nodes)
-  pub held : list ≡ put list₀ 0 (ends done)
+  pub left : done ++ map (reversedIf inv) (windows (drop i nodes)) ≡ map (reversedIf inv) (windows nodes)
+  pub held : list ≡ put list₀ 0 (flatEdges done)
 
 module _ (inv : Bool) (nodes list₀ : List ℕ) where
   pub laying-start : Laying inv nodes list₀ list₀ 0 0
-  unfolding ends joined
+  unfolding flatEdges joined
   laying-start = record { same = refl; low = omega arith; done = []; count = omega arith; counted = refl; left = refl; held = sym (put-none list₀ 0) }
 
   module _ (list : List ℕ) (i k : ℕ) (v : Laying inv nodes list₀ list i k) where
@@ -42,7 +42,7 @@ module _ (inv : Bool) (nodes list₀ : List ℕ) where
         → a ≡ cond inv (getD nodes (i + 1) 0) (getD nodes i 0) → b ≡ cond inv (getD nodes i 0) (getD nodes (i + 1) 0)
         → Laying inv nodes list₀ (set (set list k a) (k + 1) b) (i + 1) (k + 2)
     laying-turn a b h fits ea eb =
-        let e : Edge = turn inv (getD nodes i 0, getD nodes (i + 1) 0) in
+        let e : Edge = reversedIf inv (getD nodes i 0, getD nodes (i + 1) 0) in
         let is-e : _≡_ {A = Edge} (a, b) e = ap₂ (λ x y. (x, y)) ea eb ∙ turned-is inv (getD nodes i 0) (getD nodes (i + 1) 0) in
         record {
           same = length-set (set list k a) (k + 1) b ∙ length-set list k a ∙ v .same;
@@ -50,22 +50,22 @@ module _ (inv : Bool) (nodes list₀ : List ℕ) where
           done = v .done ++ e ∷ [];
           count = omega (arith, v .count);
           counted = omega (arith, length-append (v .done) (e ∷ []), v .counted);
-          left = append-assoc (v .done) (e ∷ []) (map (turn inv) (windows (drop (i + 1) nodes))) ∙ ap (λ (es : List Edge). v .done ++ map (turn inv) es)
+          left = append-assoc (v .done) (e ∷ []) (map (reversedIf inv) (windows (drop (i + 1) nodes))) ∙ ap (λ (es : List Edge). v .done ++ map (reversedIf inv) es)
               (sym (windows-next nodes i h)) ∙ v .left;
           held = ends-more list₀ list 0 k a b (v .done) e (omega arith) (omega (arith, v .count, v .counted)) fits (v .held) (ap (λ (x : Edge). x .0) is-e)
               (ap (λ (x : Edge). x .1) is-e);
         }
 
-    pub laying-end : length nodes ≤ i + 1 → Holds (map (turn inv) (windows nodes)) k list₀ list
+    pub laying-end : length nodes ≤ i + 1 → Holds (map (reversedIf inv) (windows nodes)) k list₀ list
     laying-end h =
-        let all : v .done ≡ map (turn inv) (windows nodes) = sym (append-nil (v .done)) ∙ ap (λ (es : List Edge). v .done ++ map (turn inv) es)
+        let all : v .done ≡ map (reversedIf inv) (windows nodes) = sym (append-nil (v .done)) ∙ ap (λ (es : List Edge). v .done ++ map (reversedIf inv) es)
         (sym (windows-end nodes i h)) ∙ v .left in
-        (omega (arith, v .count, v .counted, ap length all), v .held ∙ ap (λ (es : List Edge). put list₀ 0 (ends es)) all ∙ front-put list₀ (ends (map (turn inv) (windows nodes))))
+        (omega (arith, v .count, v .counted, ap length all), v .held ∙ ap (λ (es : List Edge). put list₀ 0 (flatEdges es)) all ∙ front-put list₀ (flatEdges (map (reversedIf inv) (windows nodes))))
 
 -- ---- `lay_own_edge`
 
 module _ (a b : ℕ) (nodes : List ℕ) (r : ℕ) (list list′ : List ℕ) where
-  pub lay-whole : length nodes ≡ 0 → Holds (map (turn (eqb b a)) (windows (a ∷ b ∷ []))) r list list′ → Holds (ownDarts (record { edge = (a, b); nodes = nodes })) r list list′
+  pub lay-whole : length nodes ≡ 0 → Holds (map (reversedIf (eqb b a)) (windows (a ∷ b ∷ []))) r list list′ → Holds (ownDarts (record { edge = (a, b); nodes = nodes })) r list list′
   unfolding ownDarts dartsAlong
   lay-whole h x = go nodes h
     where
@@ -73,12 +73,12 @@ module _ (a b : ℕ) (nodes : List ℕ) (r : ℕ) (list list′ : List ℕ) wher
       go [] h = x
       go (m ∷ ns) h = absurd (omega arith)
 
-  pub lay-nodes : (length nodes ≡ 0 → ⊥) → Holds (map (turn (eqb b (getD nodes 0 0))) (windows nodes)) r list list′
+  pub lay-nodes : (length nodes ≡ 0 → ⊥) → Holds (map (reversedIf (eqb b (getD nodes 0 0))) (windows nodes)) r list list′
       → Holds (ownDarts (record { edge = (a, b); nodes = nodes })) r list list′
   unfolding ownDarts dartsAlong
   lay-nodes h x = go nodes h x
     where
-      go : (ns : List ℕ) → (length ns ≡ 0 → ⊥) → Holds (map (turn (eqb b (getD ns 0 0))) (windows ns)) r list list′ → Holds (dartsAlong b (orEnds (a, b) ns)) r list list′
+      go : (ns : List ℕ) → (length ns ≡ 0 → ⊥) → Holds (map (reversedIf (eqb b (getD ns 0 0))) (windows ns)) r list list′ → Holds (dartsAlong b (orEnds (a, b) ns)) r list list′
       go [] h x = absurd (h refl)
       go (m ∷ ns) h x = x
 
@@ -133,14 +133,14 @@ module _ (xs : List ℕ) (i : ℕ) where
   repeats-end h = ap repeats (none-left h)
 
   module _ (others : List Edge) where
-    pub meets-here : i + 1 < length xs → among here others ≡ true → meets (pairs (drop i xs)) others ≡ true
-    unfolding meets
-    meets-here h k = ap (λ (es : List Edge). meets es others) (pairs-drop xs i h) ∙ ap (λ (t : Bool). t || meets later others) k
+    pub meets-here : i + 1 < length xs → among here others ≡ true → edgesMeet (pairs (drop i xs)) others ≡ true
+    unfolding edgesMeet
+    meets-here h k = ap (λ (es : List Edge). edgesMeet es others) (pairs-drop xs i h) ∙ ap (λ (t : Bool). t || edgesMeet later others) k
 
-    pub meets-next : i + 1 < length xs → among here others ≡ false → meets (pairs (drop i xs)) others ≡ meets later others
-    unfolding meets
-    meets-next h k = ap (λ (es : List Edge). meets es others) (pairs-drop xs i h) ∙ ap (λ (t : Bool). t || meets later others) k
+    pub meets-next : i + 1 < length xs → among here others ≡ false → edgesMeet (pairs (drop i xs)) others ≡ edgesMeet later others
+    unfolding edgesMeet
+    meets-next h k = ap (λ (es : List Edge). edgesMeet es others) (pairs-drop xs i h) ∙ ap (λ (t : Bool). t || edgesMeet later others) k
 
-    pub meets-end : length xs ≤ i + 1 → meets (pairs (drop i xs)) others ≡ false
-    unfolding meets
-    meets-end h = ap (λ (es : List Edge). meets es others) (none-left h)
+    pub meets-end : length xs ≤ i + 1 → edgesMeet (pairs (drop i xs)) others ≡ false
+    unfolding edgesMeet
+    meets-end h = ap (λ (es : List Edge). edgesMeet es others) (none-left h)

@@ -5,6 +5,6 @@ use Rattle.cutting.specs.Edges.{Edge}
 use Rattle.cutting.specs.Cell.{among}
 
 -- both have an edge between the same two nodes
-unfoldable pub meets : List Edge → List Edge → Bool
-meets [] fs = false
-meets (e ∷ es) fs = among e fs || meets es fs
+unfoldable pub edgesMeet : List Edge → List Edge → Bool
+edgesMeet [] fs = false
+edgesMeet (e ∷ es) fs = among e fs || edgesMeet es fs

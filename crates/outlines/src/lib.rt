@@ -6,10 +6,10 @@ ghost use mathlib.Core.List.{map};
 ghost use Prim.Native.Nat.{_+_, _*_, _≤_};
 ghost use lib.ListN.{length};
 ghost use Rattle.lists.specs.Regions.{front};
-ghost use Rattle.cutting.specs.Edges.{turn};
+ghost use Rattle.cutting.specs.Edges.{reversedIf};
 ghost use Rattle.cutting.specs.Cell.{windows, ownDarts, among, repeats};
-ghost use Rattle.cutting.specs.Lent.{ends, pairs};
-ghost use Rattle.outlines.specs.Meets.{meets};
+ghost use Rattle.cutting.specs.Lent.{flatEdges, pairs};
+ghost use Rattle.outlines.specs.Meets.{edgesMeet};
 
 fn either(x: bool, p: u32, q: u32) -> u32
     ensures { λ r. ⌜ r ≡ cond x p q ⌝ }
@@ -23,7 +23,7 @@ fn either(x: bool, p: u32, q: u32) -> u32
 // Writes the darts along the nodes, each the other way where `inv` is true, to the front of a flat list of pairs. Answers how many entries they take.
 fn lay_along(inv: bool, nodes: &[u32], darts: &mut [u32]) -> usize
     requires { ⌜ 2 * length (now nodes) ≤ length (now darts) + 2 ⌝ }
-    ensures { λ r. ⌜ (r ≡ 2 * length (map (turn inv) (windows (now (nodes .entry))))) × (now (darts .exit) ≡ front (now (darts .entry)) (ends (map (turn inv) (windows (now (nodes .entry)))))) ⌝ }
+    ensures { λ r. ⌜ (r ≡ 2 * length (map (reversedIf inv) (windows (now (nodes .entry))))) × (now (darts .exit) ≡ front (now (darts .entry)) (flatEdges (map (reversedIf inv) (windows (now (nodes .entry)))))) ⌝ }
 {
     let mut i = 0;
     let mut k = 0;
@@ -44,7 +44,7 @@ fn lay_along(inv: bool, nodes: &[u32], darts: &mut [u32]) -> usize
 pub fn lay_own_edge(a: u32, b: u32, nodes: &[u32], darts: &mut [u32]) -> usize
     requires { ⌜ 2 * length (now nodes) + 2 ≤ length (now darts) ⌝ }
     ensures { λ r. ⌜ (r ≡ 2 * length (ownDarts (record { edge = (a, b); nodes = now (nodes .entry) })))
-        × (now (darts .exit) ≡ front (now (darts .entry)) (ends (ownDarts (record { edge = (a, b); nodes = now (nodes .entry) })))) ⌝ }
+        × (now (darts .exit) ≡ front (now (darts .entry)) (flatEdges (ownDarts (record { edge = (a, b); nodes = now (nodes .entry) })))) ⌝ }
 {
     if nodes.len() == 0 {
         let both = [a, b];
@@ -93,7 +93,7 @@ pub fn edges_repeat(edges: &[u32]) -> bool
 
 // Whether two flat lists of pairs have an edge between the same two nodes.
 pub fn edges_meet(edges: &[u32], others: &[u32]) -> bool
-    ensures { λ r. ⌜ r ≡ meets (pairs (now (edges .entry))) (pairs (now (others .entry))) ⌝ }
+    ensures { λ r. ⌜ r ≡ edgesMeet (pairs (now (edges .entry))) (pairs (now (others .entry))) ⌝ }
 {
     let mut i = 0;
     while i + 1 < edges.len() {

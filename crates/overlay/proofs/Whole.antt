@@ -9,7 +9,7 @@ use lib.Ieee.{Float}
 use Rattle.lists.specs.Regions.{front, zeros}
 use Rattle.lists.proofs.Regions.{front-put}
 use Rattle.cutting.specs.Outcome.{flat, stops}
-use Rattle.cutting.specs.Lent.{ends, pairs}
+use Rattle.cutting.specs.Lent.{flatEdges, pairs}
 use Rattle.cutting.proofs.Pairs.{pairs-ends}
 use Rattle.entry.specs.Mesh.{Mesh}
 use Rattle.rules.specs.Mesh.{theSubject, theCutter, cellAt, cellsOf}
@@ -28,7 +28,7 @@ use Rattle.cutting_cells.specs.Listed.{MeshIn, MeshesIn, cellEvents, nodesOf, L
 -- ---- the scene of the definitions stands in the lists
 
 module _ (op : ℕ) (s c : Mesh) (coords : List Float) (subject cutter met nodes : List ℕ) (ep : sceneFor op s c .coords ≡ coords)
-    (es : subject ≡ ends (sceneFor op s c .subject .edges)) (ec : cutter ≡ ends (sceneFor op s c .cutter .edges))
+    (es : subject ≡ flatEdges (sceneFor op s c .subject .edges)) (ec : cutter ≡ flatEdges (sceneFor op s c .cutter .edges))
     (em : Stored (sceneFor op s c .met) met) (en : renumbered (weld s c) (cellsOf c) ≡ runsOf nodes (c .ends)) where
   abbrev sc : Scene
   sc = sceneFor op s c

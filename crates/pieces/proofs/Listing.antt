@@ -9,7 +9,7 @@ use Rattle.lists.proofs.Gather.{length-each, each-head, each-getD}
 use Rattle.rules.specs.Mesh.{Side, other}
 use Rattle.rules.specs.Meetings.{Scene, netOf}
 use Rattle.rules.specs.Cell.{kindOf}
-use Rattle.rules.specs.Operations.{Piece, keeps, piecesOf, pieceAt, pieceWith, inside, kept, keptWith}
+use Rattle.rules.specs.Operations.{Piece, keeps, piecesOf, pieceAt, pieceWith, liesInside, kept, keptWith}
 use Rattle.rules.specs.Refusals.{Event, piece}
 use Rattle.pieces.specs.Pieces.{sideOf, isKept, events}
 
@@ -58,7 +58,7 @@ module _ (sc : Scene) (op : ℕ) (cutter : Bool) (i : ℕ) where
   -- the corners of the pieces of cell i that the operation keeps, their kinds and families
   pub kept-nodes : map (λ p. p .nodes) (kept sc (sideOf cutter) op i) ≡ passing (isKept op cutter (sc .coords) (netOf sc (other (sideOf cutter)) .cells))
       (piecesOf sc (sideOf cutter) i)
-  unfolding keptWith inside pieceWith
+  unfolding keptWith liesInside pieceWith
   kept-nodes =
       let ps : List (List ℕ) = piecesOf sc w i in
       let f : List ℕ → Bool = isKept op cutter (sc .coords) (netOf sc (other w) .cells) in
@@ -68,7 +68,7 @@ module _ (sc : Scene) (op : ℕ) (cutter : Bool) (i : ℕ) where
   unfolding keptWith pieceWith
   kept-kinds =
       let n : ℕ = length (piecesOf sc w i) in
-      passing-alike (λ (p : Piece). p .kind) (kindOf sc w i) (λ p. keeps op w (inside sc w p)) all
+      passing-alike (λ (p : Piece). p .kind) (kindOf sc w i) (λ p. keeps op w (liesInside sc w p)) all
       (each-alike (λ (p : Piece). p .kind) (kindOf sc w i) n (pieceAt sc w i) (λ j. refl) ∙ ap (λ (k : ℕ). replicate k (kindOf sc w i)) (sym (length-each n (pieceAt sc w i))))
 
   pub kept-families : map (λ p. p .family) (kept sc (sideOf cutter) op i) ≡ replicate (length (kept sc (sideOf cutter) op i)) (getD (netOf sc (sideOf cutter) .families) i 0)
@@ -76,7 +76,7 @@ module _ (sc : Scene) (op : ℕ) (cutter : Bool) (i : ℕ) where
   kept-families =
       let n : ℕ = length (piecesOf sc w i) in
       let v : ℕ = getD (netOf sc w .families) i 0 in
-      passing-alike (λ (p : Piece). p .family) v (λ p. keeps op w (inside sc w p)) all
+      passing-alike (λ (p : Piece). p .family) v (λ p. keeps op w (liesInside sc w p)) all
       (each-alike (λ (p : Piece). p .family) v n (pieceAt sc w i) (λ j. refl) ∙ ap (λ (k : ℕ). replicate k v) (sym (length-each n (pieceAt sc w i))))
 
 -- the events of placing them

@@ -40,8 +40,8 @@ abbrev pub ulp : Float
 ulp = ofBits binary64 0x3cb0_0000_0000_0000
 
 -- x is a number, which equals itself
-abbrev pub number : Float → Bool
-number x = eq x x
+abbrev pub isNumber : Float → Bool
+isNumber x = eq x x
 
 -- The size of x. -0 stays -0, which no comparison tells from +0.
 unfoldable pub magnitude : Float → Float

@@ -11,7 +11,7 @@ use Rattle.lists.specs.Gather.{all, slimAfter, slim}
 use Rattle.lists.specs.Sort.{insert, sortOnto, sorted}
 use Rattle.lists.proofs.Gather.{length-each, length-slim}
 use Rattle.lists.proofs.Sort.{length-sorted}
-use Rattle.plane.specs.Plane.{number}
+use Rattle.plane.specs.Plane.{isNumber}
 use Rattle.polygons.specs.Interior.{heightAt, heights, widestIn, passedFrom, passed, climb, foot, widest}
 use Rattle.polygons.specs.Scans.{exceeds, firstAbove, upTo, climbed, climbTo}
 use Rattle.polygons.specs.declared.Height.{Height}
@@ -48,18 +48,18 @@ onto-rising ys (x ∷ xs) r = onto-rising (insert lt x ys) xs (insert-rising Not
 
 abbrev Numbers : List Float → Type 0
 Numbers [] = T true
-Numbers (y ∷ ys) = (number y ≡ true) × Numbers ys
+Numbers (y ∷ ys) = (isNumber y ≡ true) × Numbers ys
 
-are-numbers : (ys : List Float) → all number ys ≡ true → Numbers ys
+are-numbers : (ys : List Float) → all isNumber ys ≡ true → Numbers ys
 unfolding all
 are-numbers [] h = tt
-are-numbers (y ∷ ys) h = go (λ k. are-numbers ys k) (number y) refl h
+are-numbers (y ∷ ys) h = go (λ k. are-numbers ys k) (isNumber y) refl h
   where
-    go : (all number ys ≡ true → Numbers ys) → (b : Bool) → number y ≡ b → elim b [ true ↦ all number ys | false ↦ false ] ≡ true → Numbers (y ∷ ys)
+    go : (all isNumber ys ≡ true → Numbers ys) → (b : Bool) → isNumber y ≡ b → elim b [ true ↦ all isNumber ys | false ↦ false ] ≡ true → Numbers (y ∷ ys)
     go i true e k = (e, i k)
     go i false e k = absurd (true≢false (sym k))
 
-insert-numbers : (x : Float) (ys : List Float) → number x ≡ true → Numbers ys → Numbers (insert lt x ys)
+insert-numbers : (x : Float) (ys : List Float) → isNumber x ≡ true → Numbers ys → Numbers (insert lt x ys)
 unfolding insert
 insert-numbers x [] h n = (h, tt)
 insert-numbers x (y ∷ ys) h n = go (insert-numbers x ys h (n .1)) (lt x y)
@@ -83,7 +83,7 @@ rising-level : (x y : Float) (ys : List Float) → eq x y ≡ true → Rising (A
 rising-level x y [] e r = tt
 rising-level x y (z ∷ zs) e r = (not-lt-trans z y x (eq-number y x (eq-sym x y e)) (r .0) (eq-not-lt y x (eq-sym x y e)), r .1)
 
-after-up : (x : Float) (ys : List Float) → number x ≡ true → Rising (At x) ys → Numbers ys → Up (At x) (slimAfter eq x ys)
+after-up : (x : Float) (ys : List Float) → isNumber x ≡ true → Rising (At x) ys → Numbers ys → Up (At x) (slimAfter eq x ys)
 unfolding slimAfter
 after-up x [] h r n = tt
 after-up x (y ∷ ys) h r n = go (λ e. after-up x ys h (rising-level x y ys e (r .1)) (n .1)) (after-up y ys (n .0) (r .1) (n .1)) (eq x y) refl
@@ -191,7 +191,7 @@ reach d (suc n) (y ∷ ys) c w h =
 
 -- ---- all of it
 
-climbs-through : (ys : List Float) (n : ℕ) → length ys ≡ n → all number ys ≡ true → climbTo n (sorted lt ys) .middle ≡ widest ys
+climbs-through : (ys : List Float) (n : ℕ) → length ys ≡ n → all isNumber ys ≡ true → climbTo n (sorted lt ys) .middle ≡ widest ys
 unfolding widest
 climbs-through ys n l h =
     let s = sorted lt ys in
@@ -202,9 +202,9 @@ climbs-through ys n l h =
     ap (λ (c : Climb). c .middle) (climb-stepped s n ∙ reach s n (slim eq s) foot way (omega (arith, a, b, l)))
 
 pub climbs-in : (cs : List Float) (ps : List ℕ) (c : Climb) (ok : Bool)
-    → ok ≡ all number (heights cs ps) → ok ≡ true → c ≡ climbTo (length ps) (sorted lt (heights cs ps)) → c .middle ≡ widestIn cs ps
+    → ok ≡ all isNumber (heights cs ps) → ok ≡ true → c ≡ climbTo (length ps) (sorted lt (heights cs ps)) → c .middle ≡ widestIn cs ps
 unfolding widestIn heights
 climbs-in cs ps c ok h t e =
-    let n : all number (heights cs ps) ≡ true = sym h ∙ t in
+    let n : all isNumber (heights cs ps) ≡ true = sym h ∙ t in
     let m = climbs-through (heights cs ps) (length ps) (length-each (length ps) (heightAt cs ps)) n in
     rw n (ap (λ (z : Climb). z .middle) e ∙ m)

@@ -7,11 +7,11 @@ use lib.ListN.{getD}
 use lib.Ieee.{Float, binary64, add, sub, mul, div, neg, lt, eq, ofBits, toBits}
 use Rattle.lists.specs.Gather.{gathered, all, slim, slimAfter}
 use Rattle.lists.specs.Sort.{insert, sortOnto, sorted}
-use Rattle.exact.specs.Exact.{mag, coord, sign, ordered}
+use Rattle.exact.specs.Exact.{mag, coord, sign, ordered, isLess}
 use Rattle.exact.specs.Angle.{orientation, angles}
 use Rattle.plane.specs.Plane.{magnitude, between, along, pointAt}
-use Rattle.polygons.specs.Corners.{cornerAt, after, previous, oriented, term, doubledTo, doubled, signedArea2, turned, intoCcw2}
-use Rattle.polygons.specs.Inside.{orient2d2, clamped, orthoDist2, settle, nearer, nearestTo, nearest, isLess, leftOf, reflex, atCorner, containsStable, inside}
+use Rattle.polygons.specs.Corners.{cornerAt, cornerAfter, cornerBefore, oriented, areaTerm, doubledTo, doubledSum, signedArea2, turned, intoCcw2}
+use Rattle.polygons.specs.Inside.{orient2d2, clamped, orthoDist2, settle, nearerEdge, nearestAmong, nearest, leftOf, reflex, atCorner, containsStable, inside}
 use Rattle.polygons.specs.Interior.{heights, passed, climb, widest, widestIn, crossed, crossings, lowest, strictInteriorPoint}
 use Rattle.polygons.specs.Code.{innerCode}
 use Rattle.plane.specs.declared.Point.{Point}
@@ -174,9 +174,9 @@ byAngle ds =
     sorted (λ j k. isLess (angles (d j .x) (d j .y) (d k .x) (d k .y))) (numbered 0 ds)
 
 right : List Case → Bool
-unfolding both same byAngle magnitude between along angles inside containsStable atCorner reflex leftOf orient2d2 nearest nearestTo nearer settle
-    orthoDist2 clamped strictInteriorPoint lowest crossings crossed widestIn widest climb passed heights intoCcw2 turned signedArea2 doubled doubledTo
-    term oriented previous after cornerAt pointAt orientation coord mag sign ordered gathered all slim slimAfter insert sortOnto innerCode toBits
+unfolding both same byAngle magnitude between along angles inside containsStable atCorner reflex leftOf orient2d2 nearest nearestAmong nearerEdge settle
+    orthoDist2 clamped strictInteriorPoint lowest crossings crossed widestIn widest climb passed heights intoCcw2 turned signedArea2 doubledSum doubledTo
+    areaTerm oriented cornerBefore cornerAfter cornerAt pointAt orientation coord mag sign ordered gathered all slim slimAfter insert sortOnto innerCode toBits
     ofBits add sub mul div neg lt eq
 right [] = true
 right (turns ds m ∷ rs) = both (same (byAngle ds) m) (right rs)

@@ -8,7 +8,7 @@ use native.Mathlib.Omega.{arith}
 use lib.Dec.{ltb, eqb}
 use lib.ListN.{length, getD, length-reverse}
 use borrow.Author.Tests.{ltb-true, ltb-false, le-ltb, ne-eqb}
-use Rattle.polygons.specs.Corners.{after, previous, oriented}
+use Rattle.polygons.specs.Corners.{cornerAfter, cornerBefore, oriented}
 use Rattle.plane.proofs.Laws.{getD-over}
 
 behind : {A : Type 0} (l r : List A) (j : ℕ) (d : A) → getD (reverseAux l r) (length l + j) d ≡ getD r j d
@@ -42,32 +42,8 @@ forward true ps i e = absurd (false≢true (sym e))
 pub no-corner : (b : Bool) (ps : List ℕ) (i : ℕ) → length ps ≤ i → 0 ≡ getD (oriented b ps) i 0
 no-corner b ps i h = sym (getD-over (oriented b ps) i 0 (subst (λ (n : ℕ). n ≤ i) (sym (length-oriented b ps)) h))
 
-pub after-over : (n i : ℕ) → n ≤ i → 0 ≡ after n i
-unfolding after
+pub after-over : (n i : ℕ) → n ≤ i → 0 ≡ cornerAfter n i
+unfolding cornerAfter
 after-over n i h = rw (le-ltb (i + 1) n (omega arith)) refl
 
 -- ---- the steps are those of the Rust, which takes remainders
-
-pub after-is : (n i : ℕ) → i < n → after n i ≡ (i + 1) % n
-unfolding after
-after-is n i h = go (ltb (i + 1) n) refl
-  where
-    go : (b : Bool) → ltb (i + 1) n ≡ b → cond b (i + 1) 0 ≡ (i + 1) % n
-    go true e = sym (mod-eq-of-lt (ltb-true (i + 1) n e))
-    go false e =
-        let l : n ≤ i + 1 = ltb-false (i + 1) n e in
-        let s : i + 1 ≡ n = omega arith in
-        sym (ap (λ (k : ℕ). k % n) s ∙ mod-self n)
-
-pub previous-is : (n i : ℕ) → i < n → previous n i ≡ (i + n - 1) % n
-unfolding previous
-previous-is n zero h =
-    let s : 0 + n - 1 ≡ n - 1 = omega arith in
-    let l : n - 1 < n = omega arith in
-    sym (ap (λ (k : ℕ). k % n) s ∙ mod-eq-of-lt l)
-previous-is n (suc i) h =
-    let s : suc i + n - 1 ≡ i + n = omega arith in
-    let l : i < n = omega arith in
-    let z : eqb (suc i) 0 ≡ false = ne-eqb (suc i) 0 (λ e. omega arith) in
-    let p : suc i - 1 ≡ i = omega arith in
-    ap (λ (b : Bool). cond b (n - 1) (suc i - 1)) z ∙ p ∙ sym (ap (λ (k : ℕ). k % n) s ∙ add-mod-right i n ∙ mod-eq-of-lt l)

@@ -7,7 +7,7 @@ use Rattle.lists.specs.Gather.{all}
 use Rattle.lists.specs.Sort.{insert, sorted}
 use Rattle.lists.proofs.Gather.{all-snoc}
 use Rattle.lists.proofs.Sort.{sorted-snoc}
-use Rattle.plane.specs.Plane.{number}
+use Rattle.plane.specs.Plane.{isNumber}
 use Rattle.polygons.specs.Interior.{firstTwo, lowest}
 use Rattle.polygons.specs.Scans.{exceeds, firstAbove, lower, closer, takenOf, taken}
 use Rattle.polygons.specs.declared.Height.{Height}
@@ -69,7 +69,7 @@ two-insert x (a ∷ b ∷ ys) = go (lt x a) (lt x b)
 pub lowest-more : (xs : List Float) (x : Float) → lowest (xs ++ (x ∷ [])) ≡ taken (lowest xs) x
 unfolding lowest taken
 lowest-more xs x =
-    rw (all-snoc number xs x, sorted-snoc lt xs x, two-insert) (go (all number xs) (number x))
+    rw (all-snoc isNumber xs x, sorted-snoc lt xs x, two-insert) (go (all isNumber xs) (isNumber x))
   where
     go : (p q : Bool) → cond (p && q) (takenOf (firstTwo (sorted lt xs)) x) Unordered ≡ cond q (takenOf (cond p (firstTwo (sorted lt xs)) Unordered) x) Unordered
     go true true = refl

@@ -11,9 +11,9 @@ use lib.Ieee.{Float, lt, unlike}
 use Rattle.lists.specs.Gather.{gathered, each, all}
 use Rattle.lists.specs.Sort.{sorted}
 use Rattle.lists.proofs.Gather.{gathered-more, all-snoc}
-use Rattle.plane.specs.Plane.{_⊕_, number}
-use Rattle.polygons.specs.Corners.{cornerAt, after, term, doubledTo}
-use Rattle.polygons.specs.Inside.{nearer, nearestTo}
+use Rattle.plane.specs.Plane.{_⊕_, isNumber}
+use Rattle.polygons.specs.Corners.{cornerAt, cornerAfter, areaTerm, doubledTo}
+use Rattle.polygons.specs.Inside.{nearerEdge, nearestAmong}
 use Rattle.polygons.specs.Interior.{heightAt, passed, crossed, lowest}
 use Rattle.polygons.specs.Scans.{firstAbove, closer, upTo, climbed, climbTo, taken, withCrossing}
 use Rattle.plane.specs.declared.Point.{Point}
@@ -28,18 +28,18 @@ use Rattle.polygons.proofs.Scans.{above-more, lowest-more}
 pub ended : {A : Type 0} (f : ℕ → A) (i n : ℕ) (r : A) → r ≡ f i → i ≤ n → n ≤ i → r ≡ f n
 ended f i n r h a b = let e : i ≡ n = le-antisymm a b in subst (λ (k : ℕ). r ≡ f k) e h
 
-pub doubled-turn : (i : ℕ) (cs : List Float) (ps : List ℕ) (s t : Float) → s ≡ doubledTo i cs ps → t ≡ term cs ps i → s ⊕ t ≡ doubledTo (i + 1) cs ps
+pub doubled-turn : (i : ℕ) (cs : List Float) (ps : List ℕ) (s t : Float) → s ≡ doubledTo i cs ps → t ≡ areaTerm cs ps i → s ⊕ t ≡ doubledTo (i + 1) cs ps
 unfolding doubledTo
 doubled-turn i cs ps s t h k = rw (add-one, h, k) refl
 
 pub nearest-turn : (i : ℕ) (cs : List Float) (ps : List ℕ) (p : Point) (b r : Near)
-    → b ≡ nearestTo i cs ps p → r ≡ nearer cs ps p i b → r ≡ nearestTo (i + 1) cs ps p
-unfolding nearestTo
-nearest-turn i cs ps p b r h k = rw add-one (k ∙ ap (λ (z : Near). nearer cs ps p i z) h)
+    → b ≡ nearestAmong i cs ps p → r ≡ nearerEdge cs ps p i b → r ≡ nearestAmong (i + 1) cs ps p
+unfolding nearestAmong
+nearest-turn i cs ps p b r h k = rw add-one (k ∙ ap (λ (z : Near). nearerEdge cs ps p i z) h)
 
 pub numbers-turn : (i : ℕ) (cs : List Float) (ps : List ℕ) (ok : Bool) (a : Point)
-    → ok ≡ all number (each i (heightAt cs ps)) → a ≡ cornerAt cs ps i → ok && number (a .y) ≡ all number (each (i + 1) (heightAt cs ps))
-numbers-turn i cs ps ok a e f = rw (gathered-more i (λ k. heightAt cs ps k ∷ []), all-snoc number (each i (heightAt cs ps)) (heightAt cs ps i), e, f) refl
+    → ok ≡ all isNumber (each i (heightAt cs ps)) → a ≡ cornerAt cs ps i → ok && isNumber (a .y) ≡ all isNumber (each (i + 1) (heightAt cs ps))
+numbers-turn i cs ps ok a e f = rw (gathered-more i (λ k. heightAt cs ps k ∷ []), all-snoc isNumber (each i (heightAt cs ps)) (heightAt cs ps i), e, f) refl
 
 pub above-turn : (i : ℕ) (cs : List Float) (ps : List ℕ) (h b r : Height) (a : Point)
     → b ≡ firstAbove h (sorted lt (each i (heightAt cs ps))) → a ≡ cornerAt cs ps i → r ≡ closer h b (a .y)
@@ -75,7 +75,7 @@ climb-over i n ys c h e l f g =
 
 lowest-crossed : (cs : List Float) (ps : List ℕ) (m : Float) (i : ℕ) (xs : List Float) → withCrossing cs ps m i (lowest xs) ≡ lowest (xs ++ crossed cs ps m i)
 unfolding withCrossing crossed
-lowest-crossed cs ps m i xs = go (unlike (lt (cornerAt cs ps i .y) m) (lt (cornerAt cs ps (after (length ps) i) .y) m)) _
+lowest-crossed cs ps m i xs = go (unlike (lt (cornerAt cs ps i .y) m) (lt (cornerAt cs ps (cornerAfter (length ps) i) .y) m)) _
   where
     none : (l : List Float) → l ≡ l ++ []
     none [] = refl

@@ -13,11 +13,11 @@ unfoldable pub cornerAt : List Float → List ℕ → ℕ → Point
 cornerAt cs ps i = pointAt cs (getD ps i 0)
 
 -- the corner after i, and the one before it, of n; after the last comes the first
-unfoldable pub after : ℕ → ℕ → ℕ
-after n i = cond (ltb (i + 1) n) (i + 1) 0
+unfoldable pub cornerAfter : ℕ → ℕ → ℕ
+cornerAfter n i = cond (ltb (i + 1) n) (i + 1) 0
 
-unfoldable pub previous : ℕ → ℕ → ℕ
-previous n i = cond (eqb i 0) (n - 1) (i - 1)
+unfoldable pub cornerBefore : ℕ → ℕ → ℕ
+cornerBefore n i = cond (eqb i 0) (n - 1) (i - 1)
 
 -- the corners as they stand, or backwards
 unfoldable pub oriented : Bool → List ℕ → List ℕ
@@ -25,23 +25,23 @@ oriented false ps = ps
 oriented true ps = reverse ps
 
 -- x·y' − x'·y of the edge from corner i to the next
-unfoldable pub term : List Float → List ℕ → ℕ → Float
-term cs ps i =
+unfoldable pub areaTerm : List Float → List ℕ → ℕ → Float
+areaTerm cs ps i =
     let a = cornerAt cs ps i in
-    let b = cornerAt cs ps (after (length ps) i) in
+    let b = cornerAt cs ps (cornerAfter (length ps) i) in
     (a .x ⊗ b .y) ⊖ (b .x ⊗ a .y)
 
 -- the sum over the first n edges, in order, from 0
 unfoldable pub doubledTo : ℕ → List Float → List ℕ → Float
 doubledTo zero cs ps = zeroF
-doubledTo (suc n) cs ps = doubledTo n cs ps ⊕ term cs ps n
+doubledTo (suc n) cs ps = doubledTo n cs ps ⊕ areaTerm cs ps n
 
-unfoldable pub doubled : List Float → List ℕ → Float
-doubled cs ps = doubledTo (length ps) cs ps
+unfoldable pub doubledSum : List Float → List ℕ → Float
+doubledSum cs ps = doubledTo (length ps) cs ps
 
 -- as IEEE 754 has it: NaN where a coordinate is no number
 unfoldable pub signedArea2 : List Float → List ℕ → Float
-signedArea2 cs ps = doubled cs ps ⊘ twoF
+signedArea2 cs ps = doubledSum cs ps ⊘ twoF
 
 -- whether the corners are turned: the halved sum is below 0, which no NaN is
 unfoldable pub turned : List Float → List ℕ → Bool

@@ -6,11 +6,12 @@ use lib.Dec.{ltb}
 use lib.ListN.{length}
 use lib.Ieee.{Float, inf, lt, eq}
 use lib.Ieee.Scale.{finite}
+use Rattle.exact.specs.Exact.{isLess, isGreater}
 use Rattle.exact.specs.Angle.{orientation}
 use Rattle.exact.specs.declared.Order.{Order}
-use Rattle.exact.specs.declared.Order.the-variants.{Less, Equal, Greater}
+use Rattle.exact.specs.declared.Order.the-variants.{Equal}
 use Rattle.plane.specs.Plane.{_⊘_, zeroF, oneF, between, dot, along}
-use Rattle.polygons.specs.Corners.{cornerAt, after, previous, intoCcw2}
+use Rattle.polygons.specs.Corners.{cornerAt, cornerAfter, cornerBefore, intoCcw2}
 use Rattle.plane.specs.declared.Point.{Point}
 use Rattle.polygons.specs.declared.Reached.{Reached}
 use Rattle.polygons.specs.declared.Near.{Near}
@@ -39,30 +40,20 @@ unfoldable pub settle : ℕ → ℕ → Reached → Near → Near
 settle n i r b =
     cond (lt (r .d) (b .d))
     (cond (eq (r .t) zeroF) (record { d = r .d; edge = false; at = i })
-    (cond (eq (r .t) oneF) (record { d = r .d; edge = false; at = after n i })
+    (cond (eq (r .t) oneF) (record { d = r .d; edge = false; at = cornerAfter n i })
     (record { d = r .d; edge = true; at = i })))
     b
 
-unfoldable pub nearer : List Float → List ℕ → Point → ℕ → Near → Near
-nearer cs ps p i b = settle (length ps) i (orthoDist2 p (cornerAt cs ps i) (cornerAt cs ps (after (length ps) i))) b
+unfoldable pub nearerEdge : List Float → List ℕ → Point → ℕ → Near → Near
+nearerEdge cs ps p i b = settle (length ps) i (orthoDist2 p (cornerAt cs ps i) (cornerAt cs ps (cornerAfter (length ps) i))) b
 
 -- the closest of the first n edges and their corners; corner 0 where none is closer than infinity
-unfoldable pub nearestTo : ℕ → List Float → List ℕ → Point → Near
-nearestTo zero cs ps p = record { d = inf false; edge = false; at = 0 }
-nearestTo (suc n) cs ps p = nearer cs ps p n (nearestTo n cs ps p)
+unfoldable pub nearestAmong : ℕ → List Float → List ℕ → Point → Near
+nearestAmong zero cs ps p = record { d = inf false; edge = false; at = 0 }
+nearestAmong (suc n) cs ps p = nearerEdge cs ps p n (nearestAmong n cs ps p)
 
 unfoldable pub nearest : List Float → List ℕ → Point → Near
-nearest cs ps p = nearestTo (length ps) cs ps p
-
-abbrev pub isLess : Order → Bool
-isLess Less = true
-isLess Equal = false
-isLess Greater = false
-
-abbrev pub isGreater : Order → Bool
-isGreater Less = false
-isGreater Equal = false
-isGreater Greater = true
+nearest cs ps p = nearestAmong (length ps) cs ps p
 
 -- p lies strictly to the left of the line from corner i to corner j
 unfoldable pub leftOf : List Float → List ℕ → ℕ → ℕ → Point → Bool
@@ -75,8 +66,8 @@ reflex cs ps i j k = isLess (orient2d2 (cornerAt cs ps i) (cornerAt cs ps j) (co
 -- p's side at corner i: left of one of its two edges where it is reflex, else left of both
 unfoldable pub atCorner : List Float → List ℕ → ℕ → Point → Bool
 atCorner cs ps i p =
-    let h = previous (length ps) i in
-    let j = after (length ps) i in
+    let h = cornerBefore (length ps) i in
+    let j = cornerAfter (length ps) i in
     cond (reflex cs ps h i j) (leftOf cs ps h i p || leftOf cs ps i j p) (leftOf cs ps h i p && leftOf cs ps i j p)
 
 -- the corners go counter-clockwise; under 3 of them nothing is inside
@@ -84,7 +75,7 @@ unfoldable pub containsStable : List Float → List ℕ → Point → Bool
 containsStable cs ps p =
     cond (ltb (length ps) 3) false
     (let b = nearest cs ps p in
-    cond (b .edge) (leftOf cs ps (b .at) (after (length ps) (b .at)) p) (atCorner cs ps (b .at) p))
+    cond (b .edge) (leftOf cs ps (b .at) (cornerAfter (length ps) (b .at)) p) (atCorner cs ps (b .at) p))
 
 -- the corners go either way round
 unfoldable pub inside : List Float → List ℕ → Point → Bool

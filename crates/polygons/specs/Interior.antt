@@ -7,8 +7,8 @@ use lib.ListN.{length}
 use lib.Ieee.{Float, lt, eq, unlike, binary64, ofBits}
 use Rattle.lists.specs.Gather.{gathered, each, all, slim}
 use Rattle.lists.specs.Sort.{sorted}
-use Rattle.plane.specs.Plane.{_⊕_, _⊖_, _⊗_, _⊘_, zeroF, twoF, number, magnitude}
-use Rattle.polygons.specs.Corners.{cornerAt, after, doubled}
+use Rattle.plane.specs.Plane.{_⊕_, _⊖_, _⊗_, _⊘_, zeroF, twoF, isNumber, magnitude}
+use Rattle.polygons.specs.Corners.{cornerAt, cornerAfter, doubledSum}
 use Rattle.plane.specs.declared.Point.{Point}
 use Rattle.polygons.specs.declared.Height.{Height}
 use Rattle.polygons.specs.declared.Height.the-variants.{Nothing, At}
@@ -50,7 +50,7 @@ widest ys = climb foot (slim eq (sorted lt ys)) .middle
 
 -- nothing where a height is no number, at which the Rust panics
 unfoldable pub widestIn : List Float → List ℕ → Height
-widestIn cs ps = cond (all number (heights cs ps)) (widest (heights cs ps)) Nothing
+widestIn cs ps = cond (all isNumber (heights cs ps)) (widest (heights cs ps)) Nothing
 
 -- ---- the crossings of a height
 
@@ -62,7 +62,7 @@ crossingAt a b m = a .x ⊕ (((m ⊖ a .y) ⊗ (b .x ⊖ a .x)) ⊘ (b .y ⊖ a 
 unfoldable pub crossed : List Float → List ℕ → Float → ℕ → List Float
 crossed cs ps m i =
     let a = cornerAt cs ps i in
-    let b = cornerAt cs ps (after (length ps) i) in
+    let b = cornerAt cs ps (cornerAfter (length ps) i) in
     cond (unlike (lt (a .y) m) (lt (b .y) m)) (crossingAt a b m ∷ []) []
 
 unfoldable pub crossings : List Float → List ℕ → Float → List Float
@@ -76,7 +76,7 @@ firstTwo (x ∷ y ∷ ys) = Two x y
 
 -- the two lowest; there is no order where one is no number, at which the Rust panics
 unfoldable pub lowest : List Float → Lowest
-lowest xs = cond (all number xs) (firstTwo (sorted lt xs)) Unordered
+lowest xs = cond (all isNumber xs) (firstTwo (sorted lt xs)) Unordered
 
 -- ---- the point
 
@@ -99,5 +99,5 @@ leastArea = ofBits binary64 0x39b4_484b_feeb_c2a0
 unfoldable pub strictInteriorPoint : List Float → List ℕ → Inner
 strictInteriorPoint cs ps =
     cond (ltb (length ps) 3) Nowhere
-    (cond (lt (magnitude (doubled cs ps)) leastArea) Nowhere
+    (cond (lt (magnitude (doubledSum cs ps)) leastArea) Nowhere
     (atHeight cs ps (widestIn cs ps)))

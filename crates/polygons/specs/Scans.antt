@@ -5,8 +5,8 @@ use mathlib.Core.List.{List, [], _∷_}
 use Prim.Native.Nat.{ℕ, zero, suc}
 use lib.ListN.{length}
 use lib.Ieee.{Float, lt, unlike}
-use Rattle.plane.specs.Plane.{number}
-use Rattle.polygons.specs.Corners.{cornerAt, after}
+use Rattle.plane.specs.Plane.{isNumber}
+use Rattle.polygons.specs.Corners.{cornerAt, cornerAfter}
 use Rattle.polygons.specs.Interior.{passed, foot, crossingAt}
 use Rattle.polygons.specs.declared.Height.{Height}
 use Rattle.polygons.specs.declared.Height.the-variants.{Nothing, At}
@@ -58,10 +58,10 @@ takenOf (Two a b) x = cond (lt x a) (Two x a) (cond (lt x b) (Two a x) (Two a b)
 takenOf Unordered x = Unordered
 
 unfoldable pub taken : Lowest → Float → Lowest
-taken l x = cond (number x) (takenOf l x) Unordered
+taken l x = cond (isNumber x) (takenOf l x) Unordered
 
 unfoldable pub withCrossing : List Float → List ℕ → Float → ℕ → Lowest → Lowest
 withCrossing cs ps m i l =
     let a = cornerAt cs ps i in
-    let b = cornerAt cs ps (after (length ps) i) in
+    let b = cornerAt cs ps (cornerAfter (length ps) i) in
     cond (unlike (lt (a .y) m) (lt (b .y) m)) (taken l (crossingAt a b m)) l

@@ -4,9 +4,10 @@ ghost use lib.ListN.{length, getD};
 ghost use lib.Ieee.{lt};
 ghost use Rattle.lists.specs.Gather.{all};
 ghost use Rattle.lists.specs.Sort.{sorted};
-ghost use Rattle.plane.specs.Plane.{number};
-ghost use Rattle.polygons.specs.Corners.{cornerAt, after, previous, oriented, term, doubled, signedArea2, turned, intoCcw2};
-ghost use Rattle.polygons.specs.Inside.{clamped, orthoDist2, settle, nearer, nearest, isLess, isGreater, orient2d2, leftOf, reflex, atCorner, containsStable, inside};
+ghost use Rattle.exact.specs.Exact.{isLess, isGreater};
+ghost use Rattle.plane.specs.Plane.{isNumber};
+ghost use Rattle.polygons.specs.Corners.{cornerAt, cornerAfter, cornerBefore, oriented, areaTerm, doubledSum, signedArea2, turned, intoCcw2};
+ghost use Rattle.polygons.specs.Inside.{clamped, orthoDist2, settle, nearerEdge, nearest, orient2d2, leftOf, reflex, atCorner, containsStable, inside};
 ghost use Rattle.polygons.specs.Interior.{heights, passed, widestIn, crossingAt, crossings, lowest, pointOn, atHeight, strictInteriorPoint};
 ghost use Rattle.polygons.specs.Scans.{lower, closer, firstAbove, climbTo, taken, withCrossing};
 use exact::Order;
@@ -75,7 +76,7 @@ fn corner_at(coords: &[f64], corners: &[u32], back: bool, i: usize) -> Point
 }
 
 fn after(n: usize, i: usize) -> usize
-    ensures { λ r. ⌜ r ≡ after n i ⌝ }
+    ensures { λ r. ⌜ r ≡ cornerAfter n i ⌝ }
 {
     if i < n {
         let j = i + 1;
@@ -88,7 +89,7 @@ fn after(n: usize, i: usize) -> usize
 }
 
 fn previous(n: usize, i: usize) -> usize
-    ensures { λ r. ⌜ r ≡ previous n i ⌝ }
+    ensures { λ r. ⌜ r ≡ cornerBefore n i ⌝ }
 {
     if i == 0 {
         if n == 0 {
@@ -100,7 +101,7 @@ fn previous(n: usize, i: usize) -> usize
 }
 
 fn term(coords: &[f64], corners: &[u32], i: usize) -> f64
-    ensures { λ r. ⌜ r ≡ term (now (coords .entry)) (now (corners .entry)) i ⌝ }
+    ensures { λ r. ⌜ r ≡ areaTerm (now (coords .entry)) (now (corners .entry)) i ⌝ }
 {
     let j = after(corners.len(), i);
     let a = corner_at(coords, corners, false, i);
@@ -109,7 +110,7 @@ fn term(coords: &[f64], corners: &[u32], i: usize) -> f64
 }
 
 fn doubled(coords: &[f64], corners: &[u32]) -> f64
-    ensures { λ r. ⌜ r ≡ doubled (now (coords .entry)) (now (corners .entry)) ⌝ }
+    ensures { λ r. ⌜ r ≡ doubledSum (now (coords .entry)) (now (corners .entry)) ⌝ }
 {
     let mut sum = 0.0;
     let mut i: usize = 0;
@@ -200,7 +201,7 @@ fn settle(n: usize, i: usize, r: Reached, b: Near) -> Near
 }
 
 fn nearer(coords: &[f64], corners: &[u32], back: bool, p: Point, i: usize, b: Near) -> Near
-    ensures { λ r. ⌜ r ≡ nearer (now (coords .entry)) (oriented back (now (corners .entry))) p i b ⌝ }
+    ensures { λ r. ⌜ r ≡ nearerEdge (now (coords .entry)) (oriented back (now (corners .entry))) p i b ⌝ }
 {
     let n = corners.len();
     let j = after(n, i);
@@ -305,7 +306,7 @@ pub fn inside(coords: &[f64], corners: &[u32], p: Point) -> bool
 // ---- A point inside
 
 fn all_numbers(coords: &[f64], corners: &[u32]) -> bool
-    ensures { λ r. ⌜ r ≡ all number (heights (now (coords .entry)) (now (corners .entry))) ⌝ }
+    ensures { λ r. ⌜ r ≡ all isNumber (heights (now (coords .entry)) (now (corners .entry))) ⌝ }
 {
     let mut ok = true;
     let mut i: usize = 0;

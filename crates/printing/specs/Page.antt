@@ -19,14 +19,14 @@ unfoldable pub byte : Put → List ℕ → ℕ → Page
 byte Full o b = page Full o
 byte (At p) o b = cond (ltb p (length o)) (page (At (p + 1)) (set o p b)) (page Full o)
 
-unfoldable pub written : Page → List ℕ → Page
-written g [] = g
-written g (b ∷ t) = written (byte (g .place) (g .bytes) b) t
+unfoldable pub pageWith : Page → List ℕ → Page
+pageWith g [] = g
+pageWith g (b ∷ t) = pageWith (byte (g .place) (g .bytes) b) t
 
 -- the answer for the text t in a list of n bytes
-unfoldable pub room : ℕ → List ℕ → Put
-room n t = cond (leb (length t) n) (At (length t)) Full
+unfoldable pub roomFor : ℕ → List ℕ → Put
+roomFor n t = cond (leb (length t) n) (At (length t)) Full
 
 -- the list o with the text t in front, as far as the list goes
-unfoldable pub laid : List ℕ → List ℕ → List ℕ
-laid o t = take (length o) t ++ drop (length t) o
+unfoldable pub laidOver : List ℕ → List ℕ → List ℕ
+laidOver o t = take (length o) t ++ drop (length t) o

@@ -11,11 +11,11 @@ use Rattle.printing.specs.declared.Answer.the-variants as given
 unfoldable pub bits : List Float → List ℕ
 bits cs = map (toBits binary64) cs
 
-abbrev pub mesh : List Float → List ℕ → List ℕ → List ℕ → List ℕ → Bits
-mesh cs ns es ks fs = record { coords = bits cs; nodes = ns; ends = es; kinds = ks; families = fs }
+abbrev pub bitsOf : List Float → List ℕ → List ℕ → List ℕ → List ℕ → Bits
+bitsOf cs ns es ks fs = record { coords = bits cs; nodes = ns; ends = es; kinds = ks; families = fs }
 
 -- of an overlay, the first `nodes` nodes and the first `pieces` cells of the lists
 unfoldable pub told : Given → List Float → List ℕ → List ℕ → List ℕ → List ℕ → Answer
 told given.Unread cs ns es ks fs = unread
 told (given.Refused n) cs ns es ks fs = refused n
-told (given.Overlay nodes pieces points doubled) cs ns es ks fs = overlay (mesh (take (2 * nodes) cs) ns (take pieces es) ks fs) pieces points doubled
+told (given.Overlay nodes pieces points doubled) cs ns es ks fs = overlay (bitsOf (take (2 * nodes) cs) ns (take pieces es) ks fs) pieces points doubled

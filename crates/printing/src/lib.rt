@@ -3,8 +3,8 @@ ghost use mathlib.Core.Path.{_≡_};
 ghost use Prim.Native.Nat.{_+_, _-_, _*_, _≤_, _<_, min};
 ghost use lib.ListN.{length, take, drop};
 ghost use Rattle.text.specs.Text.{listingText, refusedText, unreadText, answerText};
-ghost use Rattle.printing.specs.Page.{page, written, room, laid};
-ghost use Rattle.printing.specs.Told.{mesh, told};
+ghost use Rattle.printing.specs.Page.{page, pageWith, roomFor, laidOver};
+ghost use Rattle.printing.specs.Told.{bitsOf, told};
 
 mod digits;
 mod lines;
@@ -34,7 +34,7 @@ fn least(a: usize, b: usize) -> usize
 }
 
 fn put_refused(out: &mut [u8], to: Put, n: u32) -> Put
-    ensures { λ r. ⌜ page r (now (out .exit)) ≡ written (page to (now (out .entry))) (refusedText n) ⌝ }
+    ensures { λ r. ⌜ page r (now (out .exit)) ≡ pageWith (page to (now (out .entry))) (refusedText n) ⌝ }
 {
     let a = lines::put_bytes(out, to, b"(refused ");
     let b = lines::put_decimal(out, a, n);
@@ -53,7 +53,7 @@ fn put_listing(
     points: u32,
     doubled: u32,
 ) -> Put
-    ensures { λ r. ⌜ page r (now (out .exit)) ≡ written (page to (now (out .entry))) (listingText (mesh (now (coords .entry)) (now (nodes .entry)) (now (ends .entry)) (now (kinds .entry)) (now (families .entry))) pieces points doubled) ⌝ }
+    ensures { λ r. ⌜ page r (now (out .exit)) ≡ pageWith (page to (now (out .entry))) (listingText (bitsOf (now (coords .entry)) (now (nodes .entry)) (now (ends .entry)) (now (kinds .entry)) (now (families .entry))) pieces points doubled) ⌝ }
 {
     let a = lines::put_bytes(out, to, b"(overlay\n");
     let b = lines::put_body(out, a, coords, nodes, ends, kinds, families);
@@ -71,7 +71,7 @@ pub fn print_answer(
     kinds: &[u8],
     families: &[u32],
 ) -> Put
-    ensures { λ r. ⌜ (r ≡ room (length (now (out .entry))) (answerText (told answer (now (coords .entry)) (now (nodes .entry)) (now (ends .entry)) (now (kinds .entry)) (now (families .entry))))) × (now (out .exit) ≡ laid (now (out .entry)) (answerText (told answer (now (coords .entry)) (now (nodes .entry)) (now (ends .entry)) (now (kinds .entry)) (now (families .entry))))) ⌝ }
+    ensures { λ r. ⌜ (r ≡ roomFor (length (now (out .entry))) (answerText (told answer (now (coords .entry)) (now (nodes .entry)) (now (ends .entry)) (now (kinds .entry)) (now (families .entry))))) × (now (out .exit) ≡ laidOver (now (out .entry)) (answerText (told answer (now (coords .entry)) (now (nodes .entry)) (now (ends .entry)) (now (kinds .entry)) (now (families .entry))))) ⌝ }
 {
     match answer {
         Answer::Unread => lines::put_bytes(out, Put::At(0), b"(unread)\n"),

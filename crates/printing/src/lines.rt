@@ -5,13 +5,13 @@ ghost use Prim.Native.Nat.{_-_};
 ghost use lib.ListN.{take, drop};
 ghost use lib.Ieee.{toBits, binary64};
 ghost use Rattle.text.specs.Text.{space, decimal, hex, nodeText, nodesText, numbersText, cellText, cellsText, bodyText, countText};
-ghost use Rattle.printing.specs.Page.{page, written};
-ghost use Rattle.printing.specs.Told.{bits, mesh};
+ghost use Rattle.printing.specs.Page.{page, pageWith};
+ghost use Rattle.printing.specs.Told.{bits, bitsOf};
 use crate::Put;
 use crate::digits;
 
 pub(crate) fn put_bytes(out: &mut [u8], to: Put, w: &[u8]) -> Put
-    ensures { λ r. ⌜ page r (now (out .exit)) ≡ written (page to (now (out .entry))) (now (w .entry)) ⌝ }
+    ensures { λ r. ⌜ page r (now (out .exit)) ≡ pageWith (page to (now (out .entry))) (now (w .entry)) ⌝ }
 {
     let Put::At(at) = to else {
         return Put::Full;
@@ -30,14 +30,14 @@ pub(crate) fn put_bytes(out: &mut [u8], to: Put, w: &[u8]) -> Put
 }
 
 fn put_hex(out: &mut [u8], to: Put, n: u64) -> Put
-    ensures { λ r. ⌜ page r (now (out .exit)) ≡ written (page to (now (out .entry))) (hex n) ⌝ }
+    ensures { λ r. ⌜ page r (now (out .exit)) ≡ pageWith (page to (now (out .entry))) (hex n) ⌝ }
 {
     let a = digits::hex_digits(n);
     put_bytes(out, to, &a)
 }
 
 pub(crate) fn put_decimal(out: &mut [u8], to: Put, n: u32) -> Put
-    ensures { λ r. ⌜ page r (now (out .exit)) ≡ written (page to (now (out .entry))) (decimal n) ⌝ }
+    ensures { λ r. ⌜ page r (now (out .exit)) ≡ pageWith (page to (now (out .entry))) (decimal n) ⌝ }
 {
     let d = digits::decimal_digits(n);
     let a = d.bytes;
@@ -47,14 +47,14 @@ pub(crate) fn put_decimal(out: &mut [u8], to: Put, n: u32) -> Put
 
 // a number with a space before it
 fn put_number(out: &mut [u8], to: Put, n: u32) -> Put
-    ensures { λ r. ⌜ page r (now (out .exit)) ≡ written (page to (now (out .entry))) (space ++ decimal n) ⌝ }
+    ensures { λ r. ⌜ page r (now (out .exit)) ≡ pageWith (page to (now (out .entry))) (space ++ decimal n) ⌝ }
 {
     let a = put_bytes(out, to, b" ");
     put_decimal(out, a, n)
 }
 
 fn put_node(out: &mut [u8], to: Put, x: f64, y: f64) -> Put
-    ensures { λ r. ⌜ page r (now (out .exit)) ≡ written (page to (now (out .entry))) (nodeText (toBits binary64 x) (toBits binary64 y)) ⌝ }
+    ensures { λ r. ⌜ page r (now (out .exit)) ≡ pageWith (page to (now (out .entry))) (nodeText (toBits binary64 x) (toBits binary64 y)) ⌝ }
 {
     let a = put_bytes(out, to, b"(node ");
     let b = put_hex(out, a, digits::bits_of(x));
@@ -64,7 +64,7 @@ fn put_node(out: &mut [u8], to: Put, x: f64, y: f64) -> Put
 }
 
 fn put_nodes(out: &mut [u8], to: Put, coords: &[f64]) -> Put
-    ensures { λ r. ⌜ page r (now (out .exit)) ≡ written (page to (now (out .entry))) (nodesText (bits (now (coords .entry)))) ⌝ }
+    ensures { λ r. ⌜ page r (now (out .exit)) ≡ pageWith (page to (now (out .entry))) (nodesText (bits (now (coords .entry)))) ⌝ }
 {
     let mut p = to;
     let mut k = 0;
@@ -77,7 +77,7 @@ fn put_nodes(out: &mut [u8], to: Put, coords: &[f64]) -> Put
 
 // the numbers of the list from `from` up to `end`
 fn put_numbers(out: &mut [u8], to: Put, nodes: &[u32], from: usize, end: usize) -> Put
-    ensures { λ r. ⌜ page r (now (out .exit)) ≡ written (page to (now (out .entry))) (numbersText (take (end - from) (drop from (now (nodes .entry))))) ⌝ }
+    ensures { λ r. ⌜ page r (now (out .exit)) ≡ pageWith (page to (now (out .entry))) (numbersText (take (end - from) (drop from (now (nodes .entry))))) ⌝ }
 {
     let mut p = to;
     let mut k = from;
@@ -100,7 +100,7 @@ fn put_cell(
     from: usize,
     end: usize,
 ) -> Put
-    ensures { λ r. ⌜ page r (now (out .exit)) ≡ written (page to (now (out .entry))) (cellText kind family (take (end - from) (drop from (now (nodes .entry))))) ⌝ }
+    ensures { λ r. ⌜ page r (now (out .exit)) ≡ pageWith (page to (now (out .entry))) (cellText kind family (take (end - from) (drop from (now (nodes .entry))))) ⌝ }
 {
     let a = put_bytes(out, to, b"(cell ");
     let b = put_decimal(out, a, kind as u32);
@@ -117,7 +117,7 @@ fn put_cells(
     kinds: &[u8],
     families: &[u32],
 ) -> Put
-    ensures { λ r. ⌜ page r (now (out .exit)) ≡ written (page to (now (out .entry))) (cellsText 0 (now (nodes .entry)) (now (ends .entry)) (now (kinds .entry)) (now (families .entry))) ⌝ }
+    ensures { λ r. ⌜ page r (now (out .exit)) ≡ pageWith (page to (now (out .entry))) (cellsText 0 (now (nodes .entry)) (now (ends .entry)) (now (kinds .entry)) (now (families .entry))) ⌝ }
 {
     let mut p = to;
     let mut from = 0;
@@ -147,14 +147,14 @@ pub(crate) fn put_body(
     kinds: &[u8],
     families: &[u32],
 ) -> Put
-    ensures { λ r. ⌜ page r (now (out .exit)) ≡ written (page to (now (out .entry))) (bodyText (mesh (now (coords .entry)) (now (nodes .entry)) (now (ends .entry)) (now (kinds .entry)) (now (families .entry)))) ⌝ }
+    ensures { λ r. ⌜ page r (now (out .exit)) ≡ pageWith (page to (now (out .entry))) (bodyText (bitsOf (now (coords .entry)) (now (nodes .entry)) (now (ends .entry)) (now (kinds .entry)) (now (families .entry)))) ⌝ }
 {
     let a = put_nodes(out, to, coords);
     put_cells(out, a, nodes, ends, kinds, families)
 }
 
 pub(crate) fn put_count(out: &mut [u8], to: Put, pieces: u32, points: u32, doubled: u32) -> Put
-    ensures { λ r. ⌜ page r (now (out .exit)) ≡ written (page to (now (out .entry))) (countText pieces points doubled) ⌝ }
+    ensures { λ r. ⌜ page r (now (out .exit)) ≡ pageWith (page to (now (out .entry))) (countText pieces points doubled) ⌝ }
 {
     let a = put_bytes(out, to, b"(count ");
     let b = put_decimal(out, a, pieces);

@@ -13,19 +13,21 @@ use Rattle.lists.specs.Regions.{zeros, fzeros}
 use Rattle.cutting.specs.Setting.{ours}
 use Rattle.entry.specs.Mesh.{Mesh}
 use Rattle.rules.specs.Meetings.{addedBy, sceneOf}
-use Rattle.rules.specs.Overlay.{Lists, Result, lentLists, result, answered as succeeded, answeredWith, overlayOf}
+use Rattle.rules.specs.Overlay.{Lists, Result, lentLists, result, answerGiven as succeeded, answeredWith, overlayOf}
 use Rattle.rules.proofs.Endings.{Ending, input, state-met, success, ending, input-refused, state-refused, succeeds}
 use Rattle.rules.proofs.Lengths.{accepted-fits}
 use Rattle.text.specs.Text.{Answer, answerText}
-use Rattle.text.specs.Read.{Given, Parsed, none, got, limits, inputOf}
-use Rattle.printing.specs.Page.{room, laid}
-use Rattle.printing.specs.Told.{told as Told·told}
+use Rattle.text.specs.Read.{inputFrom}
+use Rattle.text.specs.Given.{Given, Parsed, none, got, limits}
+use Rattle.printing.specs.Page.{roomFor, laidOver}
+use Rattle.printing.specs.Told.{resultTold as Told·told}
 use Rattle.printing.specs.declared.Put.{Put}
 use Rattle.printing.specs.declared.Answer.{Answer as Printed}
 use Rattle.printing.specs.declared.Answer.the-variants as printed
 use Rattle.reading.specs.declared.Counts.{Counts}
 use Rattle.reading.specs.Seen.{meshSeen}
-use Rattle.program.specs.Answered.{most, lent, blank, told, printedOf, answered, answerTo}
+use Rattle.program.specs.Answered.{readLimits, lent, blank, resultTold, answerGiven, answerTo}
+use Rattle.program.specs.Printed.{printedOf}
 
 -- ---- what is printed
 
@@ -37,8 +39,8 @@ pub a-listing : (n code p q d : ℕ) → code ≡ 0 → printed.Overlay (n + q) 
 unfolding printedOf
 a-listing n code p q d h = rw (eq-eqb code 0 h) refl
 
-printed-told : (n code p q d : ℕ) (l : Lists) → Told·told (printedOf n code p q d) (l .coords) (l .nodes) (l .ends) (l .kinds) (l .families) ≡ told n (result code p q d l)
-unfolding printedOf Told·told told
+printed-told : (n code p q d : ℕ) (l : Lists) → Told·told (printedOf n code p q d) (l .coords) (l .nodes) (l .ends) (l .kinds) (l .families) ≡ resultTold n (result code p q d l)
+unfolding printedOf Told·told resultTold
 printed-told n code p q d l = go (eqb code 0)
   where
     left : Bool → Answer
@@ -79,50 +81,50 @@ module _ (op m : ℕ) (s c : Mesh) where
     nodes-fit h = omega (arith, h, points-few, ap (λ (r : Result). r .points) same)
 
     pub cut-printed : (g : Printed) (r : Put) (out out₁ : List ℕ) → g ≡ printedOf n code p q d
-        → (r ≡ room (length out) (answerText (Told·told g cs ns es ks fs))) × (out₁ ≡ laid out (answerText (Told·told g cs ns es ks fs)))
-        → (r ≡ room (length out) (answerText (told n (overlayOf op m s c blank)))) × (out₁ ≡ laid out (answerText (told n (overlayOf op m s c blank))))
+        → (r ≡ roomFor (length out) (answerText (Told·told g cs ns es ks fs))) × (out₁ ≡ laidOver out (answerText (Told·told g cs ns es ks fs)))
+        → (r ≡ roomFor (length out) (answerText (resultTold n (overlayOf op m s c blank)))) × (out₁ ≡ laidOver out (answerText (resultTold n (overlayOf op m s c blank))))
     unfolding blank
     cut-printed g r out out₁ e (a, b) =
-        let text : Told·told g cs ns es ks fs ≡ told n (overlayOf op m s c lists) =
-        ap (λ x. Told·told x cs ns es ks fs) e ∙ printed-told n code p q d (lentLists cs ns es ks fs ws) ∙ ap (told n) same in
-        (a ∙ ap (λ t. room (length out) (answerText t)) text, b ∙ ap (λ t. laid out (answerText t)) text)
+        let text : Told·told g cs ns es ks fs ≡ resultTold n (overlayOf op m s c lists) =
+        ap (λ x. Told·told x cs ns es ks fs) e ∙ printed-told n code p q d (lentLists cs ns es ks fs ws) ∙ ap (resultTold n) same in
+        (a ∙ ap (λ t. roomFor (length out) (answerText t)) text, b ∙ ap (λ t. laidOver out (answerText t)) text)
 
 -- ---- what was read
 
-most-read : limits (length (fzeros 1024)) (length (zeros 2048)) (length (zeros 512)) (length (zeros 512)) (length (zeros 512)) ≡ most
+most-read : limits (length (fzeros 1024)) (length (zeros 2048)) (length (zeros 512)) (length (zeros 512)) (length (zeros 512)) ≡ readLimits
 unfolding limits
 most-read = refl
 
 module _ (s : List ℕ) where
   abbrev readOf : Parsed Given
   readOf =
-      inputOf (limits (length (fzeros 1024)) (length (zeros 2048)) (length (zeros 512)) (length (zeros 512)) (length (zeros 512)))
+      inputFrom (limits (length (fzeros 1024)) (length (zeros 2048)) (length (zeros 512)) (length (zeros 512)) (length (zeros 512)))
       (limits (length (fzeros 1024)) (length (zeros 2048)) (length (zeros 512)) (length (zeros 512)) (length (zeros 512))) s
 
-  answer-read : (g : Parsed Given) → g ≡ readOf → answerText (answered g) ≡ answerTo s
+  answer-read : (g : Parsed Given) → g ≡ readOf → answerText (answerGiven g) ≡ answerTo s
   unfolding answerTo
-  answer-read g e = ap (λ x. answerText (answered x)) (e ∙ ap (λ l. inputOf l l s) most-read)
+  answer-read g e = ap (λ x. answerText (answerGiven x)) (e ∙ ap (λ l. inputFrom l l s) most-read)
 
   -- malformed
   pub unread-printed : (cs : List Float) (ns es ks fs out out₁ : List ℕ) (r : Put) → none ≡ readOf
-      → (r ≡ room (length out) (answerText (Told·told printed.Unread cs ns es ks fs))) × (out₁ ≡ laid out (answerText (Told·told printed.Unread cs ns es ks fs)))
-      → (r ≡ room (length out) (answerTo s)) × (out₁ ≡ laid out (answerTo s))
-  unfolding Told·told answered
+      → (r ≡ roomFor (length out) (answerText (Told·told printed.Unread cs ns es ks fs))) × (out₁ ≡ laidOver out (answerText (Told·told printed.Unread cs ns es ks fs)))
+      → (r ≡ roomFor (length out) (answerTo s)) × (out₁ ≡ laidOver out (answerTo s))
+  unfolding Told·told answerGiven
   unread-printed cs ns es ks fs out out₁ r e (a, b) =
       let text = answer-read none e in
-      (a ∙ ap (λ t. room (length out) t) text, b ∙ ap (λ t. laid out t) text)
+      (a ∙ ap (λ t. roomFor (length out) t) text, b ∙ ap (λ t. laidOver out t) text)
 
   -- read, and overlaid
   pub read-printed : (op m n : ℕ) (f g : Counts) (sc : List Float) (sn se sk sf : List ℕ) (cc₁ : List Float) (cn ce ck cf out out₁ : List ℕ) (r : Put)
       → got (record { first = record { op = op; m = m }; subject = meshSeen f sc sn se sk sf; cutter = meshSeen g cc₁ cn ce ck cf }) [] ≡ readOf
       → 2 * f .points ≤ length sc → 2 * g .points ≤ length cc₁ → n ≡ f .points + g .points
-      → (r ≡ room (length out) (answerText (told n (overlayOf op m (lent (meshSeen f sc sn se sk sf)) (lent (meshSeen g cc₁ cn ce ck cf)) blank)))) ×
-      (out₁ ≡ laid out (answerText (told n (overlayOf op m (lent (meshSeen f sc sn se sk sf)) (lent (meshSeen g cc₁ cn ce ck cf)) blank))))
-      → (r ≡ room (length out) (answerTo s)) × (out₁ ≡ laid out (answerTo s))
-  unfolding answered
+      → (r ≡ roomFor (length out) (answerText (resultTold n (overlayOf op m (lent (meshSeen f sc sn se sk sf)) (lent (meshSeen g cc₁ cn ce ck cf)) blank)))) ×
+      (out₁ ≡ laidOver out (answerText (resultTold n (overlayOf op m (lent (meshSeen f sc sn se sk sf)) (lent (meshSeen g cc₁ cn ce ck cf)) blank))))
+      → (r ≡ roomFor (length out) (answerTo s)) × (out₁ ≡ laidOver out (answerTo s))
+  unfolding answerGiven
   read-printed op m n f g sc sn se sk sf cc₁ cn ce ck cf out out₁ r e h k z (a, b) =
       let nodes : n ≡ length (take (2 * f .points) sc) / 2 + length (take (2 * g .points) cc₁) / 2 =
       omega (arith, z, length-take-le (2 * f .points) sc h, length-take-le (2 * g .points) cc₁ k) in
-      let answer : ℕ → List ℕ = λ x. answerText (told x (overlayOf op m (lent (meshSeen f sc sn se sk sf)) (lent (meshSeen g cc₁ cn ce ck cf)) blank)) in
+      let answer : ℕ → List ℕ = λ x. answerText (resultTold x (overlayOf op m (lent (meshSeen f sc sn se sk sf)) (lent (meshSeen g cc₁ cn ce ck cf)) blank)) in
       let text : answer n ≡ answerTo s = ap answer nodes ∙ answer-read _ e in
-      (a ∙ ap (λ t. room (length out) t) text, b ∙ ap (λ t. laid out t) text)
+      (a ∙ ap (λ t. roomFor (length out) t) text, b ∙ ap (λ t. laidOver out t) text)

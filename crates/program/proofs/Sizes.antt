@@ -18,17 +18,18 @@ use Rattle.cutting.proofs.Runs.{stops-length}
 use Rattle.cutting.specs.Setting.{ours}
 use Rattle.entry.specs.Mesh.{Mesh}
 use Rattle.rules.specs.Operations.{Piece, listing}
-use Rattle.rules.specs.Overlay.{Result, cleared, written, answered as succeeded, answeredWith, overlayOf}
+use Rattle.rules.specs.Overlay.{Result, cleared, written, answerGiven as succeeded, answeredWith, overlayOf}
 use Rattle.rules.proofs.Endings.{Ending, input, state-met, success, ending, input-refused, state-refused, succeeds}
 use Rattle.rules.proofs.Lengths.{accepted-fits, lengths-kept}
 use Rattle.text.specs.Text.{unread, refused, overlay, answerText}
-use Rattle.text.specs.Read.{Given, Parsed, none, got, inputOf}
+use Rattle.text.specs.Read.{inputFrom}
+use Rattle.text.specs.Given.{Given, Parsed, none, got}
 use Rattle.text.proofs.Sizes.{Rising, no-end, end, overlay-size, refused-size}
-use Rattle.printing.specs.Page.{room, laid}
-use Rattle.printing.specs.Told.{bits, mesh as bitsOf}
+use Rattle.printing.specs.Page.{roomFor, laidOver}
+use Rattle.printing.specs.Told.{bits, bitsOf}
 use Rattle.printing.specs.declared.Put.{Put}
 use Rattle.printing.specs.declared.Put.the-variants.{At, Full}
-use Rattle.program.specs.Answered.{most, lent, blank, told, answered, answerTo}
+use Rattle.program.specs.Answered.{readLimits, lent, blank, resultTold, answerGiven, answerTo}
 
 -- ---- where pieces end
 
@@ -78,8 +79,8 @@ module _ (op m : ℕ) (s c : Mesh) where
   ends-few k = omega (arith, take-le k (r .lists .ends), lengths-kept op m s c blank .ends)
 
   -- what is printed of an overlay
-  told-size : (n : ℕ) → length (answerText (told n r)) ≤ 233524
-  unfolding told
+  told-size : (n : ℕ) → length (answerText (resultTold n r)) ≤ 233524
+  unfolding resultTold
   told-size n = go (eqb (r .code) 0) refl
     where
       go : (b : Bool) → eqb (r .code) 0 ≡ b → length (answerText (cond b
@@ -92,19 +93,19 @@ unread-size : length (answerText unread) ≤ 233524
 unfolding answerText
 unread-size = omega arith
 
-answered-size : (g : Parsed Given) → length (answerText (answered g)) ≤ 233524
-unfolding answered
+answered-size : (g : Parsed Given) → length (answerText (answerGiven g)) ≤ 233524
+unfolding answerGiven
 answered-size none = unread-size
 answered-size (got g t) = told-size (g .first .op) (g .first .m) (lent (g .subject)) (lent (g .cutter)) _
 
 -- every answer
 pub answer-size : (t : List ℕ) → length (answerTo t) ≤ 233524
 unfolding answerTo
-answer-size t = answered-size (inputOf most most t)
+answer-size t = answered-size (inputFrom readLimits readLimits t)
 
 -- so a list of so many bytes holds it
-pub answer-whole : (t o : List ℕ) → 233524 ≤ length o → room (length o) (answerTo t) ≡ At (length (answerTo t))
-unfolding room
+pub answer-whole : (t o : List ℕ) → 233524 ≤ length o → roomFor (length o) (answerTo t) ≡ At (length (answerTo t))
+unfolding roomFor
 answer-whole t o h = rw (le-leb (length (answerTo t)) (length o) (le-trans (answer-size t) h)) refl
 
 -- ---- in a list of at least so many bytes
@@ -117,11 +118,11 @@ abbrev full : Put → ℕ
 full (At p) = 0
 full Full = 1
 
-laid-front : (t o : List ℕ) → length t ≤ length o → laid o t ≡ front o t
-unfolding laid front
+laid-front : (t o : List ℕ) → length t ≤ length o → laidOver o t ≡ front o t
+unfolding laidOver front
 laid-front t o h = rw (take-all (length o) t h) refl
 
-module _ (t o o₁ : List ℕ) (r : Put) (h : 233524 ≤ length o) (got : (r ≡ room (length o) (answerTo t)) × (o₁ ≡ laid o (answerTo t))) where
+module _ (t o o₁ : List ℕ) (r : Put) (h : 233524 ≤ length o) (got : (r ≡ roomFor (length o) (answerTo t)) × (o₁ ≡ laidOver o (answerTo t))) where
   pub reply-at : (p : ℕ) → r ≡ At p → (p ≡ length (answerTo t)) × (o₁ ≡ front o (answerTo t)) × (p ≤ 233524)
   reply-at p e =
       let at : p ≡ length (answerTo t) = ap place (sym e ∙ got .0 ∙ answer-whole t o h) in

@@ -9,8 +9,9 @@ ghost use Rattle.lists.specs.Regions.{front};
 ghost use Rattle.entry.specs.Mesh.{mesh};
 ghost use Rattle.rules.specs.Overlay.{overlayOf};
 ghost use Rattle.text.specs.Text.{answerText};
-ghost use Rattle.printing.specs.Page.{room, laid};
-ghost use Rattle.program.specs.Answered.{blank, told as Answered·told, printedOf, answerTo};
+ghost use Rattle.printing.specs.Page.{roomFor, laidOver};
+ghost use Rattle.program.specs.Answered.{blank, resultTold, answerTo};
+ghost use Rattle.program.specs.Printed.{printedOf};
 
 // what is printed of an overlay's answer: `nodes` are those of both meshes
 fn told(nodes: u32, a: overlay::Answer) -> Answer
@@ -46,7 +47,7 @@ fn cut<'a, 'b>(
     out: &mut [u8],
 ) -> Put
     requires { ⌜ nodes ≤ 1024 ⌝ }
-    ensures { λ r. ⌜ (r ≡ room (length (now (out .entry))) (answerText (Answered·told nodes (overlayOf op m (mesh (now (sc .entry)) (now (sn .entry)) (now (se .entry)) (now (sk .entry)) (now (sf .entry))) (mesh (now (cc .entry)) (now (cn .entry)) (now (ce .entry)) (now (ck .entry)) (now (cf .entry))) blank)))) × (now (out .exit) ≡ laid (now (out .entry)) (answerText (Answered·told nodes (overlayOf op m (mesh (now (sc .entry)) (now (sn .entry)) (now (se .entry)) (now (sk .entry)) (now (sf .entry))) (mesh (now (cc .entry)) (now (cn .entry)) (now (ce .entry)) (now (ck .entry)) (now (cf .entry))) blank)))) ⌝ }
+    ensures { λ r. ⌜ (r ≡ roomFor (length (now (out .entry))) (answerText (resultTold nodes (overlayOf op m (mesh (now (sc .entry)) (now (sn .entry)) (now (se .entry)) (now (sk .entry)) (now (sf .entry))) (mesh (now (cc .entry)) (now (cn .entry)) (now (ce .entry)) (now (ck .entry)) (now (cf .entry))) blank)))) × (now (out .exit) ≡ laidOver (now (out .entry)) (answerText (resultTold nodes (overlayOf op m (mesh (now (sc .entry)) (now (sn .entry)) (now (se .entry)) (now (sk .entry)) (now (sf .entry))) (mesh (now (cc .entry)) (now (cn .entry)) (now (ce .entry)) (now (ck .entry)) (now (cf .entry))) blank)))) ⌝ }
 {
     let mut oc = [0.0; 4096];
     let mut on = [0u32; 8192];
@@ -80,7 +81,7 @@ fn cut<'a, 'b>(
 
 // The answer to the text s, from the first place of `out` on.
 pub fn answer(s: &[u8], out: &mut [u8]) -> Put
-    ensures { λ r. ⌜ (r ≡ room (length (now (out .entry))) (answerTo (now (s .entry)))) × (now (out .exit) ≡ laid (now (out .entry)) (answerTo (now (s .entry)))) ⌝ }
+    ensures { λ r. ⌜ (r ≡ roomFor (length (now (out .entry))) (answerTo (now (s .entry)))) × (now (out .exit) ≡ laidOver (now (out .entry)) (answerTo (now (s .entry)))) ⌝ }
 {
     let mut sc = [0.0; 1024];
     let mut sn = [0u32; 2048];

@@ -8,8 +8,8 @@ use lib.ListN.{length, take, drop, replicate, length-drop, length-append, length
 use lib.Seq.{length-take-le, take-at, drop-at, take-all}
 use lib.Ieee.{Float}
 use Rattle.lists.specs.Regions.{zeros, fzeros}
-use Rattle.text.specs.Read.{Parsed, got, First, Mesh, Given}
-use Rattle.reading.specs.Seen.{meshSeen, cleared, fcleared, MeshRest}
+use Rattle.text.specs.Given.{Parsed, got, First, ReadMesh, Given}
+use Rattle.reading.specs.Seen.{meshSeen, zeroedFrom, fzeroedFrom, MeshRest}
 use Rattle.reading.specs.declared.Counts.{Counts}
 
 module _ {A : Type 0} (v : A) (w : List A) (b : ℕ) (h : b ≤ length w) where
@@ -37,7 +37,7 @@ as-long e h = rw e h
 
 -- five lists before and after the places that no mesh takes are set to zero
 module _ (c : Counts) (cs : List Float) (ns es ks fs : List ℕ) (cs′ : List Float) (ns′ es′ ks′ fs′ : List ℕ)
-    (e : (cs′ ≡ fcleared (2 * c .points) cs) × (ns′ ≡ cleared (c .entries) ns) × (es′ ≡ cleared (c .cells) es) × (ks′ ≡ cleared (c .cells) ks) × (fs′ ≡ cleared (c .cells) fs))
+    (e : (cs′ ≡ fzeroedFrom (2 * c .points) cs) × (ns′ ≡ zeroedFrom (c .entries) ns) × (es′ ≡ zeroedFrom (c .cells) es) × (ks′ ≡ zeroedFrom (c .cells) ks) × (fs′ ≡ zeroedFrom (c .cells) fs))
     (h : (2 * c .points ≤ length cs) × (c .entries ≤ length ns) × (c .cells ≤ length es) × (c .cells ≤ length ks) × (c .cells ≤ length fs)) where
   seen : meshSeen c cs′ ns′ es′ ks′ fs′ ≡ meshSeen c cs ns es ks fs
   seen =
@@ -69,6 +69,6 @@ module _ (c : Counts) (cs : List Float) (ns es ks fs : List ℕ) (cs′ : List F
       → (meshSeen c cs′ ns′ es′ ks′ fs′ ≡ meshSeen c cs ns es ks fs) × MeshRest c a b d k f cs′ ns′ es′ ks′ fs′
   settled la lb ld lk lf = (seen, rest la lb ld lk lf)
 
-pub same-meshes : (f : First) {s s′ c c′ : Mesh} → s ≡ s′ → c ≡ c′
+pub same-meshes : (f : First) {s s′ c c′ : ReadMesh} → s ≡ s′ → c ≡ c′
     → _≡_ {A = Parsed Given} (got (record { first = f; subject = s; cutter = c }) []) (got (record { first = f; subject = s′; cutter = c′ }) [])
 same-meshes f p q = rw (p, q)

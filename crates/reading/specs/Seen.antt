@@ -5,21 +5,21 @@ use mathlib.Core.List.{List, [], _++_}
 use lib.ListN.{length, take, drop}
 use lib.Ieee.{Float}
 use Rattle.lists.specs.Regions.{zeros, fzeros}
-use Rattle.text.specs.Read.{Parsed, none, got, Mesh, Given}
+use Rattle.text.specs.Given.{Parsed, none, got, ReadMesh, Given}
 use Rattle.reading.specs.declared.MeshRead.{MeshRead}
 use Rattle.reading.specs.declared.MeshRead.the-variants as mesh
 use Rattle.reading.specs.declared.Counts.{Counts}
 use Rattle.reading.specs.declared.Input.{Input}
 use Rattle.reading.specs.declared.Input.the-variants as input
 
-abbrev pub meshSeen : Counts → List Float → List ℕ → List ℕ → List ℕ → List ℕ → Mesh
+abbrev pub meshSeen : Counts → List Float → List ℕ → List ℕ → List ℕ → List ℕ → ReadMesh
 meshSeen c cs ns es ks fs =
     record {
       coords = take (2 * c .points) cs;
       cells = record { nodes = take (c .entries) ns; ends = take (c .cells) es; kinds = take (c .cells) ks; families = take (c .cells) fs };
     }
 
-abbrev pub meshAs : MeshRead → List ℕ → List Float → List ℕ → List ℕ → List ℕ → List ℕ → Parsed Mesh
+abbrev pub meshAs : MeshRead → List ℕ → List Float → List ℕ → List ℕ → List ℕ → List ℕ → Parsed ReadMesh
 meshAs (mesh.At c n) s cs ns es ks fs = got (meshSeen c cs ns es ks fs) (drop n s)
 meshAs mesh.No s cs ns es ks fs = none
 
@@ -46,11 +46,11 @@ cutterOf (input.Read op m s c) = c
 cutterOf input.Unread = record { points = 0; cells = 0; entries = 0 }
 
 -- a list with zeros from n on
-abbrev pub cleared : ℕ → List ℕ → List ℕ
-cleared n l = take n l ++ zeros (length l - n)
+abbrev pub zeroedFrom : ℕ → List ℕ → List ℕ
+zeroedFrom n l = take n l ++ zeros (length l - n)
 
-abbrev pub fcleared : ℕ → List Float → List Float
-fcleared n l = take n l ++ fzeros (length l - n)
+abbrev pub fzeroedFrom : ℕ → List Float → List Float
+fzeroedFrom n l = take n l ++ fzeros (length l - n)
 
 -- how many places of five lists of these lengths an answer speaks of, and the places after those hold zeros
 pub record MeshRest (c : Counts) (coords nodes ends kinds families : ℕ) (cs : List Float) (ns es ks fs : List ℕ) : Type 0 where

@@ -8,31 +8,8 @@ use lib.ListN.{length, getD, set, take, drop, length-set}
 use lib.Seq.{take-suc-set, length-take-le}
 use lib.Ieee.{Float}
 use Rattle.text.specs.Text.{nodeWord, cellWord, space}
-use Rattle.text.specs.Read.{
-  Rest,
-  no,
-  past,
-  Parsed,
-  none,
-  got,
-  andThen,
-  after,
-  wordOf,
-  repeated,
-  nodeOf,
-  nodeStep,
-  nodesOf,
-  decimalOf,
-  entryStep,
-  entriesOf,
-  Heading,
-  Cell,
-  Cells,
-  cellOf,
-  addCell,
-  cellStep,
-  cellsOf,
-}
+use Rattle.text.specs.Read.{Rest, no, past, andThen, afterWord, wordFrom, repeated, nodeFrom, nodeStep, nodesFrom, decimalFrom, entryStep, entriesFrom, Heading, Cell, cellFrom, addCell, cellStep, cellsFrom}
+use Rattle.text.specs.Given.{Parsed, none, got, Cells}
 use Rattle.text.proofs.Repeats.{repeated-stop, repeated-end, repeated-bad, repeated-step}
 
 module _ {A : Type 0} where
@@ -46,22 +23,22 @@ module _ {A : Type 0} where
 
 -- ---- node lines
 module _ (s : List ℕ) (room k p : ℕ) (cs : List Float) where
-  pub nodes-stop : wordOf nodeWord (drop p s) ≡ no → nodesOf (room - k) (take (2 * k) cs) (drop p s) ≡ got (take (2 * k) cs) (drop p s)
-  unfolding nodesOf
+  pub nodes-stop : wordFrom nodeWord (drop p s) ≡ no → nodesFrom (room - k) (take (2 * k) cs) (drop p s) ≡ got (take (2 * k) cs) (drop p s)
+  unfolding nodesFrom
   nodes-stop e = repeated-stop nodeWord nodeStep (take (2 * k) cs) (drop p s) (room - k) e
 
-  pub nodes-end : room ≤ k → nodesOf (room - k) (take (2 * k) cs) (drop p s) ≡ got (take (2 * k) cs) (drop p s)
-  unfolding nodesOf
+  pub nodes-end : room ≤ k → nodesFrom (room - k) (take (2 * k) cs) (drop p s) ≡ got (take (2 * k) cs) (drop p s)
+  unfolding nodesFrom
   nodes-end h = repeated-end nodeWord nodeStep (take (2 * k) cs) (drop p s) room k h
 
-  module _ (h : k < room) (a : ℕ) (e : wordOf nodeWord (drop p s) ≡ past (drop a s)) where
-    pub nodes-bad : nodeOf (drop a s) ≡ none → nodesOf (room - k) (take (2 * k) cs) (drop p s) ≡ none
-    unfolding nodesOf nodeStep andThen
+  module _ (h : k < room) (a : ℕ) (e : wordFrom nodeWord (drop p s) ≡ past (drop a s)) where
+    pub nodes-bad : nodeFrom (drop a s) ≡ none → nodesFrom (room - k) (take (2 * k) cs) (drop p s) ≡ none
+    unfolding nodesFrom nodeStep andThen
     nodes-bad g = repeated-bad nodeWord nodeStep (take (2 * k) cs) (drop p s) room k h (drop a s) e (rw g)
 
-    pub nodes-turn : (x y : Float) (b : ℕ) → 2 * room ≤ length cs → nodeOf (drop a s) ≡ got (x ∷ y ∷ []) (drop b s)
-        → nodesOf (room - k) (take (2 * k) cs) (drop p s) ≡ nodesOf (room - (k + 1)) (take (2 * (k + 1)) (set (set cs (2 * k) x) (2 * k + 1) y)) (drop b s)
-    unfolding nodesOf nodeStep andThen
+    pub nodes-turn : (x y : Float) (b : ℕ) → 2 * room ≤ length cs → nodeFrom (drop a s) ≡ got (x ∷ y ∷ []) (drop b s)
+        → nodesFrom (room - k) (take (2 * k) cs) (drop p s) ≡ nodesFrom (room - (k + 1)) (take (2 * (k + 1)) (set (set cs (2 * k) x) (2 * k + 1) y)) (drop b s)
+    unfolding nodesFrom nodeStep andThen
     nodes-turn x y b l g =
         let e₂ : 2 * (k + 1) ≡ 2 * k + 2 = omega arith in
         rw (e₂, two-more cs (2 * k) x y (omega arith))
@@ -69,22 +46,22 @@ module _ (s : List ℕ) (room k p : ℕ) (cs : List Float) where
 
 -- ---- a cell's numbers
 module _ (s : List ℕ) (room k p : ℕ) (ns : List ℕ) where
-  pub entries-stop : wordOf space (drop p s) ≡ no → entriesOf (room - k) (take k ns) (drop p s) ≡ got (take k ns) (drop p s)
-  unfolding entriesOf
+  pub entries-stop : wordFrom space (drop p s) ≡ no → entriesFrom (room - k) (take k ns) (drop p s) ≡ got (take k ns) (drop p s)
+  unfolding entriesFrom
   entries-stop e = repeated-stop space entryStep (take k ns) (drop p s) (room - k) e
 
-  pub entries-end : room ≤ k → entriesOf (room - k) (take k ns) (drop p s) ≡ got (take k ns) (drop p s)
-  unfolding entriesOf
+  pub entries-end : room ≤ k → entriesFrom (room - k) (take k ns) (drop p s) ≡ got (take k ns) (drop p s)
+  unfolding entriesFrom
   entries-end h = repeated-end space entryStep (take k ns) (drop p s) room k h
 
-  module _ (h : k < room) (a : ℕ) (e : wordOf space (drop p s) ≡ past (drop a s)) where
-    pub entries-bad : decimalOf (drop a s) ≡ none → entriesOf (room - k) (take k ns) (drop p s) ≡ none
-    unfolding entriesOf entryStep andThen
+  module _ (h : k < room) (a : ℕ) (e : wordFrom space (drop p s) ≡ past (drop a s)) where
+    pub entries-bad : decimalFrom (drop a s) ≡ none → entriesFrom (room - k) (take k ns) (drop p s) ≡ none
+    unfolding entriesFrom entryStep andThen
     entries-bad g = repeated-bad space entryStep (take k ns) (drop p s) room k h (drop a s) e (rw g)
 
-    pub entries-turn : (v b : ℕ) → room ≤ length ns → decimalOf (drop a s) ≡ got v (drop b s)
-        → entriesOf (room - k) (take k ns) (drop p s) ≡ entriesOf (room - (k + 1)) (take (k + 1) (set ns k v)) (drop b s)
-    unfolding entriesOf entryStep andThen
+    pub entries-turn : (v b : ℕ) → room ≤ length ns → decimalFrom (drop a s) ≡ got v (drop b s)
+        → entriesFrom (room - k) (take k ns) (drop p s) ≡ entriesFrom (room - (k + 1)) (take (k + 1) (set ns k v)) (drop b s)
+    unfolding entriesFrom entryStep andThen
     entries-turn v b l g =
         rw (one-more ns k v (omega arith))
         (repeated-step space entryStep (take k ns) (drop p s) room k h (drop a s) e (take k ns ++ (v ∷ [])) (drop b s) (rw g))
@@ -94,23 +71,23 @@ abbrev pub first : List ℕ → List ℕ → List ℕ → List ℕ → ℕ → �
 first ns es ks fs k n = record { nodes = take n ns; ends = take k es; kinds = take k ks; families = take k fs }
 
 module _ (s : List ℕ) (room most k n p : ℕ) (ns es ks fs : List ℕ) where
-  pub cells-stop : wordOf cellWord (drop p s) ≡ no → cellsOf most (room - k) (first ns es ks fs k n) (drop p s) ≡ got (first ns es ks fs k n) (drop p s)
-  unfolding cellsOf
+  pub cells-stop : wordFrom cellWord (drop p s) ≡ no → cellsFrom most (room - k) (first ns es ks fs k n) (drop p s) ≡ got (first ns es ks fs k n) (drop p s)
+  unfolding cellsFrom
   cells-stop e = repeated-stop cellWord (cellStep most) (first ns es ks fs k n) (drop p s) (room - k) e
 
-  pub cells-end : room ≤ k → cellsOf most (room - k) (first ns es ks fs k n) (drop p s) ≡ got (first ns es ks fs k n) (drop p s)
-  unfolding cellsOf
+  pub cells-end : room ≤ k → cellsFrom most (room - k) (first ns es ks fs k n) (drop p s) ≡ got (first ns es ks fs k n) (drop p s)
+  unfolding cellsFrom
   cells-end h = repeated-end cellWord (cellStep most) (first ns es ks fs k n) (drop p s) room k h
 
-  module _ (h : k < room) (a : ℕ) (e : wordOf cellWord (drop p s) ≡ past (drop a s)) where
-    pub cells-bad : cellOf most (take n ns) (drop a s) ≡ none → cellsOf most (room - k) (first ns es ks fs k n) (drop p s) ≡ none
-    unfolding cellsOf cellStep andThen
+  module _ (h : k < room) (a : ℕ) (e : wordFrom cellWord (drop p s) ≡ past (drop a s)) where
+    pub cells-bad : cellFrom most (take n ns) (drop a s) ≡ none → cellsFrom most (room - k) (first ns es ks fs k n) (drop p s) ≡ none
+    unfolding cellsFrom cellStep andThen
     cells-bad g = repeated-bad cellWord (cellStep most) (first ns es ks fs k n) (drop p s) room k h (drop a s) e (rw g)
 
     pub cells-turn : (ki fa m q : ℕ) (ms : List ℕ) → room ≤ length es → room ≤ length ks → room ≤ length fs → m ≤ length ms
-        → cellOf most (take n ns) (drop a s) ≡ got (record { heading = record { kind = ki; family = fa }; nodes = take m ms }) (drop q s)
-        → cellsOf most (room - k) (first ns es ks fs k n) (drop p s) ≡ cellsOf most (room - (k + 1)) (first ms (set es k m) (set ks k ki) (set fs k fa) (k + 1) m) (drop q s)
-    unfolding cellsOf cellStep andThen addCell
+        → cellFrom most (take n ns) (drop a s) ≡ got (record { heading = record { kind = ki; family = fa }; nodes = take m ms }) (drop q s)
+        → cellsFrom most (room - k) (first ns es ks fs k n) (drop p s) ≡ cellsFrom most (room - (k + 1)) (first ms (set es k m) (set ks k ki) (set fs k fa) (k + 1) m) (drop q s)
+    unfolding cellsFrom cellStep andThen addCell
     cells-turn ki fa m q ms le lk lf lm g =
         rw (one-more es k m (omega arith), one-more ks k ki (omega arith), one-more fs k fa (omega arith))
         (repeated-step cellWord (cellStep most) (first ns es ks fs k n) (drop p s) room k h (drop a s) e

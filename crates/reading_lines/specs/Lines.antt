@@ -3,7 +3,8 @@ use Prim.Native.Nat.{ℕ, _*_}
 use mathlib.Core.List.{List, [], _∷_}
 use lib.ListN.{take, drop}
 use lib.Ieee.{Float}
-use Rattle.text.specs.Read.{Rest, no, past, Parsed, none, got, Heading, Cell, Cells, First}
+use Rattle.text.specs.Read.{Rest, no, past, Heading, Cell}
+use Rattle.text.specs.Given.{Parsed, none, got, Cells, First}
 use Rattle.reading_lines.specs.declared.words.Step.{Step}
 use Rattle.reading_lines.specs.declared.words.Step.the-variants as step
 use Rattle.reading_lines.specs.declared.words.Number.{Number}

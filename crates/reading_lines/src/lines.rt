@@ -3,7 +3,7 @@ ghost use mathlib.Core.Path.{_≡_};
 ghost use mathlib.Core.List.{[]};
 ghost use Prim.Native.Nat.{_-_, _*_, _≤_};
 ghost use lib.ListN.{length, take, drop};
-ghost use Rattle.text.specs.Read.{nodeOf, nodesOf, entriesOf, headOf, cellOf, cellsOf, firstOf, empty};
+ghost use Rattle.text.specs.Read.{nodeFrom, nodesFrom, entriesFrom, headFrom, cellFrom, cellsFrom, firstFrom, empty};
 ghost use Rattle.reading_lines.specs.Lines.{nodeAs, nodeEnd, nodesAs, entriesAs, countEnd, countOf, headAs, headEnd, cellAs, cellEnd, cellCount, cellsAs, cellsEnd, cellsCount, cellsEntries, firstAs, firstEnd};
 use crate::words;
 use crate::words::Number;
@@ -47,7 +47,7 @@ pub enum First {
 // a node line after its word
 pub fn read_node(s: &[u8], at: usize) -> NodeRead
     requires { ⌜ at ≤ length (now s) ⌝ }
-    ensures { λ r. ⌜ (nodeAs r (now (s .entry)) ≡ nodeOf (drop at (now (s .entry)))) × (nodeEnd r ≤ length (now (s .entry))) ⌝ }
+    ensures { λ r. ⌜ (nodeAs r (now (s .entry)) ≡ nodeFrom (drop at (now (s .entry)))) × (nodeEnd r ≤ length (now (s .entry))) ⌝ }
 {
     let p = words::read_hex(s, at);
     let Pattern::At(x, a) = p else {
@@ -71,7 +71,7 @@ pub fn read_node(s: &[u8], at: usize) -> NodeRead
 // at most `room` node lines
 pub fn read_nodes(s: &[u8], at: usize, room: usize, coords: &mut [f64]) -> Count
     requires { ⌜ (at ≤ length (now s)) × (2 * room ≤ length (now coords)) ⌝ }
-    ensures { λ r. ⌜ (nodesAs r (now (s .entry)) (now (coords .exit)) ≡ nodesOf room [] (drop at (now (s .entry)))) × (countEnd r ≤ length (now (s .entry))) × (countOf r ≤ room) ⌝ }
+    ensures { λ r. ⌜ (nodesAs r (now (s .entry)) (now (coords .exit)) ≡ nodesFrom room [] (drop at (now (s .entry)))) × (countEnd r ≤ length (now (s .entry))) × (countOf r ≤ room) ⌝ }
 {
     let mut k = 0;
     let mut p = at;
@@ -95,7 +95,7 @@ pub fn read_nodes(s: &[u8], at: usize, room: usize, coords: &mut [f64]) -> Count
 // numbers with a space before each, put behind the first `from` of the list, up to `room` in all
 pub fn read_entries(s: &[u8], at: usize, from: usize, room: usize, nodes: &mut [u32]) -> Count
     requires { ⌜ (at ≤ length (now s)) × (from ≤ room) × (room ≤ length (now nodes)) ⌝ }
-    ensures { λ r. ⌜ (entriesAs r (now (s .entry)) (now (nodes .exit)) ≡ entriesOf (room - from) (take from (now (nodes .entry))) (drop at (now (s .entry)))) × (countEnd r ≤ length (now (s .entry))) × (countOf r ≤ room) ⌝ }
+    ensures { λ r. ⌜ (entriesAs r (now (s .entry)) (now (nodes .exit)) ≡ entriesFrom (room - from) (take from (now (nodes .entry))) (drop at (now (s .entry)))) × (countEnd r ≤ length (now (s .entry))) × (countOf r ≤ room) ⌝ }
 {
     let mut k = from;
     let mut p = at;
@@ -118,7 +118,7 @@ pub fn read_entries(s: &[u8], at: usize, from: usize, room: usize, nodes: &mut [
 // a cell line's kind and family
 pub fn read_head(s: &[u8], at: usize) -> Head
     requires { ⌜ at ≤ length (now s) ⌝ }
-    ensures { λ r. ⌜ (headAs r (now (s .entry)) ≡ headOf (drop at (now (s .entry)))) × (headEnd r ≤ length (now (s .entry))) ⌝ }
+    ensures { λ r. ⌜ (headAs r (now (s .entry)) ≡ headFrom (drop at (now (s .entry)))) × (headEnd r ≤ length (now (s .entry))) ⌝ }
 {
     let p = words::read_decimal(s, at);
     let Number::At(kind, a) = p else {
@@ -141,7 +141,7 @@ pub fn read_head(s: &[u8], at: usize) -> Head
 // a cell line after its word
 pub fn read_cell(s: &[u8], at: usize, from: usize, room: usize, nodes: &mut [u32]) -> CellRead
     requires { ⌜ (at ≤ length (now s)) × (from ≤ room) × (room ≤ length (now nodes)) ⌝ }
-    ensures { λ r. ⌜ (cellAs r (now (s .entry)) (now (nodes .exit)) ≡ cellOf room (take from (now (nodes .entry))) (drop at (now (s .entry)))) × (cellEnd r ≤ length (now (s .entry))) × (cellCount r ≤ room) ⌝ }
+    ensures { λ r. ⌜ (cellAs r (now (s .entry)) (now (nodes .exit)) ≡ cellFrom room (take from (now (nodes .entry))) (drop at (now (s .entry)))) × (cellEnd r ≤ length (now (s .entry))) × (cellCount r ≤ room) ⌝ }
 {
     let h = read_head(s, at);
     let Head::At(kind, family, b) = h else {
@@ -170,7 +170,7 @@ pub fn read_cells(
     families: &mut [u32],
 ) -> CellsRead
     requires { ⌜ (at ≤ length (now s)) × (most ≤ length (now nodes)) × (most ≤ 4294967295) × (room ≤ length (now ends)) × (room ≤ length (now kinds)) × (room ≤ length (now families)) ⌝ }
-    ensures { λ r. ⌜ (cellsAs r (now (s .entry)) (now (nodes .exit)) (now (ends .exit)) (now (kinds .exit)) (now (families .exit)) ≡ cellsOf most room empty (drop at (now (s .entry)))) × (cellsEnd r ≤ length (now (s .entry))) × (cellsCount r ≤ room) × (cellsEntries r ≤ most) ⌝ }
+    ensures { λ r. ⌜ (cellsAs r (now (s .entry)) (now (nodes .exit)) (now (ends .exit)) (now (kinds .exit)) (now (families .exit)) ≡ cellsFrom most room empty (drop at (now (s .entry)))) × (cellsEnd r ≤ length (now (s .entry))) × (cellsCount r ≤ room) × (cellsEntries r ≤ most) ⌝ }
 {
     let mut k = 0;
     let mut e = 0;
@@ -196,7 +196,7 @@ pub fn read_cells(
 
 // the first line
 pub fn read_first(s: &[u8]) -> First
-    ensures { λ r. ⌜ (firstAs r (now (s .entry)) ≡ firstOf (now (s .entry))) × (firstEnd r ≤ length (now (s .entry))) ⌝ }
+    ensures { λ r. ⌜ (firstAs r (now (s .entry)) ≡ firstFrom (now (s .entry))) × (firstEnd r ≤ length (now (s .entry))) ⌝ }
 {
     let w = words::overlay_word(s, 0);
     let Step::Past(a) = w else {

@@ -3,7 +3,8 @@ ghost use mathlib.Core.Path.{_≡_};
 ghost use Prim.Native.Nat.{_≤_, _<_};
 ghost use lib.ListN.{length, drop};
 ghost use Rattle.text.specs.Text.{space, newline, close, nodeWord, cellWord, meshWord, overlayWord};
-ghost use Rattle.text.specs.Read.{digitVal, hexVal, coordinate, wordOf, moreOf, decimalOf, hexOf};
+ghost use Rattle.text.specs.Read.{digitVal, hexVal, wordFrom, moreFrom, decimalFrom, hexFrom};
+ghost use Rattle.text.specs.Given.{coordinate};
 ghost use Rattle.reading_lines.specs.Lines.{stepAs, stepEnd, numberAs, numberEnd, patternAs, patternEnd};
 
 pub enum Step {
@@ -56,7 +57,7 @@ pub fn wide(b: u8) -> u64
 // the word w at a place
 pub fn read_word(s: &[u8], at: usize, w: &[u8]) -> Step
     requires { ⌜ at ≤ length (now s) ⌝ }
-    ensures { λ r. ⌜ (stepAs r (now (s .entry)) ≡ wordOf (now (w .entry)) (drop at (now (s .entry)))) × (stepEnd r ≤ length (now (s .entry))) ⌝ }
+    ensures { λ r. ⌜ (stepAs r (now (s .entry)) ≡ wordFrom (now (w .entry)) (drop at (now (s .entry)))) × (stepEnd r ≤ length (now (s .entry))) ⌝ }
 {
     let mut i = 0;
     while i < w.len() {
@@ -74,7 +75,7 @@ pub fn read_word(s: &[u8], at: usize, w: &[u8]) -> Step
 // the digits after the first ones, whose number is v
 pub fn read_more(s: &[u8], at: usize, first: u64) -> Number
     requires { ⌜ (at ≤ length (now s)) × (first < 10) ⌝ }
-    ensures { λ r. ⌜ (numberAs r (now (s .entry)) ≡ moreOf first (drop at (now (s .entry)))) × (numberEnd r ≤ length (now (s .entry))) ⌝ }
+    ensures { λ r. ⌜ (numberAs r (now (s .entry)) ≡ moreFrom first (drop at (now (s .entry)))) × (numberEnd r ≤ length (now (s .entry))) ⌝ }
 {
     let mut v = first;
     let mut i = at;
@@ -94,7 +95,7 @@ pub fn read_more(s: &[u8], at: usize, first: u64) -> Number
 
 pub fn read_decimal(s: &[u8], at: usize) -> Number
     requires { ⌜ at ≤ length (now s) ⌝ }
-    ensures { λ r. ⌜ (numberAs r (now (s .entry)) ≡ decimalOf (drop at (now (s .entry)))) × (numberEnd r ≤ length (now (s .entry))) ⌝ }
+    ensures { λ r. ⌜ (numberAs r (now (s .entry)) ≡ decimalFrom (drop at (now (s .entry)))) × (numberEnd r ≤ length (now (s .entry))) ⌝ }
 {
     if s.len() <= at {
         return Number::No;
@@ -111,7 +112,7 @@ pub fn read_decimal(s: &[u8], at: usize) -> Number
 
 pub fn read_hex(s: &[u8], at: usize) -> Pattern
     requires { ⌜ at ≤ length (now s) ⌝ }
-    ensures { λ r. ⌜ (patternAs r (now (s .entry)) ≡ hexOf 16 0 (drop at (now (s .entry)))) × (patternEnd r ≤ length (now (s .entry))) ⌝ }
+    ensures { λ r. ⌜ (patternAs r (now (s .entry)) ≡ hexFrom 16 0 (drop at (now (s .entry)))) × (patternEnd r ≤ length (now (s .entry))) ⌝ }
 {
     let mut v: u64 = 0;
     let mut i = 0;
@@ -147,49 +148,49 @@ pub fn coordinate_of(bits: u64) -> f64
 
 pub fn space(s: &[u8], at: usize) -> Step
     requires { ⌜ at ≤ length (now s) ⌝ }
-    ensures { λ r. ⌜ (stepAs r (now (s .entry)) ≡ wordOf space (drop at (now (s .entry)))) × (stepEnd r ≤ length (now (s .entry))) ⌝ }
+    ensures { λ r. ⌜ (stepAs r (now (s .entry)) ≡ wordFrom space (drop at (now (s .entry)))) × (stepEnd r ≤ length (now (s .entry))) ⌝ }
 {
     read_word(s, at, b" ")
 }
 
 pub fn newline(s: &[u8], at: usize) -> Step
     requires { ⌜ at ≤ length (now s) ⌝ }
-    ensures { λ r. ⌜ (stepAs r (now (s .entry)) ≡ wordOf newline (drop at (now (s .entry)))) × (stepEnd r ≤ length (now (s .entry))) ⌝ }
+    ensures { λ r. ⌜ (stepAs r (now (s .entry)) ≡ wordFrom newline (drop at (now (s .entry)))) × (stepEnd r ≤ length (now (s .entry))) ⌝ }
 {
     read_word(s, at, b"\n")
 }
 
 pub fn close(s: &[u8], at: usize) -> Step
     requires { ⌜ at ≤ length (now s) ⌝ }
-    ensures { λ r. ⌜ (stepAs r (now (s .entry)) ≡ wordOf close (drop at (now (s .entry)))) × (stepEnd r ≤ length (now (s .entry))) ⌝ }
+    ensures { λ r. ⌜ (stepAs r (now (s .entry)) ≡ wordFrom close (drop at (now (s .entry)))) × (stepEnd r ≤ length (now (s .entry))) ⌝ }
 {
     read_word(s, at, b")\n")
 }
 
 pub fn node_word(s: &[u8], at: usize) -> Step
     requires { ⌜ at ≤ length (now s) ⌝ }
-    ensures { λ r. ⌜ (stepAs r (now (s .entry)) ≡ wordOf nodeWord (drop at (now (s .entry)))) × (stepEnd r ≤ length (now (s .entry))) ⌝ }
+    ensures { λ r. ⌜ (stepAs r (now (s .entry)) ≡ wordFrom nodeWord (drop at (now (s .entry)))) × (stepEnd r ≤ length (now (s .entry))) ⌝ }
 {
     read_word(s, at, b"(node ")
 }
 
 pub fn cell_word(s: &[u8], at: usize) -> Step
     requires { ⌜ at ≤ length (now s) ⌝ }
-    ensures { λ r. ⌜ (stepAs r (now (s .entry)) ≡ wordOf cellWord (drop at (now (s .entry)))) × (stepEnd r ≤ length (now (s .entry))) ⌝ }
+    ensures { λ r. ⌜ (stepAs r (now (s .entry)) ≡ wordFrom cellWord (drop at (now (s .entry)))) × (stepEnd r ≤ length (now (s .entry))) ⌝ }
 {
     read_word(s, at, b"(cell ")
 }
 
 pub fn mesh_word(s: &[u8], at: usize) -> Step
     requires { ⌜ at ≤ length (now s) ⌝ }
-    ensures { λ r. ⌜ (stepAs r (now (s .entry)) ≡ wordOf meshWord (drop at (now (s .entry)))) × (stepEnd r ≤ length (now (s .entry))) ⌝ }
+    ensures { λ r. ⌜ (stepAs r (now (s .entry)) ≡ wordFrom meshWord (drop at (now (s .entry)))) × (stepEnd r ≤ length (now (s .entry))) ⌝ }
 {
     read_word(s, at, b"(mesh\n")
 }
 
 pub fn overlay_word(s: &[u8], at: usize) -> Step
     requires { ⌜ at ≤ length (now s) ⌝ }
-    ensures { λ r. ⌜ (stepAs r (now (s .entry)) ≡ wordOf overlayWord (drop at (now (s .entry)))) × (stepEnd r ≤ length (now (s .entry))) ⌝ }
+    ensures { λ r. ⌜ (stepAs r (now (s .entry)) ≡ wordFrom overlayWord (drop at (now (s .entry)))) × (stepEnd r ≤ length (now (s .entry))) ⌝ }
 {
     read_word(s, at, b"(overlay ")
 }

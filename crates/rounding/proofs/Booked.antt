@@ -16,7 +16,7 @@ use Rattle.exact.specs.Exact.{mag, minus, coord}
 use Rattle.exact.proofs.ExactUnits.{exact-units}
 use Rattle.entry.specs.Refused.{coordOk}
 use Rattle.plane.specs.Plane.{_⊕_, _⊖_, _⊗_, _⊘_, zeroF, oneF, inUnit, between, dot, cross, along, magnitude, tolerance}
-use Rattle.segments.specs.Colinear.{parameters, orderable, inOrder, leads, ofOrder, colinear}
+use Rattle.segments.specs.Colinear.{parameters, orderable, inOrder, firstThenSecond, ofOrder, colinear}
 use Rattle.segments.specs.Meet.{near, settled, crossing, meeting}
 use Rattle.plane.specs.declared.Point.{Point}
 use Rattle.segments.specs.declared.Segment.{Segment}
@@ -115,7 +115,7 @@ of-order-not-new ids x y =
     let q = getD ids 1 P1 in
     let r = getD ids 2 P1 in
     let s = getD ids 3 P1 in
-    go (leads p q || leads r s) (leads p r || leads p s || leads q s || leads q r)
+    go (firstThenSecond p q || firstThenSecond r s) (firstThenSecond p r || firstThenSecond p s || firstThenSecond q s || firstThenSecond q r)
   where
     go : (a b : Bool) → cond a Apart (cond b (Overlap (getD ids 1 P1) (getD ids 2 P1)) Apart) ≡ New x y → ⊥
     go true b e = apart-not-new e

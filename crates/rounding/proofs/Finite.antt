@@ -17,7 +17,7 @@ use Rattle.exact.specs.Exact.{mag, minus}
 use Rattle.exact.proofs.ExactUnits.{exact-units}
 use Rattle.cutting.specs.Edges.{Edge, edgeAt, key}
 use Rattle.cutting.specs.Setting.{ours}
-use Rattle.plane.specs.Plane.{number, pointAt}
+use Rattle.plane.specs.Plane.{isNumber, pointAt}
 use Rattle.entry.specs.Mesh.{Mesh, nodeCount}
 use Rattle.entry.specs.Refused.{entryOf}
 use Rattle.entry.proofs.Passed.{passed, cell-some, corner-below}
@@ -164,8 +164,8 @@ module _ (op m : ℕ) (s c : Mesh) (w : ℕ) (pass : entryOf op m s c w ≡ 0) (
   node-bounded n h = record { x = scene-finite (2 * n) (omega arith); y = scene-finite (2 * n + 1) (omega arith) }
 
   nodes-ordered : (k : Edge) (a b : ℕ) → NodeOf (sceneFor op s c) (k .0) → NodeOf (sceneFor op s c) (k .1) → NodeOf (sceneFor op s c) a → NodeOf (sceneFor op s c) b
-      → let x = projected (sceneFor op s c .coords) k a .along in let y = projected (sceneFor op s c .coords) k b .along in
-      (number x ≡ true) × (number y ≡ true) × Ordered x y
+      → let x = projected (sceneFor op s c .coords) k a .projection in let y = projected (sceneFor op s c .coords) k b .projection in
+      (isNumber x ≡ true) × (isNumber y ≡ true) × Ordered x y
   nodes-ordered k a b f g h i =
       let at = node-bounded in
       let x = finite-number _ (projection-finite _ _ _ (at (k .0) f) (at (k .1) g) (at a h)) in
@@ -176,8 +176,8 @@ module _ (op m : ℕ) (s c : Mesh) (w : ℕ) (pass : entryOf op m s c w ≡ 0) (
   -- equal by value and sign.
   pub projections-ordered : (v : Side) (e : Edge) → List·Memᴰ e (netOf (sceneFor op s c) v .edges)
       → (a b : ℕ) → List·Memᴰ a (key e .0 ∷ collected (sceneFor op s c) e) → List·Memᴰ b (key e .0 ∷ collected (sceneFor op s c) e)
-      → let x = projected (sceneFor op s c .coords) (key e) a .along in let y = projected (sceneFor op s c .coords) (key e) b .along in
-      (number x ≡ true) × (number y ≡ true) × Ordered x y
+      → let x = projected (sceneFor op s c .coords) (key e) a .projection in let y = projected (sceneFor op s c .coords) (key e) b .projection in
+      (isNumber x ≡ true) × (isNumber y ≡ true) × Ordered x y
   projections-ordered v e h a b i j =
       let n = length (sceneFor op s c .coords) / 2 in
       let k : Both n (key e) = key-under (sceneFor op s c) n met-nodes e (edge-nodes v e h) in

@@ -19,7 +19,7 @@ use Rattle.segments.specs.declared.PointId.{PointId}
 use Rattle.segments.specs.declared.PointId.the-variants.{P1, P2, P3, P4}
 use Rattle.segments.specs.declared.Meeting.{Meeting}
 use Rattle.segments.specs.declared.Meeting.the-variants.{Apart, Existing, New, Overlap}
-use Rattle.cutting.specs.Edges.{Edge, edgeAt, key, sameKey, turn, ring}
+use Rattle.cutting.specs.Edges.{Edge, edgeAt, key, sameKey, reversedIf, ring}
 use Rattle.cutting.specs.Cell.{Laid, orEnds, dartsAlong, ownDarts, outlineDarts}
 use Rattle.entry.specs.Mesh.{Mesh, nodeCount, prior, cellSize}
 use Rattle.entry.specs.Passed.{Sound}
@@ -30,7 +30,7 @@ use Rattle.rules.specs.Neighbours.{Net, computeDescending, lineEdges, renumbere
 use Rattle.rules.specs.SpatialIndex.{edgeBox, candidates}
 use Rattle.rules.specs.Meetings.{Met, Scene, segmentOf, nodeOf, addedBy, recorded, metPair, metAll, meetingsTo}
 use Rattle.rules.specs.Nodes.{Projected, projected, byProjection, alongEdge, collected, unlessNone, sortedNodes}
-use Rattle.rules.specs.Cell.{laid, dartsOf, outlineBy, cellOf, nearOf, outlineOf}
+use Rattle.rules.specs.Cell.{laid, dartsOf, treatedBy, treated, cellOf, nearOf, outlineOf}
 use Rattle.snap.proofs.Welds.{length-weld, weld-below}
 use Rattle.rounding.proofs.Points.{Each, each-join, each-none, each-cons, Under, Both, hops-under, ring-under, descending-under, corners-under}
 
@@ -232,14 +232,14 @@ module _ (sc : Scene) (n : ℕ) (met : (m : Met) → List·Memᴰ m (sc .met) �
   unfolding ownDarts dartsAlong
   own-under e h = go (sortedNodes sc e) (sorted-under e h)
     where
-      turned : (b : Bool) (f : Edge) → Both n f → Both n (turn b f)
+      turned : (b : Bool) (f : Edge) → Both n f → Both n (reversedIf b f)
       turned true f k = (k .1, k .0)
       turned false f k = k
 
       go : (ns : List ℕ) → Each (Under n) ns → Each (Both n) (dartsAlong (e .1) (orEnds e ns))
-      go [] a = each-map (Both n) (turn (eqb (e .1) (e .0))) _
+      go [] a = each-map (Both n) (reversedIf (eqb (e .1) (e .0))) _
           (λ f m. turned (eqb (e .1) (e .0)) f (hops-under n (e .0) (e .1 ∷ []) (h .0) (each-cons (e .1) [] (h .1) (each-none (Under n))) f m))
-      go (x ∷ ns) a = each-map (Both n) (turn (eqb (e .1) x)) _
+      go (x ∷ ns) a = each-map (Both n) (reversedIf (eqb (e .1) x)) _
           (λ f m. turned (eqb (e .1) x) f (hops-under n x ns (a x (List·Memᴰ·head refl)) (λ z i. a z (List·Memᴰ·tail i)) f m))
 
   pub darts-under : (cell : List ℕ) → Each (Under n) cell → Each (Both n) (dartsOf sc cell)
@@ -250,9 +250,9 @@ module _ (sc : Scene) (n : ℕ) (met : (m : Met) → List·Memᴰ m (sc .met) �
 
   -- an outline, where the corners of its cell are below n
   pub outline-under : (w : Side) (i : ℕ) → Each (Under n) (cellOf sc w i) → Each (Both n) (outlineOf sc w i)
-  unfolding outlineOf
+  unfolding treated
   outline-under w i h = go (nearOf sc w i)
     where
-      go : (js : List ℕ) → Each (Both n) (outlineBy sc (cellOf sc w i) js)
+      go : (js : List ℕ) → Each (Both n) (treatedBy sc w i js .outline)
       go [] = ring-under n (cellOf sc w i) h
       go (j ∷ js) = darts-under (cellOf sc w i) h

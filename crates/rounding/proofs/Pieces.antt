@@ -13,13 +13,13 @@ use Rattle.plane.proofs.Laws.{getD-over}
 use Rattle.cutting.specs.Edges.{Edge, edgeAt, ring, rings}
 use Rattle.cutting.specs.Setting.{Setting, ours}
 use Rattle.cutting.specs.Cell.{Laid, orWhole, nearDarts, repeats, Slot, edgeSlots, reverseMark, table, isNew, newTo, innerWith, standsBefore, cellTableWith, doubled}
-use Rattle.cutting.specs.Walk.{Phase, between, along, State, Next, more, closed, stuck, broken, slot, after, onward, arrive, cross, popped, taken, rest, go, step, run, starts}
-use Rattle.cutting.specs.Walk.{walkFrom, srcs, dsts, walkWith}
+use Rattle.cutting.specs.Walk.{Phase, resting, onSlot, State, Next, more, closed, stuck, broken, walkSteps, starts, walkFrom, srcs, dsts, walkWith}
+use Rattle.cutting.proofs.Ways.{Way, ends, missing, passes, begins, lost, closes, goes, stops, Led, steps-keep}
 use Rattle.cutting.specs.Outcome.{Outcome, refusal, pieces, ofWalk, tooMany, closesUp, afterWalk, cutOutcomeWith, copiedOutcomeWith}
 use Rattle.rules.specs.Mesh.{Side, other}
 use Rattle.rules.specs.Meetings.{Met, Scene, netOf}
 use Rattle.rules.specs.Nodes.{sortedNodes}
-use Rattle.rules.specs.Cell.{laid, outlineBy, tableBy, outcomeBy, cellOf, nearOf, outlineOf, tableWith, outcomeWith}
+use Rattle.rules.specs.Cell.{laid, treatedBy, treated, cellOf, nearOf}
 use Rattle.rules.specs.Operations.{outcomePieces, piecesOf}
 use Rattle.rounding.proofs.Points.{Each, each-join, each-none, each-cons, Under, Both, hops-under}
 use Rattle.rounding.proofs.Nodes.{each-joined, each-map, each-sorted, edge-any, key-under, sorted-under, darts-under}
@@ -38,71 +38,36 @@ module _ (n : ℕ) (some : 0 < n) where
   Runs ps = Each (λ (p : List ℕ). Each (Under n) p) ps
 
   abbrev Fine : Phase → Type 0
-  Fine between = Unit {0}
-  Fine (along start mid i) = (start < n) × Each (Under n) mid
+  Fine resting = Unit {0}
+  Fine (onSlot start mid i) = (start < n) × Each (Under n) mid
+
+  abbrev Goes : ℕ → State → Type 0
+  Goes k s = Runs (s .done) × Fine (s .phase)
 
   abbrev Good : Next → Type 0
-  Good (more s) = Runs (s .done) × Fine (s .phase)
+  Good (more s) = Unit {0}
   Good (closed ps) = Runs ps
   Good stuck = Unit {0}
   Good broken = Unit {0}
 
   module _ (turning : Bool) (k : ℕ) (src dst : List ℕ) (hs : Each (Under n) src) (hd : Each (Under n) dst) where
-    onward-good : (marks heap : List ℕ) (done : List (List ℕ)) (start : ℕ) (mid : List ℕ) (j : ℕ) (b : Bool)
-        → Runs done → start < n → Each (Under n) mid → Good (onward turning k src dst marks heap done start mid j b)
-    unfolding onward
-    onward-good marks heap done start mid j true h a m = (h, (a, m))
-    onward-good marks heap done start mid j false h a m = tt
+    step-good : (m : ℕ) {s : State} {t : Next} → Way turning k src dst s t → Goes (suc m) s → Led Goes Good m t
+    step-good m ends h = h .0
+    step-good m (missing l) h = tt
+    step-good m (passes i< e) h = (h .0, tt)
+    step-good m (begins {i = i} i< e) h = (h .0, (any-under src hs i, each-none (Under n)))
+    step-good m (lost l) h = tt
+    step-good m (closes {done = done} {start = start} {mid = mid} r< back) h = (
+      each-join done ((start ∷ mid) ∷ []) (h .0)
+          (each-cons (start ∷ mid) [] (each-cons start mid (h .1 .0) (h .1 .1)) (each-none (λ (p : List ℕ). Each (Under n) p))),
+      tt,
+    )
+    step-good m (goes {start = start} {i = i} {mid = mid} r< apart found j<) h =
+        (h .0, (h .1 .0, each-join mid (getD dst i 0 ∷ []) (h .1 .1) (each-cons (getD dst i 0) [] (any-under dst hd i) (each-none (Under n)))))
+    step-good m (stops r< apart none) h = tt
 
-    arrive-good : (marks heap : List ℕ) (done : List (List ℕ)) (start : ℕ) (mid : List ℕ) (y r : ℕ) (b : Bool)
-        → Runs done → start < n → Each (Under n) mid → y < n → Good (arrive turning k src dst marks heap done start mid y r b)
-    unfolding arrive
-    arrive-good marks heap done start mid y r true h a m u =
-        (each-join done ((start ∷ mid) ∷ []) h (each-cons (start ∷ mid) [] (each-cons start mid a m) (each-none (λ (p : List ℕ). Each (Under n) p))), tt)
-    arrive-good marks heap done start mid y r false h a m u =
-        let j = after turning k src marks y r in
-        onward-good marks heap done start (mid ++ y ∷ []) j (ltb j k) h a (each-join mid (y ∷ []) m (each-cons y [] u (each-none (Under n))))
-
-    cross-good : (marks heap : List ℕ) (done : List (List ℕ)) (start : ℕ) (mid : List ℕ) (y r : ℕ) (b : Bool)
-        → Runs done → start < n → Each (Under n) mid → y < n → Good (cross turning k src dst marks heap done start mid y r b)
-    unfolding cross
-    cross-good marks heap done start mid y r true h a m u = arrive-good marks (r ∷ heap) done start mid y r (eqb y start) h a m u
-    cross-good marks heap done start mid y r false h a m u = tt
-
-    popped-good : (marks heap : List ℕ) (done : List (List ℕ)) (i : ℕ) (b : Bool) → Runs done → Good (popped turning k src dst marks heap done i b)
-    unfolding popped
-    popped-good marks heap done i true h = (h, (any-under src hs i, each-none (Under n)))
-    popped-good marks heap done i false h = (h, tt)
-
-    taken-good : (marks heap : List ℕ) (done : List (List ℕ)) (i : ℕ) (b : Bool) → Runs done → Good (taken turning k src dst marks heap done i b)
-    unfolding taken
-    taken-good marks heap done i true h = popped-good marks heap done i (eqb (getD marks i 0) 0) h
-    taken-good marks heap done i false h = tt
-
-    rest-good : (marks heap : List ℕ) (done : List (List ℕ)) → Runs done → Good (rest turning k src dst marks heap done)
-    unfolding rest
-    rest-good marks [] done h = h
-    rest-good marks (i ∷ heap) done h = taken-good marks heap done i (ltb i k) h
-
-    go-good : (p : Phase) (marks heap : List ℕ) (done : List (List ℕ)) → Runs done → Fine p → Good (go turning k src dst p marks heap done)
-    unfolding go
-    go-good between marks heap done h f = rest-good marks heap done h
-    go-good (along start mid i) marks heap done h f =
-        let y = getD dst i 0 in
-        let r = slot k src dst y (getD src i 0) in
-        cross-good (set marks i 1) heap done start mid y r (ltb r k) h (f .0) (f .1) (any-under dst hd i)
-
-    run-good : (l : ℕ) (s : State) → Runs (s .done) → Fine (s .phase) → Good (run turning k src dst l s)
-    unfolding run step
-    run-good zero s h f = tt
-    run-good (suc l) s h f = pick (step turning k src dst s) (go-good (s .phase) (s .marks) (s .heap) (s .done) h f) (λ t. run-good l t)
-      where
-        pick : (x : Next) → Good x → ((t : State) → Runs (t .done) → Fine (t .phase) → Good (run turning k src dst l t))
-            → let r : Next = elim x [ more t ↦ run turning k src dst l t | closed ps ↦ closed ps | stuck ↦ stuck | broken ↦ broken ] in Good r
-        pick (more t) g ih = ih t (g .0) (g .1)
-        pick (closed ps) g ih = g
-        pick stuck g ih = tt
-        pick broken g ih = tt
+    steps-good : (m : ℕ) (s : State) → Goes m s → Good (walkSteps turning k src dst m s)
+    steps-good = steps-keep turning k src dst Goes Good (λ m s t w h. step-good m w h) (λ s h. tt)
 
   -- ---- a table's slots
 
@@ -137,8 +102,8 @@ module _ (n : ℕ) (some : 0 < n) where
   walk-good : (turning : Bool) (outline : List Edge) (t : List Slot) → Each SlotUnder t → Good (walkWith turning outline t)
   unfolding walkWith walkFrom
   walk-good turning outline t h =
-      run-good turning (length t) (srcs t) (dsts t) (each-map (Under n) (λ (s : Slot). s .src) t (λ s m. h s m .0)) (each-map (Under n) (λ (s : Slot). s .dst) t (λ s m. h s m .1))
-      (2 * length t + length (starts (length t) (srcs t) (dsts t) outline []) + 1) _ (each-none (λ (p : List ℕ). Each (Under n) p)) tt
+      steps-good turning (length t) (srcs t) (dsts t) (each-map (Under n) (λ (s : Slot). s .src) t (λ s m. h s m .0)) (each-map (Under n) (λ (s : Slot). s .dst) t (λ s m. h s m .1))
+      (2 * length t + length (starts (length t) (srcs t) (dsts t) outline []) + 1) _ (each-none (λ (p : List ℕ). Each (Under n) p), tt)
 
   -- ---- what a cell comes to
 
@@ -193,10 +158,10 @@ module _ (n : ℕ) (some : 0 < n) where
 
     -- the pieces of a cell whose corners are below n
     pub pieces-under : (i : ℕ) → Each (Under n) (cellOf sc w i) → Each (λ (p : List ℕ). Each (Under n) p) (piecesOf sc w i)
-    unfolding outcomeWith outlineOf tableWith
+    unfolding treated
     pieces-under i h = pick (nearOf sc w i)
       where
-        pick : (js : List ℕ) → Known (outcomeBy ours (outlineBy sc (cellOf sc w i) js) (tableBy true sc (netOf sc (other w) .edges) (cellOf sc w i) js) (cellOf sc w i) js)
+        pick : (js : List ℕ) → Known (treatedBy sc w i js .outcome ours)
         pick [] = copied-known (cellOf sc w i) h
         pick (j ∷ js) = cut-known ours _ _ (table-under (sc .coords) _ _ (darts-under sc n met (cellOf sc w i) h)
             (each-map (λ (l : Laid). Each (Both n) (nearDarts l)) (λ (k : ℕ). laid sc (edgeAt (netOf sc (other w) .edges) k)) (j ∷ js)

@@ -16,7 +16,7 @@ use Rattle.exact.specs.Exact.{coord}
 use Rattle.plane.specs.Plane.{_⊕_, _⊖_, _⊗_, between, dot}
 use Rattle.plane.specs.declared.Point.{Point}
 use Rattle.plane.proofs.FloatOrder.{number-left, eq-sym, trichotomy}
-use Rattle.rules.specs.Nodes.{negative}
+use Rattle.rules.specs.Nodes.{signBit}
 use Rattle.rounding.specs.Finite.{Bounded, Ordered}
 use Rattle.rounding.proofs.Sizes.{abs-add, abs-sub, abs-mul}
 use Rattle.rounding.proofs.Operations.{Number, Near, NearProduct, add-rounds, sub-rounds, rounds-near, mul-near}
@@ -100,7 +100,7 @@ finite-number (fin s m e) h = number-left (fin s m e) (inf false) refl
 pub numbers-ordered : (x y : Float) → eq x x ≡ true → eq y y ≡ true → Ordered x y
 numbers-ordered x y n k = go (lt x y) (lt y x) (eq x y) refl refl refl
   where
-    signs : (a b : Bool) → lt x y ≡ false → lt y x ≡ false → eq x y ≡ true → negative x ≡ a → negative y ≡ b → Ordered x y
+    signs : (a b : Bool) → lt x y ≡ false → lt y x ≡ false → eq x y ≡ true → signBit x ≡ a → signBit y ≡ b → Ordered x y
     signs true true e f g h i = inr (inr (g, h ∙ sym i))
     signs false false e f g h i = inr (inr (g, h ∙ sym i))
     signs true false e f g h i = inl (rw (e, g, h, i) refl)
@@ -110,4 +110,4 @@ numbers-ordered x y n k = go (lt x y) (lt y x) (eq x y) refl refl refl
     go true b c e f g = inl (rw e refl)
     go false true c e f g = inr (inl (rw f refl))
     go false false false e f g = absurd (true≢false (sym (trichotomy x y n k f g) ∙ e))
-    go false false true e f g = signs (negative x) (negative y) e f g refl refl
+    go false false true e f g = signs (signBit x) (signBit y) e f g refl refl

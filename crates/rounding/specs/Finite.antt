@@ -10,7 +10,7 @@ use lib.Ieee.{Float, binary64, fits, eq}
 use lib.Ieee.Scale.{finite}
 use Rattle.exact.specs.Exact.{mag}
 use Rattle.rules.specs.Meetings.{Scene}
-use Rattle.rules.specs.Nodes.{negative, totalBefore}
+use Rattle.rules.specs.Nodes.{signBit, totalBefore}
 
 -- an f64 that is finite and at most 2^42 in size; `mag` counts units of 2^-1074
 pub record Bounded (x : Float) : Type 0 where
@@ -24,4 +24,4 @@ NodeOf sc n = n < length (sc .coords) / 2
 
 -- "total order (−0 before +0)": one is before the other, or they are equal by value and sign
 abbrev pub Ordered : Float → Float → Type 0
-Ordered x y = (totalBefore x y ≡ true) ⊎ ((totalBefore y x ≡ true) ⊎ ((eq x y ≡ true) × (negative x ≡ negative y)))
+Ordered x y = (totalBefore x y ≡ true) ⊎ ((totalBefore y x ≡ true) ⊎ ((eq x y ≡ true) × (signBit x ≡ signBit y)))

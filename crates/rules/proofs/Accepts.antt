@@ -18,7 +18,7 @@ use Rattle.entry.specs.Refused.{entryOf}
 use Rattle.rules.specs.Mesh.{Side, theSubject, theCutter}
 use Rattle.rules.specs.Meetings.{Met, Scene, netOf}
 use Rattle.rules.specs.Nodes.{crowded}
-use Rattle.rules.specs.Cell.{nearOf, outcomeBy, outcomeWith, outlineOf, tableWith, cellOf}
+use Rattle.rules.specs.Cell.{nearOf, treatedBy, treated, outcomeWith, cellOf}
 use Rattle.rules.specs.Operations.{cuts, sceneFor, keptWith, overCells, Piece, outcomePieces}
 use Rattle.rules.specs.Refusals.{Event, meeting, point, piece, stop, ofMeeting, ofCell, courseWith, firstRefusal}
 use Rattle.rules.specs.Overlay.{Lists, Result, answeredWith, stateWith, overlayWith}
@@ -168,12 +168,12 @@ sound-copy once cell = go (once && repeats (ring cell))
     go false = tt
 
 pub sound : (v : Setting) (sc : Scene) (w : Side) (i : ℕ) → Sound (outcomeWith v sc w i)
-unfolding outcomeWith
+unfolding treated
 sound v sc w i = go (nearOf sc w i)
   where
-    go : (js : List ℕ) → Sound (outcomeBy v (outlineOf sc w i) (tableWith sc w i (v .once)) (cellOf sc w i) js)
+    go : (js : List ℕ) → Sound (treatedBy sc w i js .outcome v)
     go [] = sound-copy (v .once) (cellOf sc w i)
-    go (j ∷ js) = sound-cut v (outlineOf sc w i) (tableWith sc w i (v .once))
+    go (j ∷ js) = sound-cut v (treatedBy sc w i (j ∷ js) .outline) (treatedBy sc w i (j ∷ js) .table (v .once))
 
 -- where there is no refusal the outcome is its pieces
 pub made-is : (x : Outcome) → Made x → x ≡ pieces (outcomePieces x)

@@ -11,7 +11,7 @@ use Rattle.lists.specs.Gather.{each, joined}
 use Rattle.lists.specs.Sort.{sorted}
 use Rattle.segments.specs.Meet.{meeting}
 use Rattle.polygons.specs.Interior.{strictInteriorPoint}
-use Rattle.segments.specs.Code.{code}
+use Rattle.segments.specs.Code.{meetingCode}
 use Rattle.polygons.specs.Code.{innerCode}
 use Rattle.cutting.specs.Edges.{Edge, ring}
 use Rattle.cutting.specs.Cell.{Laid, Slot, standsBefore, cellTable}
@@ -19,7 +19,7 @@ use Rattle.cutting.specs.Setting.{Setting, base}
 use Rattle.cutting.specs.Outcome.{Outcome, refusal, pieces, cutOutcome, flat, stops}
 use Rattle.cutting.specs.Areas.{doubledArea}
 use Rattle.entry.specs.Mesh.{Mesh}
-use Rattle.entry.specs.Refused.{meshOf}
+use Rattle.entry.specs.ByMesh.{meshRefusal}
 use Rattle.rules.specs.Mesh.{Side, theSubject, theCutter}
 use Rattle.rules.specs.Snap.{weld}
 use Rattle.rules.specs.SpatialIndex.{edgeBox, candidates}
@@ -301,15 +301,15 @@ abbrev areasOf : Scene → List ℤ
 areasOf sc = map (doubledArea (sc .coords)) (outlineOf sc theSubject 0 ∷ map ring (piecesOf sc theSubject 0))
 
 holds : Row → Bool
-unfolding rightBy code innerCode doubledArea forwardEdge forwardCell
+unfolding rightBy meetingCode innerCode doubledArea forwardEdge forwardCell
 holds (overlay c) = rightBy overlayOf (c ∷ [])
 holds (set-to v c) = rightBy (overlayWith v) (c ∷ [])
-holds (meeting-of s t m) = same (code (meeting s t)) m
+holds (meeting-of s t m) = same (meetingCode (meeting s t)) m
 holds (order-of coords ns order) = same (map (λ s. s .dst) (sorted (standsBefore (floats coords)) (map slot-to ns))) order
 holds (inner-of coords ps p) = same (innerCode (strictInteriorPoint (floats coords) ps)) p
 holds (pieces-of coords es ns ends) = cutInto (cutOutcome es (cellTable (floats coords) es no-edges)) ns ends
 holds (slots n r) = same (refusalOf (cutOutcome [] (filled n))) r
-holds (corners n r) = eqb (meshOf false (pgon n)) r
+holds (corners n r) = eqb (meshRefusal false (pgon n)) r
 holds (nodes-along coords k ns ms) = same (alongEdge (floats coords) k ns) ms
 holds (weld-of s c ns) = same (weld s c) ns
 holds (near-box coords e f js) = same (candidates (floats coords) (f ∷ []) (edgeBox (floats coords) e)) js

@@ -20,8 +20,8 @@ use Rattle.entry.specs.Refused.{entryOf}
 use Rattle.rules.specs.Mesh.{Side, theSubject, theCutter, other}
 use Rattle.rules.specs.Meetings.{Scene, netOf, addedBy}
 use Rattle.rules.specs.Nodes.{crowded}
-use Rattle.rules.specs.Cell.{dartsOf, nearEdges, nearOf, outlineBy, tableBy, outcomeBy, outcomeWith, outlineOf, tableWith, cellOf, kindOf}
-use Rattle.rules.specs.Operations.{cuts, keeps, sceneFor, Piece, pieceWith, keptWith, inside, overCells, listingWith, outcomePieces, doubledCells}
+use Rattle.rules.specs.Cell.{dartsOf, nearEdges, nearOf, treatedBy, treated, outcomeWith, tableWith, cellOf, kindOf}
+use Rattle.rules.specs.Operations.{cuts, keeps, sceneFor, Piece, pieceWith, keptWith, liesInside, overCells, listingWith, outcomePieces, doubledCells}
 use Rattle.rules.specs.Refusals.{Event, meeting, point, piece, stop, ofMeeting, ofCell, courseWith, firstRefusal}
 use Rattle.rules.specs.Overlay.{Lists, Result, result, cleared, written, answeredWith, stateWith, overlayWith, overlayOf}
 use Rattle.rules.specs.Demand3.{AcceptedWith}
@@ -43,7 +43,7 @@ module _ (u v : Setting) (op m : ℕ) (s c : Mesh) (l : Lists) where
       at x j = record { mesh = w; cell = i; place = j; kind = kindOf sc w i; family = getD (netOf sc w .families) i 0; nodes = getD (outcomePieces x) j [] }
 
       by : Outcome → List Piece
-      by x = passing (λ p. keeps op w (inside sc w p)) (each (length (outcomePieces x)) (at x))
+      by x = passing (λ p. keeps op w (liesInside sc w p)) (each (length (outcomePieces x)) (at x))
 
   -- and so does what happens in it
   cut-as : (w : Side) (i : ℕ) → outcomeWith u sc w i ≡ outcomeWith v sc w i
@@ -166,15 +166,15 @@ first-until es fs m p q n (inr d) h =
 
 cell-turned : (once : Bool) (sc : Scene) (w : Side) (i : ℕ)
     → let by : Bool → Outcome = λ turning. outcomeWith (record { turning = turning; once = once }) sc w i in (by false ≡ refusal 11) ⊎ (by true ≡ by false)
-unfolding outcomeWith
+unfolding treated
 cell-turned once sc w i = go (nearOf sc w i)
   where
     by : Bool → List ℕ → Outcome
-    by turning js = outcomeBy (record { turning = turning; once = once }) (outlineOf sc w i) (tableWith sc w i once) (cellOf sc w i) js
+    by turning js = treatedBy sc w i js .outcome (record { turning = turning; once = once })
 
     go : (js : List ℕ) → (by false js ≡ refusal 11) ⊎ (by true js ≡ by false js)
     go [] = inr refl
-    go (j ∷ js) = outcome-turned (outlineOf sc w i) (tableWith sc w i once) once
+    go (j ∷ js) = outcome-turned (treatedBy sc w i (j ∷ js) .outline) (treatedBy sc w i (j ∷ js) .table once) once
 
 module _ (once : Bool) (op m : ℕ) (s c : Mesh) (l : Lists) where
   -- with and without turning back
@@ -259,16 +259,16 @@ module _ (once : Bool) (op m : ℕ) (s c : Mesh) (l : Lists) where
 -- a cell whose table before names no neighbour twice
 cell-undoubled : (turning : Bool) (sc : Scene) (w : Side) (i : ℕ) → doubled (tableWith sc w i false) ≡ false
     → outcomeWith (record { turning = turning; once = true }) sc w i ≡ outcomeWith (record { turning = turning; once = false }) sc w i
-unfolding outcomeWith outlineOf tableWith
+unfolding treated
 cell-undoubled turning sc w i clean = go (nearOf sc w i) clean
   where
     cell : List ℕ
     cell = cellOf sc w i
 
     by : Bool → List ℕ → Outcome
-    by once js = outcomeBy (record { turning = turning; once = once }) (outlineBy sc cell js) (tableBy once sc (netOf sc (other w) .edges) cell js) cell js
+    by once js = treatedBy sc w i js .outcome (record { turning = turning; once = once })
 
-    go : (js : List ℕ) → doubled (tableBy false sc (netOf sc (other w) .edges) cell js) ≡ false → by true js ≡ by false js
+    go : (js : List ℕ) → doubled (treatedBy sc w i js .table false) ≡ false → by true js ≡ by false js
     go [] h = copy-kept cell h
     go (j ∷ js) h = outcome-kept (sc .coords) (dartsOf sc cell) (nearEdges sc (netOf sc (other w) .edges) (j ∷ js)) h turning
 

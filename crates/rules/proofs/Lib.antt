@@ -10,8 +10,5 @@ pub mod Demand3
 pub mod Kept
 pub mod Rounds
 pub mod NeverEleven
-pub mod Windings
-pub mod Winds
-mod WindingSamples
 pub mod Tables
 pub mod Cases

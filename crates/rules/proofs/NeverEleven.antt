@@ -18,7 +18,7 @@ use Rattle.entry.specs.Mesh.{Mesh, nodeCount}
 use Rattle.entry.specs.Refused.{callOk, shapeOk, coordsOk, kindsOk, nodesOk, cellsOk, workOk, entryOf}
 use Rattle.rules.specs.Mesh.{Side, other}
 use Rattle.rules.specs.Meetings.{Scene, netOf}
-use Rattle.rules.specs.Cell.{dartsOf, nearEdges, cellOf, nearOf, outlineBy, tableBy, outcomeBy, outlineOf, tableWith, outcomeWith, outcomeOf}
+use Rattle.rules.specs.Cell.{dartsOf, nearEdges, cellOf, nearOf, treatedBy, treated, outcomeOf}
 use Rattle.rules.specs.Operations.{sceneFor}
 use Rattle.rules.specs.Refusals.{Event, meeting, point, piece, stop, course, firstRefusal}
 use Rattle.rules.specs.Overlay.{Lists, Result, stateWith, overlayOf}
@@ -45,7 +45,7 @@ round-cut coords outline near round e =
 
 -- A cell all of whose edges are forward isn't refused with 11.
 pub forward-cell : (sc : Scene) (w : Side) (i : ℕ) → forwardCell sc w i ≡ true → outcomeOf sc w i ≡ refusal 11 → ⊥
-unfolding forwardCell outcomeWith outlineOf tableWith
+unfolding forwardCell treated
 forward-cell sc w i h e = go (nearOf sc w i) e
   where
     cell : List ℕ
@@ -58,7 +58,7 @@ forward-cell sc w i h e = go (nearOf sc w i) e
     copied true f = let z : _≡_ {A = ℕ} 19 11 = cc in omega (arith, z)
     copied false f = let z : _≡_ {A = ℕ} 0 1 = cc in omega (arith, z)
 
-    go : (js : List ℕ) → outcomeBy ours (outlineBy sc cell js) (tableBy true sc es cell js) cell js ≡ refusal 11 → ⊥
+    go : (js : List ℕ) → treatedBy sc w i js .outcome ours ≡ refusal 11 → ⊥
     go [] f = copied (repeats (ring cell)) f
     go (j ∷ js) f = round-cut (sc .coords) (dartsOf sc cell) (nearEdges sc es (j ∷ js)) (forward-round sc cell h) f
 

@@ -10,7 +10,7 @@ use Rattle.lists.specs.Gather.{gathered, each, passing}
 use Rattle.entry.specs.Mesh.{Mesh}
 use Rattle.rules.specs.Mesh.{Side, theSubject, theCutter}
 use Rattle.rules.specs.Meetings.{Scene, netOf}
-use Rattle.rules.specs.Operations.{cuts, keeps, sceneFor, Piece, piecesOf, pieceAt, pieceWith, inside, kept, keptWith, overCells, listing, listingWith}
+use Rattle.rules.specs.Operations.{cuts, keeps, sceneFor, Piece, piecesOf, pieceAt, pieceWith, liesInside, kept, keptWith, overCells, listing, listingWith}
 use Rattle.rules.specs.Demand3.{ListedAt, SamePiece}
 use Rattle.lists.proofs.Gather.{gathered-at, each-at, passing-at}
 use Rattle.lists.proofs.Gather.{in-list}
@@ -71,7 +71,7 @@ module _ (sc : Scene) (op : ℕ) (w : Side) where
   of-kept : (i : ℕ) (p : Piece) → List·Memᴰ p (kept sc w op i) → (p .mesh ≡ w) × (p .cell ≡ i)
   unfolding keptWith
   of-kept i p m =
-      let r = of-each i (length (piecesOf sc w i)) p (passing-at (λ q. keeps op w (inside sc w q)) (each (length (piecesOf sc w i)) (pieceAt sc w i)) p m .0) in
+      let r = of-each i (length (piecesOf sc w i)) p (passing-at (λ q. keeps op w (liesInside sc w q)) (each (length (piecesOf sc w i)) (pieceAt sc w i)) p m .0) in
       (ap (λ (q : Piece). q .mesh) (r .1) ∙ known i (r .0) .0, ap (λ (q : Piece). q .cell) (r .1) ∙ known i (r .0) .1)
 
   once-each : (i n : ℕ) → Once (each n (pieceAt sc w i))
@@ -89,7 +89,7 @@ module _ (sc : Scene) (op : ℕ) (w : Side) where
 
   once-kept : (i : ℕ) → Once (kept sc w op i)
   unfolding keptWith
-  once-kept i = once-passing (λ q. keeps op w (inside sc w q)) (each (length (piecesOf sc w i)) (pieceAt sc w i)) (once-each i (length (piecesOf sc w i)))
+  once-kept i = once-passing (λ q. keeps op w (liesInside sc w q)) (each (length (piecesOf sc w i)) (pieceAt sc w i)) (once-each i (length (piecesOf sc w i)))
 
   once-over : (t : Bool) → Once (cond t (gathered (length (netOf sc w .cells)) (kept sc w op)) [])
   once-over true = once-gathered (length (netOf sc w .cells)) (kept sc w op) once-kept

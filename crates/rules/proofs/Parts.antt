@@ -9,7 +9,7 @@ use Rattle.lists.specs.Gather.{gathered, each}
 use Rattle.entry.specs.Mesh.{Mesh}
 use Rattle.rules.specs.Mesh.{Side, theSubject, theCutter}
 use Rattle.rules.specs.Meetings.{Scene, netOf, sceneOf}
-use Rattle.rules.specs.Operations.{cuts, keeps, sceneFor, Piece, piecesOf, pieceAt, pieceWith, inside, kept, keptWith, overCells, listing, listingWith}
+use Rattle.rules.specs.Operations.{cuts, keeps, sceneFor, Piece, piecesOf, pieceAt, pieceWith, liesInside, kept, keptWith, overCells, listing, listingWith}
 use Rattle.rules.specs.Demand3.{Kept, Listed, SamePiece, Unlisted}
 use Rattle.lists.proofs.Gather.{gathered-at, in-gathered, each-at, in-each, passing-at, in-passing, mem-at}
 use Rattle.lists.proofs.Gather.{in-list}
@@ -18,7 +18,7 @@ use Rattle.lists.proofs.Gather.{in-list}
 
 module _ (sc : Scene) (op : ℕ) (w : Side) where
   pieceAt-kept : (i j : ℕ) → cuts op w ≡ true → i < length (netOf sc w .cells) → j < length (piecesOf sc w i)
-      → keeps op w (inside sc w (pieceAt sc w i j)) ≡ true → Kept sc op (pieceAt sc w i j)
+      → keeps op w (liesInside sc w (pieceAt sc w i j)) ≡ true → Kept sc op (pieceAt sc w i j)
   unfolding pieceWith
   pieceAt-kept i j c h k e = record { cut = c; cell = h; place = k; same = refl; passes = e }
 
@@ -28,17 +28,17 @@ module _ (sc : Scene) (op : ℕ) (w : Side) where
   over-kept true c p h =
       let at = gathered-at (length (netOf sc w .cells)) (kept sc w op) p h in
       let i = at .0 in
-      let pass = passing-at (λ q. keeps op w (inside sc w q)) (each (length (piecesOf sc w i)) (pieceAt sc w i)) p (at .2) in
+      let pass = passing-at (λ q. keeps op w (liesInside sc w q)) (each (length (piecesOf sc w i)) (pieceAt sc w i)) p (at .2) in
       let e = each-at (length (piecesOf sc w i)) (pieceAt sc w i) p (pass .0) in
-      rw (e .2) (pieceAt-kept i (e .0) c (at .1) (e .1) (ap (λ (q : Piece). keeps op w (inside sc w q)) (sym (e .2)) ∙ pass .1))
+      rw (e .2) (pieceAt-kept i (e .0) c (at .1) (e .1) (ap (λ (q : Piece). keeps op w (liesInside sc w q)) (sym (e .2)) ∙ pass .1))
 
   kept-over : (t : Bool) → t ≡ true → (i j : ℕ) → i < length (netOf sc w .cells) → j < length (piecesOf sc w i)
-      → keeps op w (inside sc w (pieceAt sc w i j)) ≡ true → List·Memᴰ (pieceAt sc w i j) (cond t (gathered (length (netOf sc w .cells)) (kept sc w op)) [])
+      → keeps op w (liesInside sc w (pieceAt sc w i j)) ≡ true → List·Memᴰ (pieceAt sc w i j) (cond t (gathered (length (netOf sc w .cells)) (kept sc w op)) [])
   unfolding keptWith
   kept-over false c i j h k e = absurd (false≢true c)
   kept-over true c i j h k e =
       in-gathered (length (netOf sc w .cells)) (kept sc w op) (pieceAt sc w i j) i h
-      (in-passing (λ q. keeps op w (inside sc w q)) (each (length (piecesOf sc w i)) (pieceAt sc w i)) (pieceAt sc w i j)
+      (in-passing (λ q. keeps op w (liesInside sc w q)) (each (length (piecesOf sc w i)) (pieceAt sc w i)) (pieceAt sc w i j)
       (in-each (length (piecesOf sc w i)) (pieceAt sc w i) j k) e)
 
 -- ---- listed is kept, and kept is listed
@@ -67,7 +67,7 @@ module _ (op : ℕ) (s c : Mesh) where
   kept-among : (p : Piece) → Kept sc op p → Among p
   unfolding listingWith
   kept-among p k = Memᴰ·cast (k .same) (go (p .mesh) (k .cut) (kept-over sc op (p .mesh) (cuts op (p .mesh)) (k .cut) (p .cell) (p .place) (k .cell) (k .place)
-      (ap (λ (q : Piece). keeps op (p .mesh) (inside sc (p .mesh) q)) (sym (k .same)) ∙ k .passes)))
+      (ap (λ (q : Piece). keeps op (p .mesh) (liesInside sc (p .mesh) q)) (sym (k .same)) ∙ k .passes)))
     where
       go : (w : Side) → cuts op w ≡ true → List·Memᴰ (pieceAt sc (p .mesh) (p .cell) (p .place)) (overCells op sc w (kept sc w op))
           → List·Memᴰ (pieceAt sc (p .mesh) (p .cell) (p .place)) (overCells op sc theSubject (kept sc theSubject op) ++ overCells op sc theCutter (kept sc theCutter op))
@@ -97,7 +97,7 @@ same-cut theCutter e = absurd (false≢true e)
 
 module _ (s c : Mesh) where
   pub parts : (p : Piece) → Listed p 0 s c → (Listed p 2 s c × Unlisted p 3 s c) ⊎ (Listed p 3 s c × Unlisted p 2 s c)
-  parts p h = go (inside one (p .mesh) p) refl
+  parts p h = go (liesInside one (p .mesh) p) refl
     where
       one : Scene
       one = sceneOf false s c
@@ -105,14 +105,14 @@ module _ (s c : Mesh) where
       k : Kept one 0 p
       k = listed-kept 0 s c p h
 
-      in-op : (op : ℕ) → cuts op (p .mesh) ≡ true → keeps op (p .mesh) (inside one (p .mesh) p) ≡ true → Kept one op p
+      in-op : (op : ℕ) → cuts op (p .mesh) ≡ true → keeps op (p .mesh) (liesInside one (p .mesh) p) ≡ true → Kept one op p
       in-op op cut e = record { cut = cut; cell = k .cell; place = k .place; same = k .same; passes = e }
 
-      not-in : (op : ℕ) → (keeps op (p .mesh) (inside one (p .mesh) p) ≡ true → ⊥) → (q : Piece) → Kept one op q → SamePiece q p → ⊥
-      not-in op out q l e = out (ap (λ (x : Piece). keeps op (x .mesh) (inside one (x .mesh) x)) (sym (alike one 0 op p q k l e)) ∙ l .passes)
+      not-in : (op : ℕ) → (keeps op (p .mesh) (liesInside one (p .mesh) p) ≡ true → ⊥) → (q : Piece) → Kept one op q → SamePiece q p → ⊥
+      not-in op out q l e = out (ap (λ (x : Piece). keeps op (x .mesh) (liesInside one (x .mesh) x)) (sym (alike one 0 op p q k l e)) ∙ l .passes)
 
-      go : (t : Bool) → inside one (p .mesh) p ≡ t → (Listed p 2 s c × Unlisted p 3 s c) ⊎ (Listed p 3 s c × Unlisted p 2 s c)
-      go true e = inl (kept-listed 2 s c p (in-op 2 (same-cut (p .mesh) (k .cut) .0) e), λ q l f. not-in 3 (λ g. not-both (inside one (p .mesh) p) e g) q (listed-kept 3 s c q l) f)
+      go : (t : Bool) → liesInside one (p .mesh) p ≡ t → (Listed p 2 s c × Unlisted p 3 s c) ⊎ (Listed p 3 s c × Unlisted p 2 s c)
+      go true e = inl (kept-listed 2 s c p (in-op 2 (same-cut (p .mesh) (k .cut) .0) e), λ q l f. not-in 3 (λ g. not-both (liesInside one (p .mesh) p) e g) q (listed-kept 3 s c q l) f)
       go false e = inr (kept-listed 3 s c p (in-op 3 (same-cut (p .mesh) (k .cut) .1) (ap not e)), λ q l f. not-in 2 (λ g. true≢false (sym g ∙ e)) q (listed-kept 2 s c q l) f)
 
   -- Imprint drops none

@@ -11,7 +11,7 @@ use Rattle.lists.specs.Regions as Regions
 use Rattle.exact.specs.Exact.{coord, mag, sign, ordered}
 use Rattle.exact.specs.Angle.{angles, orientation}
 use Rattle.plane.specs.Plane.{magnitude, larger, scale, between, along, tolerance, pointAt}
-use Rattle.segments.specs.Colinear.{parameters, inOrder, leads, ofOrder, colinear}
+use Rattle.segments.specs.Colinear.{parameters, inOrder, firstThenSecond, ofOrder, colinear}
 use Rattle.segments.specs.Meet.{near, settled, crossing, meeting}
 use Rattle.polygons.specs.Corners as Corners
 use Rattle.polygons.specs.Inside as Polygon
@@ -34,19 +34,20 @@ use Rattle.cutting.specs.Cell.{
   copiedTable,
   doubled,
 }
-use Rattle.cutting.specs.Walk.{slot, after, onward, arrive, cross, popped, taken, rest, go, step, run, starts, walkFrom, walkWith}
+use Rattle.cutting.specs.Walk.{slot, nextOpen, begin, rest, onward, arrive, follow, step, walkSteps, starts, walkFrom, walkWith}
 use Rattle.cutting.specs.Outcome.{closesUp, cutOutcomeWith, flat, stops}
 use Rattle.entry.specs.Mesh.{Mesh, mesh, prior}
-use Rattle.entry.specs.Refused.{endsOk, coordOk, coordsOk, kindOk, kindsOk, nodesOk, absent, cellOk, cellsOk, shapeOk, callOk, workOk, meshOf, lower, entryOf}
+use Rattle.entry.specs.Refused.{endsOk, coordOk, coordsOk, kindOk, kindsOk, nodesOk, absent, cellOk, cellsOk, shapeOk, callOk, workOk, entryOf}
+use Rattle.entry.specs.ByMesh.{meshRefusal, lowerRefusal}
 use Rattle.rules.specs.Mesh.{cellAt, cellsOf}
 use Rattle.rules.specs.Snap.{usedNodes, sortedIndicesFor, nearestTo, closestWithin, weld}
 use Rattle.rules.specs.Neighbours.{added, addedAll, descendingTo, subjectNet, cutterNet}
 use Rattle.rules.specs.SpatialIndex.{boxTo, boxesMeet, boxHolds, candidates}
 use Rattle.rules.specs.Meetings.{metPair, metAll, meetingsTo, meetings, sceneOf}
 use Rattle.rules.specs.Nodes.{collected, crowded, alongEdge, sortedNodes}
-use Rattle.rules.specs.Cell.{dartsOf, nearOf, outlineOf, tableWith, outcomeWith, kindOf}
+use Rattle.rules.specs.Cell.{dartsOf, nearOf, treated}
 use Rattle.rules.specs.Inside.{someHolds, pointInside}
-use Rattle.rules.specs.Operations.{pieceWith, inside, keptWith, listingWith, doubledCells}
+use Rattle.rules.specs.Operations.{pieceWith, liesInside, keptWith, listingWith, doubledCells}
 use Rattle.rules.specs.Refusals.{courseWith, firstRefusal}
 use Rattle.rules.specs.Overlay.{Lists, Result, lentLists, cleared, written, answeredWith, stateWith, overlayWith}
 
@@ -88,15 +89,15 @@ sameResult r r′ =
 -- an overlay gives the answers of the cases
 unfoldable pub rightBy : (ℕ → ℕ → Mesh → Mesh → Lists → Result) → List Case → Bool
 unfolding both same sameLists sameResult add sub mul div neg lt le eq ofBits toBits seek first gathered all passing tally slimAfter slim joined insert sortOnto
-    Regions.run Regions.front coord mag sign ordered angles orientation magnitude larger scale between along tolerance pointAt parameters inOrder leads ofOrder
-    colinear near settled crossing meeting Corners.cornerAt Corners.after Corners.previous Corners.oriented Corners.term Corners.doubledTo Corners.doubled
-    Corners.signedArea2 Corners.turned Corners.intoCcw2 Polygon.orient2d2 Polygon.clamped Polygon.orthoDist2 Polygon.settle Polygon.nearer Polygon.nearestTo
+    Regions.run Regions.front coord mag sign ordered angles orientation magnitude larger scale between along tolerance pointAt parameters inOrder firstThenSecond ofOrder
+    colinear near settled crossing meeting Corners.cornerAt Corners.cornerAfter Corners.cornerBefore Corners.oriented Corners.areaTerm Corners.doubledTo Corners.doubledSum
+    Corners.signedArea2 Corners.turned Corners.intoCcw2 Polygon.orient2d2 Polygon.clamped Polygon.orthoDist2 Polygon.settle Polygon.nearerEdge Polygon.nearestAmong
     Polygon.nearest Polygon.leftOf Polygon.reflex Polygon.atCorner Polygon.containsStable Polygon.inside heights passed climb widest widestIn crossed crossings
     lowest strictInteriorPoint hops ring rings times dartsAlong ownDarts outlineDarts nearDarts among repeats isNew newTo innerWith edgeSlots table stands
-    cellTableWith copiedTable doubled slot after onward arrive cross popped taken rest go step run starts walkFrom walkWith closesUp cutOutcomeWith flat stops
-    every prior endsOk coordOk coordsOk kindOk kindsOk nodesOk absent cellOk cellsOk shapeOk callOk workOk meshOf lower entryOf cellAt cellsOf usedNodes
+    cellTableWith copiedTable doubled slot nextOpen begin rest onward arrive follow step walkSteps starts walkFrom walkWith closesUp cutOutcomeWith flat stops
+    every prior endsOk coordOk coordsOk kindOk kindsOk nodesOk absent cellOk cellsOk shapeOk callOk workOk meshRefusal lowerRefusal entryOf cellAt cellsOf usedNodes
     sortedIndicesFor nearestTo closestWithin weld added addedAll descendingTo subjectNet cutterNet boxTo boxesMeet boxHolds candidates metPair metAll
-    meetingsTo meetings sceneOf collected crowded alongEdge sortedNodes dartsOf nearOf outlineOf tableWith outcomeWith kindOf someHolds pointInside pieceWith
-    inside keptWith listingWith doubledCells courseWith firstRefusal cleared written answeredWith stateWith overlayWith
+    meetingsTo meetings sceneOf collected crowded alongEdge sortedNodes dartsOf nearOf treated someHolds pointInside pieceWith
+    liesInside keptWith listingWith doubledCells courseWith firstRefusal cleared written answeredWith stateWith overlayWith
 rightBy overlay [] = true
 rightBy overlay (case op m s c l r ∷ cs) = both (sameResult (overlay op m s c l) r) (rightBy overlay cs)

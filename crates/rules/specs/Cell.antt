@@ -25,29 +25,17 @@ dartsOf sc cell = outlineDarts (map (laid sc) (ring cell))
 abbrev pub nearEdges : Scene → List Edge → List ℕ → List Laid
 nearEdges sc es js = map (λ j. laid sc (edgeAt es j)) js
 
--- ---- a cell near which the other mesh has no edge is copied, any other is cut
+-- ---- cell i of mesh w: where the other mesh has no edge near it, it is copied; any other is cut
 
--- "The outline as cut is the list of outline darts, or the cell's own edges where it is copied"
-abbrev pub outlineBy : Scene → List ℕ → List ℕ → List Edge
-outlineBy sc cell [] = ring cell
-outlineBy sc cell (j ∷ js) = dartsOf sc cell
-
--- "A copied cell's table is that of its own edges"; by whether a table has an edge once
-abbrev pub tableBy : Bool → Scene → List Edge → List ℕ → List ℕ → List Slot
-tableBy once sc es cell [] = copiedTable cell
-tableBy once sc es cell (j ∷ js) = cellTableWith once (sc .coords) (dartsOf sc cell) (nearEdges sc es (j ∷ js))
-
--- "A cell's pieces before any are dropped are all that its walk closes, in that order, or the cell itself where it is copied"; or 19, 10 or 11
-abbrev pub outcomeBy : Setting → List Edge → List Slot → List ℕ → List ℕ → Outcome
-outcomeBy v outline t cell [] = copiedOutcomeWith (v .once) cell
-outcomeBy v outline t cell (j ∷ js) = cutOutcomeWith v outline t
-
--- a copied cell keeps its kind, and what is cut out of a cell is a PGON
-abbrev pub kindBy : ℕ → List ℕ → ℕ
-kindBy kind [] = kind
-kindBy kind (j ∷ js) = 11
-
--- ---- cell i of mesh w
+pub record Treated : Type 0 where
+  -- "The outline as cut is the list of outline darts, or the cell's own edges where it is copied"
+  pub outline : List Edge
+  -- "A copied cell's table is that of its own edges"; by whether a table has an edge once
+  pub table : Bool → List Slot
+  -- "A cell's pieces before any are dropped are all that its walk closes, in that order, or the cell itself where it is copied"; or 19, 10 or 11
+  pub outcome : Setting → Outcome
+  -- a copied cell keeps its kind, and what is cut out of a cell is a PGON
+  pub kind : ℕ
 
 module _ (sc : Scene) (w : Side) (i : ℕ) where
   abbrev pub cellOf : List ℕ
@@ -57,21 +45,38 @@ module _ (sc : Scene) (w : Side) (i : ℕ) where
   unfoldable pub nearOf : List ℕ
   nearOf = candidates (sc .coords) (netOf sc (other w) .edges) (boxOf (sc .coords) cellOf)
 
-  unfoldable pub outlineOf : List Edge
-  outlineOf = outlineBy sc cellOf nearOf
+  -- by the edges near it
+  abbrev pub treatedBy : List ℕ → Treated
+  treatedBy [] =
+      record {
+        outline = ring cellOf;
+        table = λ once. copiedTable cellOf;
+        outcome = λ v. copiedOutcomeWith (v .once) cellOf;
+        kind = getD (netOf sc w .kinds) i 0;
+      }
+  treatedBy (j ∷ js) =
+      let outline = dartsOf sc cellOf in
+      let table : Bool → List Slot = λ once. cellTableWith once (sc .coords) outline (nearEdges sc (netOf sc (other w) .edges) (j ∷ js)) in
+      record { outline = outline; table = table; outcome = λ v. cutOutcomeWith v outline (table (v .once)); kind = 11 }
 
-  unfoldable pub tableWith : Bool → List Slot
-  tableWith once = tableBy once sc (netOf sc (other w) .edges) cellOf nearOf
+  unfoldable pub treated : Treated
+  treated = treatedBy nearOf
+
+  abbrev pub outlineOf : List Edge
+  outlineOf = treated .outline
+
+  abbrev pub tableWith : Bool → List Slot
+  tableWith once = treated .table once
 
   abbrev pub tableOf : List Slot
   tableOf = tableWith true
 
-  unfoldable pub kindOf : ℕ
-  kindOf = kindBy (getD (netOf sc w .kinds) i 0) nearOf
+  abbrev pub kindOf : ℕ
+  kindOf = treated .kind
 
 -- what it comes to, by the setting
-unfoldable pub outcomeWith : Setting → Scene → Side → ℕ → Outcome
-outcomeWith v sc w i = outcomeBy v (outlineOf sc w i) (tableWith sc w i (v .once)) (cellOf sc w i) (nearOf sc w i)
+abbrev pub outcomeWith : Setting → Scene → Side → ℕ → Outcome
+outcomeWith v sc w i = treated sc w i .outcome v
 
 abbrev pub outcomeOf : Scene → Side → ℕ → Outcome
 outcomeOf sc w i = outcomeWith ours sc w i

@@ -11,7 +11,7 @@ use Rattle.entry.specs.Mesh.{Mesh, mesh}
 use Rattle.rules.specs.Mesh.{cellAt, Side}
 use Rattle.rules.specs.Meetings.{Scene, netOf}
 use Rattle.rules.specs.Cell.{outlineOf}
-use Rattle.rules.specs.Operations.{cuts, keeps, Piece, piecesOf, pieceAt, inside, listing}
+use Rattle.rules.specs.Operations.{cuts, keeps, Piece, piecesOf, pieceAt, liesInside, listing}
 use Rattle.rules.specs.Overlay.{Lists, Result, overlayOf, overlayWith}
 
 -- "An overlay is accepted where it gives no refusal"
@@ -37,7 +37,7 @@ pub record Kept (sc : Scene) (op : ℕ) (p : Piece) : Type 0 where
   pub cell : p .cell < length (netOf sc (p .mesh) .cells)
   pub place : p .place < length (piecesOf sc (p .mesh) (p .cell))
   pub same : p ≡ pieceAt sc (p .mesh) (p .cell) (p .place)
-  pub passes : keeps op (p .mesh) (inside sc (p .mesh) p) ≡ true
+  pub passes : keeps op (p .mesh) (liesInside sc (p .mesh) p) ≡ true
 
 -- piece k of the operation's listing is p
 pub record ListedAt (p : Piece) (k op : ℕ) (s c : Mesh) : Type 0 where

@@ -11,4 +11,3 @@ pub mod Refusals
 pub mod Overlay
 pub mod Demand3
 pub mod Forward
-pub mod Winding

@@ -16,27 +16,27 @@ use Rattle.rules.specs.Meetings.{Scene}
 -- ---- the order along an edge
 
 -- "total order (−0 before +0)", of floats that are numbers; projections are (`projections-ordered`, rounding/proofs/Finite.antt)
-abbrev pub negative : Float → Bool
-negative nan = false
-negative (inf s) = s
-negative (fin s m e) = s
+abbrev pub signBit : Float → Bool
+signBit nan = false
+signBit (inf s) = s
+signBit (fin s m e) = s
 
 abbrev pub totalBefore : Float → Float → Bool
-totalBefore x y = Ieee.lt x y || (Ieee.eq x y && (negative x && not (negative y)))
+totalBefore x y = Ieee.lt x y || (Ieee.eq x y && (signBit x && not (signBit y)))
 
 pub record Projected : Type 0 where
-  pub along : Float
+  pub projection : Float
   pub node : ℕ
 
 -- how far the node n lies along the key k, from its first node towards its second
 abbrev pub projected : List Float → Edge → ℕ → Projected
 projected coords k n =
     let p = pointAt coords (k .0) in
-    record { along = dot (between p (pointAt coords (k .1))) (between p (pointAt coords n)); node = n }
+    record { projection = dot (between p (pointAt coords (k .1))) (between p (pointAt coords n)); node = n }
 
 -- nearer the key's first node
 abbrev pub byProjection : Projected → Projected → Bool
-byProjection p q = totalBefore (p .along) (q .along)
+byProjection p q = totalBefore (p .projection) (q .projection)
 
 -- The key's first node and the nodes ns by their projections, equal ones in that order; "the key's second node put last unsorted, adjacent equals
 -- dropped".

@@ -55,8 +55,8 @@ outcomePieces (refusal r) = []
 outcomePieces (pieces ps) = ps
 
 -- inside the other mesh
-unfoldable pub inside : Scene → Side → Piece → Bool
-inside sc w p = pointInside (sc .coords) (netOf sc (other w) .cells) (p .nodes)
+unfoldable pub liesInside : Scene → Side → Piece → Bool
+liesInside sc w p = pointInside (sc .coords) (netOf sc (other w) .cells) (p .nodes)
 
 -- by the setting
 module _ (v : Setting) (sc : Scene) (w : Side) where
@@ -71,7 +71,7 @@ module _ (v : Setting) (sc : Scene) (w : Side) where
 
   -- those of cell i that the operation keeps
   unfoldable pub keptWith : ℕ → ℕ → List Piece
-  keptWith op i = passing (λ p. keeps op w (inside sc w p)) (each (length (piecesWith i)) (pieceWith i))
+  keptWith op i = passing (λ p. keeps op w (liesInside sc w p)) (each (length (piecesWith i)) (pieceWith i))
 
 abbrev pub piecesOf : Scene → Side → ℕ → List (List ℕ)
 piecesOf sc w i = piecesWith ours sc w i

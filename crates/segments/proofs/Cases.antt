@@ -6,9 +6,9 @@ use lib.Dec.{T, eqb}
 use lib.Ieee.{binary64, add, sub, mul, div, neg, lt, le, eq, ofBits, toBits}
 use Rattle.lists.specs.Sort.{insert, sortOnto}
 use Rattle.plane.specs.Plane.{magnitude, larger, scale, between, along, tolerance}
-use Rattle.segments.specs.Colinear.{parameters, inOrder, leads, ofOrder, colinear}
+use Rattle.segments.specs.Colinear.{parameters, inOrder, firstThenSecond, ofOrder, colinear}
 use Rattle.segments.specs.Meet.{near, settled, crossing, meeting}
-use Rattle.segments.specs.Code.{code}
+use Rattle.segments.specs.Code.{meetingCode}
 use Rattle.plane.specs.declared.Point.{Point}
 use Rattle.segments.specs.declared.Segment.{Segment}
 
@@ -100,10 +100,10 @@ same (x ∷ xs) [] = false
 same (x ∷ xs) (y ∷ ys) = both (eqb x y) (same xs ys)
 
 right : List Case → Bool
-unfolding both same meeting colinear crossing settled near ofOrder leads inOrder parameters scale larger magnitude between along tolerance insert
-    sortOnto code toBits ofBits add sub mul div neg lt le eq
+unfolding both same meeting colinear crossing settled near ofOrder firstThenSecond inOrder parameters scale larger magnitude between along tolerance insert
+    sortOnto meetingCode toBits ofBits add sub mul div neg lt le eq
 right [] = true
-right (meet s t m ∷ rs) = both (same (code (meeting s t)) m) (right rs)
+right (meet s t m ∷ rs) = both (same (meetingCode (meeting s t)) m) (right rs)
 
 cases : T (right table)
 unfolding table samples meetings right

@@ -9,7 +9,7 @@ use lib.Ieee.{Float, lt}
 use Rattle.lists.specs.Gather.{tally}
 use Rattle.lists.specs.Sort.{insert, sortOnto}
 use Rattle.lists.proofs.Sort.{sorted-tally}
-use Rattle.plane.specs.Plane.{number, between, magnitude}
+use Rattle.plane.specs.Plane.{isNumber, between, magnitude}
 use Rattle.segments.specs.Colinear.{spread, parameters, orderable, parameterOf, inOrder, ofOrder, colinear}
 use Rattle.segments.specs.Code.{idCode}
 use Rattle.segments.specs.Scans.{exchanged, exchangedIds, sweep, swept}
@@ -163,7 +163,7 @@ module _ (ts : List Float) where
       go false = refl
 
   -- to put d in before or after p, which stands below q, is to put it in from q on and then to exchange
-  slid-more : (d p q : PointId) (qs : List PointId) → number (t q) ≡ true → lower q p ≡ false
+  slid-more : (d p q : PointId) (qs : List PointId) → isNumber (t q) ≡ true → lower q p ≡ false
       → insert lower d (p ∷ q ∷ qs) ≡ slid p (insert lower d (q ∷ qs))
   unfolding insert
   slid-more d p q qs n h = go (lower d p) refl (lower d q) refl
@@ -183,7 +183,7 @@ module _ (ts : List Float) where
       go true e = lt-asym (t q) (t p) e
       go false e = e
 
-  module _ (n : (p : PointId) → number (t p) ≡ true) where
+  module _ (n : (p : PointId) → isNumber (t p) ≡ true) where
     -- with x not above y, none of x, y and z is above the higher one of y and z
     above-both : (x y z : PointId) → lower y x ≡ false → lower (hi y z) (hi x (lo y z)) ≡ false
     above-both x y z h = go (lower (lo y z) x)
@@ -239,17 +239,17 @@ swept-four : (a b c d : Float) → orderable (a ∷ b ∷ c ∷ d ∷ []) ≡ tr
 unfolding swept
 swept-four a b c d h = exchanges (a ∷ b ∷ c ∷ d ∷ []) each
   where
-    abc : number a && number b && number c ≡ true
-    abc = and-left (number a && number b && number c) (number d) h
+    abc : isNumber a && isNumber b && isNumber c ≡ true
+    abc = and-left (isNumber a && isNumber b && isNumber c) (isNumber d) h
 
-    ab : number a && number b ≡ true
-    ab = and-left (number a && number b) (number c) abc
+    ab : isNumber a && isNumber b ≡ true
+    ab = and-left (isNumber a && isNumber b) (isNumber c) abc
 
-    each : (p : PointId) → number (parameterOf (a ∷ b ∷ c ∷ d ∷ []) p) ≡ true
-    each P1 = and-left (number a) (number b) ab
-    each P2 = and-right (number a) (number b) ab
-    each P3 = and-right (number a && number b) (number c) abc
-    each P4 = and-right (number a && number b && number c) (number d) h
+    each : (p : PointId) → isNumber (parameterOf (a ∷ b ∷ c ∷ d ∷ []) p) ≡ true
+    each P1 = and-left (isNumber a) (isNumber b) ab
+    each P2 = and-right (isNumber a) (isNumber b) ab
+    each P3 = and-right (isNumber a && isNumber b) (isNumber c) abc
+    each P4 = and-right (isNumber a && isNumber b && isNumber c) (isNumber d) h
 
 swept-parameters : (s o : Segment) → orderable (parameters s o) ≡ true → swept (parameters s o) ≡ inOrder (parameters s o)
 unfolding parameters

@@ -15,8 +15,8 @@ idCode P3 = 3
 idCode P4 = 4
 
 -- 0: none. 1: one of P1 to P4. 2: new, with the bits of its two coordinates. 3: two of P1 to P4.
-unfoldable pub code : Meeting → List ℕ
-code Apart = 0 ∷ []
-code (Existing p) = 1 ∷ idCode p ∷ []
-code (New x y) = 2 ∷ toBits binary64 x ∷ toBits binary64 y ∷ []
-code (Overlap p q) = 3 ∷ idCode p ∷ idCode q ∷ []
+unfoldable pub meetingCode : Meeting → List ℕ
+meetingCode Apart = 0 ∷ []
+meetingCode (Existing p) = 1 ∷ idCode p ∷ []
+meetingCode (New x y) = 2 ∷ toBits binary64 x ∷ toBits binary64 y ∷ []
+meetingCode (Overlap p q) = 3 ∷ idCode p ∷ idCode q ∷ []

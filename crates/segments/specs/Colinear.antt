@@ -5,7 +5,7 @@ use Prim.Native.Nat.{ℕ}
 use lib.ListN.{getD}
 use lib.Ieee.{Float, nan, lt}
 use Rattle.lists.specs.Sort.{sorted}
-use Rattle.plane.specs.Plane.{_⊕_, _⊖_, _⊘_, fourF, number, between, magnitude}
+use Rattle.plane.specs.Plane.{_⊕_, _⊖_, _⊘_, fourF, isNumber, between, magnitude}
 use Rattle.segments.specs.declared.Segment.{Segment}
 use Rattle.segments.specs.declared.PointId.{PointId}
 use Rattle.segments.specs.declared.PointId.the-variants.{P1, P2, P3, P4}
@@ -34,7 +34,7 @@ parameters s o =
 -- each of the four is a number
 abbrev pub orderable : List Float → Bool
 orderable ts =
-    let ok : ℕ → Bool = λ i. number (getD ts i nan) in
+    let ok : ℕ → Bool = λ i. isNumber (getD ts i nan) in
     ok 0 && ok 1 && ok 2 && ok 3
 
 -- the parameter of an end
@@ -61,8 +61,8 @@ isSecond P3 = false
 isSecond P4 = false
 
 -- p is P1 and q is P2
-unfoldable pub leads : PointId → PointId → Bool
-leads p q = isFirst p && isSecond q
+unfoldable pub firstThenSecond : PointId → PointId → Bool
+firstThenSecond p q = isFirst p && isSecond q
 
 -- P1 P2 first or last: none. In each of the other four arms the answer is the two in the middle.
 -- Where P1 does not stand before P2, at which the Rust panics, there is none.
@@ -72,7 +72,7 @@ ofOrder ids =
     let q = getD ids 1 P1 in
     let r = getD ids 2 P1 in
     let s = getD ids 3 P1 in
-    cond (leads p q || leads r s) Apart (cond (leads p r || leads p s || leads q s || leads q r) (Overlap q r) Apart)
+    cond (firstThenSecond p q || firstThenSecond r s) Apart (cond (firstThenSecond p r || firstThenSecond p s || firstThenSecond q s || firstThenSecond q r) (Overlap q r) Apart)
 
 -- Where a parameter is no number, at which the Rust panics, there is none.
 unfoldable pub colinear : Segment → Segment → Meeting

@@ -2,7 +2,7 @@
 ghost use mathlib.Core.Path.{_≡_};
 ghost use Prim.Native.Nat.{_<_};
 ghost use Rattle.plane.specs.Plane.{cross, larger, scale, tolerance, inUnit};
-ghost use Rattle.segments.specs.Colinear.{spread, parameters, orderable, isFirst, isSecond, leads, ofOrder, colinear};
+ghost use Rattle.segments.specs.Colinear.{spread, parameters, orderable, isFirst, isSecond, firstThenSecond, ofOrder, colinear};
 ghost use Rattle.segments.specs.Meet.{near, settled, crossing, meeting};
 ghost use Rattle.segments.specs.Scans.{exchanged, exchangedIds, swept};
 use plane::Point;
@@ -177,7 +177,7 @@ fn is_second(p: PointId) -> bool
 
 // Whether p is P1 and q is P2.
 fn leads(p: PointId, q: PointId) -> bool
-    ensures { λ r. ⌜ r ≡ leads p q ⌝ }
+    ensures { λ r. ⌜ r ≡ firstThenSecond p q ⌝ }
 {
     is_first(p) & is_second(q)
 }

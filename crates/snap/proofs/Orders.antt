@@ -21,7 +21,7 @@ use Rattle.lists.proofs.Sort.{length-insert, insert-is, length-sorted, sortOnto
 use Rattle.plane.specs.Plane.{pointAt}
 use Rattle.plane.specs.declared.Point.{Point}
 use Rattle.rules.specs.Snap.{precedes}
-use Rattle.snap.specs.Steps.{marked, before, inOrder, withNode, counted}
+use Rattle.snap.specs.Steps.{marked, before, indicesInOrder, withNode, counted}
 
 -- what the code of `place` tests
 pub precedes-is : (coords : List Float) (order : List ℕ) (v i : ℕ) (p q : Point) (t : Bool)
@@ -96,8 +96,8 @@ module _ (coords : List Float) (marks : List ℕ) where
           )
 
   pub order-end : (s : List ℕ) (k i : ℕ) → i ≤ length marks → length marks ≤ i → k ≡ length (orderTo i coords marks) → s ≡ front marks (orderTo i coords marks)
-      → (k ≡ length (inOrder coords marks)) × (s ≡ front marks (inOrder coords marks))
-  unfolding inOrder
+      → (k ≡ length (indicesInOrder coords marks)) × (s ≡ front marks (indicesInOrder coords marks))
+  unfolding indicesInOrder
   order-end s k i a b ke se =
       let all : orderTo i coords marks ≡ orderTo (length marks) coords marks = ap (λ (j : ℕ). orderTo j coords marks) (le-antisymm {n = i} {m = length marks} a b) in
       (ke ∙ ap length all, se ∙ ap (front marks) all)

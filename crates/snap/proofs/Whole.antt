@@ -17,7 +17,7 @@ use Rattle.lists.proofs.Regions.{length-front, front-in, front-front, part-back
 use Rattle.plane.specs.Plane.{pointAt}
 use Rattle.entry.specs.Mesh.{mesh}
 use Rattle.rules.specs.Snap.{named, usedNodes, sortedIndicesFor, closestWithin, orShifted, numberOf, weld}
-use Rattle.snap.specs.Steps.{used, marked, before, inOrder, numberBy}
+use Rattle.snap.specs.Steps.{used, marked, before, indicesInOrder, numberBy}
 use Rattle.snap.proofs.Places.{mid, length-part, front-is, put-front, lent-again, mid-mid}
 use Rattle.snap.proofs.Marks.{length-used, getD-used, marked-used}
 use Rattle.snap.proofs.Orders.{length-orderTo}
@@ -25,14 +25,14 @@ use Rattle.snap.proofs.Numbers.{numberIn}
 
 -- ---- the numbers: by the marks of the cutter's nodes, and the subject's marked nodes in order
 
-order-is : (sc : List Float) (sn : List ℕ) (k : ℕ) → k ≡ length sc / 2 → inOrder sc (used sn k) ≡ sortedIndicesFor (mesh sc sn [] [] [])
-unfolding inOrder sortedIndicesFor usedNodes
+order-is : (sc : List Float) (sn : List ℕ) (k : ℕ) → k ≡ length sc / 2 → indicesInOrder sc (used sn k) ≡ sortedIndicesFor (mesh sc sn [] [] [])
+unfolding indicesInOrder sortedIndicesFor usedNodes
 order-is sc sn k e =
     ap (sorted (before sc)) (ap (places (marked (used sn k))) (length-used sn k) ∙ places-ext (marked (used sn k)) (named sn) k (λ i h. marked-used sn k i h) ∙
     ap (places (named sn)) e)
 
-order-le : (sc : List Float) (sn : List ℕ) (k : ℕ) → length (inOrder sc (used sn k)) ≤ k
-unfolding inOrder
+order-le : (sc : List Float) (sn : List ℕ) (k : ℕ) → length (indicesInOrder sc (used sn k)) ≤ k
+unfolding indicesInOrder
 order-le sc sn k = omega (arith, length-orderTo sc (used sn k) (length (used sn k)), length-used sn k)
 
 number-is : (sc cc : List Float) (sn cn order : List ℕ) (j : ℕ) → numberBy sc order cc (bit (named cn j)) j ≡ numberOf (mesh sc sn [] [] []) (mesh cc cn [] [] []) order j
@@ -47,8 +47,8 @@ number-is sc cc sn cn order j = go (named cn j)
 
 module _ (sc cc : List Float) (sn cn w₀ : List ℕ) (n k : ℕ) (fits : n + k ≤ length w₀) (a b s : List ℕ) (r : ℕ) (ae : a ≡ used cn (length (take n w₀)))
     (be : b ≡ used sn (length (take k (drop n (a ++ drop n w₀)))))
-    (re : r ≡ length (inOrder sc (take k (drop n (mid n k (a ++ drop n w₀) b)))))
-    (se : s ≡ front (take k (drop n (mid n k (a ++ drop n w₀) b))) (inOrder sc (take k (drop n (mid n k (a ++ drop n w₀) b))))) where
+    (re : r ≡ length (indicesInOrder sc (take k (drop n (mid n k (a ++ drop n w₀) b)))))
+    (se : s ≡ front (take k (drop n (mid n k (a ++ drop n w₀) b))) (indicesInOrder sc (take k (drop n (mid n k (a ++ drop n w₀) b))))) where
   a-is : a ≡ used cn n
   a-is = ae ∙ ap (used cn) (length-take-le n w₀ (omega arith))
 
@@ -67,14 +67,14 @@ module _ (sc cc : List Float) (sn cn w₀ : List ℕ) (n k : ℕ) (fits : n + k 
   lent-is : take k (drop n (mid n k (a ++ drop n w₀) b)) ≡ used sn k
   lent-is = lent-again n k (a ++ drop n w₀) b one-fits lb ∙ b-is
 
-  r-is : r ≡ length (inOrder sc (used sn k))
-  r-is = re ∙ ap (λ (l : List ℕ). length (inOrder sc l)) lent-is
+  r-is : r ≡ length (indicesInOrder sc (used sn k))
+  r-is = re ∙ ap (λ (l : List ℕ). length (indicesInOrder sc l)) lent-is
 
-  s-is : s ≡ front (used sn k) (inOrder sc (used sn k))
-  s-is = se ∙ ap (λ (l : List ℕ). front l (inOrder sc l)) lent-is
+  s-is : s ≡ front (used sn k) (indicesInOrder sc (used sn k))
+  s-is = se ∙ ap (λ (l : List ℕ). front l (indicesInOrder sc l)) lent-is
 
   ls : length s ≡ k
-  ls = ap length s-is ∙ length-front (used sn k) (inOrder sc (used sn k)) (omega (arith, order-le sc sn k, length-used sn k)) ∙ length-used sn k
+  ls = ap length s-is ∙ length-front (used sn k) (indicesInOrder sc (used sn k)) (omega (arith, order-le sc sn k, length-used sn k)) ∙ length-used sn k
 
   third-is : mid n k (mid n k (a ++ drop n w₀) b) s ≡ front w₀ (a ++ s)
   third-is = mid-mid n k (a ++ drop n w₀) b one-fits lb s ls ∙ ap (λ (w : List ℕ). put w n s) (front-is n w₀ a la) ∙ put-front n w₀ a s la (omega arith)
@@ -87,10 +87,10 @@ module _ (sc cc : List Float) (sn cn w₀ : List ℕ) (n k : ℕ) (fits : n + k 
   room = omega (arith, ap length third-is, length-third, r-is, order-le sc sn k)
 
   -- what it reads
-  order-in : run (front w₀ (a ++ s)) n r ≡ inOrder sc (used sn k)
+  order-in : run (front w₀ (a ++ s)) n r ≡ indicesInOrder sc (used sn k)
   unfolding run front
   order-in =
-      let os : List ℕ = inOrder sc (used sn k) in
+      let os : List ℕ = indicesInOrder sc (used sn k) in
       let end : List ℕ = drop (length (a ++ s)) w₀ in
       let parts : front w₀ (a ++ s) ≡ a ++ (os ++ (drop (length os) (used sn k) ++ end)) =
       append-assoc a s end ∙ ap (λ (l : List ℕ). a ++ l) (ap (λ (l : List ℕ). l ++ end) s-is ∙ append-assoc os (drop (length os) (used sn k)) end) in

@@ -31,8 +31,8 @@ abbrev pub before : List Float → ℕ → ℕ → Bool
 before coords i j = precedes (pointAt coords i) (pointAt coords j)
 
 -- the marked nodes in order
-unfoldable pub inOrder : List Float → List ℕ → List ℕ
-inOrder coords marks = sorted (before coords) (places (marked marks) (length marks))
+unfoldable pub indicesInOrder : List Float → List ℕ → List ℕ
+indicesInOrder coords marks = sorted (before coords) (places (marked marks) (length marks))
 
 -- the first k entries of s are nodes in order: with node i, where s has a mark for it; and how many they are then
 unfoldable pub withNode : List Float → List ℕ → ℕ → ℕ → List ℕ
@@ -43,8 +43,8 @@ counted s k i = k + bit (marked s i)
 
 -- ---- `closest_within`
 
-unfoldable pub closer : Float → ℕ → Nearest → Nearest
-closer d v best = cond (lt d (best .dist2)) (record { dist2 = d; node = v }) best
+unfoldable pub closerNode : Float → ℕ → Nearest → Nearest
+closerNode d v best = cond (lt d (best .dist2)) (record { dist2 = d; node = v }) best
 
 -- ---- `duplicates_from`
 

@@ -8,7 +8,7 @@ ghost use Rattle.lists.specs.Gather.{each};
 ghost use Rattle.lists.specs.Regions.{run, front, zeros};
 ghost use Rattle.entry.specs.Mesh.{mesh};
 ghost use Rattle.rules.specs.Snap.{precedes, distance2, orShifted, closestWithin, weld};
-ghost use Rattle.snap.specs.Steps.{Below, used, before, inOrder, withNode, counted, closer, numberBy};
+ghost use Rattle.snap.specs.Steps.{Below, used, before, indicesInOrder, withNode, counted, closerNode, numberBy};
 use lists::insert_at_u32;
 use lists::zero_u32;
 use plane::Point;
@@ -75,7 +75,7 @@ fn put_in_order(coords: &[f64], s: &mut [u32], k: usize, i: usize) -> usize
 // s has a mark for each node. The marked ones are put at its front, by x, then y; equal ones stay rising. Answers how many they are.
 fn sorted_indices_for(coords: &[f64], s: &mut [u32]) -> usize
     requires { ⌜ length (now s) ≤ 16384 ⌝ }
-    ensures { λ r. ⌜ (r ≡ length (inOrder (now (coords .entry)) (now (s .entry)))) × (now (s .exit) ≡ front (now (s .entry)) (inOrder (now (coords .entry)) (now (s .entry)))) ⌝ }
+    ensures { λ r. ⌜ (r ≡ length (indicesInOrder (now (coords .entry)) (now (s .entry)))) × (now (s .exit) ≡ front (now (s .entry)) (indicesInOrder (now (coords .entry)) (now (s .entry)))) ⌝ }
 {
     let mut k: usize = 0;
     let mut i: usize = 0;
@@ -97,7 +97,7 @@ fn distance2(p: Point, q: Point) -> f64
 }
 
 fn nearer(d: f64, v: u32, best: Nearest) -> Nearest
-    ensures { λ r. ⌜ r ≡ closer d v best ⌝ }
+    ensures { λ r. ⌜ r ≡ closerNode d v best ⌝ }
 {
     if d < best.dist2 {
         return Nearest { dist2: d, node: v };

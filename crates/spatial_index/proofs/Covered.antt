@@ -19,10 +19,6 @@ use Rattle.spatial_index.specs.Blocks.{fourOf, boxAt, blockBox, blockBox
 use Rattle.spatial_index.proofs.Blocks.{length-fours, length-blocks}
 use Rattle.spatial_index.proofs.Wider.{wider-meets, box-wider}
 
--- no boxes
-pub covered-none : (coords : List Float) (es : List Edge) → Covered coords es []
-covered-none coords es j h fits = absurd (omega arith)
-
 -- an element of lists of four, one after the other
 in-four : {A : Type 0} (f : ℕ → List A) (d : A) → ((k : ℕ) → length (f k) ≡ 4) → (n k i : ℕ) → k < n → i < 4 → getD (gathered n f) (4 * k + i) d ≡ getD (f k) i d
 unfolding gathered

@@ -26,49 +26,19 @@ use Rattle.text.specs.Text.{
   firstText,
   inputText,
 }
-use Rattle.text.specs.Read.{
-  Rest,
-  no,
-  past,
-  Parsed,
-  none,
-  got,
-  andThen,
-  after,
-  wordOf,
-  coordinate,
-  nodesOf,
-  Cells,
-  cellsOf,
-  Limits,
-  Mesh,
-  meshOf,
-  First,
-  firstOf,
-  Given,
-  inputOf,
-  decimalOf,
-  empty,
-}
+use Rattle.text.specs.Read.{Rest, no, past, andThen, afterWord, wordFrom, nodesFrom, cellsFrom, meshFrom, firstFrom, inputFrom, decimalFrom, empty}
+use Rattle.text.specs.Given.{Parsed, none, got, coordinate, Cells, Limits, ReadMesh, First, Given}
 use Rattle.text.proofs.Inverse.{word-self}
 use Rattle.text.specs.Inputs.{Rises, no-cells, cell, Fine, read, Within, Input, textOf, given, Readable}
 use Rattle.text.proofs.Lines.{nodes-read, cells-read, so-far, before-stop, stop-space, stop-newline}
 use Rattle.text.proofs.Whole.{mesh-read, input-read}
 
-no-node-close : (t : List ℕ) → wordOf nodeWord (close ++ t) ≡ no
-unfolding wordOf
-no-node-close t = refl
-
-no-cell-close : (t : List ℕ) → wordOf cellWord (close ++ t) ≡ no
-unfolding wordOf
+no-cell-close : (t : List ℕ) → wordFrom cellWord (close ++ t) ≡ no
+unfolding wordFrom
 no-cell-close t = refl
 
-no-node-cell : (t : List ℕ) → wordOf nodeWord (cellWord ++ t) ≡ no
-unfolding wordOf
-no-node-cell t = refl
-
-no-node : {ns es ks fs : List ℕ} {n m : ℕ} (t : List ℕ) → Rises ns n es ks fs m → wordOf nodeWord (cellsText n ns es ks fs ++ (close ++ t)) ≡ no
-unfolding cellsText cellText wordOf
+no-node : {ns es ks fs : List ℕ} {n m : ℕ} (t : List ℕ) → Rises ns n es ks fs m → wordFrom nodeWord (cellsText n ns es ks fs ++ (close ++ t)) ≡ no
+unfolding cellsText cellText wordFrom
 no-node t no-cells = refl
 no-node t (cell h g hk hf c d) = refl
 
@@ -77,17 +47,17 @@ unfolding meshText bodyText
 mesh-apart m t = simp append-assoc
 
 whole-cells : (c e : ℕ) (ns es ks fs t : List ℕ) → Rises ns 0 es ks fs (length ns) → length es ≤ c → length ns ≤ e
-    → cellsOf e c empty (cellsText 0 ns es ks fs ++ (close ++ t)) ≡ got (record { nodes = ns; ends = es; kinds = ks; families = fs }) (close ++ t)
+    → cellsFrom e c empty (cellsText 0 ns es ks fs ++ (close ++ t)) ≡ got (record { nodes = ns; ends = es; kinds = ks; families = fs }) (close ++ t)
 unfolding so-far
 whole-cells c e ns es ks fs t r l h =
     cells-read c e ns [] [] [] (close ++ t) r l h (no-cell-close t)
     ∙ ap (λ (l : List ℕ). got (record { nodes = l; ends = es; kinds = ks; families = fs }) (close ++ t)) (take-length ns)
 
 -- a mesh within its limits is read back
-pub mesh-back : (l : Limits) (m : Bits) (t : List ℕ) → Fine m → Within l m → meshOf l (meshText m ++ t) ≡ got (read m) t
+pub mesh-back : (l : Limits) (m : Bits) (t : List ℕ) → Fine m → Within l m → meshFrom l (meshText m ++ t) ≡ got (read m) t
 unfolding read
 mesh-back l m t f w =
-    ap (meshOf l) (mesh-apart m t)
+    ap (meshFrom l) (mesh-apart m t)
     ∙ mesh-read l _ _ _ _ t (map coordinate (m .coords)) (record { nodes = m .nodes; ends = m .ends; kinds = m .kinds; families = m .families })
     (word-self meshWord (nodesText (m .coords) ++ (cellsText 0 (m .nodes) (m .ends) (m .kinds) (m .families) ++ (close ++ t))))
     (nodes-read (l .nodes) [] (cellsText 0 (m .nodes) (m .ends) (m .kinds) (m .families) ++ (close ++ t)) (f .points) (w .nodes) (no-node t (f .rises)))
@@ -99,8 +69,8 @@ unfolding firstText
 first-apart op m t = simp append-assoc
 
 first-line : (op m : ℕ) (t : List ℕ) → op ≤ 4294967295 → m ≤ 4294967295
-    → firstOf (overlayWord ++ (decimal op ++ (space ++ (decimal m ++ (newline ++ t))))) ≡ got (record { op = op; m = m }) t
-unfolding firstOf andThen after
+    → firstFrom (overlayWord ++ (decimal op ++ (space ++ (decimal m ++ (newline ++ t))))) ≡ got (record { op = op; m = m }) t
+unfolding firstFrom andThen afterWord
 first-line op m t h g =
     rw (
       word-self overlayWord (decimal op ++ (space ++ (decimal m ++ (newline ++ t)))),
@@ -110,11 +80,11 @@ first-line op m t h g =
       word-self newline t,
     )
 
-pub first-back : (op m : ℕ) (t : List ℕ) → op ≤ 4294967295 → m ≤ 4294967295 → firstOf (firstText op m ++ t) ≡ got (record { op = op; m = m }) t
-first-back op m t h g = ap firstOf (first-apart op m t) ∙ first-line op m t h g
+pub first-back : (op m : ℕ) (t : List ℕ) → op ≤ 4294967295 → m ≤ 4294967295 → firstFrom (firstText op m ++ t) ≡ got (record { op = op; m = m }) t
+first-back op m t h g = ap firstFrom (first-apart op m t) ∙ first-line op m t h g
 
 -- an input is read back from its text
-pub input-back : (l k : Limits) (i : Input) → Readable l k i → inputOf l k (textOf i) ≡ got (given i) []
+pub input-back : (l k : Limits) (i : Input) → Readable l k i → inputFrom l k (textOf i) ≡ got (given i) []
 unfolding inputText
 input-back l k i r =
     let s = meshText (i .subject) in
@@ -127,5 +97,5 @@ input-back l k i r =
 -- two inputs of one text are the same input
 pub one-text : (l k : Limits) (i j : Input) → Readable l k i → Readable l k j → textOf i ≡ textOf j → given i ≡ given j
 one-text l k i j r q e =
-    let same : _≡_ {A = Parsed Given} (got (given i) []) (got (given j) []) = sym (input-back l k i r) ∙ ap (inputOf l k) e ∙ input-back l k j q in
+    let same : _≡_ {A = Parsed Given} (got (given i) []) (got (given j) []) = sym (input-back l k i r) ∙ ap (inputFrom l k) e ∙ input-back l k j q in
     cc

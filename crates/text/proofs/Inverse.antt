@@ -12,35 +12,13 @@ use lib.ListN.{length, take, drop}
 use lib.Seq.{append-snoc}
 use lib.Ieee.{Float}
 use Rattle.text.specs.Text.{space, close, newline, nodeWord, cellWord, decimalTo, decimal, glyph, hexTo, hex, nodeText, nodesText, numbersText}
-use Rattle.text.specs.Read.{
-  Rest,
-  no,
-  past,
-  Parsed,
-  none,
-  got,
-  orElse,
-  andThen,
-  after,
-  wordOf,
-  digitVal,
-  hexVal,
-  moreOf,
-  decimalOf,
-  hexOf,
-  repeated,
-  coordinate,
-  nodeOf,
-  nodeStep,
-  nodesOf,
-  entryStep,
-  entriesOf,
-}
+use Rattle.text.specs.Read.{Rest, no, past, ifWord, andThen, afterWord, wordFrom, digitVal, hexVal, moreFrom, decimalFrom, hexFrom, repeated, nodeFrom, nodeStep, nodesFrom, entryStep, entriesFrom}
+use Rattle.text.specs.Given.{Parsed, none, got, coordinate}
 use Rattle.text.proofs.Repeats.{repeated-stop}
 
 -- ---- words
-pub word-self : (w t : List ℕ) → wordOf w (w ++ t) ≡ past t
-unfolding wordOf
+pub word-self : (w t : List ℕ) → wordFrom w (w ++ t) ≡ past t
+unfolding wordFrom
 word-self [] t = refl
 word-self (c ∷ w) t = rw (eq-eqb c c refl) (word-self w t)
 
@@ -51,15 +29,15 @@ digit d h =
     let e : 48 + d - 48 ≡ d = omega arith in
     rw (le-ltb (48 + d) 48 (omega arith), lt-ltb (48 + d) 58 (omega arith), e)
 
-more-digit : (v d : ℕ) (t : List ℕ) → d < 10 → v * 10 + d ≤ 4294967295 → moreOf v ((48 + d) ∷ t) ≡ moreOf (v * 10 + d) t
-unfolding moreOf
+more-digit : (v d : ℕ) (t : List ℕ) → d < 10 → v * 10 + d ≤ 4294967295 → moreFrom v ((48 + d) ∷ t) ≡ moreFrom (v * 10 + d) t
+unfolding moreFrom
 more-digit v d t h g = rw (digit d h, lt-ltb _ _ h, le-leb _ _ g)
 
-from-zero : (d : ℕ) (t : List ℕ) → d < 10 → moreOf 0 ((48 + d) ∷ t) ≡ moreOf d t
-from-zero d t h = let e : 0 * 10 + d ≡ d = omega arith in more-digit 0 d t h (omega arith) ∙ ap (λ (m : ℕ). moreOf m t) e
+from-zero : (d : ℕ) (t : List ℕ) → d < 10 → moreFrom 0 ((48 + d) ∷ t) ≡ moreFrom d t
+from-zero d t h = let e : 0 * 10 + d ≡ d = omega arith in more-digit 0 d t h (omega arith) ∙ ap (λ (m : ℕ). moreFrom m t) e
 
-more-stop : (v b : ℕ) (t : List ℕ) → 10 ≤ digitVal b → moreOf v (b ∷ t) ≡ got v (b ∷ t)
-unfolding moreOf
+more-stop : (v b : ℕ) (t : List ℕ) → 10 ≤ digitVal b → moreFrom v (b ∷ t) ≡ got v (b ∷ t)
+unfolding moreFrom
 more-stop v b t h = rw (le-ltb _ _ h)
 
 unfoldable pub tens : ℕ → ℕ
@@ -71,20 +49,20 @@ unfolding tens
 small k n h = omega arith
 
 -- the digits of a number, read from 0
-more-decimal : (k n : ℕ) (t : List ℕ) → n < tens k → n ≤ 4294967295 → moreOf 0 (decimalTo k n ++ t) ≡ moreOf n t
+more-decimal : (k n : ℕ) (t : List ℕ) → n < tens k → n ≤ 4294967295 → moreFrom 0 (decimalTo k n ++ t) ≡ moreFrom n t
 unfolding decimalTo tens
 more-decimal zero n t h g = let e : n ≡ 0 = omega arith in rw e
 more-decimal (suc k) n t h g = go (λ u. more-decimal k (n / 10) u (small k n h) (omega arith)) (ltb n 10) refl
   where
-    go : ((u : List ℕ) → moreOf 0 (decimalTo k (n / 10) ++ u) ≡ moreOf (n / 10) u) → (b : Bool) → ltb n 10 ≡ b
-        → moreOf 0 (cond b ((48 + n) ∷ []) (decimalTo k (n / 10) ++ ((48 + n % 10) ∷ [])) ++ t) ≡ moreOf n t
+    go : ((u : List ℕ) → moreFrom 0 (decimalTo k (n / 10) ++ u) ≡ moreFrom (n / 10) u) → (b : Bool) → ltb n 10 ≡ b
+        → moreFrom 0 (cond b ((48 + n) ∷ []) (decimalTo k (n / 10) ++ ((48 + n % 10) ∷ [])) ++ t) ≡ moreFrom n t
     go ih true e = from-zero n t (ltb-true n 10 e)
     go ih false e =
         let f : n / 10 * 10 + n % 10 ≡ n = omega arith in
-        ap (moreOf 0) (append-snoc (decimalTo k (n / 10)) (48 + n % 10) t)
+        ap (moreFrom 0) (append-snoc (decimalTo k (n / 10)) (48 + n % 10) t)
         ∙ ih ((48 + n % 10) ∷ t)
         ∙ more-digit (n / 10) (n % 10) t (omega arith) (omega arith)
-        ∙ ap (λ (m : ℕ). moreOf m t) f
+        ∙ ap (λ (m : ℕ). moreFrom m t) f
 
 -- a number above 0 begins with a digit above 0
 record Lead (l : List ℕ) : Type 0 where
@@ -105,22 +83,22 @@ lead (suc k) n h g = go (λ l. lead k (n / 10) (omega arith) (small k n g)) (ltb
         let r : Lead (decimalTo k (n / 10)) = ih (ltb-false n 10 e) in
         record { d = r .d; rest = r .rest ++ ((48 + n % 10) ∷ []); is = rw (r .is); above = r .above; below = r .below }
 
-first-digit : (d : ℕ) (t : List ℕ) → 1 ≤ d → d < 10 → decimalOf ((48 + d) ∷ t) ≡ moreOf 0 ((48 + d) ∷ t)
-unfolding decimalOf
+first-digit : (d : ℕ) (t : List ℕ) → 1 ≤ d → d < 10 → decimalFrom ((48 + d) ∷ t) ≡ moreFrom 0 ((48 + d) ∷ t)
+unfolding decimalFrom
 first-digit d t h g = rw (digit d g, lt-ltb _ _ g, ne-eqb d 0 (λ z. omega arith)) (sym (from-zero d t g))
 
-lead-read : (l t : List ℕ) → Lead l → decimalOf (l ++ t) ≡ moreOf 0 (l ++ t)
+lead-read : (l t : List ℕ) → Lead l → decimalFrom (l ++ t) ≡ moreFrom 0 (l ++ t)
 lead-read l t r = rw (r .is) (first-digit (r .d) (r .rest ++ t) (r .above) (r .below))
 
-zero-read : (b : ℕ) (t : List ℕ) → decimalOf (decimal 0 ++ (b ∷ t)) ≡ got 0 (b ∷ t)
-unfolding decimal decimalTo decimalOf digitVal
+zero-read : (b : ℕ) (t : List ℕ) → decimalFrom (decimal 0 ++ (b ∷ t)) ≡ got 0 (b ∷ t)
+unfolding decimal decimalTo decimalFrom digitVal
 zero-read b t = refl
 
 pub few-tens : (n : ℕ) → n ≤ 4294967295 → n < tens 10
 unfolding tens
 few-tens n h = omega arith
 
-above : (m b : ℕ) (t : List ℕ) → suc m ≤ 4294967295 → 10 ≤ digitVal b → decimalOf (decimal (suc m) ++ (b ∷ t)) ≡ got (suc m) (b ∷ t)
+above : (m b : ℕ) (t : List ℕ) → suc m ≤ 4294967295 → 10 ≤ digitVal b → decimalFrom (decimal (suc m) ++ (b ∷ t)) ≡ got (suc m) (b ∷ t)
 unfolding decimal
 above m b t h g =
     lead-read (decimalTo 10 (suc m)) (b ∷ t) (lead 10 (suc m) (omega arith) (few-tens (suc m) h))
@@ -128,7 +106,7 @@ above m b t h g =
     ∙ more-stop (suc m) b t g
 
 -- a decimal and a byte that is no digit
-pub decimal-read : (n b : ℕ) (t : List ℕ) → n ≤ 4294967295 → 10 ≤ digitVal b → decimalOf (decimal n ++ (b ∷ t)) ≡ got n (b ∷ t)
+pub decimal-read : (n b : ℕ) (t : List ℕ) → n ≤ 4294967295 → 10 ≤ digitVal b → decimalFrom (decimal n ++ (b ∷ t)) ≡ got n (b ∷ t)
 decimal-read zero b t h g = zero-read b t
 decimal-read (suc m) b t h g = above m b t h g
 
@@ -145,34 +123,34 @@ hex-digit d h = go (ltb d 10) refl
         let f : 87 + d - 87 ≡ d = omega arith in
         rw (le-ltb (87 + d) 97 (omega arith), lt-ltb (87 + d) 103 (omega arith), f)
 
-hex-one : (j v d : ℕ) (t : List ℕ) → d < 16 → v < 1152921504606846976 → hexOf (suc j) v (glyph d ∷ t) ≡ hexOf j (v * 16 + d) t
-unfolding hexOf
+hex-one : (j v d : ℕ) (t : List ℕ) → d < 16 → v < 1152921504606846976 → hexFrom (suc j) v (glyph d ∷ t) ≡ hexFrom j (v * 16 + d) t
+unfolding hexFrom
 hex-one j v d t h g = rw (hex-digit d h, lt-ltb _ _ h, lt-ltb _ _ g)
 
 unfoldable pub sixteens : ℕ → ℕ
 sixteens zero = 1
 sixteens (suc k) = sixteens k * 16
 
-hex-all : (k i j n : ℕ) (t : List ℕ) → i ≡ k + j → n < sixteens k → n < 18446744073709551616 → hexOf i 0 (hexTo k n ++ t) ≡ hexOf j n t
+hex-all : (k i j n : ℕ) (t : List ℕ) → i ≡ k + j → n < sixteens k → n < 18446744073709551616 → hexFrom i 0 (hexTo k n ++ t) ≡ hexFrom j n t
 unfolding hexTo sixteens
 hex-all zero i j n t e h g = let z : n ≡ 0 = omega arith in let y : i ≡ j = omega arith in rw (z, y)
 hex-all (suc k) i j n t e h g =
     let f : n / 16 * 16 + n % 16 ≡ n = omega arith in
     let s : n / 16 < sixteens k = omega arith in
     let y : i ≡ k + suc j = omega arith in
-    ap (hexOf i 0) (append-snoc (hexTo k (n / 16)) (glyph (n % 16)) t)
+    ap (hexFrom i 0) (append-snoc (hexTo k (n / 16)) (glyph (n % 16)) t)
     ∙ hex-all k i (suc j) (n / 16) (glyph (n % 16) ∷ t) y s (omega arith)
     ∙ hex-one j (n / 16) (n % 16) t (omega arith) (omega arith)
-    ∙ ap (λ (m : ℕ). hexOf j m t) f
+    ∙ ap (λ (m : ℕ). hexFrom j m t) f
 
 few-sixteens : (n : ℕ) → n < 18446744073709551616 → n < sixteens 16
 unfolding sixteens
 few-sixteens n h = h
 
-hex-none : (v : ℕ) (t : List ℕ) → hexOf 0 v t ≡ got v t
-unfolding hexOf
+hex-none : (v : ℕ) (t : List ℕ) → hexFrom 0 v t ≡ got v t
+unfolding hexFrom
 hex-none v t = refl
 
-pub hex-read : (n : ℕ) (t : List ℕ) → n < 18446744073709551616 → hexOf 16 0 (hex n ++ t) ≡ got n t
+pub hex-read : (n : ℕ) (t : List ℕ) → n < 18446744073709551616 → hexFrom 16 0 (hex n ++ t) ≡ got n t
 unfolding hex
 hex-read n t h = hex-all 16 16 0 n t refl (few-sixteens n h) h ∙ hex-none n t

@@ -10,49 +10,21 @@ use lib.ListN.{length, take, drop, length-append, length-take, length-drop}
 use lib.Seq.{append-snoc, length-take-le, take-add}
 use lib.Ieee.{Float}
 use Rattle.text.specs.Text.{space, close, newline, nodeWord, cellWord, meshWord, overlayWord, decimal, hex, nodeText, nodesText, numbersText, cellText, cellsText}
-use Rattle.text.specs.Read.{
-  Rest,
-  no,
-  past,
-  Parsed,
-  none,
-  got,
-  orElse,
-  andThen,
-  after,
-  wordOf,
-  digitVal,
-  decimalOf,
-  hexOf,
-  repeated,
-  coordinate,
-  nodeOf,
-  nodeStep,
-  nodesOf,
-  entryStep,
-  entriesOf,
-  Heading,
-  headOf,
-  Cell,
-  Cells,
-  cellOf,
-  addCell,
-  cellStep,
-  cellsOf,
-}
-use Rattle.text.specs.Inputs.{Coords, no-coords, pair, Small, no-numbers, number, Rises, no-cells, cell}
+use Rattle.text.specs.Read.{Rest, no, past, ifWord, andThen, afterWord, wordFrom, digitVal, decimalFrom, hexFrom, repeated, nodeFrom, nodeStep, nodesFrom, entryStep, entriesFrom, Heading, headFrom, Cell, cellFrom, addCell, cellStep, cellsFrom}
+use Rattle.text.specs.Given.{Parsed, none, got, coordinate, Cells}
+use Rattle.text.specs.Inputs.{Coords, no-coords, pair, Small, no-numbers, small, Rises, no-cells, cell}
 use Rattle.text.proofs.Repeats.{repeated-stop}
 use Rattle.text.proofs.Inverse.{word-self, decimal-read, hex-read}
 
 -- ---- one more of many
 one : {A : Type 0} (w : List ℕ) (f : A → List ℕ → Parsed A) (k : ℕ) (a a₁ : A) (u t : List ℕ) → f a u ≡ got a₁ t → repeated w f (suc k) a (w ++ u) ≡ repeated w f k a₁ t
-unfolding repeated orElse andThen
+unfolding repeated ifWord andThen
 one w f k a a₁ u t e = rw (word-self w u, e)
 
 -- ---- node lines
 pub node-read : (x y : ℕ) (t : List ℕ) → x < 18446744073709551616 → y < 18446744073709551616
-    → nodeOf (hex x ++ (space ++ (hex y ++ (close ++ t)))) ≡ got (coordinate x ∷ coordinate y ∷ []) t
-unfolding nodeOf andThen after
+    → nodeFrom (hex x ++ (space ++ (hex y ++ (close ++ t)))) ≡ got (coordinate x ∷ coordinate y ∷ []) t
+unfolding nodeFrom andThen afterWord
 node-read x y t h g = rw (hex-read x (space ++ (hex y ++ (close ++ t))) h, word-self space (hex y ++ (close ++ t)), hex-read y (close ++ t) g, word-self close t)
 
 node-step : (x y : ℕ) (cs : List Float) (t : List ℕ) → x < 18446744073709551616 → y < 18446744073709551616
@@ -64,13 +36,13 @@ node-apart : (x y : ℕ) (bs t : List ℕ) → nodesText (x ∷ y ∷ bs) ++ t �
 unfolding nodesText nodeText
 node-apart x y bs t = simp append-assoc
 
-none-left : (k : ℕ) (cs : List Float) (t : List ℕ) → wordOf nodeWord t ≡ no → repeated nodeWord nodeStep k cs (nodesText [] ++ t) ≡ got (cs ++ []) t
+none-left : (k : ℕ) (cs : List Float) (t : List ℕ) → wordFrom nodeWord t ≡ no → repeated nodeWord nodeStep k cs (nodesText [] ++ t) ≡ got (cs ++ []) t
 unfolding nodesText
 none-left k cs t s = repeated-stop nodeWord nodeStep cs t k s ∙ ap (λ (l : List Float). got l t) (sym (append-nil cs))
 
-pub nodes-read : {bs : List ℕ} (k : ℕ) (cs : List Float) (t : List ℕ) → Coords bs → length bs ≤ 2 * k → wordOf nodeWord t ≡ no
-    → nodesOf k cs (nodesText bs ++ t) ≡ got (cs ++ map coordinate bs) t
-unfolding nodesOf
+pub nodes-read : {bs : List ℕ} (k : ℕ) (cs : List Float) (t : List ℕ) → Coords bs → length bs ≤ 2 * k → wordFrom nodeWord t ≡ no
+    → nodesFrom k cs (nodesText bs ++ t) ≡ got (cs ++ map coordinate bs) t
+unfolding nodesFrom
 nodes-read k cs t no-coords l s = none-left k cs t s
 nodes-read zero cs t (pair hx hy c) l s = absurd (not-suc-le-zero l)
 nodes-read (suc k) cs t (pair {x} {y} {bs} hx hy c) l s =
@@ -100,7 +72,7 @@ pub stop-newline : (t : List ℕ) → Stop (newline ++ t)
 unfolding digitVal
 stop-newline t = record { b = 10; rest = t; is = refl; stops = omega arith }
 
-pub before-stop : (n : ℕ) (t : List ℕ) → n ≤ 4294967295 → Stop t → decimalOf (decimal n ++ t) ≡ got n t
+pub before-stop : (n : ℕ) (t : List ℕ) → n ≤ 4294967295 → Stop t → decimalFrom (decimal n ++ t) ≡ got n t
 before-stop n t h s = rw (s .is) (decimal-read n (s .b) (s .rest) h (s .stops))
 
 pub stop-numbers : (ns t : List ℕ) → Stop (numbersText ns ++ (close ++ t))
@@ -116,19 +88,19 @@ entry-step : (n : ℕ) (ns t : List ℕ) → n ≤ 4294967295 → Stop t → ent
 unfolding entryStep andThen
 entry-step n ns t h s = rw (before-stop n t h s)
 
-no-space : (t : List ℕ) → wordOf space (close ++ t) ≡ no
-unfolding wordOf
+no-space : (t : List ℕ) → wordFrom space (close ++ t) ≡ no
+unfolding wordFrom
 no-space t = refl
 
 no-more : (k : ℕ) (ns t : List ℕ) → repeated space entryStep k ns (numbersText [] ++ (close ++ t)) ≡ got (ns ++ []) (close ++ t)
 unfolding numbersText
 no-more k ns t = repeated-stop space entryStep ns (close ++ t) k (no-space t) ∙ ap (λ (l : List ℕ). got l (close ++ t)) (sym (append-nil ns))
 
-pub entries-read : {ms : List ℕ} (k : ℕ) (ns t : List ℕ) → Small ms → length ms ≤ k → entriesOf k ns (numbersText ms ++ (close ++ t)) ≡ got (ns ++ ms) (close ++ t)
-unfolding entriesOf
+pub entries-read : {ms : List ℕ} (k : ℕ) (ns t : List ℕ) → Small ms → length ms ≤ k → entriesFrom k ns (numbersText ms ++ (close ++ t)) ≡ got (ns ++ ms) (close ++ t)
+unfolding entriesFrom
 entries-read k ns t no-numbers l = no-more k ns t
-entries-read zero ns t (number h c) l = absurd (not-suc-le-zero l)
-entries-read (suc k) ns t (number {n} {ns = ms} h c) l =
+entries-read zero ns t (small h c) l = absurd (not-suc-le-zero l)
+entries-read (suc k) ns t (small {n} {ns = ms} h c) l =
     ap (repeated space entryStep (suc k) ns) (number-apart n ms (close ++ t))
     ∙ one space entryStep k ns (ns ++ (n ∷ [])) (decimal n ++ (numbersText ms ++ (close ++ t))) (numbersText ms ++ (close ++ t))
     (entry-step n ns (numbersText ms ++ (close ++ t)) h (stop-numbers ms t))
@@ -136,14 +108,14 @@ entries-read (suc k) ns t (number {n} {ns = ms} h c) l =
     ∙ ap (λ (l : List ℕ). got l (close ++ t)) (append-assoc ns (n ∷ []) ms)
 
 -- ---- cell lines
-pub head-read : (k f : ℕ) (t : List ℕ) → k ≤ 255 → f ≤ 4294967295 → Stop t → headOf (decimal k ++ (space ++ (decimal f ++ t))) ≡ got (record { kind = k; family = f }) t
-unfolding headOf andThen after
+pub head-read : (k f : ℕ) (t : List ℕ) → k ≤ 255 → f ≤ 4294967295 → Stop t → headFrom (decimal k ++ (space ++ (decimal f ++ t))) ≡ got (record { kind = k; family = f }) t
+unfolding headFrom andThen afterWord
 head-read k f t h g s =
     rw (before-stop k (space ++ (decimal f ++ t)) (omega arith) (stop-space (decimal f ++ t)), le-leb k 255 h, word-self space (decimal f ++ t), before-stop f t g s)
 
 pub cell-read : (room k f : ℕ) (ns ms t : List ℕ) → k ≤ 255 → f ≤ 4294967295 → Small ms → length ns + length ms ≤ room
-    → cellOf room ns (decimal k ++ (space ++ (decimal f ++ (numbersText ms ++ (close ++ t))))) ≡ got (record { heading = record { kind = k; family = f }; nodes = ns ++ ms }) t
-unfolding cellOf andThen after
+    → cellFrom room ns (decimal k ++ (space ++ (decimal f ++ (numbersText ms ++ (close ++ t))))) ≡ got (record { heading = record { kind = k; family = f }; nodes = ns ++ ms }) t
+unfolding cellFrom andThen afterWord
 cell-read room k f ns ms t h g c l =
     rw (head-read k f (numbersText ms ++ (close ++ t)) h g (stop-numbers ms t), entries-read (room - length ns) ns t c (omega arith), word-self close t)
 
@@ -169,14 +141,14 @@ cell-step room n e k f ns xs ys zs t h g r hk hf c =
     let z : length (take e ns) ≡ e = length-take-le e ns g in
     rw (cell-read room k f (take n ns) (take (e - n) (drop n ns)) t hk hf c (omega arith), upto ns n e h, z)
 
-no-word : (k room n : ℕ) (ns xs ys zs t : List ℕ) → wordOf cellWord t ≡ no
+no-word : (k room n : ℕ) (ns xs ys zs t : List ℕ) → wordFrom cellWord t ≡ no
     → repeated cellWord (cellStep room) k (so-far ns n xs ys zs) (cellsText n ns [] [] [] ++ t) ≡ got (so-far ns n (xs ++ []) (ys ++ []) (zs ++ [])) t
 unfolding cellsText so-far
 no-word k room n ns xs ys zs t s = rw (append-nil xs, append-nil ys, append-nil zs) (repeated-stop cellWord (cellStep room) (so-far ns n xs ys zs) t k s)
 
-pub cells-read : {n m : ℕ} {es ks fs : List ℕ} (k room : ℕ) (ns xs ys zs t : List ℕ) → Rises ns n es ks fs m → length es ≤ k → length ns ≤ room → wordOf cellWord t ≡ no
-    → cellsOf room k (so-far ns n xs ys zs) (cellsText n ns es ks fs ++ t) ≡ got (so-far ns m (xs ++ es) (ys ++ ks) (zs ++ fs)) t
-unfolding cellsOf
+pub cells-read : {n m : ℕ} {es ks fs : List ℕ} (k room : ℕ) (ns xs ys zs t : List ℕ) → Rises ns n es ks fs m → length es ≤ k → length ns ≤ room → wordFrom cellWord t ≡ no
+    → cellsFrom room k (so-far ns n xs ys zs) (cellsText n ns es ks fs ++ t) ≡ got (so-far ns m (xs ++ es) (ys ++ ks) (zs ++ fs)) t
+unfolding cellsFrom
 cells-read {n} k room ns xs ys zs t no-cells l r s = no-word k room n ns xs ys zs t s
 cells-read zero room ns xs ys zs t (cell h g hk hf c d) l r s = absurd (not-suc-le-zero l)
 cells-read {n} {m} (suc j) room ns xs ys zs t (cell {e = e} {k = k} {f = f} {es = es} {ks = ks} {fs = fs} h g hk hf c d) l r s =

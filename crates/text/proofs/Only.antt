@@ -8,7 +8,8 @@ use borrow.Author.Tests.{lt-ltb, le-ltb, ltb-true, ltb-false, leb-true, eqb-true
 use lib.Dec.{ltb, leb, eqb}
 use lib.Seq.{append-snoc}
 use Rattle.text.specs.Text.{decimalTo, decimal, glyph, hexTo, hex}
-use Rattle.text.specs.Read.{Rest, no, past, Parsed, none, got, orElse, andThen, after, wordOf, digitVal, hexVal, moreOf, decimalOf, hexOf, repeated}
+use Rattle.text.specs.Read.{Rest, no, past, ifWord, andThen, afterWord, wordFrom, digitVal, hexVal, moreFrom, decimalFrom, hexFrom, repeated}
+use Rattle.text.specs.Given.{Parsed, none, got}
 use Rattle.text.proofs.Inverse.{tens, small, sixteens}
 
 -- ---- what was read came from its parts
@@ -32,8 +33,8 @@ module _ {A : Type 0} where
     pub word : r ≡ past rest
     pub second : f rest ≡ got a u
 
-  pub after-got : {a : A} {u : List ℕ} (r : Rest) (f : List ℕ → Parsed A) → after r f ≡ got a u → After r f a u
-  unfolding after
+  pub after-got : {a : A} {u : List ℕ} (r : Rest) (f : List ℕ → Parsed A) → afterWord r f ≡ got a u → After r f a u
+  unfolding afterWord
   after-got no f e = absurd (none-got e)
   after-got (past t) f e = record { rest = t; word = refl; second = e }
 
@@ -51,13 +52,13 @@ module _ {A : Type 0} where
   moved {a} {b} {t} P e p = subst (λ (l : List ℕ). P b l) (same-rest e) (subst (λ (x : A). P x t) (same-value e) p)
 
 -- ---- words
-pub word-only : {u : List ℕ} (w t : List ℕ) → wordOf w t ≡ past u → t ≡ w ++ u
-unfolding wordOf
+pub word-only : {u : List ℕ} (w t : List ℕ) → wordFrom w t ≡ past u → t ≡ w ++ u
+unfolding wordFrom
 word-only [] t e = cc
 word-only (c ∷ w) [] e = absurd (let z : _≡_ {A = ℕ} 0 1 = cc in omega arith)
 word-only {u} (c ∷ w) (b ∷ t) e = go (λ h. word-only w t h) (eqb b c) refl e
   where
-    go : (wordOf w t ≡ past u → t ≡ w ++ u) → (x : Bool) → eqb b c ≡ x → cond x (wordOf w t) no ≡ past u → b ∷ t ≡ c ∷ (w ++ u)
+    go : (wordFrom w t ≡ past u → t ≡ w ++ u) → (x : Bool) → eqb b c ≡ x → cond x (wordFrom w t) no ≡ past u → b ∷ t ≡ c ∷ (w ++ u)
     go ih true h g = rw (eqb-true b c h, ih g)
     go ih false h g = absurd (let z : _≡_ {A = ℕ} 0 1 = cc in omega arith)
 
@@ -101,14 +102,14 @@ pub record Printed (n : ℕ) (t u : List ℕ) : Type 0 where
   pub is : t ≡ decimal n ++ u
   pub fits : n ≤ 4294967295
 
-more-only : {n : ℕ} {u : List ℕ} (v : ℕ) (t : List ℕ) → 1 ≤ v → v ≤ 4294967295 → moreOf v t ≡ got n u → Printed n (decimal v ++ t) u
-unfolding moreOf
+more-only : {n : ℕ} {u : List ℕ} (v : ℕ) (t : List ℕ) → 1 ≤ v → v ≤ 4294967295 → moreFrom v t ≡ got n u → Printed n (decimal v ++ t) u
+unfolding moreFrom
 more-only v [] h l e = let p : v ≡ _ = same-value e in let q : [] ≡ _ = same-rest e in record { is = rw (p, q); fits = rw (sym p) l }
 more-only {n} {u} v (b ∷ t) h l e = go (λ i j f. more-only (v * 10 + digitVal b) t i j f) (ltb (digitVal b) 10) refl (leb (v * 10 + digitVal b) 4294967295) refl e
   where
-    go : (1 ≤ v * 10 + digitVal b → v * 10 + digitVal b ≤ 4294967295 → moreOf (v * 10 + digitVal b) t ≡ got n u → Printed n (decimal (v * 10 + digitVal b) ++ t) u)
+    go : (1 ≤ v * 10 + digitVal b → v * 10 + digitVal b ≤ 4294967295 → moreFrom (v * 10 + digitVal b) t ≡ got n u → Printed n (decimal (v * 10 + digitVal b) ++ t) u)
         → (x : Bool) → ltb (digitVal b) 10 ≡ x → (y : Bool) → leb (v * 10 + digitVal b) 4294967295 ≡ y
-        → cond x (cond y (moreOf (v * 10 + digitVal b) t) none) (got v (b ∷ t)) ≡ got n u → Printed n (decimal v ++ (b ∷ t)) u
+        → cond x (cond y (moreFrom (v * 10 + digitVal b) t) none) (got v (b ∷ t)) ≡ got n u → Printed n (decimal v ++ (b ∷ t)) u
     go ih true f true g k =
         let d : digitVal b < 10 = ltb-true (digitVal b) 10 f in
         let m : v * 10 + digitVal b ≤ 4294967295 = leb-true (v * 10 + digitVal b) 4294967295 g in
@@ -132,12 +133,12 @@ positive : (m : ℕ) → (m ≡ 0 → ⊥) → 1 ≤ m
 positive zero h = absurd (h refl)
 positive (suc m) h = omega arith
 
-pub decimal-only : {n : ℕ} {u : List ℕ} (t : List ℕ) → decimalOf t ≡ got n u → Printed n t u
-unfolding decimalOf
+pub decimal-only : {n : ℕ} {u : List ℕ} (t : List ℕ) → decimalFrom t ≡ got n u → Printed n t u
+unfolding decimalFrom
 decimal-only [] e = absurd (none-got e)
 decimal-only {n} {u} (b ∷ t) e = go (ltb (digitVal b) 10) refl (eqb (digitVal b) 0) refl e
   where
-    go : (x : Bool) → ltb (digitVal b) 10 ≡ x → (y : Bool) → eqb (digitVal b) 0 ≡ y → cond x (cond y (got 0 t) (moreOf (digitVal b) t)) none ≡ got n u → Printed n (b ∷ t) u
+    go : (x : Bool) → ltb (digitVal b) 10 ≡ x → (y : Bool) → eqb (digitVal b) 0 ≡ y → cond x (cond y (got 0 t) (moreFrom (digitVal b) t)) none ≡ got n u → Printed n (b ∷ t) u
     go true f true g k =
         let d : digitVal b < 10 = ltb-true (digitVal b) 10 f in
         let z : digitVal b ≡ 0 = eqb-true (digitVal b) 0 g in
@@ -185,8 +186,8 @@ record Digits (i n : ℕ) (t u : List ℕ) : Type 0 where
   is : t ≡ hexTo i n ++ u
   fits : n < sixteens i
 
-hex-from : {n : ℕ} {u : List ℕ} (k i j v : ℕ) (t : List ℕ) → i ≡ k + j → v < sixteens j → hexOf k v t ≡ got n u → Digits i n (hexTo j v ++ t) u
-unfolding hexOf sixteens
+hex-from : {n : ℕ} {u : List ℕ} (k i j v : ℕ) (t : List ℕ) → i ≡ k + j → v < sixteens j → hexFrom k v t ≡ got n u → Digits i n (hexTo j v ++ t) u
+unfolding hexFrom sixteens
 hex-from zero i j v t h l e =
     let p : v ≡ _ = same-value e in
     let q : t ≡ _ = same-rest e in
@@ -196,7 +197,7 @@ hex-from (suc k) i j v [] h l e = absurd (none-got e)
 hex-from {n} {u} (suc k) i j v (b ∷ t) h l e =
     go (λ g f. hex-from k i (suc j) (v * 16 + hexVal b) t (omega arith) g f)
   where
-    go : (v * 16 + hexVal b < sixteens j * 16 → hexOf k (v * 16 + hexVal b) t ≡ got n u → Digits i n (hexTo (suc j) (v * 16 + hexVal b) ++ t) u)
+    go : (v * 16 + hexVal b < sixteens j * 16 → hexFrom k (v * 16 + hexVal b) t ≡ got n u → Digits i n (hexTo (suc j) (v * 16 + hexVal b) ++ t) u)
         → Digits i n (hexTo j v ++ (b ∷ t)) u
     go ih =
         let c = cond-got (ltb (hexVal b) 16) _ e in
@@ -215,7 +216,7 @@ pub record Pattern (n : ℕ) (t u : List ℕ) : Type 0 where
   pub is : t ≡ hex n ++ u
   pub fits : n < 18446744073709551616
 
-pub hex-only : {n : ℕ} {u : List ℕ} (t : List ℕ) → hexOf 16 0 t ≡ got n u → Pattern n t u
+pub hex-only : {n : ℕ} {u : List ℕ} (t : List ℕ) → hexFrom 16 0 t ≡ got n u → Pattern n t u
 unfolding hex hexTo sixteens
 hex-only t e = let r = hex-from 16 16 0 0 t refl (omega arith) e in record { is = r .is; fits = r .fits }
 
@@ -235,12 +236,12 @@ module _ {A : Type 0} (w : List ℕ) (f : A → List ℕ → Parsed A) where
   stopped {a} {t = t} k e = moved (λ b u. Turned k a b t u) e (record { count = 0; most = omega arith; turns = no-more })
 
   pub repeated-only : {b : A} {u : List ℕ} (k : ℕ) (a : A) (t : List ℕ) → repeated w f k a t ≡ got b u → Turned k a b t u
-  unfolding repeated orElse
+  unfolding repeated ifWord
   repeated-only zero a t e = stopped zero e
-  repeated-only {b} {u} (suc k) a t e = go (λ a₁ t₂ g. repeated-only k a₁ t₂ g) (wordOf w t) refl e
+  repeated-only {b} {u} (suc k) a t e = go (λ a₁ t₂ g. repeated-only k a₁ t₂ g) (wordFrom w t) refl e
     where
-      go : ((a₁ : A) (t₂ : List ℕ) → repeated w f k a₁ t₂ ≡ got b u → Turned k a₁ b t₂ u) → (r : Rest) → wordOf w t ≡ r
-          → orElse r (λ t₁. andThen (f a t₁) (λ a₁ t₂. repeated w f k a₁ t₂)) (got a t) ≡ got b u → Turned (suc k) a b t u
+      go : ((a₁ : A) (t₂ : List ℕ) → repeated w f k a₁ t₂ ≡ got b u → Turned k a₁ b t₂ u) → (r : Rest) → wordFrom w t ≡ r
+          → ifWord r (λ t₁. andThen (f a t₁) (λ a₁ t₂. repeated w f k a₁ t₂)) (got a t) ≡ got b u → Turned (suc k) a b t u
       go ih no h g = stopped (suc k) g
       go ih (past t₁) h g =
           let p = then-got (f a t₁) (λ a₁ t₂. repeated w f k a₁ t₂) g in

@@ -9,34 +9,14 @@ use lib.Dec.{leb, eqb}
 use lib.ListN.{length}
 use lib.Ieee.{Float}
 use Rattle.text.specs.Text.{space, newline, close, overlayWord, meshWord, nodeWord, cellWord, decimal, nodesText, cellsText, Bits, bodyText, meshText, firstText, inputText}
-use Rattle.text.specs.Read.{
-  Parsed,
-  none,
-  got,
-  wordOf,
-  decimalOf,
-  repeated,
-  coordinate,
-  nodeStep,
-  nodesOf,
-  cellStep,
-  Cells,
-  cellsOf,
-  Limits,
-  Mesh,
-  meshOf,
-  First,
-  firstOf,
-  Given,
-  inputOf,
-  empty,
-}
+use Rattle.text.specs.Read.{wordFrom, decimalFrom, repeated, nodeStep, nodesFrom, cellStep, cellsFrom, meshFrom, firstFrom, inputFrom, empty}
+use Rattle.text.specs.Given.{Parsed, none, got, coordinate, Cells, Limits, ReadMesh, First, Given}
 use Rattle.text.specs.Inputs.{Fine, read, Within, Input, textOf, given, Readable}
 use Rattle.text.proofs.Inputs.{mesh-apart, first-apart, input-back}
 use Rattle.text.proofs.Only.{then-got, after-got, cond-got, moved, none-got, same-value, same-rest, word-only, decimal-only, repeated-only}
 use Rattle.text.proofs.OnlyLines.{nodes-turns, cells-turns}
 
-record MeshOf (l : Limits) (m : Mesh) (t u : List ℕ) : Type 0 where
+record MeshOf (l : Limits) (m : ReadMesh) (t u : List ℕ) : Type 0 where
   bits : Bits
   fine : Fine bits
   within : Within l bits
@@ -48,13 +28,13 @@ same-mesh : (m : Bits) (cs : List Float) (cl : Cells) → cs ≡ map coordinate 
 unfolding read
 same-mesh m cs cl p q r s t = rw (← p, ← q, ← r, ← s, ← t)
 
-mesh-only : {m : Mesh} {u : List ℕ} (l : Limits) (t : List ℕ) → meshOf l t ≡ got m u → MeshOf l m t u
-unfolding meshOf nodesOf cellsOf read
+mesh-only : {m : ReadMesh} {u : List ℕ} (l : Limits) (t : List ℕ) → meshFrom l t ≡ got m u → MeshOf l m t u
+unfolding meshFrom nodesFrom cellsFrom read
 mesh-only l t e =
-    let a = after-got (wordOf meshWord t) _ e in
+    let a = after-got (wordFrom meshWord t) _ e in
     let b = then-got (repeated nodeWord nodeStep (l .nodes) [] (a .rest)) _ (a .second) in
     let c = then-got (repeated cellWord (cellStep (l .entries)) (l .cells) empty (b .rest)) _ (b .second) in
-    let d = after-got (wordOf close (c .rest)) _ (c .second) in
+    let d = after-got (wordFrom close (c .rest)) _ (c .second) in
     let n = repeated-only nodeWord nodeStep (l .nodes) [] (a .rest) (b .first) in
     let k = repeated-only cellWord (cellStep (l .entries)) (l .cells) empty (b .rest) (c .first) in
     let p = nodes-turns (n .turns) in
@@ -78,14 +58,14 @@ record FirstOf (h : First) (t u : List ℕ) : Type 0 where
   m : h .m ≤ 4294967295
   is : t ≡ firstText (h .op) (h .m) ++ u
 
-first-only : {h : First} {u : List ℕ} (t : List ℕ) → firstOf t ≡ got h u → FirstOf h t u
-unfolding firstOf
+first-only : {h : First} {u : List ℕ} (t : List ℕ) → firstFrom t ≡ got h u → FirstOf h t u
+unfolding firstFrom
 first-only t e =
-    let a = after-got (wordOf overlayWord t) _ e in
-    let b = then-got (decimalOf (a .rest)) _ (a .second) in
-    let c = after-got (wordOf space (b .rest)) _ (b .second) in
-    let d = then-got (decimalOf (c .rest)) _ (c .second) in
-    let f = after-got (wordOf newline (d .rest)) _ (d .second) in
+    let a = after-got (wordFrom overlayWord t) _ e in
+    let b = then-got (decimalFrom (a .rest)) _ (a .second) in
+    let c = after-got (wordFrom space (b .rest)) _ (b .second) in
+    let d = then-got (decimalFrom (c .rest)) _ (c .second) in
+    let f = after-got (wordFrom newline (d .rest)) _ (d .second) in
     let p = decimal-only (a .rest) (b .first) in
     let q = decimal-only (c .rest) (d .first) in
     moved (λ h u. FirstOf h t u) (f .second)
@@ -111,17 +91,17 @@ empty-rest : (l : List ℕ) → length l ≡ 0 → l ≡ []
 empty-rest [] e = refl
 empty-rest (x ∷ l) e = absurd (omega (arith, e))
 
-same-given : (f : First) {s s′ c c′ : Mesh} → s ≡ s′ → c ≡ c′ → _≡_ {A = Given} (record { first = f; subject = s; cutter = c }) (record { first = f; subject = s′; cutter = c′ })
+same-given : (f : First) {s s′ c c′ : ReadMesh} → s ≡ s′ → c ≡ c′ → _≡_ {A = Given} (record { first = f; subject = s; cutter = c }) (record { first = f; subject = s′; cutter = c′ })
 same-given f p q = rw (p, q)
 
-pub input-only : {g : Given} {u : List ℕ} (l k : Limits) (t : List ℕ) → inputOf l k t ≡ got g u → InputOf l k g t
-unfolding inputOf inputText
+pub input-only : {g : Given} {u : List ℕ} (l k : Limits) (t : List ℕ) → inputFrom l k t ≡ got g u → InputOf l k g t
+unfolding inputFrom inputText
 input-only l k t e =
     let z = cond-got (leb (length t) 65536) _ e in
-    let a = then-got (firstOf t) _ (z .1) in
-    let b = then-got (meshOf l (a .rest)) _ (a .second) in
-    let c = then-got (meshOf k (b .rest)) _ (b .second) in
-    let d = after-got (wordOf close (c .rest)) _ (c .second) in
+    let a = then-got (firstFrom t) _ (z .1) in
+    let b = then-got (meshFrom l (a .rest)) _ (a .second) in
+    let c = then-got (meshFrom k (b .rest)) _ (b .second) in
+    let d = after-got (wordFrom close (c .rest)) _ (c .second) in
     let n = cond-got (eqb (length (d .rest)) 0) _ (d .second) in
     let f = first-only t (a .first) in
     let s = mesh-only l (a .rest) (b .first) in
@@ -149,12 +129,12 @@ input-only l k t e =
 
 -- a text is unread exactly where it is the text of no input
 module _ (l k : Limits) (t : List ℕ) where
-  pub unread-none : inputOf l k t ≡ none → (i : Input) → Readable l k i → textOf i ≡ t → ⊥
-  unread-none e i r q = none-got (sym e ∙ ap (inputOf l k) (sym q) ∙ input-back l k i r)
+  pub unread-none : inputFrom l k t ≡ none → (i : Input) → Readable l k i → textOf i ≡ t → ⊥
+  unread-none e i r q = none-got (sym e ∙ ap (inputFrom l k) (sym q) ∙ input-back l k i r)
 
-  pub none-unread : ((i : Input) → Readable l k i → textOf i ≡ t → ⊥) → inputOf l k t ≡ none
-  none-unread h = go (inputOf l k t) refl
+  pub none-unread : ((i : Input) → Readable l k i → textOf i ≡ t → ⊥) → inputFrom l k t ≡ none
+  none-unread h = go (inputFrom l k t) refl
     where
-      go : (p : Parsed Given) → inputOf l k t ≡ p → p ≡ none
+      go : (p : Parsed Given) → inputFrom l k t ≡ p → p ≡ none
       go none e = refl
       go (got g u) e = let r = input-only l k t e in absurd (h (r .input) (r .readable) (sym (r .is)))

@@ -10,31 +10,9 @@ use lib.ListN.{length, take, drop, length-append}
 use lib.Seq.{take-at, drop-at}
 use lib.Ieee.{Float}
 use Rattle.text.specs.Text.{space, close, nodeWord, cellWord, decimal, hex, nodeText, nodesText, numbersText, cellText, cellsText}
-use Rattle.text.specs.Read.{
-  Parsed,
-  got,
-  andThen,
-  after,
-  wordOf,
-  decimalOf,
-  hexOf,
-  repeated,
-  coordinate,
-  nodeOf,
-  nodeStep,
-  nodesOf,
-  entryStep,
-  entriesOf,
-  Heading,
-  headOf,
-  Cell,
-  Cells,
-  cellOf,
-  addCell,
-  cellStep,
-  cellsOf,
-}
-use Rattle.text.specs.Inputs.{Coords, no-coords, pair, Small, no-numbers, number, Rises, no-cells, cell}
+use Rattle.text.specs.Read.{andThen, afterWord, wordFrom, decimalFrom, hexFrom, repeated, nodeFrom, nodeStep, nodesFrom, entryStep, entriesFrom, Heading, headFrom, Cell, cellFrom, addCell, cellStep, cellsFrom}
+use Rattle.text.specs.Given.{Parsed, got, coordinate, Cells}
+use Rattle.text.specs.Inputs.{Coords, no-coords, pair, Small, no-numbers, small, Rises, no-cells, cell}
 use Rattle.text.proofs.Lines.{cell-apart}
 use Rattle.text.proofs.Only.{
   Then,
@@ -64,13 +42,13 @@ record Node (p : List Float) (t u : List ℕ) : Type 0 where
   coords : p ≡ coordinate x ∷ coordinate y ∷ []
   is : t ≡ hex x ++ (space ++ (hex y ++ (close ++ u)))
 
-node-only : {p : List Float} {u : List ℕ} (t : List ℕ) → nodeOf t ≡ got p u → Node p t u
-unfolding nodeOf
+node-only : {p : List Float} {u : List ℕ} (t : List ℕ) → nodeFrom t ≡ got p u → Node p t u
+unfolding nodeFrom
 node-only t e =
-    let a = then-got (hexOf 16 0 t) _ e in
-    let b = after-got (wordOf space (a .rest)) _ (a .second) in
-    let c = then-got (hexOf 16 0 (b .rest)) _ (b .second) in
-    let d = after-got (wordOf close (c .rest)) _ (c .second) in
+    let a = then-got (hexFrom 16 0 t) _ e in
+    let b = after-got (wordFrom space (a .rest)) _ (a .second) in
+    let c = then-got (hexFrom 16 0 (b .rest)) _ (b .second) in
+    let d = after-got (wordFrom close (c .rest)) _ (c .second) in
     let x = hex-only t (a .first) in
     let y = hex-only (b .rest) (c .first) in
     record {
@@ -95,7 +73,7 @@ unfolding nodeStep nodesText nodeText
 nodes-turns {cs = cs} no-more = record { bits = []; fits = no-coords; count = refl; coords = sym (append-nil cs); is = refl }
 nodes-turns {cs = cs} (turn {n = n} {a₁ = ds} {b = es} {t₁ = t₁} {t₂ = t₂} {u = u} w e r) =
     let s = nodes-turns r in
-    let a = then-got (nodeOf t₁) _ e in
+    let a = then-got (nodeFrom t₁) _ e in
     let p = node-only t₁ (a .first) in
     let d : cs ++ a .value ≡ ds = same-value (a .second) in
     let v : a .rest ≡ t₂ = same-rest (a .second) in
@@ -121,13 +99,13 @@ unfolding entryStep numbersText
 entries-turns {ns = ns} no-more = record { own = []; fits = no-numbers; count = refl; nodes = sym (append-nil ns); is = refl }
 entries-turns {ns = ns} (turn {a₁ = ms} {t₁ = t₁} {t₂ = t₂} w e r) =
     let s = entries-turns r in
-    let a = then-got (decimalOf t₁) _ e in
+    let a = then-got (decimalFrom t₁) _ e in
     let p = decimal-only t₁ (a .first) in
     let d : ns ++ (a .value ∷ []) ≡ ms = same-value (a .second) in
     let v : a .rest ≡ t₂ = same-rest (a .second) in
     record {
       own = a .value ∷ s .own;
-      fits = number (p .fits) (s .fits);
+      fits = small (p .fits) (s .fits);
       count = ap suc (s .count);
       nodes = s .nodes ∙ ap (λ (l : List ℕ). l ++ s .own) (sym d) ∙ append-assoc ns (a .value ∷ []) (s .own);
       is = w ∙ ap (λ (l : List ℕ). space ++ l) (p .is ∙ ap (λ (l : List ℕ). decimal (a .value) ++ l) (v ∙ s .is)) ∙ simp append-assoc;
@@ -139,13 +117,13 @@ record Head (h : Heading) (t u : List ℕ) : Type 0 where
   family : h .family ≤ 4294967295
   is : t ≡ decimal (h .kind) ++ (space ++ (decimal (h .family) ++ u))
 
-head-only : {h : Heading} {u : List ℕ} (t : List ℕ) → headOf t ≡ got h u → Head h t u
-unfolding headOf
+head-only : {h : Heading} {u : List ℕ} (t : List ℕ) → headFrom t ≡ got h u → Head h t u
+unfolding headFrom
 head-only t e =
-    let a = then-got (decimalOf t) _ e in
+    let a = then-got (decimalFrom t) _ e in
     let k = cond-got (leb (a .value) 255) _ (a .second) in
-    let b = after-got (wordOf space (a .rest)) _ (k .1) in
-    let c = then-got (decimalOf (b .rest)) _ (b .second) in
+    let b = after-got (wordFrom space (a .rest)) _ (k .1) in
+    let c = then-got (decimalFrom (b .rest)) _ (b .second) in
     let p = decimal-only t (a .first) in
     let q = decimal-only (b .rest) (c .first) in
     moved (λ h u. Head h t u) (c .second)
@@ -164,12 +142,12 @@ record Line (room : ℕ) (ns : List ℕ) (x : Cell) (t u : List ℕ) : Type 0 wh
   nodes : x .nodes ≡ ns ++ own
   is : t ≡ decimal (x .heading .kind) ++ (space ++ (decimal (x .heading .family) ++ (numbersText own ++ (close ++ u))))
 
-cell-only : {x : Cell} {u : List ℕ} (room : ℕ) (ns t : List ℕ) → cellOf room ns t ≡ got x u → Line room ns x t u
-unfolding cellOf entriesOf
+cell-only : {x : Cell} {u : List ℕ} (room : ℕ) (ns t : List ℕ) → cellFrom room ns t ≡ got x u → Line room ns x t u
+unfolding cellFrom entriesFrom
 cell-only room ns t e =
-    let a = then-got (headOf t) _ e in
+    let a = then-got (headFrom t) _ e in
     let b = then-got (repeated space entryStep (room - length ns) ns (a .rest)) _ (a .second) in
-    let c = after-got (wordOf close (b .rest)) _ (b .second) in
+    let c = after-got (wordFrom close (b .rest)) _ (b .second) in
     let h = head-only t (a .first) in
     let m = repeated-only space entryStep (room - length ns) ns (a .rest) (b .first) in
     let s = entries-turns (m .turns) in
@@ -261,7 +239,7 @@ cells-turns {cs = cs} room h no-more =
       is = refl;
     }
 cells-turns {cs = cs} room h (turn {n = n} {b = ds} {t₁ = t₁} {u = u} w e r) =
-    let a = then-got (cellOf room (cs .nodes) t₁) _ e in
+    let a = then-got (cellFrom room (cs .nodes) t₁) _ e in
     let p = cell-only room (cs .nodes) t₁ (a .first) in
     let s = cells-turns room (moved (λ b v. length (b .nodes) ≤ room) (a .second) (within cs (a .value) (room-left room cs (a .value) h p))) r in
     one-line room cs (a .value) h p w (moved (λ b v. CellLines room n b ds v u) (sym (a .second)) s)

@@ -27,37 +27,8 @@ use Rattle.text.specs.Text.{
   nodesText,
   numbersText,
 }
-use Rattle.text.specs.Read.{
-  Parsed,
-  none,
-  got,
-  Limits,
-  atMost,
-  limits,
-  inputOf,
-  firstOf,
-  meshOf,
-  nodesOf,
-  cellsOf,
-  repeated,
-  nodeStep,
-  nodeOf,
-  entryStep,
-  entriesOf,
-  headOf,
-  cellOf,
-  addCell,
-  cellStep,
-  decimalOf,
-  moreOf,
-  hexOf,
-  digitVal,
-  hexVal,
-  wordOf,
-  after,
-  andThen,
-  orElse,
-}
+use Rattle.text.specs.Read.{inputFrom, firstFrom, meshFrom, nodesFrom, cellsFrom, repeated, nodeStep, nodeFrom, entryStep, entriesFrom, headFrom, cellFrom, addCell, cellStep, decimalFrom, moreFrom, hexFrom, digitVal, hexVal, wordFrom, afterWord, andThen, ifWord}
+use Rattle.text.specs.Given.{Parsed, none, got, Limits, atMost, limits}
 use Rattle.text.specs.Inputs.{Input, textOf, given, read}
 
 abbrev pub texts : List String → List ℕ
@@ -122,9 +93,9 @@ k1-text : textOf k1 ≡ k1Text
 unfolding inputText firstText meshText bodyText nodesText nodeText hex hexTo glyph decimal decimalTo cellsText cellText numbersText
 k1-text = refl
 
-pub k1-read : inputOf most most k1Text ≡ got (given k1) []
-unfolding inputOf firstOf meshOf nodesOf cellsOf repeated nodeStep nodeOf entryStep entriesOf headOf cellOf addCell cellStep decimalOf moreOf hexOf digitVal
-    hexVal wordOf after andThen orElse read
+pub k1-read : inputFrom most most k1Text ≡ got (given k1) []
+unfolding inputFrom firstFrom meshFrom nodesFrom cellsFrom repeated nodeStep nodeFrom entryStep entriesFrom headFrom cellFrom addCell cellStep decimalFrom moreFrom hexFrom digitVal
+    hexVal wordFrom afterWord andThen ifWord read
 k1-read = refl
 
 abbrev k1Answer : Bits
@@ -165,7 +136,7 @@ k1-answer = refl
 
 -- ---- read or not
 abbrev isRead : List ℕ → Bool
-isRead t = elim (inputOf most most t) [ none ↦ false | got g u ↦ true ]
+isRead t = elim (inputFrom most most t) [ none ↦ false | got g u ↦ true ]
 
 abbrev every : (String → Bool) → List String → Bool
 every p [] = true
@@ -178,8 +149,8 @@ read-samples : T (every (λ s. isRead (bytes s))
     "(overlay 0 9\n(mesh\n(node 7ff8000000000000 fff0000000000001)\n(cell 8 7 0 1)\n)\n(mesh\n)\n)\n" ∷
     "(overlay 5 1\n(mesh\n)\n(mesh\n)\n)\n" ∷
     []))
-unfolding inputOf firstOf meshOf nodesOf cellsOf repeated nodeStep nodeOf entryStep entriesOf headOf cellOf addCell cellStep decimalOf moreOf hexOf digitVal
-    hexVal wordOf after andThen orElse
+unfolding inputFrom firstFrom meshFrom nodesFrom cellsFrom repeated nodeStep nodeFrom entryStep entriesFrom headFrom cellFrom addCell cellStep decimalFrom moreFrom hexFrom digitVal
+    hexVal wordFrom afterWord andThen ifWord
 read-samples = tt
 
 unread-samples : T (every (λ s. not (isRead (bytes s)))
@@ -206,6 +177,6 @@ unread-samples : T (every (λ s. not (isRead (bytes s)))
     "(overlay 0 9\n(mesh\n(node 0000000000000000 000000000000000a)\n(cell 8 7 0 1)\n)\n)\n" ∷
     "" ∷
     []))
-unfolding inputOf firstOf meshOf nodesOf cellsOf repeated nodeStep nodeOf entryStep entriesOf headOf cellOf addCell cellStep decimalOf moreOf hexOf digitVal
-    hexVal wordOf after andThen orElse
+unfolding inputFrom firstFrom meshFrom nodesFrom cellsFrom repeated nodeStep nodeFrom entryStep entriesFrom headFrom cellFrom addCell cellStep decimalFrom moreFrom hexFrom digitVal
+    hexVal wordFrom afterWord andThen ifWord
 unread-samples = tt

@@ -3,7 +3,7 @@ use mathlib.Core.List.{List, [], _∷_, map}
 use Prim.Native.Nat.{ℕ, _-_, _*_, _≤_, _<_}
 use lib.ListN.{length, take, drop}
 use Rattle.text.specs.Text.{Bits, inputText}
-use Rattle.text.specs.Read.{coordinate, Mesh, Limits, Given}
+use Rattle.text.specs.Given.{coordinate, ReadMesh, Limits, Given}
 
 -- bits of coordinates, x then y
 pub data Coords : List ℕ → Type 0 where
@@ -13,7 +13,7 @@ pub data Coords : List ℕ → Type 0 where
 -- numbers that fit 32 bits
 pub data Small : List ℕ → Type 0 where
   no-numbers : Small []
-  number : {n : ℕ} {ns : List ℕ} → n ≤ 4294967295 → Small ns → Small (n ∷ ns)
+  small : {n : ℕ} {ns : List ℕ} → n ≤ 4294967295 → Small ns → Small (n ∷ ns)
 
 -- cells whose ends rise from n to m in ns
 pub data Rises (ns : List ℕ) : ℕ → List ℕ → List ℕ → List ℕ → ℕ → Type 0 where
@@ -27,7 +27,7 @@ pub record Fine (m : Bits) : Type 0 where
   pub rises : Rises (m .nodes) 0 (m .ends) (m .kinds) (m .families) (length (m .nodes))
 
 -- what is read of it
-unfoldable pub read : Bits → Mesh
+unfoldable pub read : Bits → ReadMesh
 read m = record { coords = map coordinate (m .coords); cells = record { nodes = m .nodes; ends = m .ends; kinds = m .kinds; families = m .families } }
 
 pub record Within (l : Limits) (m : Bits) : Type 0 where

@@ -1,3 +1,4 @@
 pub mod Text
+pub mod Given
 pub mod Read
 pub mod Inputs

@@ -5,7 +5,7 @@ use native.Mathlib.Omega.{arith}
 use lib.ListN.{length}
 use lib.Seq.{length-take-le}
 use Rattle.cutting.specs.Lent.{pairs}
-use Rattle.outlines.specs.Meets.{meets}
+use Rattle.outlines.specs.Meets.{edgesMeet}
 use Rattle.cells.specs.Cells.{outlineFrom}
 use Rattle.cells.proofs.Over.{from-few, laid-read, meets-now, meets-on, meets-out}
 use borrow.Author.Needs.{needs}
@@ -15,7 +15,7 @@ use Rattle.cells.proofs.meets_later.Tie as tie
 abbrev Inv-loop : tie.InvT-loop
 Inv-loop coords subject cutter met links cell darts k others₀ j₀ others j =
     (length others ≡ 518)
-    × (meets (pairs darts) (outlineFrom coords (pairs subject) (pairs cutter) met cell j) ≡ meets (pairs darts) (outlineFrom coords (pairs subject) (pairs cutter) met cell k))
+    × (edgesMeet (pairs darts) (outlineFrom coords (pairs subject) (pairs cutter) met cell j) ≡ edgesMeet (pairs darts) (outlineFrom coords (pairs subject) (pairs cutter) met cell k))
 
 abbrev μ-loop : tie.MeasureT-loop
 μ-loop coords subject cutter met links cell darts k others₀ j₀ others j = length cell - j
@@ -89,7 +89,7 @@ returns c =
     let t = in-loop at-next-corner .loop-test .taken in
     let x = at-next-corner .next-corner in
     let o = lay-own-at-returns c .lay-own in
-    let met = c .before .edges-meet .ensures ∙ ap (meets (pairs (a .darts .now))) (laid-read _ _ _ _ (o .ensures)) in
+    let met = c .before .edges-meet .ensures ∙ ap (edgesMeet (pairs (a .darts .now))) (laid-read _ _ _ _ (o .ensures)) in
     sym (sym (l .inv .1) ∙ meets-now (a .coords .now) (pairs (a .subject .now)) (pairs (a .cutter .now)) (a .met .now) (a .cell .now) (l .j) (x .result) t
     (x .ensures) (pairs (a .darts .now)) (c .before .edges-meet .result) met (c .if1 .taken))
 
@@ -102,7 +102,7 @@ loop-again c =
     let t = in-loop at-next-corner .loop-test .taken in
     let x = at-next-corner .next-corner in
     let o = lay-own-at-loop-again c .lay-own in
-    let met = c .before .edges-meet .ensures ∙ ap (meets (pairs (a .darts .now))) (laid-read _ _ _ _ (o .ensures)) in (
+    let met = c .before .edges-meet .ensures ∙ ap (edgesMeet (pairs (a .darts .now))) (laid-read _ _ _ _ (o .ensures)) in (
       o .kept .1 .1 .1 .1 .1 .1 .1 .0 ∙ l .inv .0,
       sym (meets-on (a .coords .now) (pairs (a .subject .now)) (pairs (a .cutter .now)) (a .met .now)
           (a .cell .now) (l .j) (x .result) t (x .ensures) (pairs (a .darts .now)) (c .before .edges-meet .result) met (c .if1 .left)) ∙ l .inv .1,

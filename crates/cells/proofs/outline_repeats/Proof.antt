@@ -8,7 +8,7 @@ use lib.Seq.{length-take-le}
 use Rattle.cutting.specs.Edges.{Edge}
 use Rattle.cutting.specs.Cell.{repeats}
 use Rattle.cutting.specs.Lent.{pairs}
-use Rattle.outlines.specs.Meets.{meets}
+use Rattle.outlines.specs.Meets.{edgesMeet}
 use Rattle.cells.specs.Cells.{outlineIn, outlineFrom}
 use Rattle.cells.proofs.Over.{all-from, from-few, laid-read, repeats-now, repeats-later, repeats-on, repeats-out}
 use borrow.Author.Needs.{needs}
@@ -125,7 +125,7 @@ returns-2 c =
     let o = lay-own-of-edges-repeat at-edges-repeat .lay-own in
     let read = laid-read _ _ _ _ (o .ensures) in
     let own = at-edges-repeat .edges-repeat .ensures ∙ ap repeats read in
-    let later = c .before .meets-later .ensures ∙ ap (λ (ds : List Edge). meets ds
+    let later = c .before .meets-later .ensures ∙ ap (λ (ds : List Edge). edgesMeet ds
     (outlineFrom (a .coords .now) (pairs (a .subject .now)) (pairs (a .cutter .now)) (a .met .now) (a .cell .now) (l .i + 1))) read in
     sym (sym (l .inv .1) ∙ repeats-later (a .coords .now) (pairs (a .subject .now)) (pairs (a .cutter .now)) (a .met .now) (a .cell .now) (l .i) (x .result) t
     (x .ensures) (at-edges-repeat .edges-repeat .result) own (else1-at-returns-2 c .if1 .left) (c .before .meets-later .result) later (c .if2 .taken))
@@ -142,7 +142,7 @@ loop-again c =
     let o = lay-own-of-edges-repeat at-edges-repeat .lay-own in
     let read = laid-read _ _ _ _ (o .ensures) in
     let own = at-edges-repeat .edges-repeat .ensures ∙ ap repeats read in
-    let later = c .before .meets-later .ensures ∙ ap (λ (ds : List Edge). meets ds
+    let later = c .before .meets-later .ensures ∙ ap (λ (ds : List Edge). edgesMeet ds
     (outlineFrom (a .coords .now) (pairs (a .subject .now)) (pairs (a .cutter .now)) (a .met .now) (a .cell .now) (l .i + 1))) read in (
       o .kept .1 .1 .1 .1 .1 .1 .1 .0 ∙ l .inv .0,
       sym (repeats-on (a .coords .now) (pairs (a .subject .now)) (pairs (a .cutter .now)) (a .met .now)

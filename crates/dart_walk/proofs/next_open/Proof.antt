@@ -1,7 +1,7 @@
 -- `dart_walk::next_open` meets its contract: the two searches are those of `after`, and r comes last. Assumes nothing.
 use mathlib.Core.Path.{refl}
 use borrow.Author.Needs.{needs}
-use Rattle.cutting.proofs.Rounds.{after-late, after-early, after-back, after-none}
+use Rattle.cutting.proofs.Rounds.{nextOpen-late, nextOpen-early, nextOpen-back, nextOpen-none}
 use Rattle.dart_walk.proofs.next_open.Statement.{statement}
 use Rattle.dart_walk.proofs.next_open.Tie as tie
 
@@ -25,25 +25,25 @@ abbrev else2-at-returns-3 : tie.Then3 → tie.Else2
 else2-at-returns-3 c = c .before .before
 
 returns : tie.Need-returns
-returns c = after-late _ _ _ _ _ _ _ (c .before .first-open .ensures) (c .if1 .taken)
+returns c = nextOpen-late _ _ _ _ _ _ _ (c .before .first-open .ensures) (c .if1 .taken)
 
 returns-2 : tie.Need-returns-2
 returns-2 c =
     let at-else1 = else1 (first-open2-at-returns-2 c) in
-    after-early _ _ _ _ _ _ _ (first-open-of-else1 at-else1 .first-open .ensures) (at-else1 .if1 .left) _ (c .before .first-open2 .ensures) (c .if2 .taken)
+    nextOpen-early _ _ _ _ _ _ _ (first-open-of-else1 at-else1 .first-open .ensures) (at-else1 .if1 .left) _ (c .before .first-open2 .ensures) (c .if2 .taken)
 
 returns-3 : tie.Need-returns-3
 returns-3 c =
     let at-first-open2 = first-open2-of-else2 (else2-at-returns-3 c) in
     let at-first-open = first-open-of-else1 (else1 at-first-open2) in
-    after-back _ _ _ _ _ _ _ (at-first-open .first-open .ensures) (else1 at-first-open2 .if1 .left) _ (at-first-open2 .first-open2 .ensures)
+    nextOpen-back _ _ _ _ _ _ _ (at-first-open .first-open .ensures) (else1 at-first-open2 .if1 .left) _ (at-first-open2 .first-open2 .ensures)
     (else2-at-returns-3 c .if2 .left) refl (c .if3 .taken)
 
 returns-4 : tie.Need-returns-4
 returns-4 c =
     let at-first-open2 = first-open2-of-else2 (else2-at-returns-4 c) in
     let at-first-open = first-open-of-else1 (else1 at-first-open2) in
-    after-none _ _ _ _ _ _ _ (at-first-open .first-open .ensures) (else1 at-first-open2 .if1 .left) _ (at-first-open2 .first-open2 .ensures)
+    nextOpen-none _ _ _ _ _ _ _ (at-first-open .first-open .ensures) (else1 at-first-open2 .if1 .left) _ (at-first-open2 .first-open2 .ensures)
     (else2-at-returns-4 c .if2 .left) (c .if3 .left)
 
 pub next-open-spec : {M : Type 1} → statement M

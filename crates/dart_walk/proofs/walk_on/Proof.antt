@@ -13,7 +13,7 @@ use Rattle.dart_walk.proofs.Turns.{
   Inv,
   at-first,
   on-slot,
-  resting,
+  at-rest,
   missing,
   turn-skip,
   corner-fits,
@@ -391,7 +391,7 @@ mul-nodes-2 c =
     let at-entry = entry-of-loop (loop-of-else1 at-else1) in
     let v = loop-of-else1 at-else1 .loop .inv in
     let h = at-else1 .if1 .left in
-    omega (arith, resting (at-entry .pre) v h .low, at-entry .pre .small)
+    omega (arith, at-rest (at-entry .pre) v h .low, at-entry .pre .small)
 
 slice-write-nodes-2 : tie.Need-slice-write-nodes-2 Inv-loop μ-loop
 slice-write-nodes-2 c =
@@ -409,7 +409,7 @@ add-m-2 c =
     let at-entry = entry-of-loop (loop-of-else1 at-else1) in
     let v = loop-of-else1 at-else1 .loop .inv in
     let h = at-else1 .if1 .left in
-    omega (arith, resting (at-entry .pre) v h .low, at-entry .pre .small)
+    omega (arith, at-rest (at-entry .pre) v h .low, at-entry .pre .small)
 
 loop-again-3 : tie.Need-loop-again-3 Inv-loop μ-loop
 loop-again-3 c =

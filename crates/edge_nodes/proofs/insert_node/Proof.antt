@@ -41,7 +41,7 @@ returns c =
     let p = place-of-insert-at-f64 at-insert-at-f64 .place in
     ap₂ (λ (z : List Float) (y : List ℕ). listed z y (a .n + 1)) (at-insert-at-f64 .insert-at-f64 .ensures .1) (insert-at-u32-at-returns c .insert-at-u32 .ensures .1)
     ∙ put-both (a .along .now) (a .nodes .now) (a .n) (at-projection .projection .result) (a .v) (at-entry .pre .0) (at-entry .pre .1) (p .result) (p .ensures .0) (p .ensures .1)
-    ∙ ap (λ (z : Float). insert byProjection (record { along = z; node = a .v }) (listed (a .along .now) (a .nodes .now) (a .n))) (at-projection .projection .ensures)
+    ∙ ap (λ (z : Float). insert byProjection (record { projection = z; node = a .v }) (listed (a .along .now) (a .nodes .now) (a .n))) (at-projection .projection .ensures)
 
 pub insert-node-spec : {M : Type 1} → statement M
 insert-node-spec = tie.close (tie.spec (λ c κs. search needs) (λ c κs. search needs) (λ c κs. search needs) (λ c κs. search needs) (λ c. search needs) (λ c. search needs) returns)

@@ -1,11 +1,11 @@
 -- `geometry_c::segment_of` meets its contract. Assumes nothing.
 use mathlib.Core.Path.{refl}
-use Rattle.geometry_c.specs.Numbers.{segmentOf}
+use Rattle.geometry_c.specs.Numbers.{segmentFrom}
 use Rattle.geometry_c.proofs.segment_of.Statement.{statement}
 use Rattle.geometry_c.proofs.segment_of.Tie as tie
 
 returns : tie.Need-returns
-unfolding segmentOf
+unfolding segmentFrom
 returns c = refl
 
 pub segment-of-spec : {M : Type 1} → statement M

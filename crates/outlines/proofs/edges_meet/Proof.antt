@@ -4,14 +4,14 @@ use Prim.Native.Nat.{_-_, _≤_}
 use native.Mathlib.Omega.{arith}
 use lib.ListN.{length, drop}
 use Rattle.cutting.specs.Lent.{pairs}
-use Rattle.outlines.specs.Meets.{meets}
+use Rattle.outlines.specs.Meets.{edgesMeet}
 use Rattle.outlines.proofs.Flat.{meets-here, meets-next, meets-end}
 use borrow.Author.Needs.{needs}
 use Rattle.outlines.proofs.edges_meet.Statement.{statement}
 use Rattle.outlines.proofs.edges_meet.Tie as tie
 
 abbrev Inv-loop : tie.InvT-loop
-Inv-loop edges others i₀ i = (i ≤ length edges) × (meets (pairs (drop i edges)) (pairs others) ≡ meets (pairs edges) (pairs others))
+Inv-loop edges others i₀ i = (i ≤ length edges) × (edgesMeet (pairs (drop i edges)) (pairs others) ≡ edgesMeet (pairs edges) (pairs others))
 
 abbrev μ-loop : tie.MeasureT-loop
 μ-loop edges others i₀ i = length edges - i

@@ -3,16 +3,16 @@
 use Rattle.polygons.proofs.Corners.{after-over}
 use borrow.Author.Needs.{needs}
 use borrow.Author.Tests.{le-ltb, lt-ltb}
-use Rattle.polygons.specs.Corners.{after}
+use Rattle.polygons.specs.Corners.{cornerAfter}
 use Rattle.polygons.proofs.after.Statement.{statement}
 use Rattle.polygons.proofs.after.Tie as tie
 
 returns : tie.Need-returns
-unfolding after
+unfolding cornerAfter
 returns c = simp (lt-ltb _ _ (c .if2 .taken), lt-ltb _ _ (c .before .if1 .taken))
 
 returns-2 : tie.Need-returns-2
-unfolding after
+unfolding cornerAfter
 returns-2 c = simp (le-ltb _ _ (c .if2 .left), lt-ltb _ _ (c .before .if1 .taken))
 
 returns-3 : tie.Need-returns-3

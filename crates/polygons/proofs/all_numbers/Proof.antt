@@ -4,7 +4,7 @@ use Prim.Native.Nat.{_-_, _≤_, zero-le}
 use native.Mathlib.Omega.{arith}
 use lib.ListN.{length}
 use Rattle.lists.specs.Gather.{gathered, each, all}
-use Rattle.plane.specs.Plane.{number}
+use Rattle.plane.specs.Plane.{isNumber}
 use Rattle.polygons.specs.Corners.{oriented}
 use Rattle.polygons.specs.Interior.{heightAt, heights}
 use Rattle.polygons.proofs.Steps.{ended, numbers-turn}
@@ -13,7 +13,7 @@ use Rattle.polygons.proofs.all_numbers.Statement.{statement}
 use Rattle.polygons.proofs.all_numbers.Tie as tie
 
 abbrev Inv-loop : tie.InvT-loop
-Inv-loop coords corners ok₀ i₀ ok i = (i ≤ length corners) × (ok ≡ all number (each i (heightAt coords corners)))
+Inv-loop coords corners ok₀ i₀ ok i = (i ≤ length corners) × (ok ≡ all isNumber (each i (heightAt coords corners)))
 
 abbrev μ-loop : tie.MeasureT-loop
 μ-loop coords corners ok₀ i₀ ok i = length corners - i
@@ -46,7 +46,7 @@ returns c =
     let at-entry = entry (loop-at-returns c) in
     let a = at-entry .args in
     let l = c .before .loop in
-    ended (λ k. all number (each k (heightAt (a .coords .now) (a .corners .now)))) (l .i) (length (a .corners .now)) (l .ok)
+    ended (λ k. all isNumber (each k (heightAt (a .coords .now) (a .corners .now)))) (l .i) (length (a .corners .now)) (l .ok)
     (l .inv .1) (l .inv .0) (c .loop-test .left)
 
 pub all-numbers-spec : {M : Type 1} → statement M

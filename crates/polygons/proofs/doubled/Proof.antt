@@ -3,7 +3,7 @@ use mathlib.Core.Path.{_≡_, refl}
 use Prim.Native.Nat.{_-_, _≤_, zero-le}
 use native.Mathlib.Omega.{arith}
 use lib.ListN.{length}
-use Rattle.polygons.specs.Corners.{doubledTo, doubled}
+use Rattle.polygons.specs.Corners.{doubledTo, doubledSum}
 use Rattle.polygons.proofs.Steps.{ended, doubled-turn}
 use borrow.Author.Needs.{needs}
 use Rattle.polygons.proofs.doubled.Statement.{statement}
@@ -37,7 +37,7 @@ loop-again c =
     (omega arith, doubled-turn (l .i) (a .coords .now) (a .corners .now) (l .sum) (c .term .result) (l .inv .1) (c .term .ensures))
 
 returns : tie.Need-returns Inv-loop μ-loop
-unfolding doubled
+unfolding doubledSum
 returns c =
     let at-entry = entry (loop-at-returns c) in
     let a = at-entry .args in

@@ -2,7 +2,7 @@
 -- Assumes nothing.
 use Rattle.polygons.proofs.Corners.{length-oriented}
 use borrow.Author.Needs.{needs}
-use Rattle.polygons.specs.Inside.{nearer}
+use Rattle.polygons.specs.Inside.{nearerEdge}
 use Rattle.polygons.proofs.nearer.Statement.{statement}
 use Rattle.polygons.proofs.nearer.Tie as tie
 
@@ -17,7 +17,7 @@ abbrev corner-at2-at-returns : tie.After-settle → tie.After-corner-at2
 corner-at2-at-returns c = c .before .before
 
 returns : tie.Need-returns
-unfolding nearer
+unfolding nearerEdge
 returns c =
     let at-corner-at = corner-at-of-corner-at2 (corner-at2-at-returns c) in
     simp (

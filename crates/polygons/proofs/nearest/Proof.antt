@@ -5,7 +5,7 @@ use native.Mathlib.Omega.{arith}
 use lib.ListN.{length}
 use lib.Ieee.{div, ofBits}
 use Rattle.polygons.specs.Corners.{oriented}
-use Rattle.polygons.specs.Inside.{nearestTo, nearest}
+use Rattle.polygons.specs.Inside.{nearestAmong, nearest}
 use Rattle.polygons.proofs.Corners.{length-oriented}
 use Rattle.polygons.proofs.Steps.{ended, nearest-turn}
 use borrow.Author.Needs.{needs}
@@ -13,7 +13,7 @@ use Rattle.polygons.proofs.nearest.Statement.{statement}
 use Rattle.polygons.proofs.nearest.Tie as tie
 
 abbrev Inv-loop : tie.InvT-loop
-Inv-loop coords corners back p b₀ i₀ b i = (i ≤ length corners) × (b ≡ nearestTo i coords (oriented back corners) p)
+Inv-loop coords corners back p b₀ i₀ b i = (i ≤ length corners) × (b ≡ nearestAmong i coords (oriented back corners) p)
 
 abbrev μ-loop : tie.MeasureT-loop
 μ-loop coords corners back p b₀ i₀ b i = length corners - i
@@ -29,7 +29,7 @@ abbrev loop-at-loop-again : tie.After-nearer Inv-loop μ-loop → tie.At-loop In
 loop-at-loop-again c = c .before .before
 
 loop-holds : tie.Need-loop-holds Inv-loop μ-loop
-unfolding nearestTo div ofBits
+unfolding nearestAmong div ofBits
 loop-holds c = (zero-le, refl)
 
 loop-again : tie.Need-loop-again Inv-loop μ-loop
@@ -48,7 +48,7 @@ returns c =
     let at-entry = entry (loop-at-returns c) in
     let a = at-entry .args in
     let l = c .before .loop in
-    rw length-oriented (ended (λ k. nearestTo k (a .coords .now) (oriented (a .back) (a .corners .now)) (a .p)) (l .i) (length (a .corners .now)) (l .b)
+    rw length-oriented (ended (λ k. nearestAmong k (a .coords .now) (oriented (a .back) (a .corners .now)) (a .p)) (l .i) (length (a .corners .now)) (l .b)
     (l .inv .1) (l .inv .0) (c .loop-test .left))
 
 pub nearest-spec : {M : Type 1} → statement M

@@ -2,20 +2,20 @@
 -- Assumes nothing.
 use borrow.Author.Needs.{needs}
 use borrow.Author.Tests.{eq-eqb, ne-eqb}
-use Rattle.polygons.specs.Corners.{previous}
+use Rattle.polygons.specs.Corners.{cornerBefore}
 use Rattle.polygons.proofs.previous.Statement.{statement}
 use Rattle.polygons.proofs.previous.Tie as tie
 
 returns : tie.Need-returns
-unfolding previous
+unfolding cornerBefore
 returns c = simp (c .if2 .taken, eq-eqb _ _ (c .before .if1 .taken))
 
 returns-2 : tie.Need-returns-2
-unfolding previous
+unfolding cornerBefore
 returns-2 c = simp (ne-eqb _ _ (c .if2 .left), eq-eqb _ _ (c .before .if1 .taken))
 
 returns-3 : tie.Need-returns-3
-unfolding previous
+unfolding cornerBefore
 returns-3 c = simp (ne-eqb _ _ (c .if1 .left))
 
 pub previous-spec : {M : Type 1} → statement M

@@ -1,7 +1,7 @@
 -- `polygons::term` meets its contract: each answer is what the tests that led there pick.
 -- Assumes nothing.
 use borrow.Author.Needs.{needs}
-use Rattle.polygons.specs.Corners.{term, oriented}
+use Rattle.polygons.specs.Corners.{areaTerm, oriented}
 use Rattle.polygons.proofs.term.Statement.{statement}
 use Rattle.polygons.proofs.term.Tie as tie
 
@@ -16,7 +16,7 @@ abbrev corner-at2-at-returns : tie.After-struct-known4 → tie.After-corner-at2
 corner-at2-at-returns c = c .before .before .before .before
 
 returns : tie.Need-returns
-unfolding term oriented
+unfolding areaTerm oriented
 returns c =
     let at-corner-at = corner-at-of-corner-at2 (corner-at2-at-returns c) in
     simp (

@@ -2,7 +2,7 @@
 use Prim.Native.Nat.{zero-le}
 use Rattle.text.proofs.Whole.{mesh-read}
 use mathlib.Core.Path.{sym}
-use Rattle.text.specs.Read.{meshOf, andThen, after}
+use Rattle.text.specs.Read.{meshFrom, andThen, afterWord}
 use borrow.Author.Needs.{needs}
 use Rattle.reading.proofs.read_within.Statement.{statement}
 use Rattle.reading.proofs.read_within.Tie as tie
@@ -42,7 +42,7 @@ abbrev close-at-same-length-12 : tie.After-known-told4 → tie.After-close
 close-at-same-length-12 c = c .before .before .before
 
 returns : tie.Need-returns
-unfolding meshOf andThen after
+unfolding meshFrom andThen afterWord
 returns c = (simp (c .enum-told .given .1, ← mesh-word-at-returns c .mesh-word .ensures .0), zero-le, zero-le, zero-le, zero-le)
 
 read-nodes-requires : tie.Need-read-nodes-requires
@@ -58,7 +58,7 @@ same-length c =
     coords-kept
 
 returns-2 : tie.Need-returns-2
-unfolding meshOf andThen after
+unfolding meshFrom andThen afterWord
 returns-2 c =
     let at-w = w-of-read-nodes (read-nodes-at-same-length c) in (
       simp (c .enum-told2 .given .1, ← read-nodes-at-same-length c .read-nodes .ensures .0, at-w .w .given .1, ← mesh-word-of-w at-w .mesh-word .ensures .0),
@@ -103,7 +103,7 @@ same-length-6 c =
     families-kept
 
 returns-3 : tie.Need-returns-3
-unfolding meshOf andThen after
+unfolding meshFrom andThen afterWord
 returns-3 c =
     let at-n = n-of-read-cells (read-cells-at-same-length-2 c) in
     let at-w = w-of-read-nodes (read-nodes-of-n at-n) in (
@@ -158,7 +158,7 @@ same-length-11 c =
     families-kept
 
 returns-4 : tie.Need-returns-4
-unfolding meshOf andThen after
+unfolding meshFrom andThen afterWord
 returns-4 c =
     let at-close = c .before .before in
     let at-c = at-close .before .before in

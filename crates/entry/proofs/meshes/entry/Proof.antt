@@ -2,7 +2,7 @@
 use mathlib.Core.Path.{sym, ap₂, _∙_}
 use native.Mathlib.Omega.{arith}
 use borrow.Author.Tests.{not-true, not-false}
-use Rattle.entry.specs.Refused.{lower}
+use Rattle.entry.specs.ByMesh.{lowerRefusal}
 use Rattle.entry.proofs.Lowest.{lower-zero, at-call, at-mesh, at-work, at-end}
 use Rattle.entry.proofs.Passed.{room-most}
 use borrow.Author.Needs.{needs}
@@ -42,7 +42,7 @@ returns-2 c =
     let at-mesh-of2 = mesh-of2-of-lower (lower-at-returns-2 c) in
     let at-else1 = else1 (mesh-of-of-mesh-of2 at-mesh-of2) in
     at-mesh _ _ _ _ _ _ (sym (call-ok-of-else1 at-else1 .call-ok .ensures) ∙ not-false _ (at-else1 .if1 .left))
-    (c .before .lower .ensures ∙ ap₂ lower (mesh-of-of-mesh-of2 at-mesh-of2 .mesh-of .ensures) (at-mesh-of2 .mesh-of2 .ensures)) (c .if2 .taken)
+    (c .before .lower .ensures ∙ ap₂ lowerRefusal (mesh-of-of-mesh-of2 at-mesh-of2 .mesh-of .ensures) (at-mesh-of2 .mesh-of2 .ensures)) (c .if2 .taken)
 
 mul-if3 : tie.Need-mul-if3
 mul-if3 c =
@@ -65,7 +65,7 @@ returns-3 c =
     let at-mesh-of2 = mesh-of2-of-lower (lower-at-returns-3 c) in
     let at-else1 = else1 (mesh-of-of-mesh-of2 at-mesh-of2) in
     at-work _ _ _ _ _ _ (sym (call-ok-of-else1 at-else1 .call-ok .ensures) ∙ not-false _ (at-else1 .if1 .left))
-    (lower-at-returns-3 c .lower .ensures ∙ ap₂ lower (mesh-of-of-mesh-of2 at-mesh-of2 .mesh-of .ensures) (at-mesh-of2 .mesh-of2 .ensures))
+    (lower-at-returns-3 c .lower .ensures ∙ ap₂ lowerRefusal (mesh-of-of-mesh-of2 at-mesh-of2 .mesh-of .ensures) (at-mesh-of2 .mesh-of2 .ensures))
     (c .before .if2 .left) (c .if3 .taken)
 
 returns-4 : tie.Need-returns-4
@@ -73,7 +73,7 @@ returns-4 c =
     let at-mesh-of2 = mesh-of2-of-lower (lower-at-returns-4 c) in
     let at-else1 = else1 (mesh-of-of-mesh-of2 at-mesh-of2) in
     at-end _ _ _ _ _ _ (sym (call-ok-of-else1 at-else1 .call-ok .ensures) ∙ not-false _ (at-else1 .if1 .left))
-    (lower-at-returns-4 c .lower .ensures ∙ ap₂ lower (mesh-of-of-mesh-of2 at-mesh-of2 .mesh-of .ensures) (at-mesh-of2 .mesh-of2 .ensures))
+    (lower-at-returns-4 c .lower .ensures ∙ ap₂ lowerRefusal (mesh-of-of-mesh-of2 at-mesh-of2 .mesh-of .ensures) (at-mesh-of2 .mesh-of2 .ensures))
     (c .before .if2 .left) (c .if3 .left)
 
 pub entry-spec : {M : Type 1} → statement M

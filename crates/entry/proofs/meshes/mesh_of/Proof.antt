@@ -1,7 +1,7 @@
 -- `entry::meshes::mesh_of` meets its contract. Each answer is what the tests that led there pick. Assumes nothing.
 use mathlib.Core.Path.{sym, _∙_}
 use borrow.Author.Tests.{not-true, not-false}
-use Rattle.entry.specs.Refused.{meshOf}
+use Rattle.entry.specs.ByMesh.{meshRefusal}
 use Rattle.entry.proofs.Passed.{shape-parts}
 use borrow.Author.Needs.{needs}
 use Rattle.entry.proofs.meshes.mesh_of.Statement.{statement}
@@ -45,11 +45,11 @@ abbrev else4-at-returns-5 : tie.Then5 → tie.Else4
 else4-at-returns-5 c = c .before .before
 
 returns : tie.Need-returns
-unfolding meshOf
+unfolding meshRefusal
 returns c = simp (sym (c .before .shape-ok .ensures) ∙ not-true _ (c .if1 .taken))
 
 returns-2 : tie.Need-returns-2
-unfolding meshOf
+unfolding meshRefusal
 returns-2 c =
     let at-else1 = else1 (coords-ok-at-returns-2 c) in
     simp (sym (shape-ok-of-else1 at-else1 .shape-ok .ensures) ∙ not-false _ (at-else1 .if1 .left), sym (c .before .coords-ok .ensures) ∙ not-true _ (c .if2 .taken))
@@ -61,7 +61,7 @@ kinds-ok-requires c κs =
     (p .2, p .1)
 
 returns-3 : tie.Need-returns-3
-unfolding meshOf
+unfolding meshRefusal
 returns-3 c =
     let at-else2 = else2 (kinds-ok-at-returns-3 c) in
     let at-else1 = else1 (coords-ok-of-else2 at-else2) in
@@ -72,7 +72,7 @@ returns-3 c =
     )
 
 returns-4 : tie.Need-returns-4
-unfolding meshOf
+unfolding meshRefusal
 returns-4 c =
     let at-else3 = else3 (nodes-ok-at-returns-4 c) in
     let at-else2 = else2 (kinds-ok-of-else3 at-else3) in
@@ -90,7 +90,7 @@ cells-ok-requires c κs =
     shape-parts _ (sym (shape-ok-of-else1 at-else1 .shape-ok .ensures) ∙ not-false _ (at-else1 .if1 .left)) .1
 
 returns-5 : tie.Need-returns-5
-unfolding meshOf
+unfolding meshRefusal
 returns-5 c =
     let at-nodes-ok = nodes-ok-of-else4 (else4-at-returns-5 c) in
     let at-kinds-ok = kinds-ok-of-else3 (else3 at-nodes-ok) in
@@ -105,7 +105,7 @@ returns-5 c =
     )
 
 returns-6 : tie.Need-returns-6
-unfolding meshOf
+unfolding meshRefusal
 returns-6 c =
     let at-nodes-ok = nodes-ok-of-else4 (else4-at-returns-6 c) in
     let at-kinds-ok = kinds-ok-of-else3 (else3 at-nodes-ok) in

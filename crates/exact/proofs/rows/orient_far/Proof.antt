@@ -2,7 +2,7 @@
 use mathlib.Core.Path.{_∙_}
 use mathlib.Core.Bool.{true, false}
 use lib.Dec.{lit≤}
-use Rattle.exact.specs.Inner.{number}
+use Rattle.exact.specs.Inner.{signedSize}
 use Rattle.exact.specs.InnerRows.{Row}
 use Rattle.exact.proofs.Cells.{row-more}
 use Rattle.exact.proofs.Terms.{zero-row, term, all}
@@ -121,7 +121,7 @@ returns c =
     let at-add-term = add-term-of-add-term2 (add-term2-of-add-term3 at-add-term3) in
     let a = entry-of-add-term at-add-term .args in
     c .compare-cells .ensures
-    ∙ all (number (a .ax)) (number (a .ay)) (number (a .bx)) (number (a .by)) (number (a .cx)) (number (a .cy)) _ _ _ _ _ _ _
+    ∙ all (signedSize (a .ax)) (signedSize (a .ay)) (signedSize (a .bx)) (signedSize (a .by)) (signedSize (a .cx)) (signedSize (a .cy)) _ _ _ _ _ _ _
     (term false (a .ax) (a .by) (at-add-term .add-term .ensures)) (term true (a .ax) (a .cy) (add-term2-of-add-term3 at-add-term3 .add-term2 .ensures))
     (term true (a .cx) (a .by) (at-add-term3 .add-term3 .ensures)) (term true (a .ay) (a .bx) (add-term4-of-add-term5 at-add-term5 .add-term4 .ensures))
     (term false (a .ay) (a .cx) (at-add-term5 .add-term5 .ensures)) (term false (a .cy) (a .bx) (add-term6-at-returns c .add-term6 .ensures))

@@ -2,7 +2,7 @@
 use mathlib.Core.Path.{_≡_, refl, sym, _∙_}
 use Prim.Native.Nat.{_-_}
 use lib.ListN.{length, drop, length-set}
-use Rattle.printing.specs.Page.{page, written}
+use Rattle.printing.specs.Page.{page, pageWith}
 use Rattle.printing.specs.declared.Put.the-variants.{At}
 use Rattle.printing.proofs.Pages.{written-full, bytes-end, bytes-full, bytes-turn}
 use borrow.Author.Needs.{needs}
@@ -10,7 +10,7 @@ use Rattle.printing.proofs.lines.put_bytes.Statement.{statement}
 use Rattle.printing.proofs.lines.put_bytes.Tie as tie
 
 abbrev Inv-loop : tie.InvT-loop
-Inv-loop out₀ w at p₀ i₀ out p i = (length out ≡ length out₀) × (written (page (At p) out) (drop i w) ≡ written (page (At at) out₀) w)
+Inv-loop out₀ w at p₀ i₀ out p i = (length out ≡ length out₀) × (pageWith (page (At p) out) (drop i w) ≡ pageWith (page (At at) out₀) w)
 
 abbrev μ-loop : tie.MeasureT-loop
 μ-loop out₀ w at p₀ i₀ out p i = length w - i

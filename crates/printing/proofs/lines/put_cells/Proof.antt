@@ -4,7 +4,7 @@ use mathlib.Core.Path.{_≡_, refl, sym, _∙_}
 use Prim.Native.Nat.{_-_}
 use lib.ListN.{length, drop}
 use Rattle.text.specs.Text.{cellsText}
-use Rattle.printing.specs.Page.{page, written}
+use Rattle.printing.specs.Page.{page, pageWith}
 use Rattle.printing.proofs.Pages.{turn, ended}
 use Rattle.printing.proofs.Rests.{cells-end, cells-no-kind, cells-no-family, cells-next}
 use borrow.Author.Needs.{needs}
@@ -13,7 +13,7 @@ use Rattle.printing.proofs.lines.put_cells.Tie as tie
 
 abbrev Inv-loop : tie.InvT-loop
 Inv-loop out₀ nodes ends kinds families p₀ from₀ k₀ out p from k = (length out ≡ length out₀) ×
-    (written (page p out) (cellsText from nodes (drop k ends) (drop k kinds) (drop k families)) ≡ written (page p₀ out₀) (cellsText 0 nodes ends kinds families))
+    (pageWith (page p out) (cellsText from nodes (drop k ends) (drop k kinds) (drop k families)) ≡ pageWith (page p₀ out₀) (cellsText 0 nodes ends kinds families))
 
 abbrev μ-loop : tie.MeasureT-loop
 μ-loop out₀ nodes ends kinds families p₀ from₀ k₀ out p from k = length ends - k

@@ -5,7 +5,7 @@ use mathlib.Core.Path.{_≡_, refl, sym, _∙_}
 use Prim.Native.Nat.{_-_}
 use lib.ListN.{length, drop}
 use Rattle.text.specs.Text.{nodesText}
-use Rattle.printing.specs.Page.{page, written}
+use Rattle.printing.specs.Page.{page, pageWith}
 use Rattle.printing.specs.Told.{bits}
 use Rattle.printing.proofs.Pages.{turn, ended}
 use Rattle.printing.proofs.Rests.{nodes-pair, nodes-short}
@@ -15,7 +15,7 @@ use Rattle.printing.proofs.lines.put_nodes.Tie as tie
 
 abbrev Inv-loop : tie.InvT-loop
 Inv-loop out₀ coords p₀ k₀ out p k = (k ≤ length coords) × (length out ≡ length out₀) ×
-    (written (page p out) (nodesText (bits (drop k coords))) ≡ written (page p₀ out₀) (nodesText (bits coords)))
+    (pageWith (page p out) (nodesText (bits (drop k coords))) ≡ pageWith (page p₀ out₀) (nodesText (bits coords)))
 
 abbrev μ-loop : tie.MeasureT-loop
 μ-loop out₀ coords p₀ k₀ out p k = length coords - k

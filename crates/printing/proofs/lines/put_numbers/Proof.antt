@@ -4,7 +4,7 @@ use mathlib.Core.Path.{_≡_, refl, sym, _∙_}
 use Prim.Native.Nat.{_-_}
 use lib.ListN.{length, take, drop}
 use Rattle.text.specs.Text.{numbersText}
-use Rattle.printing.specs.Page.{page, written}
+use Rattle.printing.specs.Page.{page, pageWith}
 use Rattle.printing.proofs.Pages.{turn, ended}
 use Rattle.printing.proofs.Rests.{numbers-turn, numbers-out, numbers-end}
 use borrow.Author.Needs.{needs}
@@ -13,7 +13,7 @@ use Rattle.printing.proofs.lines.put_numbers.Tie as tie
 
 abbrev Inv-loop : tie.InvT-loop
 Inv-loop out₀ nodes from end p₀ k₀ out p k = (length out ≡ length out₀) ×
-    (written (page p out) (numbersText (take (end - k) (drop k nodes))) ≡ written (page p₀ out₀) (numbersText (take (end - from) (drop from nodes))))
+    (pageWith (page p out) (numbersText (take (end - k) (drop k nodes))) ≡ pageWith (page p₀ out₀) (numbersText (take (end - from) (drop from nodes))))
 
 abbrev μ-loop : tie.MeasureT-loop
 μ-loop out₀ nodes from end p₀ k₀ out p k = end - k

@@ -2,7 +2,7 @@
 use Prim.Native.Nat.{zero-le}
 use native.Mathlib.Nat.{le-trans}
 use lib.Seq.{length-take-le}
-use Rattle.text.specs.Read.{cellOf, andThen, after}
+use Rattle.text.specs.Read.{cellFrom, andThen, afterWord}
 use borrow.Author.Needs.{needs}
 use Rattle.reading_lines.proofs.lines.read_cell.Statement.{statement}
 use Rattle.reading_lines.proofs.lines.read_cell.Tie as tie
@@ -33,7 +33,7 @@ abbrev close-at-returns-3 : tie.After-enum-told3 → tie.After-close
 close-at-returns-3 c = c .before .before
 
 returns : tie.Need-returns
-unfolding cellOf andThen after
+unfolding cellFrom andThen afterWord
 returns c = (simp (c .enum-told .given .1, ← read-head-at-returns c .read-head .ensures .0), zero-le, zero-le)
 
 read-entries-requires : tie.Need-read-entries-requires
@@ -44,7 +44,7 @@ read-entries-requires c κs =
     (rw (at-h .h .given .1) at (at-read-head .read-head .ensures .1), at-entry .pre .1, at-entry .pre .2)
 
 returns-2 : tie.Need-returns-2
-unfolding cellOf andThen after
+unfolding cellFrom andThen afterWord
 returns-2 c =
     let at-h = h-of-read-entries (read-entries-at-returns-2 c) in
     let at-entry = entry (read-head-of-h at-h) in (
@@ -65,7 +65,7 @@ close-requires c κs =
     rw (c .before .n .given .1) at (at-read-entries .read-entries .ensures .1)
 
 returns-3 : tie.Need-returns-3
-unfolding cellOf andThen after
+unfolding cellFrom andThen afterWord
 returns-3 c =
     let at-n = n-of-close (close-at-returns-3 c) in
     let at-h = h-of-read-entries (read-entries-of-n at-n) in
@@ -84,7 +84,7 @@ returns-3 c =
     )
 
 returns-4 : tie.Need-returns-4
-unfolding cellOf andThen after
+unfolding cellFrom andThen afterWord
 returns-4 c =
     let at-close = c .before .before .before in
     let at-n = at-close .before .before in

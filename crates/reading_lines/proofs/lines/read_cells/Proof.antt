@@ -5,7 +5,7 @@ use Prim.Native.Nat.{_-_, _≤_, zero-le}
 use native.Mathlib.Nat.{sub-zero, le-trans}
 use native.Mathlib.Omega.{arith}
 use lib.ListN.{length, drop, length-set}
-use Rattle.text.specs.Read.{cellsOf, empty}
+use Rattle.text.specs.Read.{cellsFrom, empty}
 use Rattle.reading_lines.proofs.Many.{first, cells-stop, cells-end, cells-bad, cells-turn}
 use borrow.Author.Needs.{needs}
 use Rattle.reading_lines.proofs.lines.read_cells.Statement.{statement}
@@ -14,7 +14,7 @@ use Rattle.reading_lines.proofs.lines.read_cells.Tie as tie
 abbrev Inv-loop : tie.InvT-loop
 Inv-loop s at room most nodes₀ ends₀ kinds₀ families₀ k₀ e₀ p₀ nodes ends kinds families k e p = (k ≤ room) × (p ≤ length s) × (e ≤ most) ×
     (length nodes ≡ length nodes₀) × (length ends ≡ length ends₀) × (length kinds ≡ length kinds₀) × (length families ≡ length families₀) ×
-    (cellsOf most (room - k) (first nodes ends kinds families k e) (drop p s) ≡ cellsOf most room empty (drop at s))
+    (cellsFrom most (room - k) (first nodes ends kinds families k e) (drop p s) ≡ cellsFrom most room empty (drop at s))
 
 abbrev μ-loop : tie.MeasureT-loop
 μ-loop s at room most nodes₀ ends₀ kinds₀ families₀ k₀ e₀ p₀ nodes ends kinds families k e p = room - k

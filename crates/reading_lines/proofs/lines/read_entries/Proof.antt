@@ -4,7 +4,7 @@ use mathlib.Core.Path.{_≡_, refl, sym, _∙_}
 use Prim.Native.Nat.{_-_, _≤_, zero-le}
 use native.Mathlib.Omega.{arith}
 use lib.ListN.{length, take, drop, length-set}
-use Rattle.text.specs.Read.{entriesOf}
+use Rattle.text.specs.Read.{entriesFrom}
 use Rattle.reading_lines.proofs.Many.{entries-stop, entries-end, entries-bad, entries-turn}
 use borrow.Author.Needs.{needs}
 use Rattle.reading_lines.proofs.lines.read_entries.Statement.{statement}
@@ -12,7 +12,7 @@ use Rattle.reading_lines.proofs.lines.read_entries.Tie as tie
 
 abbrev Inv-loop : tie.InvT-loop
 Inv-loop s at from room nodes₀ k₀ p₀ nodes k p = (k ≤ room) × (p ≤ length s) × (length nodes ≡ length nodes₀) ×
-    (entriesOf (room - k) (take k nodes) (drop p s) ≡ entriesOf (room - from) (take from nodes₀) (drop at s))
+    (entriesFrom (room - k) (take k nodes) (drop p s) ≡ entriesFrom (room - from) (take from nodes₀) (drop at s))
 
 abbrev μ-loop : tie.MeasureT-loop
 μ-loop s at from room nodes₀ k₀ p₀ nodes k p = room - k

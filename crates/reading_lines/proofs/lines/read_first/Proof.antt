@@ -1,7 +1,7 @@
 -- `reading_lines::lines::read_first` meets its contract. Assumes nothing.
 
 use Prim.Native.Nat.{zero-le}
-use Rattle.text.specs.Read.{firstOf, andThen, after}
+use Rattle.text.specs.Read.{firstFrom, andThen, afterWord}
 use borrow.Author.Needs.{needs}
 use Rattle.reading_lines.proofs.lines.read_first.Statement.{statement}
 use Rattle.reading_lines.proofs.lines.read_first.Tie as tie
@@ -47,7 +47,7 @@ abbrev newline-at-returns-5 : tie.After-enum-told5 → tie.After-newline
 newline-at-returns-5 c = c .before .before
 
 returns : tie.Need-returns
-unfolding firstOf andThen after
+unfolding firstFrom andThen afterWord
 returns c = (simp (c .enum-told .given .1, ← overlay-word-at-returns c .overlay-word .ensures .0), zero-le)
 
 read-decimal-requires : tie.Need-read-decimal-requires
@@ -56,7 +56,7 @@ read-decimal-requires c κs =
     rw (c .before .w .given .1) at (at-overlay-word .overlay-word .ensures .1)
 
 returns-2 : tie.Need-returns-2
-unfolding firstOf andThen after
+unfolding firstFrom andThen afterWord
 returns-2 c =
     let at-w = w-of-read-decimal (read-decimal-at-returns-2 c) in
     (simp (c .enum-told2 .given .1, ← read-decimal-at-returns-2 c .read-decimal .ensures .0, at-w .w .given .1, ← overlay-word-of-w at-w .overlay-word .ensures .0), zero-le)
@@ -67,7 +67,7 @@ space-requires c κs =
     rw (c .before .p .given .1) at (at-read-decimal .read-decimal .ensures .1)
 
 returns-3 : tie.Need-returns-3
-unfolding firstOf andThen after
+unfolding firstFrom andThen afterWord
 returns-3 c =
     let at-p = p-of-space (space-at-returns-3 c) in
     let at-w = w-of-read-decimal (read-decimal-of-p at-p) in (
@@ -88,7 +88,7 @@ read-decimal-requires-2 c κs =
     rw (c .before .v .given .1) at (at-space .space .ensures .1)
 
 returns-4 : tie.Need-returns-4
-unfolding firstOf andThen after
+unfolding firstFrom andThen afterWord
 returns-4 c =
     let at-v = v-of-read-decimal2 (read-decimal2-at-returns-4 c) in
     let at-p = p-of-space (space-of-v at-v) in
@@ -112,7 +112,7 @@ newline-requires c κs =
     rw (c .before .q .given .1) at (at-read-decimal2 .read-decimal2 .ensures .1)
 
 returns-5 : tie.Need-returns-5
-unfolding firstOf andThen after
+unfolding firstFrom andThen afterWord
 returns-5 c =
     let at-q = q-of-newline (newline-at-returns-5 c) in
     let at-v = v-of-read-decimal2 (read-decimal2-of-q at-q) in
@@ -134,7 +134,7 @@ returns-5 c =
     )
 
 returns-6 : tie.Need-returns-6
-unfolding firstOf andThen after
+unfolding firstFrom andThen afterWord
 returns-6 c =
     let at-newline = c .before .before .before in
     let at-q = at-newline .before .before in

@@ -2,7 +2,7 @@
 
 use Prim.Native.Nat.{zero-le}
 use borrow.Author.Tests.{lt-ltb, le-ltb, le-leb, lt-leb}
-use Rattle.text.specs.Read.{headOf, andThen, after}
+use Rattle.text.specs.Read.{headFrom, andThen, afterWord}
 use borrow.Author.Needs.{needs}
 use Rattle.reading_lines.proofs.lines.read_head.Statement.{statement}
 use Rattle.reading_lines.proofs.lines.read_head.Tie as tie
@@ -36,11 +36,11 @@ abbrev read-decimal2-at-returns-4 : tie.After-enum-told3 → tie.After-read-deci
 read-decimal2-at-returns-4 c = c .before .before
 
 returns : tie.Need-returns
-unfolding headOf andThen after
+unfolding headFrom andThen afterWord
 returns c = (simp (c .enum-told .given .1, ← read-decimal-at-returns c .read-decimal .ensures .0), zero-le)
 
 returns-2 : tie.Need-returns-2
-unfolding headOf andThen after
+unfolding headFrom andThen afterWord
 returns-2 c =
     let at-read-decimal = read-decimal-of-p (p-at-returns-2 c) in
     (simp (lt-ltb _ _ (c .if1 .taken), lt-leb _ _ (c .if1 .taken), p-at-returns-2 c .p .given .1, ← at-read-decimal .read-decimal .ensures .0), zero-le)
@@ -52,7 +52,7 @@ space-requires c κs =
     rw (at-p .p .given .1) at (at-read-decimal .read-decimal .ensures .1)
 
 returns-3 : tie.Need-returns-3
-unfolding headOf andThen after
+unfolding headFrom andThen afterWord
 returns-3 c =
     let at-else1 = else1 (space-at-returns-3 c) in
     let at-read-decimal = read-decimal-of-p (p-of-else1 at-else1) in (
@@ -73,7 +73,7 @@ read-decimal-requires-2 c κs =
     rw (c .before .w .given .1) at (at-space .space .ensures .1)
 
 returns-4 : tie.Need-returns-4
-unfolding headOf andThen after
+unfolding headFrom andThen afterWord
 returns-4 c =
     let at-w = w-of-read-decimal2 (read-decimal2-at-returns-4 c) in
     let at-else1 = else1 (space-of-w at-w) in
@@ -92,7 +92,7 @@ returns-4 c =
     )
 
 returns-5 : tie.Need-returns-5
-unfolding headOf andThen after
+unfolding headFrom andThen afterWord
 returns-5 c =
     let at-read-decimal2 = c .before .before .before in
     let at-w = at-read-decimal2 .before .before in

@@ -1,7 +1,7 @@
 -- `reading_lines::lines::read_node` meets its contract. Assumes nothing.
 
 use Prim.Native.Nat.{zero-le}
-use Rattle.text.specs.Read.{nodeOf, andThen, after}
+use Rattle.text.specs.Read.{nodeFrom, andThen, afterWord}
 use borrow.Author.Needs.{needs}
 use Rattle.reading_lines.proofs.lines.read_node.Statement.{statement}
 use Rattle.reading_lines.proofs.lines.read_node.Tie as tie
@@ -38,7 +38,7 @@ abbrev close-at-returns-4 : tie.After-enum-told4 → tie.After-close
 close-at-returns-4 c = c .before .before
 
 returns : tie.Need-returns
-unfolding nodeOf andThen after
+unfolding nodeFrom andThen afterWord
 returns c = (simp (c .enum-told .given .1, ← read-hex-at-returns c .read-hex .ensures .0), zero-le)
 
 space-requires : tie.Need-space-requires
@@ -47,7 +47,7 @@ space-requires c κs =
     rw (c .before .p .given .1) at (at-read-hex .read-hex .ensures .1)
 
 returns-2 : tie.Need-returns-2
-unfolding nodeOf andThen after
+unfolding nodeFrom andThen afterWord
 returns-2 c =
     let at-p = p-of-space (space-at-returns-2 c) in
     (simp (c .enum-told2 .given .1, ← space-at-returns-2 c .space .ensures .0, at-p .p .given .1, ← read-hex-of-p at-p .read-hex .ensures .0), zero-le)
@@ -58,7 +58,7 @@ read-hex-requires-2 c κs =
     rw (c .before .w .given .1) at (at-space .space .ensures .1)
 
 returns-3 : tie.Need-returns-3
-unfolding nodeOf andThen after
+unfolding nodeFrom andThen afterWord
 returns-3 c =
     let at-w = w-of-read-hex2 (read-hex2-at-returns-3 c) in
     let at-p = p-of-space (space-of-w at-w) in (
@@ -79,7 +79,7 @@ close-requires c κs =
     rw (c .before .q .given .1) at (at-read-hex2 .read-hex2 .ensures .1)
 
 returns-4 : tie.Need-returns-4
-unfolding nodeOf andThen after
+unfolding nodeFrom andThen afterWord
 returns-4 c =
     let at-q = q-of-close (close-at-returns-4 c) in
     let at-w = w-of-read-hex2 (read-hex2-of-q at-q) in
@@ -98,7 +98,7 @@ returns-4 c =
     )
 
 returns-5 : tie.Need-returns-5
-unfolding nodeOf andThen after
+unfolding nodeFrom andThen afterWord
 returns-5 c =
     let at-z = c .before .before .before in
     let at-close = at-z .before .before in

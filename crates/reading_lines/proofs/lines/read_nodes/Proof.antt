@@ -7,7 +7,7 @@ use Prim.Native.Nat.{_-_, _*_, _≤_, zero-le}
 use native.Mathlib.Nat.{sub-zero}
 use native.Mathlib.Omega.{arith}
 use lib.ListN.{length, take, drop, length-set}
-use Rattle.text.specs.Read.{nodesOf}
+use Rattle.text.specs.Read.{nodesFrom}
 use Rattle.reading_lines.proofs.Many.{nodes-stop, nodes-end, nodes-bad, nodes-turn}
 use borrow.Author.Needs.{needs}
 use Rattle.reading_lines.proofs.lines.read_nodes.Statement.{statement}
@@ -15,7 +15,7 @@ use Rattle.reading_lines.proofs.lines.read_nodes.Tie as tie
 
 abbrev Inv-loop : tie.InvT-loop
 Inv-loop s at room coords₀ k₀ p₀ coords k p = (k ≤ room) × (p ≤ length s) × (length coords ≡ length coords₀) ×
-    (nodesOf (room - k) (take (2 * k) coords) (drop p s) ≡ nodesOf room [] (drop at s))
+    (nodesFrom (room - k) (take (2 * k) coords) (drop p s) ≡ nodesFrom room [] (drop at s))
 
 abbrev μ-loop : tie.MeasureT-loop
 μ-loop s at room coords₀ k₀ p₀ coords k p = room - k

@@ -4,14 +4,14 @@ use mathlib.Core.Path.{_≡_, refl, sym, _∙_}
 use Prim.Native.Nat.{_+_, _-_, _≤_, zero-le}
 use native.Mathlib.Omega.{arith}
 use lib.ListN.{length, drop}
-use Rattle.text.specs.Read.{hexOf}
+use Rattle.text.specs.Read.{hexFrom}
 use Rattle.reading_lines.proofs.Loops.{hex-end, hex-out, hex-bad, hex-over, hex-step}
 use borrow.Author.Needs.{needs}
 use Rattle.reading_lines.proofs.words.read_hex.Statement.{statement}
 use Rattle.reading_lines.proofs.words.read_hex.Tie as tie
 
 abbrev Inv-loop : tie.InvT-loop
-Inv-loop s at v₀ i₀ v i = (i ≤ 16) × (at + i ≤ length s) × (hexOf (16 - i) v (drop (at + i) s) ≡ hexOf 16 0 (drop at s))
+Inv-loop s at v₀ i₀ v i = (i ≤ 16) × (at + i ≤ length s) × (hexFrom (16 - i) v (drop (at + i) s) ≡ hexFrom 16 0 (drop at s))
 
 abbrev μ-loop : tie.MeasureT-loop
 μ-loop s at v₀ i₀ v i = 16 - i

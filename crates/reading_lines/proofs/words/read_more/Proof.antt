@@ -3,14 +3,14 @@ use mathlib.Core.Path.{_≡_, refl, sym, _∙_}
 use Prim.Native.Nat.{_-_, _≤_, zero-le}
 use native.Mathlib.Omega.{arith}
 use lib.ListN.{length, drop}
-use Rattle.text.specs.Read.{moreOf}
+use Rattle.text.specs.Read.{moreFrom}
 use Rattle.reading_lines.proofs.Loops.{more-end, more-stop, more-over, more-step}
 use borrow.Author.Needs.{needs}
 use Rattle.reading_lines.proofs.words.read_more.Statement.{statement}
 use Rattle.reading_lines.proofs.words.read_more.Tie as tie
 
 abbrev Inv-loop : tie.InvT-loop
-Inv-loop s at first v₀ i₀ v i = (i ≤ length s) × (v ≤ 4294967295) × (moreOf v (drop i s) ≡ moreOf first (drop at s))
+Inv-loop s at first v₀ i₀ v i = (i ≤ length s) × (v ≤ 4294967295) × (moreFrom v (drop i s) ≡ moreFrom first (drop at s))
 
 abbrev μ-loop : tie.MeasureT-loop
 μ-loop s at first v₀ i₀ v i = length s - i

@@ -4,14 +4,14 @@ use mathlib.Core.Path.{_≡_, refl, sym, _∙_}
 use Prim.Native.Nat.{_+_, _-_, _≤_, zero-le}
 use native.Mathlib.Omega.{arith}
 use lib.ListN.{length, drop}
-use Rattle.text.specs.Read.{wordOf}
+use Rattle.text.specs.Read.{wordFrom}
 use Rattle.reading_lines.proofs.Loops.{word-end, word-out, word-other, word-same}
 use borrow.Author.Needs.{needs}
 use Rattle.reading_lines.proofs.words.read_word.Statement.{statement}
 use Rattle.reading_lines.proofs.words.read_word.Tie as tie
 
 abbrev Inv-loop : tie.InvT-loop
-Inv-loop s at w i₀ i = (i ≤ length w) × (at + i ≤ length s) × (wordOf (drop i w) (drop (at + i) s) ≡ wordOf w (drop at s))
+Inv-loop s at w i₀ i = (i ≤ length w) × (at + i ≤ length s) × (wordFrom (drop i w) (drop (at + i) s) ≡ wordFrom w (drop at s))
 
 abbrev μ-loop : tie.MeasureT-loop
 μ-loop s at w i₀ i = length w - i

@@ -5,16 +5,16 @@ use Prim.Native.Nat.{ℕ, _≤_, _<_}
 use lib.IntN.{pos}
 use lib.ListN.{length}
 use Rattle.lists.specs.Gather.{tally}
-use Rattle.rules.specs.Winding.{Spot, winding, windingOf, positive, WindsUp, NoneBackward, OneWinds}
-use Rattle.rules.proofs.Windings.{windings-add, at-most-the-outline, exactly-one}
+use Rattle.winding.specs.Winding.{Spot, winding, windingOf, positive, WindsUp, NoneBackward, OneWinds}
+use Rattle.winding.proofs.Windings.{windings-add, at-most-the-outline, exactly-one}
 use Rattle.entry.specs.Mesh.{Mesh}
 use Rattle.rules.specs.Mesh.{Side, lentMesh}
 use Rattle.rules.specs.Meetings.{Scene}
 use Rattle.rules.specs.Cell.{outlineOf}
 use Rattle.rules.specs.Operations.{cuts, sceneFor, piecesOf}
 use Rattle.rules.specs.Overlay.{Lists}
 use Rattle.rules.specs.Demand3.{Accepted}
 use Rattle.rules.proofs.Closing.{accepted-closes, outline-once}
 
 -- For every operation, meeting limit, pair of meshes and lists: if the overlay is accepted, then in every cell of a mesh that the operation cuts and about
 -- every point with exact coordinates,

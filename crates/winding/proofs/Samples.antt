@@ -7,7 +7,7 @@ use lib.Ieee.{Float, binary64, ofBits}
 use Rattle.exact.specs.Exact.{coord, mag, sign}
 use Rattle.plane.specs.Plane.{pointAt}
 use Rattle.cutting.specs.Edges.{hops, ring}
-use Rattle.rules.specs.Winding.{Spot, rises, winding, windingOf}
+use Rattle.winding.specs.Winding.{Spot, risesPast, winding, windingOf}
 
 abbrev f0 : Float
 f0 = ofBits binary64 0
@@ -34,7 +34,7 @@ abbrev within : Spot
 within = record { x = pos 1; y = pos (2 ^ 1074) }
 
 unfoldable about : List ℕ → Spot → ℤ
-unfolding winding rises ring hops coord mag sign pointAt ofBits
+unfolding winding risesPast ring hops coord mag sign pointAt ofBits
 about p s = windingOf square s p
 
 -- inside, outside on all sides and by a step, on the left and lower sides, on the right and upper ones, at the four corners

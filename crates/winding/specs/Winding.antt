@@ -7,10 +7,9 @@ use lib.IntN.{ℤ, pos, negsuc, _+ℤ_, _-ℤ_}
 use lib.ListN.{length, getD}
 use lib.Ieee.{Float}
 use Rattle.lists.specs.Search.{bit}
-use Rattle.exact.specs.Exact.{coord, sign}
+use Rattle.exact.specs.Exact.{coord, isGreater, sign}
 use Rattle.exact.specs.Angle.{det}
 use Rattle.plane.specs.Plane.{pointAt}
-use Rattle.polygons.specs.Inside.{isGreater}
 use Rattle.cutting.specs.Edges.{Edge, ring}
 
 -- any point with exact coordinates, whether a float has them or not
@@ -27,23 +26,23 @@ abbrev pub above : Spot → Spot → Bool
 above s p = isGreater (sign (p .y -ℤ s .y))
 
 -- s lies strictly to the left of the line from p to q: the exact sign of `orient2d`
-abbrev pub leftOf : Spot → Spot → Spot → Bool
-leftOf s p q = isGreater (sign (det (p .x) (p .y) (q .x) (q .y) (s .x) (s .y)))
+abbrev pub onTheLeft : Spot → Spot → Spot → Bool
+onTheLeft s p q = isGreater (sign (det (p .x) (p .y) (q .x) (q .y) (s .x) (s .y)))
 
 -- The edge from p to q goes up past s, to the right of it: from s's height or below to above it, with s strictly on the left.
-unfoldable pub rises : Spot → Spot → Spot → Bool
-rises s p q = not (above s p) && above s q && leftOf s p q
+unfoldable pub risesPast : Spot → Spot → Spot → Bool
+risesPast s p q = not (above s p) && above s q && onTheLeft s p q
 
 -- 1 for an edge that goes up past s to the right of it, −1 for one that goes down there (turned round it goes up), 0 for any other
-abbrev pub crossing : Spot → Spot → Spot → ℤ
-crossing s p q = pos (bit (rises s p q)) -ℤ pos (bit (rises s q p))
+abbrev pub crossesRay : Spot → Spot → Spot → ℤ
+crossesRay s p q = pos (bit (risesPast s p q)) -ℤ pos (bit (risesPast s q p))
 
 -- The winding number of directed edges about s: their crossings of the ray from s to the right, added up. Of a closed list of edges it says how often they go
 -- round s counterclockwise, where s is on none of them. Where s is on an edge the half-open rule decides: of a counterclockwise square
 -- the left and lower sides belong to the inside, the right and upper ones to the outside.
 unfoldable pub winding : List Float → Spot → List Edge → ℤ
 winding coords s [] = pos 0
-winding coords s (e ∷ es) = crossing s (spotAt coords (e .0)) (spotAt coords (e .1)) +ℤ winding coords s es
+winding coords s (e ∷ es) = crossesRay s (spotAt coords (e .0)) (spotAt coords (e .1)) +ℤ winding coords s es
 
 -- that of a piece
 abbrev pub windingOf : List Float → Spot → List ℕ → ℤ

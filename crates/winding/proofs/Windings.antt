@@ -14,7 +14,7 @@ use Rattle.cutting.specs.Edges.{Edge, ring, rings, times}
 use Rattle.cutting.specs.Cell.{Laid, repeats, cellTable}
 use Rattle.cutting.specs.Outcome.{pieces, cutOutcome, copiedOutcome}
 use Rattle.cutting.specs.Areas.{Closes, ClosesUp}
-use Rattle.rules.specs.Winding.{Spot, spotAt, rises, crossing, winding, windingOf, windings, negative, positive, WindsUp, NoneBackward, OneWinds}
+use Rattle.winding.specs.Winding.{Spot, spotAt, risesPast, crossesRay, winding, windingOf, windings, negative, positive, WindsUp, NoneBackward, OneWinds}
 use Rattle.cutting.proofs.Sums.{sum, sum-append, sum-even}
 use Rattle.cutting.proofs.Repeats.{repeats-not}
 use Rattle.cutting.proofs.Closing.{accepted-once, copy-once, accepted-closes-up, copy-closes-up}
@@ -23,10 +23,10 @@ use Rattle.cutting.proofs.Closing.{accepted-once, copy-once, accepted-closes-up
 
 module _ (coords : List Float) (s : Spot) where
   abbrev weight : ℕ → ℕ → ℤ
-  weight a b = crossing s (spotAt coords a) (spotAt coords b)
+  weight a b = crossesRay s (spotAt coords a) (spotAt coords b)
 
   pub crossing-odd : (a b : ℕ) → weight a b ≡ negℤ (weight b a)
-  crossing-odd a b = back (pos (bit (rises s (spotAt coords a) (spotAt coords b)))) (pos (bit (rises s (spotAt coords b) (spotAt coords a))))
+  crossing-odd a b = back (pos (bit (risesPast s (spotAt coords a) (spotAt coords b)))) (pos (bit (risesPast s (spotAt coords b) (spotAt coords a))))
     where
       back : (u v : ℤ) → u -ℤ v ≡ negℤ (v -ℤ u)
       back u v = +ℤ-comm u (negℤ v) ∙ ap (λ (z : ℤ). negℤ v +ℤ z) (sym (negℤ-negℤ u)) ∙ sym (negℤ-+ℤ v (negℤ u))
@@ -59,16 +59,6 @@ module _ (coords : List Float) (outline : List Edge) (ps : List (List ℕ)) wher
   windings-add once close s =
       windings-sum coords s ps ∙ sum-even (weight coords s) (crossing-odd coords s) (rings ps) outline (balance (close .edges) (λ a b. omega (arith, repeats-not outline once a b)))
       ∙ sym (winding-sum coords s outline)
-
--- so about every point the pieces of a cell that gives no refusal wind together as often as the outline as cut, whether the cell is cut
-pub accepted-winds-up : (coords : List Float) (outline : List Edge) (near : List Laid) (ps : List (List ℕ))
-    → cutOutcome outline (cellTable coords outline near) ≡ pieces ps → WindsUp coords outline ps
-accepted-winds-up coords outline near ps e = windings-add coords outline ps (accepted-once outline (cellTable coords outline near) ps e)
-    (accepted-closes-up coords outline near ps e)
-
--- or copied
-pub copy-winds-up : (coords : List Float) (cell : List ℕ) (ps : List (List ℕ)) → copiedOutcome cell ≡ pieces ps → WindsUp coords (ring cell) ps
-copy-winds-up coords cell ps e = windings-add coords (ring cell) ps (copy-once cell ps e) (copy-closes-up coords cell ps e)
 
 -- ---- where no piece winds clockwise
 

@@ -1,0 +1,3 @@
+pub mod Windings
+pub mod Winds
+mod Samples
