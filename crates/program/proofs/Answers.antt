@@ -13,14 +13,14 @@ use Rattle.lists.specs.Regions.{zeros, fzeros}
 use Rattle.cutting.specs.Setting.{ours}
 use Rattle.entry.specs.Mesh.{Mesh}
 use Rattle.rules.specs.Meetings.{addedBy, sceneOf}
-use Rattle.rules.specs.Overlay.{Lists, Result, lentLists, result, answerGiven as succeeded, answeredWith, overlayOf}
+use Rattle.rules.specs.Overlay.{Lists, Result, lentLists, result, answered as succeeded, answeredWith, overlayOf}
 use Rattle.rules.proofs.Endings.{Ending, input, state-met, success, ending, input-refused, state-refused, succeeds}
 use Rattle.rules.proofs.Lengths.{accepted-fits}
 use Rattle.text.specs.Text.{Answer, answerText}
 use Rattle.text.specs.Read.{inputFrom}
 use Rattle.text.specs.Given.{Given, Parsed, none, got, limits}
 use Rattle.printing.specs.Page.{roomFor, laidOver}
-use Rattle.printing.specs.Told.{resultTold as Told·told}
+use Rattle.printing.specs.Told.{told}
 use Rattle.printing.specs.declared.Put.{Put}
 use Rattle.printing.specs.declared.Answer.{Answer as Printed}
 use Rattle.printing.specs.declared.Answer.the-variants as printed
@@ -39,12 +39,12 @@ pub a-listing : (n code p q d : ℕ) → code ≡ 0 → printed.Overlay (n + q) 
 unfolding printedOf
 a-listing n code p q d h = rw (eq-eqb code 0 h) refl
 
-printed-told : (n code p q d : ℕ) (l : Lists) → Told·told (printedOf n code p q d) (l .coords) (l .nodes) (l .ends) (l .kinds) (l .families) ≡ resultTold n (result code p q d l)
-unfolding printedOf Told·told resultTold
+printed-told : (n code p q d : ℕ) (l : Lists) → told (printedOf n code p q d) (l .coords) (l .nodes) (l .ends) (l .kinds) (l .families) ≡ resultTold n (result code p q d l)
+unfolding printedOf told resultTold
 printed-told n code p q d l = go (eqb code 0)
   where
     left : Bool → Answer
-    left b = Told·told (cond b (printed.Overlay (n + q) p q d) (printed.Refused code)) (l .coords) (l .nodes) (l .ends) (l .kinds) (l .families)
+    left b = told (cond b (printed.Overlay (n + q) p q d) (printed.Refused code)) (l .coords) (l .nodes) (l .ends) (l .kinds) (l .families)
 
     go : (b : Bool) → left b ≡ cond b (left true) (left false)
     go true = refl
@@ -81,12 +81,12 @@ module _ (op m : ℕ) (s c : Mesh) where
     nodes-fit h = omega (arith, h, points-few, ap (λ (r : Result). r .points) same)
 
     pub cut-printed : (g : Printed) (r : Put) (out out₁ : List ℕ) → g ≡ printedOf n code p q d
-        → (r ≡ roomFor (length out) (answerText (Told·told g cs ns es ks fs))) × (out₁ ≡ laidOver out (answerText (Told·told g cs ns es ks fs)))
+        → (r ≡ roomFor (length out) (answerText (told g cs ns es ks fs))) × (out₁ ≡ laidOver out (answerText (told g cs ns es ks fs)))
         → (r ≡ roomFor (length out) (answerText (resultTold n (overlayOf op m s c blank)))) × (out₁ ≡ laidOver out (answerText (resultTold n (overlayOf op m s c blank))))
     unfolding blank
     cut-printed g r out out₁ e (a, b) =
-        let text : Told·told g cs ns es ks fs ≡ resultTold n (overlayOf op m s c lists) =
-        ap (λ x. Told·told x cs ns es ks fs) e ∙ printed-told n code p q d (lentLists cs ns es ks fs ws) ∙ ap (resultTold n) same in
+        let text : told g cs ns es ks fs ≡ resultTold n (overlayOf op m s c lists) =
+        ap (λ x. told x cs ns es ks fs) e ∙ printed-told n code p q d (lentLists cs ns es ks fs ws) ∙ ap (resultTold n) same in
         (a ∙ ap (λ t. roomFor (length out) (answerText t)) text, b ∙ ap (λ t. laidOver out (answerText t)) text)
 
 -- ---- what was read
@@ -107,9 +107,9 @@ module _ (s : List ℕ) where
 
   -- malformed
   pub unread-printed : (cs : List Float) (ns es ks fs out out₁ : List ℕ) (r : Put) → none ≡ readOf
-      → (r ≡ roomFor (length out) (answerText (Told·told printed.Unread cs ns es ks fs))) × (out₁ ≡ laidOver out (answerText (Told·told printed.Unread cs ns es ks fs)))
+      → (r ≡ roomFor (length out) (answerText (told printed.Unread cs ns es ks fs))) × (out₁ ≡ laidOver out (answerText (told printed.Unread cs ns es ks fs)))
       → (r ≡ roomFor (length out) (answerTo s)) × (out₁ ≡ laidOver out (answerTo s))
-  unfolding Told·told answerGiven
+  unfolding told answerGiven
   unread-printed cs ns es ks fs out out₁ r e (a, b) =
       let text = answer-read none e in
       (a ∙ ap (λ t. roomFor (length out) t) text, b ∙ ap (λ t. laidOver out t) text)

@@ -18,7 +18,7 @@ use Rattle.cutting.proofs.Runs.{stops-length}
 use Rattle.cutting.specs.Setting.{ours}
 use Rattle.entry.specs.Mesh.{Mesh}
 use Rattle.rules.specs.Operations.{Piece, listing}
-use Rattle.rules.specs.Overlay.{Result, cleared, written, answerGiven as succeeded, answeredWith, overlayOf}
+use Rattle.rules.specs.Overlay.{Result, cleared, written, answered as succeeded, answeredWith, overlayOf}
 use Rattle.rules.proofs.Endings.{Ending, input, state-met, success, ending, input-refused, state-refused, succeeds}
 use Rattle.rules.proofs.Lengths.{accepted-fits, lengths-kept}
 use Rattle.text.specs.Text.{unread, refused, overlay, answerText}
