@@ -4,8 +4,8 @@ ghost use mathlib.Core.Bool.{true, false};
 ghost use Prim.Native.Nat.{_≤_};
 ghost use Rattle.exact.specs.Angle.{orientation, angles};
 ghost use Rattle.segments.specs.Meet.{meeting};
-ghost use Rattle.polygons.specs.Corners.{oriented, turned};
-ghost use Rattle.polygons.specs.Inside.{containsStable};
+ghost use Rattle.corners.specs.Corners.{oriented, turned};
+ghost use Rattle.insides.specs.Inside.{containsStable};
 ghost use Rattle.polygons.specs.Interior.{strictInteriorPoint};
 ghost use Rattle.geometry_c.specs.Numbers.{sideNumber, idNumber, meetNumber, newPoint, meetPoint, innerNumber, innerPoint, pointOf, segmentFrom};
 use exact::Order;
@@ -165,7 +165,7 @@ pub extern "C" fn geometry_inner(coords: &[f64], corners: &[u32], point: &mut [f
 pub extern "C" fn geometry_turned(coords: &[f64], corners: &[u32]) -> bool
     ensures { λ r. ⌜ r ≡ turned (now (coords .entry)) (now (corners .entry)) ⌝ }
 {
-    polygons::into_ccw2(coords, corners)
+    corners::into_ccw2(coords, corners)
 }
 
 // The corners, read backwards where `back`, go counter-clockwise.
@@ -179,5 +179,5 @@ pub extern "C" fn geometry_contains_stable(
 ) -> bool
     ensures { λ r. ⌜ r ≡ containsStable (now (coords .entry)) (oriented back (now (corners .entry))) (pointOf x y) ⌝ }
 {
-    polygons::contains_stable(coords, corners, back, Point { x, y })
+    insides::contains_stable(coords, corners, back, Point { x, y })
 }

@@ -182,7 +182,7 @@ fn inside(c: &[f64], rising: &[u32]) {
         return;
     }
     if n <= rising.len() {
-        if polygons::inside(c, &rising[1..n], point(c, 0)) {
+        if insides::inside(c, &rising[1..n], point(c, 0)) {
             io::write_all(1, b"true");
         } else {
             io::write_all(1, b"false");

@@ -8,7 +8,7 @@ use lib.Ieee.{Float}
 use lib.ListN.{length, getD, take, drop}
 use Rattle.lists.specs.Search.{first, has}
 use Rattle.lists.proofs.Search.{and-true, first-on, first-here, first-end, has-true, has-false}
-use Rattle.polygons.specs.Inside.{inside}
+use Rattle.insides.specs.Inside.{inside}
 use Rattle.plane.specs.declared.Point.{Point}
 use Rattle.polygons.specs.declared.Inner.the-variants.{Inside}
 use Rattle.entry.specs.Mesh.{prior, Rising}

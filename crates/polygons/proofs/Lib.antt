@@ -1,4 +1,3 @@
-pub mod Corners
 pub mod Scans
 pub mod Ascent
 pub mod Steps

@@ -1,41 +1,26 @@
--- The turn and the end of each loop. Assumes nothing.
-use mathlib.Core.Path.{_≡_, refl, sym, _∙_, ap, subst}
+-- The turn of each loop. Assumes nothing.
+use mathlib.Core.Path.{_≡_, refl, sym, _∙_, ap}
 use mathlib.Core.List.{List, [], _∷_, _++_}
 use mathlib.Core.Bool.{Bool, true, false, cond, _&&_}
 use Prim.Native.Nat.{ℕ, zero, suc, _+_, _-_, _≤_}
 use native.Mathlib.Omega.{arith}
-use native.Mathlib.Nat.{le-antisymm, zero-add}
+use native.Mathlib.Nat.{zero-add}
 use native.Mathlib.Numerals.{add-one}
 use lib.ListN.{length}
 use lib.Ieee.{Float, lt, unlike}
 use Rattle.lists.specs.Gather.{gathered, each, all}
 use Rattle.lists.specs.Sort.{sorted}
 use Rattle.lists.proofs.Gather.{gathered-more, all-snoc}
-use Rattle.plane.specs.Plane.{_⊕_, isNumber}
-use Rattle.polygons.specs.Corners.{cornerAt, cornerAfter, areaTerm, doubledTo}
-use Rattle.polygons.specs.Inside.{nearerEdge, nearestAmong}
+use Rattle.plane.specs.Plane.{isNumber}
+use Rattle.corners.specs.Corners.{cornerAt, cornerAfter}
 use Rattle.polygons.specs.Interior.{heightAt, passed, crossed, lowest}
 use Rattle.polygons.specs.Scans.{firstAbove, closer, upTo, climbed, climbTo, taken, withCrossing}
 use Rattle.plane.specs.declared.Point.{Point}
-use Rattle.polygons.specs.declared.Near.{Near}
 use Rattle.polygons.specs.declared.Height.{Height}
 use Rattle.polygons.specs.declared.Height.the-variants.{Nothing, At}
 use Rattle.polygons.specs.declared.Climb.{Climb}
 use Rattle.polygons.specs.declared.Lowest.{Lowest}
 use Rattle.polygons.proofs.Scans.{above-more, lowest-more}
-
--- the loop is over when it has counted n
-pub ended : {A : Type 0} (f : ℕ → A) (i n : ℕ) (r : A) → r ≡ f i → i ≤ n → n ≤ i → r ≡ f n
-ended f i n r h a b = let e : i ≡ n = le-antisymm a b in subst (λ (k : ℕ). r ≡ f k) e h
-
-pub doubled-turn : (i : ℕ) (cs : List Float) (ps : List ℕ) (s t : Float) → s ≡ doubledTo i cs ps → t ≡ areaTerm cs ps i → s ⊕ t ≡ doubledTo (i + 1) cs ps
-unfolding doubledTo
-doubled-turn i cs ps s t h k = rw (add-one, h, k) refl
-
-pub nearest-turn : (i : ℕ) (cs : List Float) (ps : List ℕ) (p : Point) (b r : Near)
-    → b ≡ nearestAmong i cs ps p → r ≡ nearerEdge cs ps p i b → r ≡ nearestAmong (i + 1) cs ps p
-unfolding nearestAmong
-nearest-turn i cs ps p b r h k = rw add-one (k ∙ ap (λ (z : Near). nearerEdge cs ps p i z) h)
 
 pub numbers-turn : (i : ℕ) (cs : List Float) (ps : List ℕ) (ok : Bool) (a : Point)
     → ok ≡ all isNumber (each i (heightAt cs ps)) → a ≡ cornerAt cs ps i → ok && isNumber (a .y) ≡ all isNumber (each (i + 1) (heightAt cs ps))

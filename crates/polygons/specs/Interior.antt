@@ -8,7 +8,7 @@ use lib.Ieee.{Float, lt, eq, unlike, binary64, ofBits}
 use Rattle.lists.specs.Gather.{gathered, each, all, slim}
 use Rattle.lists.specs.Sort.{sorted}
 use Rattle.plane.specs.Plane.{_⊕_, _⊖_, _⊗_, _⊘_, zeroF, twoF, isNumber, magnitude}
-use Rattle.polygons.specs.Corners.{cornerAt, cornerAfter, doubledSum}
+use Rattle.corners.specs.Corners.{cornerAt, cornerAfter, doubledSum}
 use Rattle.plane.specs.declared.Point.{Point}
 use Rattle.polygons.specs.declared.Height.{Height}
 use Rattle.polygons.specs.declared.Height.the-variants.{Nothing, At}

@@ -6,7 +6,7 @@ use Prim.Native.Nat.{ℕ, zero, suc}
 use lib.ListN.{length}
 use lib.Ieee.{Float, lt, unlike}
 use Rattle.plane.specs.Plane.{isNumber}
-use Rattle.polygons.specs.Corners.{cornerAt, cornerAfter}
+use Rattle.corners.specs.Corners.{cornerAt, cornerAfter}
 use Rattle.polygons.specs.Interior.{passed, foot, crossingAt}
 use Rattle.polygons.specs.declared.Height.{Height}
 use Rattle.polygons.specs.declared.Height.the-variants.{Nothing, At}

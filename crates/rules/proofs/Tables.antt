@@ -13,8 +13,8 @@ use Rattle.exact.specs.Angle.{angles, orientation}
 use Rattle.plane.specs.Plane.{magnitude, larger, scale, between, along, tolerance, pointAt}
 use Rattle.segments.specs.Colinear.{parameters, inOrder, firstThenSecond, ofOrder, colinear}
 use Rattle.segments.specs.Meet.{near, settled, crossing, meeting}
-use Rattle.polygons.specs.Corners as Corners
-use Rattle.polygons.specs.Inside as Polygon
+use Rattle.corners.specs.Corners as Corners
+use Rattle.insides.specs.Inside as Polygon
 use Rattle.polygons.specs.Interior.{heights, passed, climb, widest, widestIn, crossed, crossings, lowest, strictInteriorPoint}
 use Rattle.cutting.specs.Edges.{hops, ring, rings, times}
 use Rattle.cutting.specs.Cell.{

@@ -5,7 +5,7 @@ use Prim.Native.Nat.{ℕ}
 use lib.ListN.{length, getD}
 use lib.Ieee.{Float}
 use Rattle.lists.specs.Search.{has}
-use Rattle.polygons.specs.Inside.{inside}
+use Rattle.insides.specs.Inside.{inside}
 use Rattle.polygons.specs.Interior.{strictInteriorPoint}
 use Rattle.rules.specs.SpatialIndex.{boxOf, boxHolds}
 use Rattle.polygons.specs.declared.Inner.{Inner}

@@ -6,10 +6,11 @@ use lib.ListN.{length}
 use lib.Ieee.{lt}
 use Rattle.lists.specs.Gather.{gathered, each}
 use Rattle.lists.specs.Sort.{sortOnto, sorted}
-use Rattle.polygons.specs.Corners.{oriented}
+use Rattle.corners.specs.Corners.{oriented}
 use Rattle.polygons.specs.Interior.{heightAt, heights}
 use Rattle.polygons.specs.Scans.{firstAbove}
-use Rattle.polygons.proofs.Steps.{ended, above-turn}
+use Rattle.corners.proofs.Steps.{ended}
+use Rattle.polygons.proofs.Steps.{above-turn}
 use borrow.Author.Needs.{needs}
 use Rattle.polygons.proofs.above.Statement.{statement}
 use Rattle.polygons.proofs.above.Tie as tie

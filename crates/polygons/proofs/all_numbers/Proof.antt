@@ -5,9 +5,10 @@ use native.Mathlib.Omega.{arith}
 use lib.ListN.{length}
 use Rattle.lists.specs.Gather.{gathered, each, all}
 use Rattle.plane.specs.Plane.{isNumber}
-use Rattle.polygons.specs.Corners.{oriented}
+use Rattle.corners.specs.Corners.{oriented}
 use Rattle.polygons.specs.Interior.{heightAt, heights}
-use Rattle.polygons.proofs.Steps.{ended, numbers-turn}
+use Rattle.corners.proofs.Steps.{ended}
+use Rattle.polygons.proofs.Steps.{numbers-turn}
 use borrow.Author.Needs.{needs}
 use Rattle.polygons.proofs.all_numbers.Statement.{statement}
 use Rattle.polygons.proofs.all_numbers.Tie as tie

@@ -7,7 +7,8 @@ use lib.Ieee.{lt}
 use Rattle.lists.specs.Sort.{sorted}
 use Rattle.polygons.specs.Interior.{heights}
 use Rattle.polygons.specs.Scans.{climbTo}
-use Rattle.polygons.proofs.Steps.{ended, climb-turn, climb-over}
+use Rattle.corners.proofs.Steps.{ended}
+use Rattle.polygons.proofs.Steps.{climb-turn, climb-over}
 use borrow.Author.Needs.{needs}
 use Rattle.polygons.proofs.climbs.Statement.{statement}
 use Rattle.polygons.proofs.climbs.Tie as tie

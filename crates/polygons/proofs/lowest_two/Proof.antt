@@ -6,7 +6,8 @@ use lib.ListN.{length}
 use Rattle.lists.specs.Gather.{gathered, all}
 use Rattle.lists.specs.Sort.{sortOnto}
 use Rattle.polygons.specs.Interior.{lowest, crossed, crossings}
-use Rattle.polygons.proofs.Steps.{ended, lowest-turn}
+use Rattle.corners.proofs.Steps.{ended}
+use Rattle.polygons.proofs.Steps.{lowest-turn}
 use borrow.Author.Needs.{needs}
 use Rattle.polygons.proofs.lowest_two.Statement.{statement}
 use Rattle.polygons.proofs.lowest_two.Tie as tie

@@ -1,6 +1,6 @@
 -- `polygons::with_crossing` meets its contract: each answer is what the tests that led there pick.
 -- Assumes nothing.
-use Rattle.polygons.specs.Corners.{oriented}
+use Rattle.corners.specs.Corners.{oriented}
 use borrow.Author.Needs.{needs}
 use Rattle.polygons.specs.Scans.{withCrossing}
 use Rattle.polygons.proofs.with_crossing.Statement.{statement}

@@ -1,0 +1,4 @@
+pub mod Corners
+pub mod Steps
+pub mod Tables
+pub mod Cases
