@@ -3,7 +3,7 @@ use mathlib.Core.Bool.{Bool, true}
 use mathlib.Core.List.{List, [], _∷_}
 use Prim.Native.Nat.{ℕ}
 use lib.Dec.{T}
-use lib.Ieee.{add, sub, mul, div, neg, lt, ofBits}
+use lib.Ieee.{add, sub, mul, div, neg, lt, le, ofBits}
 use Rattle.plane.specs.Plane.{pointAt}
 use Rattle.corners.specs.Corners.{cornerAt, cornerAfter, oriented, areaTerm, doubledTo, doubledSum, signedArea2, turned, intoCcw2}
 use Rattle.corners.proofs.Tables.{floats, o, i, ii, n, tiny, k9, both, same}
@@ -28,7 +28,7 @@ turnings =
 -- ---- the theorem
 
 right : List Case → Bool
-unfolding both same intoCcw2 turned signedArea2 doubledSum doubledTo areaTerm oriented cornerAfter cornerAt pointAt ofBits add sub mul div neg lt
+unfolding both same intoCcw2 turned signedArea2 doubledSum doubledTo areaTerm oriented cornerAfter cornerAt pointAt ofBits add sub mul div neg lt le
 right [] = true
 right (ccw cs ps m ∷ rs) = both (same (intoCcw2 (floats cs) ps) m) (right rs)
 

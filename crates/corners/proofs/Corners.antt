@@ -45,5 +45,3 @@ no-corner b ps i h = sym (getD-over (oriented b ps) i 0 (subst (λ (n : ℕ). n 
 pub after-over : (n i : ℕ) → n ≤ i → 0 ≡ cornerAfter n i
 unfolding cornerAfter
 after-over n i h = rw (le-ltb (i + 1) n (omega arith)) refl
-
--- ---- the steps are those of the Rust, which takes remainders

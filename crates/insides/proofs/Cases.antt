@@ -3,7 +3,7 @@ use mathlib.Core.Bool.{Bool, true, false, Bool·beq}
 use mathlib.Core.List.{List, [], _∷_}
 use Prim.Native.Nat.{ℕ}
 use lib.Dec.{T}
-use lib.Ieee.{add, sub, mul, div, neg, lt, eq, ofBits}
+use lib.Ieee.{add, sub, mul, div, neg, lt, le, eq, ofBits}
 use Rattle.exact.specs.Exact.{mag, coord, sign, ordered}
 use Rattle.exact.specs.Angle.{orientation}
 use Rattle.plane.specs.Plane.{between, along, pointAt}
@@ -43,7 +43,7 @@ points =
 
 right : List Case → Bool
 unfolding both between along inside containsStable atCorner reflex leftOf orient2d2 nearest nearestAmong nearerEdge settle orthoDist2 clamped intoCcw2 turned
-    signedArea2 doubledSum doubledTo areaTerm oriented cornerBefore cornerAfter cornerAt pointAt orientation coord mag sign ordered ofBits add sub mul div neg lt eq
+    signedArea2 doubledSum doubledTo areaTerm oriented cornerBefore cornerAfter cornerAt pointAt orientation coord mag sign ordered ofBits add sub mul div neg lt le eq
 right [] = true
 right (within cs ps p m ∷ rs) = both (Bool·beq (inside (floats cs) ps p) m) (right rs)
 

@@ -4,7 +4,7 @@ use mathlib.Core.List.{List, [], _∷_, _++_}
 use Prim.Native.Nat.{ℕ, suc}
 use lib.Dec.{T}
 use lib.ListN.{getD}
-use lib.Ieee.{add, sub, mul, div, neg, lt, eq, ofBits, toBits}
+use lib.Ieee.{add, sub, mul, div, neg, lt, le, eq, ofBits, toBits}
 use Rattle.lists.specs.Gather.{gathered, all, slim, slimAfter}
 use Rattle.lists.specs.Sort.{insert, sortOnto, sorted}
 use Rattle.exact.specs.Exact.{mag, coord, sign, ordered, isLess}
@@ -73,7 +73,7 @@ byAngle ds =
 
 right : List Case → Bool
 unfolding both same byAngle magnitude angles strictInteriorPoint lowest crossings crossed widestIn widest climb passed heights doubledSum doubledTo areaTerm
-    cornerAfter cornerAt pointAt coord mag sign ordered gathered all slim slimAfter insert sortOnto innerCode toBits ofBits add sub mul div neg lt eq
+    cornerAfter cornerAt pointAt coord mag sign ordered gathered all slim slimAfter insert sortOnto innerCode toBits ofBits add sub mul div neg lt le eq
 right [] = true
 right (turns ds m ∷ rs) = both (same (byAngle ds) m) (right rs)
 right (inner cs ps m ∷ rs) = both (same (innerCode (strictInteriorPoint (floats cs) ps)) m) (right rs)
