@@ -5,10 +5,11 @@ use mathlib.Core.List.{List, []}
 use Prim.Native.Nat.{ℕ, _≤_, _<_}
 use native.Mathlib.Omega.{arith}
 use lib.ListN.{length, take, drop, length-append}
+use lib.Seq.{length-take-le}
 use lib.Ieee.{Float}
 use Rattle.lists.specs.Gather.{joined}
-use Rattle.lists.specs.Regions.{front, zeros}
-use Rattle.lists.proofs.Regions.{take-front}
+use Rattle.lists.specs.Regions.{front}
+use Rattle.lists.proofs.Regions.{take-front-of}
 use Rattle.cutting.specs.Edges.{Edge}
 use Rattle.cutting.specs.Cell.{Laid, Slot, newTo, innerWith, cellTable, repeats}
 use Rattle.cutting.specs.Walk.{walk}
@@ -20,22 +21,23 @@ use Rattle.dart_walk.specs.declared.Walked.the-variants.{Closed, Refused}
 use Rattle.cutting.proofs.Pairs.{pairs-ends}
 use Rattle.dart_table.proofs.Joins.{cell-length, cut-repeats, cut-over, cut-fits}
 use Rattle.cutting.proofs.Tabled.{slots-length}
-use Rattle.rules.specs.declared.Bounds.{Bounds}
-use Rattle.edge_nodes.specs.Lent.{filled}
-use Rattle.edge_nodes.specs.declared.Along.{Along}
-use Rattle.cells.specs.declared.CutCell.{CutCell}
-use Rattle.cells.specs.Cells.{outlineIn, nearIn, tableIn, candidatesFrom, cutAs, cutBy, cutCell, Held}
+use Rattle.edge_nodes.specs.Lent.{FrontIs}
+use Rattle.cells.specs.declared.Near.{Near}
+use Rattle.regions.specs.declared.Regions.{Regions}
+use Rattle.regions.specs.Runs.{runIn}
+use Rattle.spatial_index.specs.Blocks.{Covered}
+use Rattle.cells.specs.Cells.{outlineIn, nearIn, tableIn, candidatesFrom, nearEdgesIn, candidatesOf, AllFew, Cut, cut, cutAs, cutBy, cutCell, Held}
 
 -- ---- refusals 10 and 19
 
-module _ (coords : List Float) (outline : List Edge) (near : List Laid) where
-  pub too-many : repeats outline ≡ false → 1024 < length (cellTable coords outline near) → cutAs (refusal 10) ≡ cutBy outline (cellTable coords outline near)
+module _ (coords : List Float) (outline : List Edge) (near : List Laid) (on os : List ℕ) where
+  pub too-many : repeats outline ≡ false → 1024 < length (cellTable coords outline near) → cutAs (refusal 10) on os ≡ cutBy outline (cellTable coords outline near) on os
   unfolding cutBy
-  too-many once many = ap cutAs (sym (cut-over coords outline near once many))
+  too-many once many = ap (λ (o : Outcome). cutAs o on os) (sym (cut-over coords outline near once many))
 
-  pub repeated : repeats outline ≡ true → cutAs (refusal 19) ≡ cutBy outline (cellTable coords outline near)
+  pub repeated : repeats outline ≡ true → cutAs (refusal 19) on os ≡ cutBy outline (cellTable coords outline near) on os
   unfolding cutBy
-  repeated e = ap cutAs (sym (cut-repeats coords outline near e))
+  repeated e = ap (λ (o : Outcome). cutAs o on os) (sym (cut-repeats coords outline near e))
 
 -- ---- the outline in a list
 
@@ -44,70 +46,90 @@ module _ (coords : List Float) (outline : List Edge) (w : List ℕ) (n : ℕ) (f
   read-back = ap pairs (put-in few) ∙ pairs-ends outline
 
   -- the table of the own edges, by the outline as it is lent
-  pub own-table : (src dst marks : List ℕ) → Held (cellTable coords outline []) n src dst marks → slotsOf src dst marks n ≡ cellTable coords (pairs (take n w)) []
-  own-table src dst marks held = held .fits few ∙ ap (λ (o : List Edge). cellTable coords o []) (sym read-back)
+  pub own-table : (src dst marks : List ℕ) → Held (cellTable coords outline []) n src dst marks → n ≤ length w
+      → slotsOf src dst marks (length (take n w)) ≡ cellTable coords (pairs (take n w)) []
+  own-table src dst marks held fits =
+      ap (slotsOf src dst marks) (length-take-le n w fits) ∙ held .fits few ∙ ap (λ (o : List Edge). cellTable coords o []) (sym read-back)
 
-  pub as-lent : (near : List Laid) (r : CutCell) → r ≡ cutBy (pairs (take n w)) (cellTable coords (pairs (take n w)) near) → r ≡ cutBy outline (cellTable coords outline near)
-  as-lent near r e = e ∙ ap (λ (o : List Edge). cutBy o (cellTable coords o near)) read-back
+  pub as-lent : (near : List Laid) (on os : List ℕ) (x : Cut) → x ≡ cutBy (pairs (take n w)) (cellTable coords (pairs (take n w)) near) on os
+      → x ≡ cutBy outline (cellTable coords outline near) on os
+  as-lent near on os x e = e ∙ ap (λ (o : List Edge). cutBy o (cellTable coords o near) on os) read-back
 
 -- ---- `cut_cell`
 
-module _ (coords : List Float) (subject cutter : List Edge) (met : List ℕ) (near : List Edge) (cell : List ℕ) (b : Bounds) (first : ℕ) where
+module _ (coords : List Float) (work : List ℕ) (g : Regions) (t : Near) (cell on os : List ℕ) where
   abbrev own : List Edge
-  own = outlineIn coords subject cutter met cell
+  own = outlineIn coords work g cell
 
   abbrev others : List Laid
-  others = nearIn coords subject cutter met near (candidatesFrom coords near b first)
+  others = nearIn coords work g (nearEdgesIn work t) (candidatesOf coords work t)
 
-  pub cut-as-lent : (w : List ℕ) (n : ℕ) (r : CutCell) → n ≤ 1024 → (n ≤ 1024 → take n w ≡ flatEdges own)
-      → r ≡ cutBy (pairs (take n w)) (cellTable coords (pairs (take n w)) others) → r ≡ cutCell coords subject cutter met near cell b first
+  pub cut-as-lent : (w : List ℕ) (n : ℕ) (x : Cut) → n ≤ 1024 → (n ≤ 1024 → take n w ≡ flatEdges own)
+      → x ≡ cutBy (pairs (take n w)) (cellTable coords (pairs (take n w)) others) on os → x ≡ cutCell coords work g t cell on os
   unfolding cutCell tableIn
-  cut-as-lent w n r few put-in e = as-lent coords own w n few put-in others r e
+  cut-as-lent w n x few put-in e = as-lent coords own w n few put-in others on os x e
 
   -- too many slots of the own edges are too many in all
-  pub too-many-own : repeats own ≡ false → 1024 < length (cellTable coords own []) → cutAs (refusal 10) ≡ cutCell coords subject cutter met near cell b first
+  pub too-many-own : repeats own ≡ false → 1024 < length (cellTable coords own []) → cutAs (refusal 10) on os ≡ cutCell coords work g t cell on os
   unfolding cutCell tableIn innerWith newTo joined
-  too-many-own once many = too-many coords own others once (omega (arith, many, cell-length coords own [], cell-length coords own others))
+  too-many-own once many = too-many coords own others on os once (omega (arith, many, cell-length coords own [], cell-length coords own others))
 
-  pub repeated-own : repeats own ≡ true → cutAs (refusal 19) ≡ cutCell coords subject cutter met near cell b first
+  pub repeated-own : repeats own ≡ true → cutAs (refusal 19) on os ≡ cutCell coords work g t cell on os
   unfolding cutCell tableIn
-  repeated-own e = repeated coords own others e
+  repeated-own e = repeated coords own others on os e
 
 -- ---- the walk
 
 -- the outcome is that of the walk, where the table has its place
-pub as-walked : (coords : List Float) (outline : List Edge) (near : List Laid) (n : ℕ) (src dst marks : List ℕ) (r : CutCell) → repeats outline ≡ false → n ≤ 1024
+pub as-walked : (coords : List Float) (outline : List Edge) (near : List Laid) (n : ℕ) (src dst marks on os : List ℕ) (x : Cut) → repeats outline ≡ false → n ≤ 1024
     → Held (cellTable coords outline near) n src dst marks
-    → r ≡ cutAs (ofWalk (walk outline (slotsOf src dst marks n))) → r ≡ cutBy outline (cellTable coords outline near)
+    → x ≡ cutAs (ofWalk (walk outline (slotsOf src dst marks n))) on os → x ≡ cutBy outline (cellTable coords outline near) on os
 unfolding cutBy
-as-walked coords outline near n src dst marks r once few held e =
+as-walked coords outline near n src dst marks on os x once few held e =
     let t : List Slot = cellTable coords outline near in
     let same : slotsOf src dst marks n ≡ t = held .fits few in
     let small : length t ≤ 1024 = omega (arith, few, ap length same, slots-length src dst marks n) in
-    e ∙ ap (λ (u : List Slot). cutAs (ofWalk (walk outline u))) same ∙ ap cutAs (sym (cut-fits coords outline near once small))
+    e ∙ ap (λ (u : List Slot). cutAs (ofWalk (walk outline u)) on os) same ∙ ap (λ (o : Outcome). cutAs o on os) (sym (cut-fits coords outline near once small))
 
 -- ---- the answer of the walk
 
-module _ (o : Outcome) (w : Walked) (nodes stops : List ℕ) (ew : w ≡ answer o) (en : nodes ≡ cornersIn o (zeros 1024)) (es : stops ≡ endsIn o (zeros 1024)) where
-  pub closed-as : (k m : ℕ) → w ≡ Closed k m → _≡_ {A = CutCell} (record { code = 0; pieces = k; entries = m; nodes = nodes; stops = stops }) (cutAs o)
+module _ (o : Outcome) (w : Walked) (on os on′ os′ : List ℕ) (ew : w ≡ answer o) (en : on′ ≡ cornersIn o on) (es : os′ ≡ endsIn o os) where
+  pub closed-as : (k m : ℕ) → w ≡ Closed k m → cut (record { code = 0; pieces = k; entries = m }) on′ os′ ≡ cutAs o on os
   unfolding cutAs cornersIn endsIn
   closed-as k m e = go o ew en es
     where
-      go : (x : Outcome) → w ≡ answer x → nodes ≡ cornersIn x (zeros 1024) → stops ≡ endsIn x (zeros 1024)
-          → _≡_ {A = CutCell} (record { code = 0; pieces = k; entries = m; nodes = nodes; stops = stops }) (cutAs x)
+      go : (x : Outcome) → w ≡ answer x → on′ ≡ cornersIn x on → os′ ≡ endsIn x os → cut (record { code = 0; pieces = k; entries = m }) on′ os′ ≡ cutAs x on os
       go (pieces ps) a b c =
           let ek : k ≡ length ps = cc in
           let em : m ≡ length (flat ps) = cc in
-          λ t. record { code = 0; pieces = ek t; entries = em t; nodes = b t; stops = c t }
+          λ t. cut (record { code = 0; pieces = ek t; entries = em t }) (b t) (c t)
       go (refusal c) a b d = let z : _≡_ {A = ℕ} 0 1 = cc in absurd (omega arith)
 
-  pub refused-as : (k : ℕ) → w ≡ Refused k → cutAs (refusal k) ≡ cutAs o
-  unfolding cutAs
-  refused-as k e = go o ew
+  pub refused-as : (k : ℕ) → w ≡ Refused k → cut (record { code = k; pieces = 0; entries = 0 }) on′ os′ ≡ cutAs o on os
+  unfolding cutAs cornersIn endsIn
+  refused-as k e = go o ew en es
     where
-      go : (x : Outcome) → w ≡ answer x → cutAs (refusal k) ≡ cutAs x
-      go (pieces ps) a = let z : _≡_ {A = ℕ} 0 1 = cc in absurd (omega arith)
-      go (refusal c) a = let ek : k ≡ c = cc in ap (λ (n : ℕ). cutAs (refusal n)) ek
+      go : (x : Outcome) → w ≡ answer x → on′ ≡ cornersIn x on → os′ ≡ endsIn x os → cut (record { code = k; pieces = 0; entries = 0 }) on′ os′ ≡ cutAs x on os
+      go (pieces ps) a b c = let z : _≡_ {A = ℕ} 0 1 = cc in absurd (omega arith)
+      go (refusal c) a b d =
+          let ek : k ≡ c = cc in
+          λ t. cut (record { code = ek t; pieces = 0; entries = 0 }) (b t) (d t)
+
+-- ---- the edges near a cell, where they are lent by themselves
+
+module _ (coords : List Float) (work : List ℕ) (g : Regions) (t : Near) (near : List ℕ) (lent : near ≡ runIn work (t .edges)) where
+  pub near-few : AllFew work g (nearEdgesIn work t) → AllFew work g (pairs near)
+  near-few h = subst (λ (ns : List ℕ). AllFew work g (pairs ns)) (sym lent) h
+
+  pub near-covered : (boxes : List Float) → Covered coords (nearEdgesIn work t) boxes → Covered coords (pairs near) boxes
+  near-covered boxes h = subst (λ (ns : List ℕ). Covered coords (pairs ns) boxes) (sym lent) h
+
+  pub near-held : (outline : List Edge) (r : ℕ) (src dst marks : List ℕ)
+      → Held (cellTable coords outline (nearIn coords work g (pairs near) (candidatesFrom coords (pairs near) (t .bounds) (t .first)))) r src dst marks
+      → Held (cellTable coords outline (nearIn coords work g (nearEdgesIn work t) (candidatesOf coords work t))) r src dst marks
+  near-held outline r src dst marks h =
+      subst (λ (ns : List ℕ). Held (cellTable coords outline (nearIn coords work g (pairs ns) (candidatesFrom coords (pairs ns) (t .bounds) (t .first)))) r src dst marks)
+      lent h
 
 -- ---- a list's front
 
@@ -116,13 +138,10 @@ pub front-fits : (w xs : List ℕ) → length xs ≤ length (front w xs)
 unfolding front
 front-fits w xs = omega (arith, length-append xs (drop (length xs) w))
 
--- ---- the nodes of an edge as they come
+-- what stands in front of a list
+module _ (xs out out′ : List ℕ) (r : ℕ) (h : FrontIs xs out r out′) where
+  pub read-front : take r out′ ≡ xs
+  read-front = ap (take r) (h .held) ∙ take-front-of out xs r (sym (h .count))
 
-module _ (r : Along) (xs : List ℕ) (e : r ≡ filled xs) where
-  pub along-is : take (r .count) (r .nodes) ≡ xs
-  unfolding filled
-  along-is = ap (λ (a : Along). take (a .count) (a .nodes)) e ∙ take-front (zeros 258) xs
-
-  pub along-fits : r .count ≤ length (r .nodes)
-  unfolding filled
-  along-fits = subst (λ (a : Along). a .count ≤ length (a .nodes)) (sym e) (front-fits (zeros 258) xs)
+  pub read-fits : r ≤ length out′
+  read-fits = omega (arith, ap length (h .held), front-fits out xs, h .count)

@@ -23,8 +23,9 @@ use Rattle.lists.proofs.Gather.{length-slim}
 use Rattle.lists.proofs.Regions.{take-front-of}
 use Rattle.lists.proofs.Sort.{length-sorted}
 use Rattle.rules.specs.Nodes.{Projected, projected, byProjection, alongEdge}
-use Rattle.edge_nodes.specs.Lent.{collectedIn, unlessNone, sortedIn}
-use Rattle.cells.specs.Cells.{laidIn, outlineIn, Uncrowded, nextCorner, outlineFrom, LaidIn}
+use Rattle.edge_nodes.specs.Lent.{collectedOn, unlessNone, sortedIn, nodesOn, Few}
+use Rattle.regions.specs.declared.Regions.{Regions}
+use Rattle.cells.specs.Cells.{laidIn, outlineIn, AllFew, nextCorner, outlineFrom, LaidIn}
 use Rattle.cells.proofs.Own.{sidesFrom, sides-all, sides-next}
 
 -- ---- the edges of a cell, from one on
@@ -70,10 +71,10 @@ along-short coords k ns =
       length-map (k .0 ∷ ns) (projected coords k),
     )
 
-pub sorted-short : (coords : List Float) (subject cutter : List Edge) (met : List ℕ) (e : Edge) → length (collectedIn subject cutter met e) ≤ 256
-    → length (sortedIn coords subject cutter met e) ≤ 258
+pub sorted-short : (coords : List Float) (work : List ℕ) (g : Regions) (e : Edge) → length (collectedOn work g e) ≤ 256
+    → length (nodesOn coords work g e) ≤ 258
 unfolding sortedIn
-sorted-short coords subject cutter met e h = go (collectedIn subject cutter met e) h
+sorted-short coords work g e h = go (collectedOn work g e) h
   where
     go : (ns : List ℕ) → length ns ≤ 256 → length (unlessNone coords e ns) ≤ 258
     go [] k = omega arith
@@ -97,14 +98,14 @@ module _ (darts : List Edge) (r : ℕ) (list list′ : List ℕ) (v : LaidIn dar
 
 -- ---- `meets_later` and `outline_repeats`
 
-module _ (coords : List Float) (subject cutter : List Edge) (met cell : List ℕ) where
+module _ (coords : List Float) (work : List ℕ) (g : Regions) (cell : List ℕ) where
   abbrev laid : Edge → Laid
-  laid = laidIn coords subject cutter met
+  laid = laidIn coords work g
 
   abbrev from : ℕ → List Edge
-  from k = outlineFrom coords subject cutter met cell k
+  from k = outlineFrom coords work g cell k
 
-  pub all-from : outlineIn coords subject cutter met cell ≡ from 0
+  pub all-from : outlineIn coords work g cell ≡ from 0
   unfolding outlineIn outlineFrom
   all-from = refl
 
@@ -125,8 +126,8 @@ module _ (coords : List Float) (subject cutter : List Edge) (met cell : List ℕ
     edge-is : edgeAt (ring cell) j ≡ e
     edge-is = parts-of cell j h (sides-drop cell j (omega (arith, h))) .0 ∙ ap (λ (c : ℕ). (getD cell j 0, c)) (sym eb)
 
-    pub from-few : (links : List ℕ) → Uncrowded subject cutter met links (ring cell) → length (collectedIn subject cutter met e) ≤ 256
-    from-few links u = omega (arith, u .few j (omega (arith, h, length-ring cell)), ap (λ (f : Edge). length (collectedIn subject cutter met f)) edge-is)
+    pub from-few : AllFew work g (ring cell) → Few work g e
+    from-few u = subst (λ (f : Edge). Few work g f) edge-is (u j (omega (arith, h, length-ring cell)))
 
     from-next : from j ≡ ownDarts (laid e) ++ from (j + 1)
     unfolding outlineFrom outlineDarts joined
@@ -150,7 +151,8 @@ module _ (coords : List Float) (subject cutter : List Edge) (met cell : List ℕ
       both-repeat u eu = ap repeats from-next ∙ repeats-append (ownDarts (laid e)) (from (j + 1)) ∙ ap₂ (λ (x y : Bool). x || y || repeats (from (j + 1))) (sym et) (sym eu)
 
       pub repeats-now : t ≡ true → repeats (from j) ≡ true
-      repeats-now f = both-repeat (edgesMeet (ownDarts (laid e)) (from (j + 1))) refl ∙ ap (λ (x : Bool). x || edgesMeet (ownDarts (laid e)) (from (j + 1)) || repeats (from (j + 1))) f
+      repeats-now f = both-repeat (edgesMeet (ownDarts (laid e)) (from (j + 1))) refl ∙ ap
+          (λ (x : Bool). x || edgesMeet (ownDarts (laid e)) (from (j + 1)) || repeats (from (j + 1))) f
 
       module _ (f : t ≡ false) (u : Bool) (eu : u ≡ edgesMeet (ownDarts (laid e)) (from (j + 1))) where
         pub repeats-later : u ≡ true → repeats (from j) ≡ true

@@ -16,8 +16,9 @@ use Rattle.cutting.specs.Cell.{Laid, ownDarts, outlineDarts, edgeSlots, standsB
 use Rattle.cutting.specs.Lent.{slotsOf, flatEdges}
 use Rattle.dart_table.specs.Table.{Added, Outlined}
 use Rattle.dart_table.proofs.Joins.{outline-more, none-near, own-turn, own-full}
-use Rattle.edge_nodes.specs.Lent.{collectedIn}
-use Rattle.cells.specs.Cells.{laidIn, outlineIn, Uncrowded, nextCorner, Held}
+use Rattle.edge_nodes.specs.Lent.{Few}
+use Rattle.regions.specs.declared.Regions.{Regions}
+use Rattle.cells.specs.Cells.{laidIn, outlineIn, AllFew, nextCorner, Held}
 
 -- ---- round the corners
 
@@ -74,7 +75,7 @@ own-laid coords e ns xs n r outline src dst marks outline′ src′ dst′ marks
 -- ---- `own_darts`
 
 -- after the first i own edges: the outline's n entries and the table's n slots are theirs
-pub record Outlining (coords : List Float) (subject cutter : List Edge) (met cell outline₀ src₀ dst₀ marks₀ outline src dst marks : List ℕ) (n i : ℕ) : Type 0 where
+pub record Outlining (coords : List Float) (work : List ℕ) (g : Regions) (cell outline₀ src₀ dst₀ marks₀ outline src dst marks : List ℕ) (n i : ℕ) : Type 0 where
   pub same-outline : length outline ≡ length outline₀
   pub same-src : length src ≡ length src₀
   pub same-dst : length dst ≡ length dst₀
@@ -84,16 +85,16 @@ pub record Outlining (coords : List Float) (subject cutter : List Edge) (met cel
   pub done : List Edge
   pub counted : length done ≡ i
   pub left : done ++ sidesFrom cell i ≡ ring cell
-  pub count : n ≡ 2 * length (outlineDarts (map (laidIn coords subject cutter met) done))
-  pub outlined : take n outline ≡ flatEdges (outlineDarts (map (laidIn coords subject cutter met) done))
-  pub held : slotsOf src dst marks n ≡ sorted (standsBefore coords) (edgeSlots 1 (outlineDarts (map (laidIn coords subject cutter met) done)))
+  pub count : n ≡ 2 * length (outlineDarts (map (laidIn coords work g) done))
+  pub outlined : take n outline ≡ flatEdges (outlineDarts (map (laidIn coords work g) done))
+  pub held : slotsOf src dst marks n ≡ sorted (standsBefore coords) (edgeSlots 1 (outlineDarts (map (laidIn coords work g) done)))
 
-module _ (coords : List Float) (subject cutter : List Edge) (met cell outline₀ src₀ dst₀ marks₀ : List ℕ) where
+module _ (coords : List Float) (work : List ℕ) (g : Regions) (cell outline₀ src₀ dst₀ marks₀ : List ℕ) where
   abbrev laid : Edge → Laid
-  laid = laidIn coords subject cutter met
+  laid = laidIn coords work g
 
   abbrev Outlining₀ : List ℕ → List ℕ → List ℕ → List ℕ → ℕ → ℕ → Type 0
-  Outlining₀ = Outlining coords subject cutter met cell outline₀ src₀ dst₀ marks₀
+  Outlining₀ = Outlining coords work g cell outline₀ src₀ dst₀ marks₀
 
   pub outline-start : Outlining₀ outline₀ src₀ dst₀ marks₀ 0 0
   unfolding slotsOf sortOnto edgeSlots outlineDarts flatEdges joined gathered
@@ -123,11 +124,11 @@ module _ (coords : List Float) (subject cutter : List Edge) (met cell outline₀
       split : v .done ++ e ∷ sidesFrom cell (i + 1) ≡ ring cell
       split = ap (λ (c : ℕ). v .done ++ (getD cell i 0, c) ∷ sidesFrom cell (i + 1)) eb ∙ ap (λ (es : List Edge). v .done ++ es) (sym (sides-next cell i h)) ∙ v .left
 
-      pub own-few : (links : List ℕ) → Uncrowded subject cutter met links (ring cell) → length (collectedIn subject cutter met e) ≤ 256
-      own-few links u =
+      pub own-few : AllFew work g (ring cell) → Few work g e
+      own-few u =
           let at : edgeAt (ring cell) i ≡ e = ap₂ edgeAt (sym split) (sym (v .counted)) ∙ edge-behind (v .done) e (sidesFrom cell (i + 1)) in
           let below : i < length (ring cell) = omega (arith, v .counted, ap length split, length-append (v .done) (e ∷ sidesFrom cell (i + 1))) in
-          omega (arith, u .few i below, ap (λ (f : Edge). length (collectedIn subject cutter met f)) at)
+          subst (λ (f : Edge). Few work g f) at (u i below)
 
       laid-split : ls ++ laid e ∷ map laid (sidesFrom cell (i + 1)) ≡ map laid (ring cell)
       laid-split = sym (map-append laid (v .done) (e ∷ sidesFrom cell (i + 1))) ∙ ap (map laid) split
@@ -161,8 +162,8 @@ module _ (coords : List Float) (subject cutter : List Edge) (met cell outline₀
             }
 
         -- too many at this edge are too many in all
-        pub outline-over : 1024 < r → Held (cellTable coords (outlineIn coords subject cutter met cell) []) r src′ dst′ marks′ ×
-            (r ≤ 1024 → take r outline′ ≡ flatEdges (outlineIn coords subject cutter met cell))
+        pub outline-over : 1024 < r → Held (cellTable coords (outlineIn coords work g cell) []) r src′ dst′ marks′ ×
+            (r ≤ 1024 → take r outline′ ≡ flatEdges (outlineIn coords work g cell))
         unfolding outlineIn
         outline-over many =
             let all : 1024 < length (cellTable coords (outlineDarts (ls ++ laid e ∷ map laid (sidesFrom cell (i + 1)))) []) = own-full coords src dst marks
@@ -174,8 +175,8 @@ module _ (coords : List Float) (subject cutter : List Edge) (met cell outline₀
               λ few. absurd (omega (arith, few, many)),
             )
 
-    pub outline-end : length cell ≤ i → Held (cellTable coords (outlineIn coords subject cutter met cell) []) n src dst marks ×
-        (n ≤ 1024 → take n outline ≡ flatEdges (outlineIn coords subject cutter met cell))
+    pub outline-end : length cell ≤ i → Held (cellTable coords (outlineIn coords work g cell) []) n src dst marks ×
+        (n ≤ 1024 → take n outline ≡ flatEdges (outlineIn coords work g cell))
     unfolding outlineIn
     outline-end past =
         let at : i ≡ length cell = le-antisymm (v .low) past in

@@ -8,7 +8,7 @@ use lib.ListN.{length, take}
 use lib.Ieee.{Float}
 use borrow.Author.Tests.{ltb-false}
 use Rattle.lists.specs.Search.{first, has}
-use Rattle.lists.specs.Regions.{front, zeros}
+use Rattle.lists.specs.Regions.{front}
 use Rattle.lists.proofs.Search.{first-here, first-hit, has-none}
 use Rattle.lists.proofs.Regions.{take-front}
 use Rattle.cutting.specs.Edges.{Edge, edgeAt, sameKey, ring}
@@ -24,23 +24,24 @@ use Rattle.rules.specs.Nodes.{sortedNodes}
 use Rattle.rules.specs.Cell.{laid, dartsOf, nearEdges, treatedBy, treated, cellOf, nearOf, outcomeOf}
 use Rattle.spatial_index.specs.Candidates.{meets}
 use Rattle.spatial_index.proofs.Candidates.{places-next, places-end, candidates-from}
-use Rattle.edge_nodes.specs.Lent.{collectedIn, sortedIn, crowdedAt}
-use Rattle.edge_nodes.specs.Links.{Linked}
+use Rattle.edge_nodes.specs.Lent.{nodesOn}
 use Rattle.edge_nodes.proofs.Scene.{same-collected}
-use Rattle.cells.specs.declared.CutCell.{CutCell}
+use Rattle.cells.specs.declared.Near.{Near}
 use Rattle.cells.proofs.Cut.{front-fits}
-use Rattle.cells.specs.Cells.{laidIn, outlineIn, nearIn, tableIn, candidatesFrom, cutAs, cutBy, cutCell, Uncrowded}
+use Rattle.regions.specs.declared.Regions.{Regions}
+use Rattle.regions.specs.Runs.{runIn, meshEdges}
+use Rattle.cells.specs.Cells.{laidIn, outlineIn, nearIn, tableIn, candidatesFrom, nearEdgesIn, Cut, cutAs, cutBy, cutCell, AllFew}
 
 -- ---- refusal 9 passed
 
-module _ (subject cutter : List Edge) (met links : List ℕ) (es : List Edge) where
-  -- and so of edges that have their keys among these
-  pub same-keys : Uncrowded subject cutter met links es → (fs : List Edge)
-      → ((i : ℕ) → i < length fs → (k : ℕ) × (k < length es) × (sameKey (edgeAt es k) (edgeAt fs i) ≡ true)) → Uncrowded subject cutter met links fs
-  same-keys u fs among = record {
-    linked = u .linked;
-    few = λ i h. let k = among i h in omega (arith, u .few (k .0) (k .1), ap length (same-collected (edgeAt es (k .0)) (edgeAt fs i) (k .2) subject cutter met));
-  }
+-- where few nodes are collected under the keys of some edges, so they are under those of edges that have their keys among these
+pub same-keys : (work : List ℕ) (g : Regions) (es : List Edge) → AllFew work g es → (fs : List Edge)
+    → ((i : ℕ) → i < length fs → (k : ℕ) × (k < length es) × (sameKey (edgeAt es k) (edgeAt fs i) ≡ true)) → AllFew work g fs
+same-keys work g es u fs among i h =
+    let k = among i h in
+    let v = u (k .0) (k .1) in
+    let same = same-collected (edgeAt es (k .0)) (edgeAt fs i) (k .2) (meshEdges work (g .subject)) (meshEdges work (g .cutter)) (runIn work (g .met)) in
+    record { lies = v .lies; linked = v .linked; few = omega (arith, v .few, ap length same) }
 
 -- ---- the candidates from the first on are all
 
@@ -60,15 +61,15 @@ module _ (coords : List Float) (es : List Edge) (b : Bounds) (k : ℕ) (at : k �
 
 -- ---- outline, table and outcome
 
-module _ (sc : Scene) (subject cutter : List Edge) (met : List ℕ) (same : (e : Edge) → sortedIn (sc .coords) subject cutter met e ≡ sortedNodes sc e) where
-  laid-is : laidIn (sc .coords) subject cutter met ≡ laid sc
+module _ (sc : Scene) (work : List ℕ) (g : Regions) (same : (e : Edge) → nodesOn (sc .coords) work g e ≡ sortedNodes sc e) where
+  laid-is : laidIn (sc .coords) work g ≡ laid sc
   laid-is = λ t e. record { edge = e; nodes = same e t }
 
-  pub outline-is : (cell : List ℕ) → outlineIn (sc .coords) subject cutter met cell ≡ dartsOf sc cell
+  pub outline-is : (cell : List ℕ) → outlineIn (sc .coords) work g cell ≡ dartsOf sc cell
   unfolding outlineIn dartsOf
   outline-is cell = ap (λ (f : Edge → Laid). outlineDarts (map f (ring cell))) laid-is
 
-  pub table-is : (es : List Edge) (cell : List ℕ) (j : ℕ) (js : List ℕ) → tableIn (sc .coords) subject cutter met es (j ∷ js) cell
+  pub table-is : (es : List Edge) (cell : List ℕ) (j : ℕ) (js : List ℕ) → tableIn (sc .coords) work g es (j ∷ js) cell
       ≡ cellTable (sc .coords) (dartsOf sc cell) (nearEdges sc es (j ∷ js))
   unfolding tableIn nearIn
   table-is es cell j js = ap₂ (λ (o : List Edge) (f : Edge → Laid). cellTable (sc .coords) o (map (λ i. f (edgeAt es i)) (j ∷ js))) (outline-is cell) laid-is
@@ -85,16 +86,19 @@ module _ (sc : Scene) (w : Side) (i k : ℕ) (at : k ≡ first (meets (sc .coord
   abbrev rest : List ℕ
   rest = candidatesFrom (sc .coords) es box (k + 1)
 
-  -- a cell with candidates comes to what the rules say of it, and is doubled where they say so
-  pub cut-is : (subject cutter : List Edge) (met : List ℕ) → ((e : Edge) → sortedIn (sc .coords) subject cutter met e ≡ sortedNodes sc e) → k < length es
-      → cutCell (sc .coords) subject cutter met es (cellOf sc w i) box k ≡ cutAs (outcomeOf sc w i)
+  -- a cell with candidates comes to what the rules say of it
+  pub cut-is : (work : List ℕ) (g : Regions) → ((e : Edge) → nodesOn (sc .coords) work g e ≡ sortedNodes sc e) → k < length es → (t : Near) → nearEdgesIn work t ≡ es
+      → t .bounds ≡ box → t .first ≡ k → (on os : List ℕ) → cutCell (sc .coords) work g t (cellOf sc w i) on os ≡ cutAs (outcomeOf sc w i) on os
   unfolding cutCell cutBy nearOf treated
-  cut-is subject cutter met same h =
+  cut-is work g same h t near-is box-is first-is on os =
       let cell = cellOf sc w i in
       let near = from-first (sc .coords) es box k at h in
-      ap (λ (js : List ℕ). cutBy (outlineIn (sc .coords) subject cutter met cell) (tableIn (sc .coords) subject cutter met es js cell)) (near .0)
-      ∙ ap₂ (λ (o : List Edge) (t : List Slot). cutAs (cutOutcome o t)) (outline-is sc subject cutter met same cell) (table-is sc subject cutter met same es cell k rest)
-      ∙ ap (λ (js : List ℕ). cutAs (treatedBy sc w i js .outcome ours)) (sym (near .1))
+      let by : List Edge → Bounds → ℕ → Cut = λ fs b f.
+      cutBy (outlineIn (sc .coords) work g cell) (tableIn (sc .coords) work g fs (candidatesFrom (sc .coords) fs b f) cell) on os in
+      (λ s. by (near-is s) (box-is s) (first-is s))
+      ∙ ap (λ (js : List ℕ). cutBy (outlineIn (sc .coords) work g cell) (tableIn (sc .coords) work g es js cell) on os) (near .0)
+      ∙ ap₂ (λ (o : List Edge) (u : List Slot). cutAs (cutOutcome o u) on os) (outline-is sc work g same cell) (table-is sc work g same es cell k rest)
+      ∙ ap (λ (js : List ℕ). cutAs (treatedBy sc w i js .outcome ours) on os) (sym (near .1))
 
   -- one without is copied
   pub copied-is : length es ≤ k → outcomeOf sc w i ≡ copiedOutcome (cellOf sc w i)
@@ -106,32 +110,32 @@ module _ (sc : Scene) (w : Side) (i k : ℕ) (at : k ≡ first (meets (sc .coord
 
 -- ---- the answer read
 
-pub record Read (ps : List (List ℕ)) (r : CutCell) : Type 0 where
-  pub code : r .code ≡ 0
-  pub count : r .pieces ≡ length ps
-  pub corners : r .entries ≡ length (flat ps)
-  pub nodes-fit : r .entries ≤ length (r .nodes)
-  pub stops-fit : r .pieces ≤ length (r .stops)
-  pub nodes : take (r .entries) (r .nodes) ≡ flat ps
-  pub stops : take (r .pieces) (r .stops) ≡ Outcome.stops 0 ps
+pub record Read (ps : List (List ℕ)) (x : Cut) : Type 0 where
+  pub code : x .answer .code ≡ 0
+  pub count : x .answer .pieces ≡ length ps
+  pub corners : x .answer .entries ≡ length (flat ps)
+  pub nodes-fit : x .answer .entries ≤ length (x .corners)
+  pub stops-fit : x .answer .pieces ≤ length (x .stops)
+  pub nodes : take (x .answer .entries) (x .corners) ≡ flat ps
+  pub stops : take (x .answer .pieces) (x .stops) ≡ Outcome.stops 0 ps
 
 stops-length : (k : ℕ) (ps : List (List ℕ)) → length (Outcome.stops k ps) ≡ length ps
 unfolding Outcome.stops
 stops-length k [] = refl
 stops-length k (c ∷ ps) = ap suc (stops-length (k + length c) ps)
 
-pub read-pieces : (ps : List (List ℕ)) (r : CutCell) → r ≡ cutAs (pieces ps) → Read ps r
+pub read-pieces : (ps : List (List ℕ)) (on os : List ℕ) (x : Cut) → x ≡ cutAs (pieces ps) on os → Read ps x
 unfolding cutAs
-read-pieces ps r e = subst (λ (x : CutCell). Read ps x) (sym e) (record {
+read-pieces ps on os x e = subst (λ (y : Cut). Read ps y) (sym e) (record {
   code = refl;
   count = refl;
   corners = refl;
-  nodes-fit = front-fits (zeros 1024) (flat ps);
-  stops-fit = omega (arith, front-fits (zeros 1024) (Outcome.stops 0 ps), stops-length 0 ps);
-  nodes = take-front (zeros 1024) (flat ps);
-  stops = ap (λ (n : ℕ). take n (front (zeros 1024) (Outcome.stops 0 ps))) (sym (stops-length 0 ps)) ∙ take-front (zeros 1024) (Outcome.stops 0 ps);
+  nodes-fit = front-fits on (flat ps);
+  stops-fit = omega (arith, front-fits os (Outcome.stops 0 ps), stops-length 0 ps);
+  nodes = take-front on (flat ps);
+  stops = ap (λ (n : ℕ). take n (front os (Outcome.stops 0 ps))) (sym (stops-length 0 ps)) ∙ take-front os (Outcome.stops 0 ps);
 })
 
-pub read-refusal : (k : ℕ) (r : CutCell) → r ≡ cutAs (refusal k) → r .code ≡ k
+pub read-refusal : (k : ℕ) (on os : List ℕ) (x : Cut) → x ≡ cutAs (refusal k) on os → x .answer .code ≡ k
 unfolding cutAs
-read-refusal k r e = ap (λ (x : CutCell). x .code) e
+read-refusal k on os x e = ap (λ (y : Cut). y .answer .code) e

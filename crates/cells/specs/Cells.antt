@@ -1,6 +1,7 @@
--- One cell cut by the other mesh's edges near it (document 01, modules 6 and 7), where edges, meetings and corners stand in lent lists. Assumes nothing.
+-- One cell cut by the other mesh's edges near it (document 01, modules 6 and 7), where edges, meetings and links stand in regions of the working list.
+-- Assumes nothing.
 use mathlib.Core.Path.{_≡_}
-use mathlib.Core.List.{List, _++_, map}
+use mathlib.Core.List.{List, [], _++_, map}
 use Prim.Native.Nat.{ℕ, _+_, _*_, _≤_, _<_}
 use lib.ListN.{length, getD, drop}
 use lib.Ieee.{Float}
@@ -9,17 +10,20 @@ use Rattle.cutting.specs.Edges.{Edge, edgeAt, ring}
 use Rattle.cutting.specs.Cell.{Laid, outlineDarts, Slot, cellTable}
 use Rattle.cutting.specs.Outcome as Outcome
 use Rattle.cutting.specs.Outcome.{Outcome, pieces, refusal, cutOutcome, flat}
-use Rattle.cutting.specs.Lent.{slotsOf, flatEdges}
+use Rattle.cutting.specs.Lent.{slotsOf, flatEdges, pairs}
 use Rattle.rules.specs.declared.Bounds.{Bounds}
+use Rattle.regions.specs.declared.Regions.{Regions}
+use Rattle.regions.specs.Runs.{Within, runIn}
 use Rattle.spatial_index.specs.Candidates.{placesFrom, meets}
-use Rattle.edge_nodes.specs.Lent.{collectedIn, sortedIn}
-use Rattle.edge_nodes.specs.Links.{Linked}
+use Rattle.spatial_index.specs.Blocks.{Covered}
+use Rattle.edge_nodes.specs.Lent.{nodesOn, Few}
 use Rattle.cells.specs.declared.CutCell.{CutCell}
+use Rattle.cells.specs.declared.Near.{Near}
 
-module _ (coords : List Float) (subject cutter : List Edge) (met : List ℕ) where
+module _ (coords : List Float) (work : List ℕ) (g : Regions) where
   -- an edge with its sorted nodes
   abbrev pub laidIn : Edge → Laid
-  laidIn e = record { edge = e; nodes = sortedIn coords subject cutter met e }
+  laidIn e = record { edge = e; nodes = nodesOn coords work g e }
 
   -- the outline darts of a cell
   unfoldable pub outlineIn : List ℕ → List Edge
@@ -37,24 +41,40 @@ module _ (coords : List Float) (subject cutter : List Edge) (met : List ℕ) whe
 abbrev pub candidatesFrom : List Float → List Edge → Bounds → ℕ → List ℕ
 candidatesFrom coords es b k = placesFrom (meets coords es b) k (length es)
 
--- what a cell comes to, by document 01's number and values; nothing but the number on a refusal
-unfoldable pub cutAs : Outcome → CutCell
-cutAs (pieces ps) = record { code = 0; pieces = length ps; entries = length (flat ps); nodes = front (zeros 1024) (flat ps); stops = front (zeros 1024) (Outcome.stops 0 ps) }
-cutAs (refusal k) = record { code = k; pieces = 0; entries = 0; nodes = zeros 1024; stops = zeros 1024 }
+-- the edges that may cut a cell, and which of them do
+abbrev pub nearEdgesIn : List ℕ → Near → List Edge
+nearEdgesIn work t = pairs (runIn work (t .edges))
 
--- what a cell with the outline and the table t comes to
-unfoldable pub cutBy : List Edge → List Slot → CutCell
-cutBy outline t = cutAs (cutOutcome outline t)
+abbrev pub candidatesOf : List Float → List ℕ → Near → List ℕ
+candidatesOf coords work t = candidatesFrom coords (nearEdgesIn work t) (t .bounds) (t .first)
 
--- a cell that the edges `near` at their places from `first` on cut, those whose box meets the box b
-unfoldable pub cutCell : List Float → List Edge → List Edge → List ℕ → List Edge → List ℕ → Bounds → ℕ → CutCell
-cutCell coords subject cutter met near cell b first =
-    cutBy (outlineIn coords subject cutter met cell) (tableIn coords subject cutter met near (candidatesFrom coords near b first) cell)
+-- ---- what a cell comes to: the answer, and the lists of its pieces' corners and of where they end
 
--- The meetings are chained by the list `links`, and under no key of the edges es over 256 nodes were collected (refusal 9).
-pub record Uncrowded (subject cutter : List Edge) (met links : List ℕ) (es : List Edge) : Type 0 where
-  pub linked : Linked subject cutter met links
-  pub few : (i : ℕ) → i < length es → length (collectedIn subject cutter met (edgeAt es i)) ≤ 256
+pub record Cut : Type 0 where
+  pub answer : CutCell
+  pub corners : List ℕ
+  pub stops : List ℕ
+
+abbrev pub cut : CutCell → List ℕ → List ℕ → Cut
+cut r on os = record { answer = r; corners = on; stops = os }
+
+-- the pieces in front of the two lists; zeros on a refusal
+unfoldable pub cutAs : Outcome → List ℕ → List ℕ → Cut
+cutAs (pieces ps) on os = cut (record { code = 0; pieces = length ps; entries = length (flat ps) }) (front on (flat ps)) (front os (Outcome.stops 0 ps))
+cutAs (refusal k) on os = cut (record { code = k; pieces = 0; entries = 0 }) (zeros (length on)) (zeros (length os))
+
+-- a cell with the outline and the table t
+unfoldable pub cutBy : List Edge → List Slot → List ℕ → List ℕ → Cut
+cutBy outline t on os = cutAs (cutOutcome outline t) on os
+
+-- a cell that the edges t cut
+unfoldable pub cutCell : List Float → List ℕ → Regions → Near → List ℕ → List ℕ → List ℕ → Cut
+cutCell coords work g t cell on os =
+    cutBy (outlineIn coords work g cell) (tableIn coords work g (nearEdgesIn work t) (candidatesOf coords work t) cell) on os
+
+-- The meetings are chained, and under no key of the edges es over 256 nodes were collected (refusal 9).
+abbrev pub AllFew : List ℕ → Regions → List Edge → Type 0
+AllFew work g es = (i : ℕ) → i < length es → Few work g (edgeAt es i)
 
 -- ---- what only inner functions' contracts cite
 
@@ -63,8 +83,8 @@ unfoldable pub nextCorner : List ℕ → ℕ → ℕ
 nextCorner cell i = getD (drop (i + 1) cell ++ cell) 0 0
 
 -- the outline darts of a cell's own edges from edge k on
-unfoldable pub outlineFrom : List Float → List Edge → List Edge → List ℕ → List ℕ → ℕ → List Edge
-outlineFrom coords subject cutter met cell k = outlineDarts (map (laidIn coords subject cutter met) (drop k (ring cell)))
+unfoldable pub outlineFrom : List Float → List ℕ → Regions → List ℕ → ℕ → List Edge
+outlineFrom coords work g cell k = outlineDarts (map (laidIn coords work g) (drop k (ring cell)))
 
 -- A list comes to hold the darts in front: r entries, at most 518.
 pub record LaidIn (darts : List Edge) (r : ℕ) (list list′ : List ℕ) : Type 0 where
@@ -76,3 +96,20 @@ pub record LaidIn (darts : List Edge) (r : ℕ) (list list′ : List ℕ) : Type
 pub record Held (t : List Slot) (r : ℕ) (src dst marks : List ℕ) : Type 0 where
   pub fits : r ≤ 1024 → slotsOf src dst marks r ≡ t
   pub over : 1024 < r → 1024 < length t
+
+-- the edges t may cut a cell, and there is room for the nodes of an edge and for pieces
+pub record Ready (coords : List Float) (work : List ℕ) (g : Regions) (boxes : List Float) (t : Near) (nodes on os : List ℕ) : Type 0 where
+  pub within : Within (t .edges) (length work)
+  pub few : AllFew work g (nearEdgesIn work t)
+  pub covered : Covered coords (nearEdgesIn work t) boxes
+  pub nodesFit : 258 ≤ length nodes
+  pub cornersFit : 1024 ≤ length on
+  pub stopsFit : 1024 ≤ length os
+
+-- a finished outline, whose own edges have the first slots of the table
+pub record Tables (coords : List Float) (outline src dst marks : List ℕ) : Type 0 where
+  pub small : length outline ≤ 1024
+  pub srcFit : 1024 ≤ length src
+  pub dstFit : 1024 ≤ length dst
+  pub marksFit : 1024 ≤ length marks
+  pub held : slotsOf src dst marks (length outline) ≡ cellTable coords (pairs outline) []

@@ -1,12 +1,17 @@
-// One cell cut by the other mesh's edges near it. Edges are flat lists of pairs, meetings five numbers each and chained by `links`, as in `edge_nodes`.
+// One cell cut by the other mesh's edges near it. Edges are pairs of numbers, meetings five numbers each and chained by links: all of them stand in
+// regions of the working list w.
 use dart_table::add_near_edge;
 use dart_table::add_own_edge;
 use dart_walk::Walked;
 use dart_walk::walk_dart_map;
-use edge_nodes::sorted_nodes;
+use edge_nodes::nodes_on;
+use lists::zero_u32;
 use outlines::edges_meet;
 use outlines::edges_repeat;
 use outlines::lay_own_edge;
+use regions::Regions;
+use regions::Run;
+use regions::part;
 use rules::Bounds;
 use spatial_index::in_bounds;
 ghost use mathlib.Core.Path.{_≡_};
@@ -17,33 +22,38 @@ ghost use Rattle.cutting.specs.Edges.{ring};
 ghost use Rattle.cutting.specs.Cell.{ownDarts, nearDarts, cellTable, repeats};
 ghost use Rattle.cutting.specs.Walk.{walk};
 ghost use Rattle.cutting.specs.Outcome.{refusal, ofWalk};
-ghost use Rattle.outlines.specs.Meets.{edgesMeet};
 ghost use Rattle.cutting.specs.Lent.{slotsOf, flatEdges, pairs};
+ghost use Rattle.outlines.specs.Meets.{edgesMeet};
 ghost use Rattle.dart_table.specs.Table.{tableIn, withEdges, Added, Outlined};
+ghost use Rattle.regions.specs.Runs.{Within, runIn};
 ghost use Rattle.spatial_index.specs.Blocks.{Covered};
-ghost use Rattle.edge_nodes.specs.Lent.{collectedIn};
-ghost use Rattle.edge_nodes.specs.Links.{Linked};
-ghost use Rattle.cells.specs.Cells.{laidIn, outlineIn, nearIn, candidatesFrom, cutAs, cutBy, cutCell, Uncrowded, nextCorner, outlineFrom, LaidIn, Held};
+ghost use Rattle.edge_nodes.specs.Lent.{Few};
+ghost use Rattle.cells.specs.Cells.{laidIn, outlineIn, nearIn, nearEdgesIn, candidatesFrom, candidatesOf, cut, cutAs, cutBy, cutCell, AllFew, nextCorner, outlineFrom, LaidIn, Held, Tables, Ready};
 
-// What a cell comes to: the refusal or 0, how many pieces there are, and corners in them; the corners, one piece after the other, and where each piece
-// ends among them.
+// What a cell comes to: the refusal or 0, how many pieces there are, and corners in them.
 pub struct CutCell {
     pub code: u32,
     pub pieces: usize,
     pub entries: usize,
-    pub nodes: [u32; 1024],
-    pub stops: [u32; 1024],
 }
 
-pub fn refused(code: u32) -> CutCell
-    ensures { λ r. ⌜ r ≡ cutAs (refusal code) ⌝ }
+// The edges that may cut a cell: a run of them, the box that theirs must meet, and the first of which this is known.
+pub struct Near {
+    pub edges: Run,
+    pub bounds: Bounds,
+    pub first: usize,
+}
+
+// A refusal leaves the lists of corners and stops zero.
+pub fn refused(code: u32, runs: &mut [u32], stops: &mut [u32]) -> CutCell
+    ensures { λ r. ⌜ cut r (now (runs .exit)) (now (stops .exit)) ≡ cutAs (refusal code) (now (runs .entry)) (now (stops .entry)) ⌝ }
 {
+    zero_u32(runs);
+    zero_u32(stops);
     CutCell {
         code,
         pieces: 0,
         entries: 0,
-        nodes: [0u32; 1024],
-        stops: [0u32; 1024],
     }
 }
 
@@ -59,67 +69,50 @@ pub fn next_corner(cell: &[u32], i: usize) -> u32
     cell[0]
 }
 
-// Adds the darts of the cell's own edge from a to b to the table of n slots and to the n entries of the outline.
+// Adds the darts of the cell's own edge from a to b to the table of n slots and to the n entries of the outline. `nodes` is room for its nodes.
 fn add_own(
     coords: &[f64],
-    subject: &[u32],
-    cutter: &[u32],
-    met: &[u32],
-    links: &[u32],
+    w: &[u32],
+    g: Regions,
     a: u32,
     b: u32,
+    nodes: &mut [u32],
     outline: &mut [u32],
     src: &mut [u32],
     dst: &mut [u32],
     marks: &mut [u32],
     n: usize,
 ) -> usize
-    requires { ⌜ Linked (pairs (now subject)) (pairs (now cutter)) (now met) (now links) × (length (collectedIn (pairs (now subject)) (pairs (now cutter)) (now met) (a, b)) ≤ 256) × (n ≤ 1024) × (1024 ≤ length (now outline)) × (1024 ≤ length (now src)) × (1024 ≤ length (now dst)) × (1024 ≤ length (now marks)) ⌝ }
-    ensures { λ r. ⌜ Added (now (coords .entry)) 1 (ownDarts (laidIn (now (coords .entry)) (pairs (now (subject .entry))) (pairs (now (cutter .entry))) (now (met .entry)) (a, b))) n r (now (src .entry)) (now (dst .entry)) (now (marks .entry)) (now (src .exit)) (now (dst .exit)) (now (marks .exit))
-        × Outlined (ownDarts (laidIn (now (coords .entry)) (pairs (now (subject .entry))) (pairs (now (cutter .entry))) (now (met .entry)) (a, b))) n r (now (outline .entry)) (now (outline .exit)) ⌝ }
+    requires { ⌜ Few (now w) g (a, b) × (258 ≤ length (now nodes)) × (n ≤ 1024) × (1024 ≤ length (now outline)) × (1024 ≤ length (now src)) × (1024 ≤ length (now dst)) × (1024 ≤ length (now marks)) ⌝ }
+    ensures { λ r. ⌜ Added (now (coords .entry)) 1 (ownDarts (laidIn (now (coords .entry)) (now (w .entry)) g (a, b))) n r (now (src .entry)) (now (dst .entry)) (now (marks .entry)) (now (src .exit)) (now (dst .exit)) (now (marks .exit))
+        × Outlined (ownDarts (laidIn (now (coords .entry)) (now (w .entry)) g (a, b))) n r (now (outline .entry)) (now (outline .exit)) ⌝ }
 {
-    let along = sorted_nodes(coords, subject, cutter, met, links, a, b);
-    let nodes = along.nodes;
-    let count = along.count;
+    let count = nodes_on(coords, w, g, a, b, nodes);
     add_own_edge(coords, a, b, &nodes[..count], outline, src, dst, marks, n)
 }
 
 // Makes the outline of the cell and the table of its own edges. Answers how many slots, and entries, there are; over 1,024 it stops.
 fn own_darts(
     coords: &[f64],
-    subject: &[u32],
-    cutter: &[u32],
-    met: &[u32],
-    links: &[u32],
+    w: &[u32],
+    g: Regions,
     cell: &[u32],
+    nodes: &mut [u32],
     outline: &mut [u32],
     src: &mut [u32],
     dst: &mut [u32],
     marks: &mut [u32],
 ) -> usize
-    requires { ⌜ Uncrowded (pairs (now subject)) (pairs (now cutter)) (now met) (now links) (ring (now cell)) × (1024 ≤ length (now outline)) × (1024 ≤ length (now src)) × (1024 ≤ length (now dst)) × (1024 ≤ length (now marks)) ⌝ }
-    ensures { λ r. ⌜ Held (cellTable (now (coords .entry)) (outlineIn (now (coords .entry)) (pairs (now (subject .entry))) (pairs (now (cutter .entry))) (now (met .entry)) (now (cell .entry))) []) r (now (src .exit)) (now (dst .exit)) (now (marks .exit))
-        × (r ≤ 1024 → take r (now (outline .exit)) ≡ flatEdges (outlineIn (now (coords .entry)) (pairs (now (subject .entry))) (pairs (now (cutter .entry))) (now (met .entry)) (now (cell .entry)))) ⌝ }
+    requires { ⌜ AllFew (now w) g (ring (now cell)) × (258 ≤ length (now nodes)) × (1024 ≤ length (now outline)) × (1024 ≤ length (now src)) × (1024 ≤ length (now dst)) × (1024 ≤ length (now marks)) ⌝ }
+    ensures { λ r. ⌜ Held (cellTable (now (coords .entry)) (outlineIn (now (coords .entry)) (now (w .entry)) g (now (cell .entry))) []) r (now (src .exit)) (now (dst .exit)) (now (marks .exit))
+        × (r ≤ 1024 → take r (now (outline .exit)) ≡ flatEdges (outlineIn (now (coords .entry)) (now (w .entry)) g (now (cell .entry)))) ⌝ }
 {
     let mut n: usize = 0;
     let mut i: usize = 0;
     while i < cell.len() {
         let a = cell[i];
         let b = next_corner(cell, i);
-        n = add_own(
-            coords,
-            subject,
-            cutter,
-            met,
-            links,
-            a,
-            b,
-            outline,
-            src,
-            dst,
-            marks,
-            n,
-        );
+        n = add_own(coords, w, g, a, b, nodes, outline, src, dst, marks, n);
         if 1024 < n {
             return n;
         }
@@ -131,46 +124,39 @@ fn own_darts(
 // Writes the darts of the cell's own edge from a to b to the front of a flat list of pairs. Answers how many entries they take.
 fn lay_own(
     coords: &[f64],
-    subject: &[u32],
-    cutter: &[u32],
-    met: &[u32],
-    links: &[u32],
+    w: &[u32],
+    g: Regions,
     a: u32,
     b: u32,
+    nodes: &mut [u32],
     darts: &mut [u32],
 ) -> usize
-    requires { ⌜ Linked (pairs (now subject)) (pairs (now cutter)) (now met) (now links)
-        × (length (collectedIn (pairs (now subject)) (pairs (now cutter)) (now met) (a, b)) ≤ 256) × (518 ≤ length (now darts)) ⌝ }
-    ensures { λ r. ⌜ LaidIn (ownDarts (laidIn (now (coords .entry)) (pairs (now (subject .entry))) (pairs (now (cutter .entry))) (now (met .entry)) (a, b)))
-        r (now (darts .entry)) (now (darts .exit)) ⌝ }
+    requires { ⌜ Few (now w) g (a, b) × (258 ≤ length (now nodes)) × (518 ≤ length (now darts)) ⌝ }
+    ensures { λ r. ⌜ LaidIn (ownDarts (laidIn (now (coords .entry)) (now (w .entry)) g (a, b))) r (now (darts .entry)) (now (darts .exit)) ⌝ }
 {
-    let along = sorted_nodes(coords, subject, cutter, met, links, a, b);
-    let nodes = along.nodes;
-    let count = along.count;
+    let count = nodes_on(coords, w, g, a, b, nodes);
     lay_own_edge(a, b, &nodes[..count], darts)
 }
 
 // Whether one of some darts, a flat list of pairs, is between the same two nodes as one of the cell's own edges from edge k on.
 fn meets_later(
     coords: &[f64],
-    subject: &[u32],
-    cutter: &[u32],
-    met: &[u32],
-    links: &[u32],
+    w: &[u32],
+    g: Regions,
     cell: &[u32],
+    nodes: &mut [u32],
     darts: &[u32],
     k: usize,
 ) -> bool
-    requires { ⌜ Uncrowded (pairs (now subject)) (pairs (now cutter)) (now met) (now links) (ring (now cell)) ⌝ }
-    ensures { λ r. ⌜ r ≡ edgesMeet (pairs (now (darts .entry)))
-        (outlineFrom (now (coords .entry)) (pairs (now (subject .entry))) (pairs (now (cutter .entry))) (now (met .entry)) (now (cell .entry)) k) ⌝ }
+    requires { ⌜ AllFew (now w) g (ring (now cell)) × (258 ≤ length (now nodes)) ⌝ }
+    ensures { λ r. ⌜ r ≡ edgesMeet (pairs (now (darts .entry))) (outlineFrom (now (coords .entry)) (now (w .entry)) g (now (cell .entry)) k) ⌝ }
 {
     let mut others = [0u32; 518];
     let mut j = k;
     while j < cell.len() {
         let a = cell[j];
         let b = next_corner(cell, j);
-        let n = lay_own(coords, subject, cutter, met, links, a, b, &mut others);
+        let n = lay_own(coords, w, g, a, b, nodes, &mut others);
         if edges_meet(darts, &others[..n]) {
             return true;
         }
@@ -181,28 +167,21 @@ fn meets_later(
 
 // Whether the outline of the cell passes between the same two nodes twice or from a node to itself, where it has too many darts for the table: 19 comes
 // before 10. Each own edge is compared with itself and with those after it; as such a cell is refused, this happens once in a call.
-fn outline_repeats(
-    coords: &[f64],
-    subject: &[u32],
-    cutter: &[u32],
-    met: &[u32],
-    links: &[u32],
-    cell: &[u32],
-) -> bool
-    requires { ⌜ Uncrowded (pairs (now subject)) (pairs (now cutter)) (now met) (now links) (ring (now cell)) ⌝ }
-    ensures { λ r. ⌜ r ≡ repeats (outlineIn (now (coords .entry)) (pairs (now (subject .entry))) (pairs (now (cutter .entry))) (now (met .entry)) (now (cell .entry))) ⌝ }
+fn outline_repeats(coords: &[f64], w: &[u32], g: Regions, cell: &[u32], nodes: &mut [u32]) -> bool
+    requires { ⌜ AllFew (now w) g (ring (now cell)) × (258 ≤ length (now nodes)) ⌝ }
+    ensures { λ r. ⌜ r ≡ repeats (outlineIn (now (coords .entry)) (now (w .entry)) g (now (cell .entry))) ⌝ }
 {
     let mut darts = [0u32; 518];
     let mut i: usize = 0;
     while i < cell.len() {
         let a = cell[i];
         let b = next_corner(cell, i);
-        let n = lay_own(coords, subject, cutter, met, links, a, b, &mut darts);
+        let n = lay_own(coords, w, g, a, b, nodes, &mut darts);
         if edges_repeat(&darts[..n]) {
             return true;
         }
         i += 1;
-        if meets_later(coords, subject, cutter, met, links, cell, &darts[..n], i) {
+        if meets_later(coords, w, g, cell, nodes, &darts[..n], i) {
             return true;
         }
     }
@@ -212,195 +191,181 @@ fn outline_repeats(
 // Adds an edge near the cell, from a to b, to the table of n slots.
 fn add_near(
     coords: &[f64],
-    subject: &[u32],
-    cutter: &[u32],
-    met: &[u32],
-    links: &[u32],
+    w: &[u32],
+    g: Regions,
     a: u32,
     b: u32,
+    nodes: &mut [u32],
     src: &mut [u32],
     dst: &mut [u32],
     marks: &mut [u32],
     n: usize,
 ) -> usize
-    requires { ⌜ Linked (pairs (now subject)) (pairs (now cutter)) (now met) (now links) × (length (collectedIn (pairs (now subject)) (pairs (now cutter)) (now met) (a, b)) ≤ 256) × (n ≤ 1024) × (1024 ≤ length (now src)) × (1024 ≤ length (now dst)) × (1024 ≤ length (now marks)) ⌝ }
+    requires { ⌜ Few (now w) g (a, b) × (258 ≤ length (now nodes)) × (n ≤ 1024) × (1024 ≤ length (now src)) × (1024 ≤ length (now dst)) × (1024 ≤ length (now marks)) ⌝ }
     ensures { λ r. ⌜ tableIn r (now (src .exit)) (now (dst .exit)) (now (marks .exit))
-        ≡ withEdges (now (coords .entry)) (nearDarts (laidIn (now (coords .entry)) (pairs (now (subject .entry))) (pairs (now (cutter .entry))) (now (met .entry)) (a, b)))
-        (tableIn n (now (src .entry)) (now (dst .entry)) (now (marks .entry))) ⌝ }
+        ≡ withEdges (now (coords .entry)) (nearDarts (laidIn (now (coords .entry)) (now (w .entry)) g (a, b))) (tableIn n (now (src .entry)) (now (dst .entry)) (now (marks .entry))) ⌝ }
 {
-    let along = sorted_nodes(coords, subject, cutter, met, links, a, b);
-    let nodes = along.nodes;
-    let count = along.count;
+    let count = nodes_on(coords, w, g, a, b, nodes);
     add_near_edge(coords, a, b, &nodes[..count], src, dst, marks, n)
 }
 
-// Adds the edges near the cell, by its finished outline, to the table of its own edges, of n slots. Answers how many slots there are then; over
-// 1,024 it stops.
+// Adds the edges near the cell, those of `near` that t tells, by its finished outline to the table of its own edges. Answers how many slots there are
+// then; over 1,024 it stops.
 fn near_darts(
     coords: &[f64],
-    subject: &[u32],
-    cutter: &[u32],
-    met: &[u32],
-    links: &[u32],
+    w: &[u32],
+    g: Regions,
     near: &[u32],
     boxes: &[f64],
-    b: Bounds,
-    first: usize,
+    t: Near,
     outline: &[u32],
+    nodes: &mut [u32],
     src: &mut [u32],
     dst: &mut [u32],
     marks: &mut [u32],
     n: usize,
 ) -> usize
-    requires { ⌜ Uncrowded (pairs (now subject)) (pairs (now cutter)) (now met) (now links) (pairs (now near)) × Covered (now coords) (pairs (now near)) (now boxes) × (n ≤ 1024) × (1024 ≤ length (now src)) × (1024 ≤ length (now dst)) × (1024 ≤ length (now marks)) × (slotsOf (now src) (now dst) (now marks) n ≡ cellTable (now coords) (pairs (now outline)) []) ⌝ }
-    ensures { λ r. ⌜ Held (cellTable (now (coords .entry)) (pairs (now (outline .entry))) (nearIn (now (coords .entry)) (pairs (now (subject .entry))) (pairs (now (cutter .entry))) (now (met .entry)) (pairs (now (near .entry))) (candidatesFrom (now (coords .entry)) (pairs (now (near .entry))) b first))) r (now (src .exit)) (now (dst .exit)) (now (marks .exit)) ⌝ }
+    requires { ⌜ AllFew (now w) g (pairs (now near)) × Covered (now coords) (pairs (now near)) (now boxes) × (258 ≤ length (now nodes)) × (n ≤ 1024) × (1024 ≤ length (now src)) × (1024 ≤ length (now dst)) × (1024 ≤ length (now marks)) × (slotsOf (now src) (now dst) (now marks) n ≡ cellTable (now coords) (pairs (now outline)) []) ⌝ }
+    ensures { λ r. ⌜ Held (cellTable (now (coords .entry)) (pairs (now (outline .entry))) (nearIn (now (coords .entry)) (now (w .entry)) g (pairs (now (near .entry))) (candidatesFrom (now (coords .entry)) (pairs (now (near .entry))) (t .bounds) (t .first)))) r (now (src .exit)) (now (dst .exit)) (now (marks .exit)) ⌝ }
 {
     let count = near.len() / 2;
     let mut m = n;
-    let mut j = in_bounds(coords, near, boxes, b, first);
+    let mut j = in_bounds(coords, near, boxes, t.bounds, t.first);
     while j < count {
         let p = near[2 * j];
         let q = near[2 * j + 1];
-        m = add_near(
-            coords,
-            subject,
-            cutter,
-            met,
-            links,
-            p,
-            q,
-            src,
-            dst,
-            marks,
-            m,
-        );
+        m = add_near(coords, w, g, p, q, nodes, src, dst, marks, m);
         if 1024 < m {
             return m;
         }
-        j = in_bounds(coords, near, boxes, b, j + 1);
+        j = in_bounds(coords, near, boxes, t.bounds, j + 1);
     }
     m
 }
 
 // Walks the table of n slots from the outline's darts. The part of refusal 11 that is looked at after a walk never fires (cutting's `without-test`),
 // so it is left out.
-fn walk_cell(src: &[u32], dst: &[u32], marks: &[u32], n: usize, outline: &[u32]) -> CutCell
-    requires { ⌜ (n ≤ 1024) × (n ≤ length (now src)) × (n ≤ length (now dst)) × (n ≤ length (now marks)) × (length (now outline) ≤ 2048) ⌝ }
-    ensures { λ r. ⌜ r ≡ cutAs (ofWalk (walk (pairs (now (outline .entry))) (slotsOf (now (src .entry)) (now (dst .entry)) (now (marks .entry)) n))) ⌝ }
+fn walk_cell(
+    src: &[u32],
+    dst: &[u32],
+    marks: &[u32],
+    n: usize,
+    outline: &[u32],
+    runs: &mut [u32],
+    stops: &mut [u32],
+) -> CutCell
+    requires { ⌜ (n ≤ 1024) × (n ≤ length (now src)) × (n ≤ length (now dst)) × (n ≤ length (now marks)) × (length (now outline) ≤ 2048) × (1024 ≤ length (now runs)) × (1024 ≤ length (now stops)) ⌝ }
+    ensures { λ r. ⌜ cut r (now (runs .exit)) (now (stops .exit)) ≡ cutAs (ofWalk (walk (pairs (now (outline .entry))) (slotsOf (now (src .entry)) (now (dst .entry)) (now (marks .entry)) n))) (now (runs .entry)) (now (stops .entry)) ⌝ }
 {
-    let mut nodes = [0u32; 1024];
-    let mut stops = [0u32; 1024];
-    let w = walk_dart_map(src, dst, marks, n, outline, &mut nodes, &mut stops);
+    let w = walk_dart_map(src, dst, marks, n, outline, runs, stops);
     match w {
         Walked::Closed(pieces, entries) => CutCell {
             code: 0,
             pieces,
             entries,
-            nodes,
-            stops,
         },
-        Walked::Refused(code) => refused(code),
+        Walked::Refused(code) => CutCell {
+            code,
+            pieces: 0,
+            entries: 0,
+        },
     }
 }
 
-// Cuts a cell with a finished outline, whose own edges have the first n slots: adds the edges near it and walks.
+// Cuts a cell with a finished outline, whose own edges have the first slots, one for each of its entries: adds the edges near it and walks.
 fn cut_outlined(
     coords: &[f64],
-    subject: &[u32],
-    cutter: &[u32],
-    met: &[u32],
-    links: &[u32],
-    near: &[u32],
+    w: &[u32],
+    g: Regions,
     boxes: &[f64],
-    b: Bounds,
-    first: usize,
+    t: Near,
     outline: &[u32],
+    nodes: &mut [u32],
     src: &mut [u32],
     dst: &mut [u32],
     marks: &mut [u32],
-    n: usize,
+    runs: &mut [u32],
+    stops: &mut [u32],
 ) -> CutCell
-    requires { ⌜ Uncrowded (pairs (now subject)) (pairs (now cutter)) (now met) (now links) (pairs (now near)) × Covered (now coords) (pairs (now near)) (now boxes) × (n ≤ 1024) × (1024 ≤ length (now src)) × (1024 ≤ length (now dst)) × (1024 ≤ length (now marks)) × (slotsOf (now src) (now dst) (now marks) n ≡ cellTable (now coords) (pairs (now outline)) []) × (length (now outline) ≤ 2048) ⌝ }
-    ensures { λ r. ⌜ r ≡ cutBy (pairs (now (outline .entry))) (cellTable (now (coords .entry)) (pairs (now (outline .entry))) (nearIn (now (coords .entry)) (pairs (now (subject .entry))) (pairs (now (cutter .entry))) (now (met .entry)) (pairs (now (near .entry))) (candidatesFrom (now (coords .entry)) (pairs (now (near .entry))) b first))) ⌝ }
+    requires { ⌜ Ready (now coords) (now w) g (now boxes) t (now nodes) (now runs) (now stops) × Tables (now coords) (now outline) (now src) (now dst) (now marks) ⌝ }
+    ensures { λ r. ⌜ cut r (now (runs .exit)) (now (stops .exit)) ≡ cutBy (pairs (now (outline .entry)))
+        (cellTable (now (coords .entry)) (pairs (now (outline .entry))) (nearIn (now (coords .entry)) (now (w .entry)) g (nearEdgesIn (now (w .entry)) t) (candidatesOf (now (coords .entry)) (now (w .entry)) t)))
+        (now (runs .entry)) (now (stops .entry)) ⌝ }
 {
     if edges_repeat(outline) {
-        return refused(19);
+        return refused(19, runs, stops);
     }
+    let n = outline.len();
+    let near = part(w, t.edges);
     let slots = near_darts(
         coords,
-        subject,
-        cutter,
-        met,
-        links,
+        w,
+        g,
         near,
         boxes,
-        b,
-        first,
+        t,
         outline,
+        nodes,
         src,
         dst,
         marks,
         n,
     );
     if 1024 < slots {
-        return refused(10);
+        return refused(10, runs, stops);
     }
-    walk_cell(src, dst, marks, slots, outline)
+    walk_cell(src, dst, marks, slots, outline, runs, stops)
 }
 
-// Cuts the cell by those edges of `near`, one of the two meshes' edges, whose box meets the box b, from the edge `first` on; `boxes` are those of
-// blocks of `near`.
+// Cuts the cell by those edges near it whose box meets its own; `boxes` are those of blocks of them. The corners of the pieces go to the front of
+// `runs`, where each ends among them to that of `stops`.
 pub fn cut_cell(
     coords: &[f64],
-    subject: &[u32],
-    cutter: &[u32],
-    met: &[u32],
-    links: &[u32],
-    near: &[u32],
+    w: &[u32],
+    g: Regions,
     boxes: &[f64],
+    t: Near,
     cell: &[u32],
-    b: Bounds,
-    first: usize,
+    runs: &mut [u32],
+    stops: &mut [u32],
 ) -> CutCell
-    requires { ⌜ Uncrowded (pairs (now subject)) (pairs (now cutter)) (now met) (now links) (ring (now cell)) × Uncrowded (pairs (now subject)) (pairs (now cutter)) (now met) (now links) (pairs (now near)) × Covered (now coords) (pairs (now near)) (now boxes) ⌝ }
-    ensures { λ r. ⌜ r ≡ cutCell (now (coords .entry)) (pairs (now (subject .entry))) (pairs (now (cutter .entry))) (now (met .entry)) (pairs (now (near .entry))) (now (cell .entry)) b first ⌝ }
+    requires { ⌜ AllFew (now w) g (ring (now cell)) × Within (t .edges) (length (now w)) × AllFew (now w) g (nearEdgesIn (now w) t) × Covered (now coords) (nearEdgesIn (now w) t) (now boxes) × (1024 ≤ length (now runs)) × (1024 ≤ length (now stops)) ⌝ }
+    ensures { λ r. ⌜ cut r (now (runs .exit)) (now (stops .exit)) ≡ cutCell (now (coords .entry)) (now (w .entry)) g t (now (cell .entry)) (now (runs .entry)) (now (stops .entry)) ⌝ }
 {
+    let mut nodes = [0u32; 258];
     let mut outline = [0u32; 1024];
     let mut src = [0u32; 1024];
     let mut dst = [0u32; 1024];
     let mut marks = [0u32; 1024];
     let own = own_darts(
         coords,
-        subject,
-        cutter,
-        met,
-        links,
+        w,
+        g,
         cell,
+        &mut nodes,
         &mut outline,
         &mut src,
         &mut dst,
         &mut marks,
     );
     if 1024 < own {
-        if outline_repeats(coords, subject, cutter, met, links, cell) {
-            return refused(19);
+        if outline_repeats(coords, w, g, cell, &mut nodes) {
+            return refused(19, runs, stops);
         }
-        return refused(10);
+        return refused(10, runs, stops);
     }
     cut_outlined(
         coords,
-        subject,
-        cutter,
-        met,
-        links,
-        near,
+        w,
+        g,
         boxes,
-        b,
-        first,
+        t,
         &outline[..own],
+        &mut nodes,
         &mut src,
         &mut dst,
         &mut marks,
-        own,
+        runs,
+        stops,
     )
 }

@@ -23,15 +23,20 @@ use Rattle.rules.specs.declared.Bounds.{Bounds}
 use Rattle.rules.specs.Mesh.{Side, other}
 use Rattle.rules.specs.SpatialIndex.{boxOf, candidates}
 use Rattle.rules.specs.Meetings.{Scene, netOf}
+use Rattle.rules.specs.Nodes.{sortedNodes}
 use Rattle.rules.specs.Cell.{cellOf, nearOf, outcomeOf, treatedBy, treated, kindOf}
 use Rattle.rules.specs.Operations.{Piece, outcomePieces, kept}
 use Rattle.rules.specs.Refusals.{ofCell, firstRefusal}
 use Rattle.rules.proofs.Accepts.{Sound, sound}
 use Rattle.spatial_index.specs.Candidates.{meets}
-use Rattle.edge_nodes.specs.Stored.{Stored}
-use Rattle.edge_nodes.proofs.Scene.{sorted-is}
+use Rattle.spatial_index.specs.Blocks.{Covered}
+use Rattle.regions.specs.declared.MeshRuns.{MeshRuns}
+use Rattle.regions.specs.declared.Regions.{Regions}
+use Rattle.regions.specs.Runs.{runIn, meshEdges}
+use Rattle.edge_nodes.specs.Lent.{nodesOn}
 use Rattle.cells.specs.declared.CutCell.{CutCell}
-use Rattle.cells.specs.Cells.{outlineIn, tableIn, candidatesFrom, cutAs, cutBy, cutCell}
+use Rattle.cells.specs.declared.Near.{Near}
+use Rattle.cells.specs.Cells.{outlineIn, tableIn, nearEdgesIn, candidatesOf, Cut, cutAs, cutBy, cutCell}
 use Rattle.cells.proofs.Scene.{cut-is, copied-is, from-first, none-near, Read, read-pieces, read-refusal}
 use Rattle.pieces.specs.declared.Placed.{Placed}
 use Rattle.pieces.specs.Pieces.{sideOf, runsOf, isKept, room, events, PlacedBehind}
@@ -51,15 +56,20 @@ module _ (sc : Scene) (w : Side) (i k : ℕ) (at : k ≡ first (meets (sc .coord
   abbrev box : Bounds
   box = boxOf (sc .coords) (cellOf sc w i)
 
-  cut-of : (met : List ℕ) → Stored (sc .met) met → cutIn (sc .coords) (sc .subject .edges) (sc .cutter .edges) met es (cellOf sc w i) box k ≡ cutAs (outcomeOf sc w i)
+  cut-of : (work : List ℕ) (g : Regions) → ((e : Edge) → nodesOn (sc .coords) work g e ≡ sortedNodes sc e) → (t : Near) → nearEdgesIn work t ≡ es → t .bounds ≡ box
+      → t .first ≡ k → (on os : List ℕ) → cutIn (sc .coords) work g t (cellOf sc w i) on os ≡ cutAs (outcomeOf sc w i) on os
   unfolding cutIn
-  cut-of met stored = go (ltb k (length es)) refl
+  cut-of work g same t near-is box-is first-is on os = go (ltb (t .first) (length (nearEdgesIn work t))) refl
     where
-      go : (t : Bool) → ltb k (length es) ≡ t
-          → cond t (cutCell (sc .coords) (sc .subject .edges) (sc .cutter .edges) met es (cellOf sc w i) box k) (cutAs (copiedOutcome (cellOf sc w i)))
-          ≡ cutAs (outcomeOf sc w i)
-      go true h = cut-is sc w i k at (sc .subject .edges) (sc .cutter .edges) met (sorted-is sc met stored) (ltb-true k (length es) h)
-      go false h = ap cutAs (sym (copied-is sc w i k at (ltb-false k (length es) h)))
+      many : length (nearEdgesIn work t) ≡ length es
+      many = ap length near-is
+
+      go : (b : Bool) → ltb (t .first) (length (nearEdgesIn work t)) ≡ b
+          → cond b (cutCell (sc .coords) work g t (cellOf sc w i) on os) (cutAs (copiedOutcome (cellOf sc w i)) on os) ≡ cutAs (outcomeOf sc w i) on os
+      go true h = cut-is sc w i k at work g same (omega (arith, ltb-true (t .first) (length (nearEdgesIn work t)) h, many, first-is)) t near-is box-is first-is on os
+      go false h =
+          ap (λ (o : Outcome). cutAs o on os)
+          (sym (copied-is sc w i k at (omega (arith, ltb-false (t .first) (length (nearEdgesIn work t)) h, many, first-is))))
 
   kind-at : (kind : ℕ) → getD (netOf sc w .kinds) i 0 ≡ kind → cond (ltb k (length es)) 11 kind ≡ kindOf sc w i
   unfolding treated nearOf
@@ -71,68 +81,99 @@ module _ (sc : Scene) (w : Side) (i k : ℕ) (at : k ≡ first (meets (sc .coord
 
 -- ---- what the answer is read by
 
-some-outcome : (coords : List Float) (subject cutter : List Edge) (met : List ℕ) (es : List Edge) (cell : List ℕ) (b : Bounds) (k : ℕ)
-    → (o : Outcome) × (cutIn coords subject cutter met es cell b k ≡ cutAs o)
+some-outcome : (coords : List Float) (work : List ℕ) (g : Regions) (t : Near) (cell on os : List ℕ) → (o : Outcome) × (cutIn coords work g t cell on os ≡ cutAs o on os)
 unfolding cutIn cutCell cutBy
-some-outcome coords subject cutter met es cell b k = go (ltb k (length es))
+some-outcome coords work g t cell on os = go (ltb (t .first) (length (nearEdgesIn work t)))
   where
-    cut : Outcome
-    cut = cutOutcome (outlineIn coords subject cutter met cell) (tableIn coords subject cutter met es (candidatesFrom coords es b k) cell)
+    cutting : Outcome
+    cutting = cutOutcome (outlineIn coords work g cell) (tableIn coords work g (nearEdgesIn work t) (candidatesOf coords work t) cell)
 
-    go : (x : Bool) → (o : Outcome) × (cond x (cutAs cut) (cutAs (copiedOutcome cell)) ≡ cutAs o)
-    go true = (cut, refl)
+    go : (x : Bool) → (o : Outcome) × (cond x (cutAs cutting on os) (cutAs (copiedOutcome cell) on os) ≡ cutAs o on os)
+    go true = (cutting, refl)
     go false = (copiedOutcome cell, refl)
 
-pub record Ready (r : CutCell) : Type 0 where
-  pub corners : r .entries ≤ length (r .nodes)
-  pub pieces : r .pieces ≤ length (r .stops)
-  pub rise : Rising (take (r .pieces) (r .stops)) (length (take (r .entries) (r .nodes)))
+pub record Ready (x : Cut) : Type 0 where
+  pub corners : x .answer .entries ≤ length (x .corners)
+  pub pieces : x .answer .pieces ≤ length (x .stops)
+  pub rise : Rising (take (x .answer .pieces) (x .stops)) (length (take (x .answer .entries) (x .corners)))
 
-ready-as : (o : Outcome) (r : CutCell) → r ≡ cutAs o → Ready r
+ready-as : (o : Outcome) (on os : List ℕ) (x : Cut) → x ≡ cutAs o on os → Ready x
 unfolding cutAs
-ready-as (pieces ps) r e =
-    let x = read-pieces ps r e in
+ready-as (pieces ps) on os x e =
+    let r = read-pieces ps on os x e in
     record {
-      corners = x .nodes-fit;
-      pieces = x .stops-fit;
-      rise = subst (λ (l : List ℕ). Rising l (length (take (r .entries) (r .nodes)))) (sym (x .stops))
-          (subst (λ (l : List ℕ). Rising (Outcome.stops 0 ps) (length l)) (sym (x .nodes)) (stops-rise ps));
+      corners = r .nodes-fit;
+      pieces = r .stops-fit;
+      rise = subst (λ (l : List ℕ). Rising l (length (take (x .answer .entries) (x .corners)))) (sym (r .stops))
+          (subst (λ (l : List ℕ). Rising (Outcome.stops 0 ps) (length l)) (sym (r .nodes)) (stops-rise ps));
     }
-ready-as (refusal c) r e = subst Ready (sym e) (record { corners = omega arith; pieces = omega arith; rise = λ i h. absurd (omega (arith, h)) })
+ready-as (refusal c) on os x e = subst Ready (sym e) (record { corners = omega arith; pieces = omega arith; rise = λ i h. absurd (omega (arith, h)) })
 
-pub ready : (coords : List Float) (subject cutter : List Edge) (met : List ℕ) (es : List Edge) (cell : List ℕ) (b : Bounds) (k : ℕ) (r : CutCell)
-    → r ≡ cutIn coords subject cutter met es cell b k → Ready r
-ready coords subject cutter met es cell b k r e = let x = some-outcome coords subject cutter met es cell b k in ready-as (x .0) r (e ∙ x .1)
+pub ready : (coords : List Float) (work : List ℕ) (g : Regions) (t : Near) (cell on os : List ℕ) (x : Cut) → x ≡ cutIn coords work g t cell on os → Ready x
+ready coords work g t cell on os x e = let o = some-outcome coords work g t cell on os in ready-as (o .0) on os x (e ∙ o .1)
+
+-- ---- what is read from the working list
+
+pub first-lent : (coords : List Float) (work : List ℕ) (o : MeshRuns) (near : List ℕ) → near ≡ runIn work (o .edges) → (b : Bounds) (k : ℕ)
+    → k ≡ first (meets coords (pairs near) b) 0 (length (pairs near)) → k ≡ first (meets coords (meshEdges work o) b) 0 (length (meshEdges work o))
+first-lent coords work o near lent b k e = e ∙ ap (λ (ns : List ℕ). first (meets coords (pairs ns) b) 0 (length (pairs ns))) lent
+
+pub covered-lent : (coords : List Float) (work : List ℕ) (o : MeshRuns) (near : List ℕ) → near ≡ runIn work (o .edges) → (boxes : List Float)
+    → Covered coords (meshEdges work o) boxes → Covered coords (pairs near) boxes
+covered-lent coords work o near lent boxes h = subst (λ (ns : List ℕ). Covered coords (pairs ns) boxes) (sym lent) h
+
+pub covered-held : (coords : List Float) (work : List ℕ) (o : MeshRuns) (near : List ℕ) → near ≡ runIn work (o .edges) → (boxes : List Float)
+    → Covered coords (pairs near) boxes → Covered coords (meshEdges work o) boxes
+covered-held coords work o near lent boxes h = subst (λ (ns : List ℕ). Covered coords (pairs ns) boxes) lent h
+
+pub rise-lent : (work : List ℕ) (o : MeshRuns) (nodes ends : List ℕ) → nodes ≡ runIn work (o .entries) → Rising ends (length (runIn work (o .entries)))
+    → Rising ends (length nodes)
+rise-lent work o nodes ends lent h = subst (λ (ns : List ℕ). Rising ends (length ns)) (sym lent) h
+
+pub placed-lent : (op : ℕ) (cutter : Bool) (coords : List Float) (work : List ℕ) (o : MeshRuns) (nodes ends : List ℕ) → nodes ≡ runIn work (o .entries)
+    → (count entries own family : ℕ) (rs : List (List ℕ)) (on oe ok of : List ℕ) (q : Placed) (on′ oe′ ok′ of′ : List ℕ)
+    → PlacedBehind count entries own family (passing (isKept op cutter coords (runsOf nodes ends)) rs) on oe ok of q on′ oe′ ok′ of′
+    → PlacedBehind count entries own family (passing (isKept op cutter coords (runsOf (runIn work (o .entries)) ends)) rs) on oe ok of q on′ oe′ ok′ of′
+placed-lent op cutter coords work o nodes ends lent count entries own family rs on oe ok of q on′ oe′ ok′ of′ h =
+    subst (λ (ns : List ℕ). PlacedBehind count entries own family (passing (isKept op cutter coords (runsOf ns ends)) rs) on oe ok of q on′ oe′ ok′ of′) lent h
 
 -- ---- `overlay_cell`
 
 short : (f : List ℕ → Bool) (runs ends : List ℕ) → length (passing f (runsOf runs ends)) ≤ length ends
 short f runs ends = omega (arith, length-passing f (runsOf runs ends), tally-le f (runsOf runs ends), length-runs runs ends)
 
-module _ (op : ℕ) (cutter : Bool) (coords : List Float) (subject cut met near nodes ends : List ℕ) (on oe ok of : List ℕ) (p : Listed) (cell : List ℕ) (kind family : ℕ)
-    (b : Bounds) (eb : b ≡ boxOf coords cell) (k : ℕ) (at : k ≡ first (meets coords (pairs near) b) 0 (length (pairs near)))
-    (r : CutCell) (er : r ≡ cutIn coords (pairs subject) (pairs cut) met (pairs near) cell b k) where
+module _ (op : ℕ) (cutter : Bool) (coords : List Float) (work : List ℕ) (g : Regions) (o : MeshRuns) (ends on oe ok of : List ℕ) (p : Listed) (cell : List ℕ)
+    (kind family : ℕ) (b : Bounds) (eb : b ≡ boxOf coords cell) (k : ℕ) (at : k ≡ first (meets coords (meshEdges work o) b) 0 (length (meshEdges work o)))
+    (runs₀ stops₀ : List ℕ) (x : Cut) (er : x ≡ cutIn coords work g (record { edges = o .edges; bounds = b; first = k }) cell runs₀ stops₀) where
   abbrev w : Side
   w = sideOf cutter
 
+  abbrev t : Near
+  t = record { edges = o .edges; bounds = b; first = k }
+
+  abbrev r : CutCell
+  r = x .answer
+
   abbrev test : List ℕ → Bool
-  test = isKept op cutter coords (runsOf nodes ends)
+  test = isKept op cutter coords (runsOf (runIn work (o .entries)) ends)
 
   -- the pieces that are lent
   abbrev runs : List (List ℕ)
-  runs = runsOf (take (r .entries) (r .nodes)) (take (r .pieces) (r .stops))
+  runs = runsOf (take (r .entries) (x .corners)) (take (r .pieces) (x .stops))
 
-  module _ (sc : Scene) (i : ℕ) (scene : SceneIn sc w coords subject cut met near nodes ends) (this : CellIn sc w i cell kind family) where
+  module _ (sc : Scene) (i : ℕ) (scene : SceneIn sc w coords work g o ends) (this : CellIn sc w i cell kind family) where
     first-at : k ≡ first (meets (sc .coords) (netOf sc (other w) .edges) (boxOf (sc .coords) (cellOf sc w i))) 0 (length (netOf sc (other w) .edges))
     first-at =
-        at ∙ ap (λ (x : Bounds). first (meets coords (pairs near) x) 0 (length (pairs near))) eb
-        ∙ sym (λ t. first (meets (scene .points t) (scene .nearEdges t) (boxOf (scene .points t) (this .corners t))) 0 (length (scene .nearEdges t)))
+        at ∙ ap (λ (y : Bounds). first (meets coords (meshEdges work o) y) 0 (length (meshEdges work o))) eb
+        ∙ sym (λ s. first (meets (scene .points s) (scene .nearEdges s) (boxOf (scene .points s) (this .corners s))) 0 (length (scene .nearEdges s)))
 
-    outcome : r ≡ cutAs (outcomeOf sc w i)
+    box-is : b ≡ boxOf (sc .coords) (cellOf sc w i)
+    box-is = eb ∙ sym (λ s. boxOf (scene .points s) (this .corners s))
+
+    outcome : x ≡ cutAs (outcomeOf sc w i) runs₀ stops₀
     outcome =
-        er ∙ ap (λ (x : Bounds). cutIn coords (pairs subject) (pairs cut) met (pairs near) cell x k) eb
-        ∙ sym (λ t. cutIn (scene .points t) (scene .subjectEdges t) (scene .cutterEdges t) met (scene .nearEdges t) (this .corners t) (boxOf (scene .points t) (this .corners t)) k)
-        ∙ cut-of sc w i k first-at met (scene .meetings)
+        er ∙ sym (λ s. cutIn (scene .points s) work g t (this .corners s) runs₀ stops₀)
+        ∙ cut-of sc w i k first-at work g (scene .nodesAre) t (sym (scene .nearEdges)) box-is refl runs₀ stops₀
 
     abbrev these : List Piece
     these = kept sc w op i
@@ -157,23 +198,23 @@ module _ (op : ℕ) (cutter : Bool) (coords : List Float) (subject cut met near 
         no : {A : Type 0} → a .code ≡ 0 → A
         no z = absurd (n (sym (e .0) ∙ z))
 
-        go : (m q : ℕ) (o : Outcome) → r ≡ cutAs o → a .code ≡ firstRefusal m q (room oe ok of - p .count) (length on - p .entries) (ofCell o these)
-        go m q (refusal c) f = e .0 ∙ read-refusal c r f
-        go m q (pieces ps) f = absurd (n (read-pieces ps r f .code))
+        go : (m q : ℕ) (o : Outcome) → x ≡ cutAs o runs₀ stops₀ → a .code ≡ firstRefusal m q (room oe ok of - p .count) (length on - p .entries) (ofCell o these)
+        go m q (refusal c) f = e .0 ∙ read-refusal c runs₀ stops₀ x f
+        go m q (pieces ps) f = absurd (n (read-pieces ps runs₀ stops₀ x f .code))
 
     -- the cell has pieces: they are what is lent, and those of the listing are those that pass
     module _ (z : r .code ≡ 0) where
       pub record Made : Type 0 where
         pub all : List (List ℕ)
         pub is : outcomeOf sc w i ≡ pieces all
-        pub read : Read all r
+        pub read : Read all x
 
       made : Made
       made = go (outcomeOf sc w i) refl outcome (sound ours sc w i)
         where
-          go : (o : Outcome) → outcomeOf sc w i ≡ o → r ≡ cutAs o → Sound o → Made
-          go (refusal c) e f s = absurd (s (sym (read-refusal c r f) ∙ z))
-          go (pieces ps) e f s = record { all = ps; is = e; read = read-pieces ps r f }
+          go : (o : Outcome) → outcomeOf sc w i ≡ o → x ≡ cutAs o runs₀ stops₀ → Sound o → Made
+          go (refusal c) e f s = absurd (s (sym (read-refusal c runs₀ stops₀ x f) ∙ z))
+          go (pieces ps) e f s = record { all = ps; is = e; read = read-pieces ps runs₀ stops₀ x f }
 
       runs-are : runs ≡ made .all
       runs-are = ap₂ runsOf (made .read .nodes) (made .read .stops) ∙ read-back (made .all)
@@ -181,20 +222,20 @@ module _ (op : ℕ) (cutter : Bool) (coords : List Float) (subject cut met near 
       kept-are : nodesOf these ≡ passing test runs
       kept-are =
           kept-nodes sc op cutter i
-          ∙ (λ t. passing (isKept op cutter (scene .points t) (scene .nearCells t)) (outcomePieces (made .is t)))
+          ∙ (λ s. passing (isKept op cutter (scene .points s) (scene .nearCells s)) (outcomePieces (made .is s)))
           ∙ ap (passing test) (sym runs-are)
 
       events-are : cellEvents op sc w i ≡ events (nodesOf these)
       events-are = ap (λ (o : Outcome). ofCell o these) (made .is) ∙ events-nodes these
 
-      module _ (own : ℕ) (eo : own ≡ cond (ltb k (length near / 2)) 11 kind) (q : Placed) (on′ oe′ ok′ of′ : List ℕ)
+      module _ (near : List ℕ) (lent : near ≡ runIn work (o .edges)) (own : ℕ) (eo : own ≡ cond (ltb k (length near / 2)) 11 kind) (q : Placed) (on′ oe′ ok′ of′ : List ℕ)
           (got : PlacedBehind (p .count) (p .entries) own family (passing test runs) on oe ok of q on′ oe′ ok′ of′) where
         all-got : PlacedBehind (p .count) (p .entries) own family (nodesOf these) on oe ok of q on′ oe′ ok′ of′
         all-got = subst (λ (ks : List (List ℕ)). PlacedBehind (p .count) (p .entries) own family ks on oe ok of q on′ oe′ ok′ of′) (sym kept-are) got
 
         own-is : own ≡ kindOf sc w i
         own-is =
-            eo ∙ ap (λ (n : ℕ). cond (ltb k n) 11 kind) (sym (pairs-length near) ∙ ap length (sym (scene .nearEdges)))
+            eo ∙ ap (λ (n : ℕ). cond (ltb k n) 11 kind) (sym (pairs-length near) ∙ ap (λ (l : List ℕ). length (pairs l)) lent ∙ ap length (sym (scene .nearEdges)))
             ∙ kind-at sc w i k first-at kind (this .kindIs)
 
         code-is : (m s : ℕ) → q .code ≡ firstRefusal m s (room oe ok of - p .count) (length on - p .entries) (cellEvents op sc w i)
@@ -238,18 +279,18 @@ module _ (op : ℕ) (cutter : Bool) (coords : List Float) (subject cut met near 
 
   -- what is placed fits
   pub cell-fits : (own : ℕ) (q : Placed) (on′ oe′ ok′ of′ : List ℕ) → PlacedBehind (p .count) (p .entries) own family (passing test runs) on oe ok of q on′ oe′ ok′ of′
-      → length (r .nodes) ≡ 1024 → length (r .stops) ≡ 1024 → p .count ≤ room oe ok of → p .entries ≤ length on → q .code ≡ 0
+      → length (x .corners) ≡ 1024 → length (x .stops) ≡ 1024 → p .count ≤ room oe ok of → p .entries ≤ length on → q .code ≡ 0
       → Fits 1 p on oe ok of (record { code = 0; count = q .count; entries = q .entries })
   cell-fits own q on′ oe′ ok′ of′ got ln ls hc he z =
-      let x = ready coords (pairs subject) (pairs cut) met (pairs near) cell b k r er in
+      let y = ready coords work g t cell runs₀ stops₀ x er in
       let f = fit own family (p .count) (p .entries) (passing test runs) on oe ok of q on′ oe′ ok′ of′ got hc he z in
-      let few = short test (take (r .entries) (r .nodes)) (take (r .pieces) (r .stops)) in
-      let low = kept-within test (take (r .entries) (r .nodes)) (take (r .pieces) (r .stops)) (x .rise) in
-      let m = length-take (r .entries) (r .nodes) in
-      let s = length-take (r .pieces) (r .stops) in
+      let few = short test (take (r .entries) (x .corners)) (take (r .pieces) (x .stops)) in
+      let low = kept-within test (take (r .entries) (x .corners)) (take (r .pieces) (x .stops)) (y .rise) in
+      let m = length-take (r .entries) (x .corners) in
+      let s = length-take (r .pieces) (x .stops) in
       record {
         pieces = omega (arith, f .0, got .counted z);
         corners = omega (arith, f .1, got .entered z);
-        fewPieces = omega (arith, few, s, ls, x .pieces, got .counted z);
-        fewCorners = omega (arith, low, m, ln, x .corners, got .entered z);
+        fewPieces = omega (arith, few, s, ls, y .pieces, got .counted z);
+        fewCorners = omega (arith, low, m, ln, y .corners, got .entered z);
       }

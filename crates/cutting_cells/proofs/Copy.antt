@@ -10,7 +10,7 @@ use lib.ListN.{length, getD, set, take, replicate, length-append, length-set, le
 use lib.Ieee.{Float}
 use borrow.Author.Tests.{lt-ltb, le-ltb}
 use Rattle.lists.specs.Gather.{joined}
-use Rattle.lists.specs.Regions.{front, copied, zeros}
+use Rattle.lists.specs.Regions.{front, copied}
 use Rattle.lists.proofs.Regions.{front-store, copied-fits, front-put, put-none}
 use Rattle.cutting.specs.Edges.{Edge, ring}
 use Rattle.cutting.specs.Cell.{repeats}
@@ -19,9 +19,10 @@ use Rattle.cutting.specs.Outcome.{Outcome, refusal, pieces, copiedOutcome, flat
 use Rattle.cutting.specs.Lent.{flatEdges, pairs}
 use Rattle.cutting.proofs.Runs.{take-push}
 use Rattle.cutting.proofs.Pairs.{ends-append, pairs-ends, pairs-length}
-use Rattle.rules.specs.declared.Bounds.{Bounds}
-use Rattle.cells.specs.declared.CutCell.{CutCell}
-use Rattle.cells.specs.Cells.{nextCorner, cutAs, cutCell}
+use Rattle.regions.specs.declared.Regions.{Regions}
+use Rattle.regions.specs.Runs.{runIn}
+use Rattle.cells.specs.declared.Near.{Near}
+use Rattle.cells.specs.Cells.{nextCorner, nearEdgesIn, Cut, cut, cutAs, cutCell}
 use Rattle.cells.proofs.Own.{sidesFrom, sides-all, sides-next, sides-end}
 use Rattle.cutting_cells.specs.Listed.{cutIn}
 
@@ -74,43 +75,43 @@ sided-all cell list i r v h e =
 
 -- ---- the cell as its one piece
 
-whole-as : (cell nodes : List ℕ) → length cell ≤ 256 → nodes ≡ copied (zeros 1024) 0 cell
-    → _≡_ {A = CutCell} (record { code = 0; pieces = 1; entries = length cell; nodes = nodes; stops = set (zeros 1024) 0 (length cell) }) (cutAs (pieces (cell ∷ [])))
+whole-as : (cell on os on′ : List ℕ) → length cell ≤ 256 → 1024 ≤ length on → 1024 ≤ length os → on′ ≡ copied on 0 cell
+    → cut (record { code = 0; pieces = 1; entries = length cell }) on′ (set os 0 (length cell)) ≡ cutAs (pieces (cell ∷ [])) on os
 unfolding cutAs flat Outcome.stops
-whole-as cell nodes small e =
-    let long : length (zeros 1024) ≡ 1024 = length-replicate {A = ℕ} 1024 0 in
+whole-as cell on os on′ small long many e =
     let flat-is : cell ≡ cell ++ [] = sym (append-nil cell) in
-    let en : nodes ≡ front (zeros 1024) (cell ++ []) = e ∙ copied-fits (zeros 1024) 0 cell (omega (arith, small, long)) ∙ front-put (zeros 1024) cell ∙ ap
-    (front (zeros 1024)) flat-is in
-    let es : set (zeros 1024) 0 (length cell) ≡ front (zeros 1024) ((0 + length cell) ∷ []) =
-    front-store (zeros 1024) (zeros 1024) [] 0 (length cell) 0 refl (omega (arith, long)) (front-none (zeros 1024)) ∙ ap
-    (λ (k : ℕ). front (zeros 1024) (k ∷ [])) (sym (zero-add (length cell))) in
-    λ s. record { code = 0; pieces = 1; entries = length (flat-is s); nodes = en s; stops = es s }
+    let en : on′ ≡ front on (cell ++ []) = e ∙ copied-fits on 0 cell (omega (arith, small, long)) ∙ front-put on cell ∙ ap (front on) flat-is in
+    let es : set os 0 (length cell) ≡ front os ((0 + length cell) ∷ []) =
+    front-store os os [] 0 (length cell) 0 refl (omega (arith, many)) (front-none os) ∙ ap (λ (k : ℕ). front os (k ∷ [])) (sym (zero-add (length cell))) in
+    λ s. cut (record { code = 0; pieces = 1; entries = length (flat-is s) }) (en s) (es s)
   where
     front-none : (w : List ℕ) → w ≡ front w []
     front-none w = sym (sym (front-put w []) ∙ put-none w 0)
 
-module _ (cell : List ℕ) (t : Bool) (et : t ≡ repeats (ring cell)) where
+module _ (cell on os : List ℕ) (t : Bool) (et : t ≡ repeats (ring cell)) where
   outcome-is : (x : Bool) → t ≡ x → cond x (refusal 19) (pieces (cell ∷ [])) ≡ copiedOutcome cell
   outcome-is x e = ap (λ (b : Bool). cond b (refusal 19) (pieces (cell ∷ []))) (sym e ∙ et)
 
-  pub copied-as : (nodes : List ℕ) → t ≡ false → length cell ≤ 256 → nodes ≡ copied (zeros 1024) 0 cell
-      → _≡_ {A = CutCell} (record { code = 0; pieces = 1; entries = length cell; nodes = nodes; stops = set (zeros 1024) 0 (length cell) }) (cutAs (copiedOutcome cell))
-  copied-as nodes f small e = whole-as cell nodes small e ∙ ap cutAs (outcome-is false f)
+  pub copied-as : (on′ : List ℕ) → t ≡ false → length cell ≤ 256 → 1024 ≤ length on → 1024 ≤ length os → on′ ≡ copied on 0 cell
+      → cut (record { code = 0; pieces = 1; entries = length cell }) on′ (set os 0 (length cell)) ≡ cutAs (copiedOutcome cell) on os
+  copied-as on′ f small long many e = whole-as cell on os on′ small long many e ∙ ap (λ (o : Outcome). cutAs o on os) (outcome-is false f)
 
-  pub copied-refused : t ≡ true → cutAs (refusal 19) ≡ cutAs (copiedOutcome cell)
-  copied-refused f = ap cutAs (outcome-is true f)
+  pub copied-refused : t ≡ true → cutAs (refusal 19) on os ≡ cutAs (copiedOutcome cell) on os
+  copied-refused f = ap (λ (o : Outcome). cutAs o on os) (outcome-is true f)
 
 -- ---- the smaller functions' returns
 
-module _ (coords : List Float) (subject cutter : List Edge) (met near cell : List ℕ) (b : Bounds) (k : ℕ) (r : CutCell) where
-  pub out-copied : length near / 2 ≤ k → r ≡ cutAs (copiedOutcome cell) → r ≡ cutIn coords subject cutter met (pairs near) cell b k
-  unfolding cutIn
-  out-copied h e = rw (le-ltb k (length (pairs near)) (omega (arith, h, pairs-length near))) e
+module _ (coords : List Float) (work : List ℕ) (g : Regions) (t : Near) (cell on os near : List ℕ) (lent : near ≡ runIn work (t .edges)) (x : Cut) where
+  near-length : length (nearEdgesIn work t) ≡ length near / 2
+  near-length = ap (λ (l : List ℕ). length (pairs l)) (sym lent) ∙ pairs-length near
 
-  pub out-cut : k < length near / 2 → r ≡ cutCell coords subject cutter met (pairs near) cell b k → r ≡ cutIn coords subject cutter met (pairs near) cell b k
+  pub out-copied : length near / 2 ≤ t .first → x ≡ cutAs (copiedOutcome cell) on os → x ≡ cutIn coords work g t cell on os
   unfolding cutIn
-  out-cut h e = rw (lt-ltb k (length (pairs near)) (omega (arith, h, pairs-length near))) e
+  out-copied h e = rw (le-ltb (t .first) (length (nearEdgesIn work t)) (omega (arith, h, near-length))) e
+
+  pub out-cut : t .first < length near / 2 → x ≡ cutCell coords work g t cell on os → x ≡ cutIn coords work g t cell on os
+  unfolding cutIn
+  out-cut h e = rw (lt-ltb (t .first) (length (nearEdgesIn work t)) (omega (arith, h, near-length))) e
 
 pub kind-cut : (k n kind : ℕ) → k < n → 11 ≡ cond (ltb k n) 11 kind
 kind-cut k n kind h = rw (lt-ltb k n h)

@@ -9,14 +9,16 @@ use lib.ListN.{length, getD, take, drop}
 use lib.Ieee.{Float}
 use Rattle.lists.specs.Gather.{gathered}
 use Rattle.lists.proofs.Gather.{gathered-more}
-use Rattle.cutting.specs.Edges.{Edge, ring}
+use Rattle.cutting.specs.Edges.{ring}
 use Rattle.entry.specs.Mesh.{prior, cellSize, Rising}
 use Rattle.entry.proofs.Ends.{prior-more}
 use Rattle.rules.specs.Mesh.{Side}
 use Rattle.rules.specs.Meetings.{Scene}
 use Rattle.rules.specs.Operations.{Piece, kept}
 use Rattle.rules.specs.Refusals.{Event}
-use Rattle.cells.specs.Cells.{Uncrowded}
+use Rattle.regions.specs.declared.MeshRuns.{MeshRuns}
+use Rattle.regions.specs.declared.Regions.{Regions}
+use Rattle.cells.specs.Cells.{AllFew}
 use Rattle.pieces.specs.Pieces.{sideOf, runsOf, room}
 use Rattle.pieces.proofs.Runs.{run-at, part-is, length-cell}
 use Rattle.cutting_cells.specs.declared.Listed.{Listed}
@@ -45,14 +47,15 @@ module _ (own stops : List ℕ) (start i : ℕ) (at : start ≡ prior stops i) (
 
 -- ---- the loop
 
-module _ (op : ℕ) (cutter : Bool) (coords : List Float) (subject cut met near nodes ends own stops kinds families : List ℕ) (p : Listed) (on₀ oe₀ ok₀ of₀ : List ℕ) where
+module _ (op : ℕ) (cutter : Bool) (coords : List Float) (work : List ℕ) (g : Regions) (o : MeshRuns) (ends own stops kinds families : List ℕ) (p : Listed)
+    (on₀ oe₀ ok₀ of₀ : List ℕ) where
   abbrev w : Side
   w = sideOf cutter
 
   -- the first n cells are listed
   abbrev pub ListedTo : ℕ → Listed → (on oe ok of : List ℕ) → Type 0
   ListedTo n q on oe ok of =
-      (sc : Scene) → SceneIn sc (sideOf cutter) coords subject cut met near nodes ends → MeshIn sc (sideOf cutter) own stops kinds families
+      (sc : Scene) → SceneIn sc (sideOf cutter) coords work g o ends → MeshIn sc (sideOf cutter) own stops kinds families
       → ListedBehind (gathered n (cellEvents op sc (sideOf cutter))) (gathered n (kept sc (sideOf cutter) op)) p on₀ oe₀ ok₀ of₀ q on oe ok of
 
   abbrev pub Going : (on oe ok of : List ℕ) → Listed → (start i : ℕ) → Type 0
@@ -87,16 +90,15 @@ module _ (op : ℕ) (cutter : Bool) (coords : List Float) (subject cut met near 
               omega (arith, f .fewCorners, h, a),
             )
 
-        pub cell-uncrowded : (s c : List Edge) (ms ls : List ℕ) → Uncrowded s c ms ls (ring (getD (runsOf own stops) i []))
-            → Uncrowded s c ms ls (ring (take (getD stops i 0 - start) (drop start own)))
-        cell-uncrowded s c ms ls u = subst (λ (l : List ℕ). Uncrowded s c ms ls (ring l)) (part-cell own stops start i (inv .1) h) u
+        pub cell-few : AllFew work g (ring (getD (runsOf own stops) i [])) → AllFew work g (ring (take (getD stops i 0 - start) (drop start own)))
+        cell-few u = subst (λ (l : List ℕ). AllFew work g (ring l)) (part-cell own stops start i (inv .1) h) u
 
         pub cell-short : Rising stops (length own) → cellSize stops i ≤ 256 → length (take (getD stops i 0 - start) (drop start own)) ≤ 256
         cell-short up k = omega (arith, part-long own stops start i (inv .1) h up, k)
 
       module _ (h : i < length stops) (r : Listed) (on′ oe′ ok′ of′ : List ℕ)
           (got : (r .code ≡ 0 → Fits 1 q on oe ok of r)
-          × ((sc : Scene) (j : ℕ) → SceneIn sc (sideOf cutter) coords subject cut met near nodes ends
+          × ((sc : Scene) (j : ℕ) → SceneIn sc (sideOf cutter) coords work g o ends
           → CellIn sc (sideOf cutter) j (take (getD stops i 0 - start) (drop start own)) (getD kinds i 0) (getD families i 0)
           → ListedBehind (cellEvents op sc (sideOf cutter) j) (kept sc (sideOf cutter) op j) q on oe ok of r on′ oe′ ok′ of′)) where
         step : ListedTo (i + 1) r on′ oe′ ok′ of′

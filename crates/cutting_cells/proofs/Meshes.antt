@@ -11,6 +11,9 @@ use Rattle.rules.specs.Mesh.{Side, theSubject, theCutter}
 use Rattle.rules.specs.Meetings.{Scene, netOf}
 use Rattle.rules.specs.Operations.{Piece, cuts, kept, overCells}
 use Rattle.rules.specs.Refusals.{Event}
+use Rattle.regions.specs.declared.MeshRuns.{MeshRuns}
+use Rattle.regions.specs.declared.Regions.{Regions}
+use Rattle.regions.specs.Runs.{runIn}
 use Rattle.pieces.specs.Pieces.{room}
 use Rattle.pieces.proofs.Runs.{length-runs}
 use Rattle.cutting_cells.specs.declared.Listed.{Listed}
@@ -44,22 +47,35 @@ module _ {A : Type 0} (op : ℕ) (sc : Scene) (sn se sk sf cn ce ck cf : List �
   subject-first : gathered (length se) (f theSubject) ++ overCells op sc theCutter (f theCutter) ≡ overBoth op sc f
   subject-first = ap (λ (l : List A). l ++ overCells op sc theCutter (f theCutter)) subject-over
 
-module _ (op : ℕ) (coords : List Float) (subject cut met sn se sk sf cn ce ck cf : List ℕ) (on oe ok of : List ℕ) where
+module _ (op : ℕ) (coords : List Float) (work : List ℕ) (g : Regions) (se sk sf ce ck cf : List ℕ) (on oe ok of : List ℕ) where
+  abbrev sn : List ℕ
+  sn = runIn work (g .subject .entries)
+
+  abbrev cn : List ℕ
+  cn = runIn work (g .cutter .entries)
+
   -- what one mesh's cells come to
-  abbrev pub OneCut : (w : Side) (near nodes ends own stops kinds families : List ℕ) (p : Listed) (on₁ oe₁ ok₁ of₁ : List ℕ) (r : Listed) (on₂ oe₂ ok₂ of₂ : List ℕ) → Type 0
-  OneCut w near nodes ends own stops kinds families p on₁ oe₁ ok₁ of₁ r on₂ oe₂ ok₂ of₂ =
+  abbrev pub OneCut : (w : Side) (o : MeshRuns) (ends own stops kinds families : List ℕ) (p : Listed) (on₁ oe₁ ok₁ of₁ : List ℕ) (r : Listed) (on₂ oe₂ ok₂ of₂ : List ℕ) → Type 0
+  OneCut w o ends own stops kinds families p on₁ oe₁ ok₁ of₁ r on₂ oe₂ ok₂ of₂ =
       (r .code ≡ 0 → Fits (length stops) p on₁ oe₁ ok₁ of₁ r)
-      × ((sc : Scene) → SceneIn sc w coords subject cut met near nodes ends → MeshIn sc w own stops kinds families
+      × ((sc : Scene) → SceneIn sc w coords work g o ends → MeshIn sc w own stops kinds families
       → ListedBehind (gathered (length stops) (cellEvents op sc w)) (gathered (length stops) (kept sc w op)) p on₁ oe₁ ok₁ of₁ r on₂ oe₂ ok₂ of₂)
+
+  -- the corners of its cells are read from the working list
+  pub own-lent : (w : Side) (o : MeshRuns) (ends own own′ stops kinds families : List ℕ) (p : Listed) (on₁ oe₁ ok₁ of₁ : List ℕ) (r : Listed) (on₂ oe₂ ok₂ of₂ : List ℕ)
+      → own ≡ own′ → OneCut w o ends own stops kinds families p on₁ oe₁ ok₁ of₁ r on₂ oe₂ ok₂ of₂
+      → OneCut w o ends own′ stops kinds families p on₁ oe₁ ok₁ of₁ r on₂ oe₂ ok₂ of₂
+  own-lent w o ends own own′ stops kinds families p on₁ oe₁ ok₁ of₁ r on₂ oe₂ ok₂ of₂ e h =
+      subst (λ (l : List ℕ). OneCut w o ends l stops kinds families p on₁ oe₁ ok₁ of₁ r on₂ oe₂ ok₂ of₂) e h
 
   -- what both come to
   abbrev pub BothCut : (r : Listed) (on₂ oe₂ ok₂ of₂ : List ℕ) → Type 0
   BothCut r on₂ oe₂ ok₂ of₂ =
       (r .code ≡ 0 → Fits (length se + length ce) noneYet on oe ok of r)
-      × ((sc : Scene) → MeshesIn sc coords subject cut met sn se sk sf cn ce ck cf
+      × ((sc : Scene) → MeshesIn sc coords work g se sk sf ce ck cf
       → ListedBehind (overBoth op sc (cellEvents op sc)) (overBoth op sc (λ w. kept sc w op)) noneYet on oe ok of r on₂ oe₂ ok₂ of₂)
 
-  module _ (p : Listed) (on₁ oe₁ ok₁ of₁ : List ℕ) (one : OneCut theSubject cut cn ce sn se sk sf noneYet on oe ok of p on₁ oe₁ ok₁ of₁) where
+  module _ (p : Listed) (on₁ oe₁ ok₁ of₁ : List ℕ) (one : OneCut theSubject (g .cutter) ce sn se sk sf noneYet on oe ok of p on₁ oe₁ ok₁ of₁) where
     pub subject-refused : (p .code ≡ 0 → ⊥) → BothCut p on₁ oe₁ ok₁ of₁
     subject-refused n = (
       λ z. absurd (n z),
@@ -98,7 +114,7 @@ module _ (op : ℕ) (coords : List Float) (subject cut met sn se sk sf cn ce ck 
           )
 
       pub both-listed : cuts op theCutter ≡ true → (r : Listed) (on₂ oe₂ ok₂ of₂ : List ℕ)
-          → OneCut theCutter subject sn se cn ce ck cf p on₁ oe₁ ok₁ of₁ r on₂ oe₂ ok₂ of₂ → BothCut r on₂ oe₂ ok₂ of₂
+          → OneCut theCutter (g .subject) se cn ce ck cf p on₁ oe₁ ok₁ of₁ r on₂ oe₂ ok₂ of₂ → BothCut r on₂ oe₂ ok₂ of₂
       both-listed e r on₂ oe₂ ok₂ of₂ two =
           let f = one .0 z in (
             λ y. let g = two .0 y in

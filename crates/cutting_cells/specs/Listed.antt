@@ -1,7 +1,7 @@
 -- The cells of a mesh, each one's kept pieces placed behind those of the cells before (document 01, module 7), where the scene and the mesh stand in
 -- lent lists. Assumes nothing.
 use mathlib.Core.Path.{_≡_}
-use mathlib.Core.Bool.{cond}
+use mathlib.Core.Bool.{true, cond}
 use mathlib.Core.List.{List, [], _++_, map}
 use Prim.Native.Nat.{ℕ, _+_, _*_, _-_, _≤_, _<_}
 use lib.Dec.{ltb}
@@ -10,35 +10,41 @@ use lib.Ieee.{Float}
 use Rattle.lists.specs.Regions.{put}
 use Rattle.cutting.specs.Edges.{Edge, ring}
 use Rattle.cutting.specs.Outcome.{copiedOutcome, flat, stops}
-use Rattle.cutting.specs.Lent.{pairs}
-use Rattle.rules.specs.declared.Bounds.{Bounds}
-use Rattle.entry.specs.Mesh.{cellSize}
+use Rattle.entry.specs.Mesh.{cellSize, Rising}
 use Rattle.rules.specs.Mesh.{Side, theSubject, theCutter, other}
 use Rattle.rules.specs.Meetings.{Scene, netOf}
 use Rattle.rules.specs.Cell.{cellOf, outcomeOf}
-use Rattle.rules.specs.Operations.{Piece, kept, overCells}
+use Rattle.rules.specs.Nodes.{sortedNodes}
+use Rattle.rules.specs.Operations.{Piece, cuts, kept, overCells}
 use Rattle.rules.specs.Refusals.{Event, ofCell, firstRefusal}
-use Rattle.edge_nodes.specs.Stored.{Stored}
-use Rattle.cells.specs.declared.CutCell.{CutCell}
-use Rattle.cells.specs.Cells.{cutAs, cutCell, Uncrowded}
+use Rattle.regions.specs.declared.MeshRuns.{MeshRuns}
+use Rattle.regions.specs.declared.Regions.{Regions}
+use Rattle.regions.specs.Runs.{Within, runIn, meshEdges}
+use Rattle.edge_nodes.specs.Lent.{nodesOn}
+use Rattle.cells.specs.declared.Near.{Near}
+use Rattle.cells.specs.Cells.{Cut, cutAs, nearEdgesIn, cutCell, AllFew}
 use Rattle.pieces.specs.Pieces.{runsOf, room, events}
 use Rattle.cutting_cells.specs.declared.Listed.{Listed}
 
--- What a cell comes to: cut by the edges es from `first` on whose box meets the box b, or copied where there is none.
-unfoldable pub cutIn : List Float → (subject cutter : List Edge) (met : List ℕ) (es : List Edge) (cell : List ℕ) → Bounds → (first : ℕ) → CutCell
-cutIn coords subject cutter met es cell b first =
-    cond (ltb first (length es)) (cutCell coords subject cutter met es cell b first) (cutAs (copiedOutcome cell))
+-- What a cell comes to: cut by the edges t, or copied where there is none.
+unfoldable pub cutIn : List Float → List ℕ → Regions → Near → List ℕ → List ℕ → List ℕ → Cut
+cutIn coords work g t cell on os = cond (ltb (t .first) (length (nearEdgesIn work t))) (cutCell coords work g t cell on os) (cutAs (copiedOutcome cell) on os)
 
 -- ---- what the lists hold
 
--- What the cells of the mesh w are cut by: the coordinates, both meshes' edges, the meetings, and the other mesh's edges and cells.
-pub record SceneIn (sc : Scene) (w : Side) (coords : List Float) (subject cutter met near nodes ends : List ℕ) : Type 0 where
+-- What the cells of the mesh w are cut by: the coordinates, the sorted nodes of edges, and the other mesh's edges and cells.
+pub record SceneIn (sc : Scene) (w : Side) (coords : List Float) (work : List ℕ) (g : Regions) (o : MeshRuns) (ends : List ℕ) : Type 0 where
   pub points : sc .coords ≡ coords
-  pub subjectEdges : sc .subject .edges ≡ pairs subject
-  pub cutterEdges : sc .cutter .edges ≡ pairs cutter
-  pub meetings : Stored (sc .met) met
-  pub nearEdges : netOf sc (other w) .edges ≡ pairs near
-  pub nearCells : netOf sc (other w) .cells ≡ runsOf nodes ends
+  pub nodesAre : (e : Edge) → nodesOn (sc .coords) work g e ≡ sortedNodes sc e
+  pub nearEdges : netOf sc (other w) .edges ≡ meshEdges work o
+  pub nearCells : netOf sc (other w) .cells ≡ runsOf (runIn work (o .entries)) ends
+
+-- the other mesh stands in the working list, and no key of its edges has too many nodes
+pub record OtherReady (work : List ℕ) (g : Regions) (o : MeshRuns) (ends : List ℕ) : Type 0 where
+  pub edges : Within (o .edges) (length work)
+  pub entries : Within (o .entries) (length work)
+  pub few : AllFew work g (meshEdges work o)
+  pub rise : Rising ends (length (runIn work (o .entries)))
 
 -- cell i of the mesh w
 pub record CellIn (sc : Scene) (w : Side) (i : ℕ) (cell : List ℕ) (kind family : ℕ) : Type 0 where
@@ -84,16 +90,28 @@ pub record Fits (n : ℕ) (p : Listed) (on oe ok of : List ℕ) (r : Listed) : T
 -- ---- both meshes
 
 -- What is asked of the cells of a mesh with the corners `own` and their ends `stops`: no key of their edges has too many nodes, and no cell too many.
-abbrev pub CellsReady : (subject cutter : List Edge) (met links own stops : List ℕ) → Type 0
-CellsReady subject cutter met links own stops =
-    (i : ℕ) → i < length stops → Uncrowded subject cutter met links (ring (getD (runsOf own stops) i [])) × (cellSize stops i ≤ 256)
+abbrev pub CellsReady : List ℕ → Regions → List ℕ → List ℕ → Type 0
+CellsReady work g own stops = (i : ℕ) → i < length stops → AllFew work g (ring (getD (runsOf own stops) i [])) × (cellSize stops i ≤ 256)
 
--- a scene whose subject stands in the first four lists of meshes, its cutter in the last four
-pub record MeshesIn (sc : Scene) (coords : List Float) (subject cutter met sn se sk sf cn ce ck cf : List ℕ) : Type 0 where
-  pub subjectCut : SceneIn sc theSubject coords subject cutter met cutter cn ce
-  pub cutterCut : SceneIn sc theCutter coords subject cutter met subject sn se
-  pub subjectMesh : MeshIn sc theSubject sn se sk sf
-  pub cutterMesh : MeshIn sc theCutter cn ce ck cf
+-- what `cut_meshes` asks of the lists
+pub record MeshesReady (op : ℕ) (work : List ℕ) (g : Regions) (se sk sf ce ck cf : List ℕ) : Type 0 where
+  pub subject : OtherReady work g (g .subject) se
+  pub cutter : OtherReady work g (g .cutter) ce
+  pub subjectCells : CellsReady work g (runIn work (g .subject .entries)) se
+  pub cutterCells : cuts op theCutter ≡ true → CellsReady work g (runIn work (g .cutter .entries)) ce
+  pub subjectKinds : length sk ≡ length se
+  pub subjectFamilies : length sf ≡ length se
+  pub cutterKinds : length ck ≡ length ce
+  pub cutterFamilies : length cf ≡ length ce
+  pub mostSubject : length se ≤ 16384
+  pub mostCutter : length ce ≤ 16384
+
+-- a scene whose meshes stand in the working list, with the ends, kinds and families of their cells
+pub record MeshesIn (sc : Scene) (coords : List Float) (work : List ℕ) (g : Regions) (se sk sf ce ck cf : List ℕ) : Type 0 where
+  pub subjectCut : SceneIn sc theSubject coords work g (g .cutter) ce
+  pub cutterCut : SceneIn sc theCutter coords work g (g .subject) se
+  pub subjectMesh : MeshIn sc theSubject (runIn work (g .subject .entries)) se sk sf
+  pub cutterMesh : MeshIn sc theCutter (runIn work (g .cutter .entries)) ce ck cf
 
 -- f for each cell of both meshes, if the operation cuts them
 abbrev pub overBoth : {A : Type 0} → ℕ → Scene → (Side → ℕ → List A) → List A

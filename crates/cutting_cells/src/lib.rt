@@ -1,10 +1,14 @@
 // The cells of one mesh (document 01, module 7): each is copied or cut, and those of its pieces that the operation keeps are placed behind the others.
 use cells::CutCell;
+use cells::Near;
 use cells::cut_cell;
 use cells::next_corner;
 use lists::copy_u32;
 use outlines::edges_repeat;
 use pieces::place_pieces;
+use regions::MeshRuns;
+use regions::Regions;
+use regions::part;
 use rules::Bounds;
 use spatial_index::block_bounds;
 use spatial_index::bounds2;
@@ -18,15 +22,14 @@ ghost use Rattle.lists.specs.Gather.{gathered};
 ghost use Rattle.cutting.specs.Edges.{ring};
 ghost use Rattle.cutting.specs.Cell.{repeats};
 ghost use Rattle.cutting.specs.Outcome.{copiedOutcome};
-ghost use Rattle.cutting.specs.Lent.{pairs};
 ghost use Rattle.entry.specs.Mesh.{Rising};
-ghost use Rattle.rules.specs.Mesh.{theCutter};
 ghost use Rattle.rules.specs.Meetings.{Scene};
-ghost use Rattle.rules.specs.Operations.{cuts, kept};
+ghost use Rattle.rules.specs.Operations.{kept};
 ghost use Rattle.spatial_index.specs.Blocks.{Covered};
-ghost use Rattle.cells.specs.Cells.{cutAs, Uncrowded};
+ghost use Rattle.regions.specs.Runs.{Within, meshEdges};
+ghost use Rattle.cells.specs.Cells.{cut, cutAs, nearEdgesIn, AllFew};
 ghost use Rattle.pieces.specs.Pieces.{sideOf, room};
-ghost use Rattle.cutting_cells.specs.Listed.{cutIn, SceneIn, CellIn, MeshIn, cellEvents, ListedBehind, Fits, CellsReady, MeshesIn, overBoth, noneYet};
+ghost use Rattle.cutting_cells.specs.Listed.{cutIn, OtherReady, SceneIn, CellIn, MeshIn, cellEvents, ListedBehind, Fits, CellsReady, MeshesReady, MeshesIn, overBoth, noneYet};
 
 // The refusal or 0, and how many pieces and corners there are then.
 pub struct Listed {
@@ -66,59 +69,43 @@ fn copy_repeats(cell: &[u32]) -> bool
 }
 
 // The cell itself as its one piece, unless its own edges repeat (19).
-fn copy_cell(cell: &[u32]) -> CutCell
-    requires { ⌜ length (now cell) ≤ 256 ⌝ }
-    ensures { λ r. ⌜ r ≡ cutAs (copiedOutcome (now (cell .entry))) ⌝ }
+fn copy_cell(cell: &[u32], runs: &mut [u32], stops: &mut [u32]) -> CutCell
+    requires { ⌜ (length (now cell) ≤ 256) × (1024 ≤ length (now runs)) × (1024 ≤ length (now stops)) ⌝ }
+    ensures { λ r. ⌜ cut r (now (runs .exit)) (now (stops .exit)) ≡ cutAs (copiedOutcome (now (cell .entry))) (now (runs .entry)) (now (stops .entry)) ⌝ }
 {
-    let mut nodes = [0u32; 1024];
-    let mut stops = [0u32; 1024];
     if copy_repeats(cell) {
-        return cells::refused(19);
+        return cells::refused(19, runs, stops);
     }
-    copy_u32(&mut nodes, 0, cell);
+    copy_u32(runs, 0, cell);
     stops[0] = cell.len() as u32;
     CutCell {
         code: 0,
         pieces: 1,
         entries: cell.len(),
-        nodes,
-        stops,
     }
 }
 
 // ---- Any cell
 
-// What the cell comes to, where `first` is the first of the edges `near` whose box meets b. A cell without one is copied.
+// What the cell comes to by the edges t. A cell near which there is none is copied.
 fn outcome_of(
     coords: &[f64],
-    subject: &[u32],
-    cutter: &[u32],
-    met: &[u32],
-    links: &[u32],
-    near: &[u32],
+    w: &[u32],
+    g: Regions,
     boxes: &[f64],
+    t: Near,
     cell: &[u32],
-    b: Bounds,
-    first: usize,
+    runs: &mut [u32],
+    stops: &mut [u32],
 ) -> CutCell
-    requires { ⌜ Uncrowded (pairs (now subject)) (pairs (now cutter)) (now met) (now links) (ring (now cell)) × Uncrowded (pairs (now subject)) (pairs (now cutter)) (now met) (now links) (pairs (now near)) × Covered (now coords) (pairs (now near)) (now boxes) × (length (now cell) ≤ 256) ⌝ }
-    ensures { λ r. ⌜ r ≡ cutIn (now (coords .entry)) (pairs (now (subject .entry))) (pairs (now (cutter .entry))) (now (met .entry)) (pairs (now (near .entry))) (now (cell .entry)) b first ⌝ }
+    requires { ⌜ AllFew (now w) g (ring (now cell)) × Within (t .edges) (length (now w)) × AllFew (now w) g (nearEdgesIn (now w) t) × Covered (now coords) (nearEdgesIn (now w) t) (now boxes)
+        × (length (now cell) ≤ 256) × (1024 ≤ length (now runs)) × (1024 ≤ length (now stops)) ⌝ }
+    ensures { λ r. ⌜ cut r (now (runs .exit)) (now (stops .exit)) ≡ cutIn (now (coords .entry)) (now (w .entry)) g t (now (cell .entry)) (now (runs .entry)) (now (stops .entry)) ⌝ }
 {
-    if near.len() / 2 <= first {
-        return copy_cell(cell);
+    if part(w, t.edges).len() / 2 <= t.first {
+        return copy_cell(cell, runs, stops);
     }
-    cut_cell(
-        coords,
-        subject,
-        cutter,
-        met,
-        links,
-        near,
-        boxes,
-        cell,
-        b,
-        first,
-    )
+    cut_cell(coords, w, g, boxes, t, cell, runs, stops)
 }
 
 // A copied cell keeps its kind, and what is cut out of a cell is a PGON: `first` is one of n edges where the cell is cut.
@@ -131,19 +118,15 @@ fn kind_of(kind: u8, first: usize, n: usize) -> u8
     kind
 }
 
-// Places the kept pieces of one cell behind what p counts; the cells of the other mesh are those of `nodes` and `ends`, its edges `near`, with the
-// boxes of blocks of them.
+// Places the kept pieces of one cell behind what p counts; `other` is the other mesh, `ends` where its cells end, `boxes` those of blocks of its edges.
 fn overlay_cell(
     op: u32,
     cutter: bool,
     coords: &[f64],
-    subject: &[u32],
-    cut: &[u32],
-    met: &[u32],
-    links: &[u32],
-    near: &[u32],
+    w: &[u32],
+    g: Regions,
+    other: MeshRuns,
     boxes: &[f64],
-    nodes: &[u32],
     ends: &[u32],
     on: &mut [u32],
     oe: &mut [u32],
@@ -154,33 +137,29 @@ fn overlay_cell(
     kind: u8,
     family: u32,
 ) -> Listed
-    requires { ⌜ Uncrowded (pairs (now subject)) (pairs (now cut)) (now met) (now links) (ring (now cell)) × Uncrowded (pairs (now subject)) (pairs (now cut)) (now met) (now links) (pairs (now near)) × Covered (now coords) (pairs (now near)) (now boxes) × (length (now cell) ≤ 256) × Rising (now ends) (length (now nodes))
+    requires { ⌜ OtherReady (now w) g other (now ends) × Covered (now coords) (meshEdges (now w) other) (now boxes) × AllFew (now w) g (ring (now cell)) × (length (now cell) ≤ 256)
         × (p .count ≤ room (now oe) (now ok) (now of)) × (p .entries ≤ length (now on)) × (p .entries + 1024 < 2 ^ 32) ⌝ }
     ensures { λ r. ⌜ (r .code ≡ 0 → Fits 1 p (now (on .entry)) (now (oe .entry)) (now (ok .entry)) (now (of .entry)) r)
-        × ((sc : Scene) (i : ℕ) → SceneIn sc (sideOf cutter) (now (coords .entry)) (now (subject .entry)) (now (cut .entry)) (now (met .entry)) (now (near .entry)) (now (nodes .entry)) (now (ends .entry)) → CellIn sc (sideOf cutter) i (now (cell .entry)) kind family
+        × ((sc : Scene) (i : ℕ) → SceneIn sc (sideOf cutter) (now (coords .entry)) (now (w .entry)) g other (now (ends .entry)) → CellIn sc (sideOf cutter) i (now (cell .entry)) kind family
         → ListedBehind (cellEvents op sc (sideOf cutter) i) (kept sc (sideOf cutter) op i)
         p (now (on .entry)) (now (oe .entry)) (now (ok .entry)) (now (of .entry)) r (now (on .exit)) (now (oe .exit)) (now (ok .exit)) (now (of .exit))) ⌝ }
 {
-    let b = bounds2(coords, cell);
-    let first = in_bounds(coords, near, boxes, b, 0);
-    let r = outcome_of(
-        coords,
-        subject,
-        cut,
-        met,
-        links,
-        near,
-        boxes,
-        cell,
-        b,
+    let edges = other.edges;
+    let near = part(w, edges);
+    let bounds = bounds2(coords, cell);
+    let first = in_bounds(coords, near, boxes, bounds, 0);
+    let t = Near {
+        edges,
+        bounds,
         first,
-    );
+    };
+    let mut runs = [0u32; 1024];
+    let mut stops = [0u32; 1024];
+    let r = outcome_of(coords, w, g, boxes, t, cell, &mut runs, &mut stops);
     let code = r.code;
     if code != 0 {
         return refused(code);
     }
-    let runs = r.nodes;
-    let stops = r.stops;
     let m = r.entries;
     let k = r.pieces;
     let own = kind_of(kind, first, near.len() / 2);
@@ -188,7 +167,7 @@ fn overlay_cell(
         op,
         cutter,
         coords,
-        nodes,
+        part(w, other.entries),
         ends,
         on,
         oe,
@@ -213,17 +192,14 @@ fn overlay_cell(
 }
 
 // Cuts all cells of one mesh, with the corners `own` and their ends `stops`, and places their kept pieces behind what p counts. The searches for the
-// edges near a cell share the boxes of blocks of `near`.
+// edges near a cell share the boxes of blocks of the other mesh's edges.
 fn cut_cells(
     op: u32,
     cutter: bool,
     coords: &[f64],
-    subject: &[u32],
-    cut: &[u32],
-    met: &[u32],
-    links: &[u32],
-    near: &[u32],
-    nodes: &[u32],
+    w: &[u32],
+    g: Regions,
+    other: MeshRuns,
     ends: &[u32],
     own: &[u32],
     stops: &[u32],
@@ -235,17 +211,16 @@ fn cut_cells(
     of: &mut [u32],
     p: Listed,
 ) -> Listed
-    requires { ⌜ CellsReady (pairs (now subject)) (pairs (now cut)) (now met) (now links) (now own) (now stops)
-        × Uncrowded (pairs (now subject)) (pairs (now cut)) (now met) (now links) (pairs (now near)) × Rising (now ends) (length (now nodes)) × Rising (now stops) (length (now own))
+    requires { ⌜ OtherReady (now w) g other (now ends) × CellsReady (now w) g (now own) (now stops) × Rising (now stops) (length (now own))
         × (length (now kinds) ≡ length (now stops)) × (length (now families) ≡ length (now stops))
         × (p .count ≤ room (now oe) (now ok) (now of)) × (p .entries ≤ length (now on)) × (p .entries + 1024 * length (now stops) < 2 ^ 32) × (p .code ≡ 0) ⌝ }
     ensures { λ r. ⌜ (r .code ≡ 0 → Fits (length (now (stops .entry))) p (now (on .entry)) (now (oe .entry)) (now (ok .entry)) (now (of .entry)) r)
-        × ((sc : Scene) → SceneIn sc (sideOf cutter) (now (coords .entry)) (now (subject .entry)) (now (cut .entry)) (now (met .entry)) (now (near .entry)) (now (nodes .entry)) (now (ends .entry)) → MeshIn sc (sideOf cutter) (now (own .entry)) (now (stops .entry)) (now (kinds .entry)) (now (families .entry))
+        × ((sc : Scene) → SceneIn sc (sideOf cutter) (now (coords .entry)) (now (w .entry)) g other (now (ends .entry)) → MeshIn sc (sideOf cutter) (now (own .entry)) (now (stops .entry)) (now (kinds .entry)) (now (families .entry))
         → ListedBehind (gathered (length (now (stops .entry))) (cellEvents op sc (sideOf cutter))) (gathered (length (now (stops .entry))) (kept sc (sideOf cutter) op))
         p (now (on .entry)) (now (oe .entry)) (now (ok .entry)) (now (of .entry)) r (now (on .exit)) (now (oe .exit)) (now (ok .exit)) (now (of .exit))) ⌝ }
 {
     let mut boxes = [0.0; 4096];
-    block_bounds(coords, near, &mut boxes);
+    block_bounds(coords, part(w, other.edges), &mut boxes);
     let mut q = p;
     let mut start: usize = 0;
     for i in 0..stops.len() {
@@ -254,13 +229,10 @@ fn cut_cells(
             op,
             cutter,
             coords,
-            subject,
-            cut,
-            met,
-            links,
-            near,
+            w,
+            g,
+            other,
             &boxes,
-            nodes,
             ends,
             on,
             oe,
@@ -283,15 +255,11 @@ fn cut_cells(
 pub fn cut_meshes(
     op: u32,
     coords: &[f64],
-    subject: &[u32],
-    cut: &[u32],
-    met: &[u32],
-    links: &[u32],
-    sn: &[u32],
+    w: &[u32],
+    g: Regions,
     se: &[u32],
     sk: &[u8],
     sf: &[u32],
-    cn: &[u32],
     ce: &[u32],
     ck: &[u8],
     cf: &[u32],
@@ -300,13 +268,9 @@ pub fn cut_meshes(
     ok: &mut [u8],
     of: &mut [u32],
 ) -> Listed
-    requires { ⌜ CellsReady (pairs (now subject)) (pairs (now cut)) (now met) (now links) (now sn) (now se) × (cuts op theCutter ≡ true → CellsReady (pairs (now subject)) (pairs (now cut)) (now met) (now links) (now cn) (now ce))
-        × Uncrowded (pairs (now subject)) (pairs (now cut)) (now met) (now links) (pairs (now subject)) × Uncrowded (pairs (now subject)) (pairs (now cut)) (now met) (now links) (pairs (now cut))
-        × Rising (now se) (length (now sn)) × Rising (now ce) (length (now cn))
-        × (length (now sk) ≡ length (now se)) × (length (now sf) ≡ length (now se)) × (length (now ck) ≡ length (now ce)) × (length (now cf) ≡ length (now ce))
-        × (length (now se) ≤ 16384) × (length (now ce) ≤ 16384) ⌝ }
+    requires { ⌜ MeshesReady op (now w) g (now se) (now sk) (now sf) (now ce) (now ck) (now cf) ⌝ }
     ensures { λ r. ⌜ (r .code ≡ 0 → Fits (length (now (se .entry)) + length (now (ce .entry))) noneYet (now (on .entry)) (now (oe .entry)) (now (ok .entry)) (now (of .entry)) r)
-        × ((sc : Scene) → MeshesIn sc (now (coords .entry)) (now (subject .entry)) (now (cut .entry)) (now (met .entry)) (now (sn .entry)) (now (se .entry)) (now (sk .entry)) (now (sf .entry)) (now (cn .entry)) (now (ce .entry)) (now (ck .entry)) (now (cf .entry))
+        × ((sc : Scene) → MeshesIn sc (now (coords .entry)) (now (w .entry)) g (now (se .entry)) (now (sk .entry)) (now (sf .entry)) (now (ce .entry)) (now (ck .entry)) (now (cf .entry))
         → ListedBehind (overBoth op sc (cellEvents op sc)) (overBoth op sc (λ w. kept sc w op))
         noneYet (now (on .entry)) (now (oe .entry)) (now (ok .entry)) (now (of .entry)) r (now (on .exit)) (now (oe .exit)) (now (ok .exit)) (now (of .exit))) ⌝ }
 {
@@ -315,18 +279,17 @@ pub fn cut_meshes(
         count: 0,
         entries: 0,
     };
+    let s = g.subject;
+    let c = g.cutter;
     let p = cut_cells(
         op,
         false,
         coords,
-        subject,
-        cut,
-        met,
-        links,
-        cut,
-        cn,
+        w,
+        g,
+        c,
         ce,
-        sn,
+        part(w, s.entries),
         se,
         sk,
         sf,
@@ -345,14 +308,11 @@ pub fn cut_meshes(
             op,
             true,
             coords,
-            subject,
-            cut,
-            met,
-            links,
-            subject,
-            sn,
+            w,
+            g,
+            s,
             se,
-            cn,
+            part(w, c.entries),
             ce,
             ck,
             cf,

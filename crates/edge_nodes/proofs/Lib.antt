@@ -8,4 +8,5 @@ pub mod Walk
 pub mod Slim
 pub mod Count
 pub mod Sorted
+pub mod InRegions
 pub mod Scene

@@ -6,15 +6,14 @@ use Prim.Native.Nat.{ℕ, _+_, _-_, _≤_, _<_}
 use native.Mathlib.Numerals.{add-one}
 use native.Mathlib.Omega.{arith}
 use lib.Dec.{eqb}
-use lib.ListN.{length, getD, set, take, length-append, length-replicate}
+use lib.ListN.{length, getD, set, take, length-append}
 use lib.Seq.{length-take-le, getD-take, take-suc, take-all}
 use borrow.Author.Tests.{eq-eqb, ne-eqb, eqb-true}
 use Rattle.lists.specs.Gather.{slim, slimAfter}
-use Rattle.lists.specs.Regions.{front, zeros}
+use Rattle.lists.specs.Regions.{front}
 use Rattle.lists.proofs.Gather.{slim-snoc, slim-some, length-slim}
 use Rattle.lists.proofs.Regions.{front-take, front-store, front-front, take-front-of, length-front}
-use Rattle.edge_nodes.specs.Lent.{pushed, filled}
-use Rattle.edge_nodes.specs.declared.Along.{Along}
+use Rattle.edge_nodes.specs.Lent.{pushed, FrontIs}
 
 -- ---- `push`
 
@@ -58,14 +57,14 @@ pushed-slim (x ∷ xs) v =
     let some : 0 < length (slim eqb (x ∷ xs)) = slim-some eqb (x ∷ xs) (omega arith) in
     rw (ne-eqb (length (slim eqb (x ∷ xs))) 0 (λ p. omega (arith, p))) (sym (slim-snoc eqb (x ∷ xs) v 0 (omega arith)))
 
--- the first i nodes, slimmed, stand at the front of zeros
-abbrev pub Slimmed : List ℕ → List ℕ → ℕ → ℕ → Type 0
-Slimmed nodes out k i = (i ≤ length nodes) × (k ≤ i) × (length out ≡ 258) × (k ≡ length (slim eqb (take i nodes))) × (out ≡ front (zeros 258) (slim eqb (take i nodes)))
+-- the first i nodes, slimmed, stand at the front of a list
+abbrev pub Slimmed : List ℕ → List ℕ → List ℕ → ℕ → ℕ → Type 0
+Slimmed nodes out₀ out k i = (i ≤ length nodes) × (k ≤ i) × (length out ≡ length out₀) × (k ≡ length (slim eqb (take i nodes))) × (out ≡ front out₀ (slim eqb (take i nodes)))
 
-module _ (nodes : List ℕ) (short : length nodes ≤ 257) where
-  pub slim-start : Slimmed nodes (zeros 258) 0 0
+module _ (nodes out₀ : List ℕ) (short : length nodes < length out₀) where
+  pub slim-start : Slimmed nodes out₀ out₀ 0 0
   unfolding slim front
-  slim-start = (omega arith, omega arith, length-replicate {A = ℕ} 258 0, refl, refl)
+  slim-start = (omega arith, omega arith, refl, refl, refl)
 
   longer : (xs : List ℕ) (v : ℕ) → length xs ≤ length (pushed xs v)
   unfolding pushed
@@ -76,45 +75,35 @@ module _ (nodes : List ℕ) (short : length nodes ≤ 257) where
       go false e b = omega (arith, length-append xs (cond b [] (v ∷ [])))
 
   -- a node more behind those that stand there
-  onto : (xs out ys : List ℕ) (k r v : ℕ) → length xs ≤ 257 → k ≡ length (slim eqb xs) → out ≡ front (zeros 258) (slim eqb xs)
+  onto : (xs out ys : List ℕ) (k r v : ℕ) → k ≡ length (slim eqb xs) → out ≡ front out₀ (slim eqb xs)
       → (r ≡ length (pushed (take k out) v)) × (ys ≡ front out (pushed (take k out) v))
-      → (r ≡ length (slim eqb (xs ++ v ∷ []))) × (ys ≡ front (zeros 258) (slim eqb (xs ++ v ∷ [])))
-  onto xs out ys k r v le n o got =
-      let at : take k out ≡ slim eqb xs = ap (take k) o ∙ take-front-of (zeros 258) (slim eqb xs) k (sym n) in
+      → (r ≡ length (slim eqb (xs ++ v ∷ []))) × (ys ≡ front out₀ (slim eqb (xs ++ v ∷ [])))
+  onto xs out ys k r v n o got =
+      let at : take k out ≡ slim eqb xs = ap (take k) o ∙ take-front-of out₀ (slim eqb xs) k (sym n) in
       let p : pushed (take k out) v ≡ slim eqb (xs ++ v ∷ []) = ap (λ (l : List ℕ). pushed l v) at ∙ pushed-slim xs v in
       let more : length (slim eqb xs) ≤ length (slim eqb (xs ++ v ∷ [])) = omega (arith, longer (slim eqb xs) v, ap length (pushed-slim xs v)) in
-      (got .0 ∙ ap length p, got .1 ∙ ap₂ front o p ∙ front-front (zeros 258) (slim eqb xs) (slim eqb (xs ++ v ∷ [])) more)
+      (got .0 ∙ ap length p, got .1 ∙ ap₂ front o p ∙ front-front out₀ (slim eqb xs) (slim eqb (xs ++ v ∷ [])) more)
 
-  pub slim-turn : (out ys : List ℕ) (k i r : ℕ) → Slimmed nodes out k i → i < length nodes
-      → (r ≡ length (pushed (take k out) (getD nodes i 0))) × (ys ≡ front out (pushed (take k out) (getD nodes i 0))) → Slimmed nodes ys r (i + 1)
+  pub slim-turn : (out ys : List ℕ) (k i r : ℕ) → Slimmed nodes out₀ out k i → i < length nodes
+      → (r ≡ length (pushed (take k out) (getD nodes i 0))) × (ys ≡ front out (pushed (take k out) (getD nodes i 0))) → Slimmed nodes out₀ ys r (i + 1)
   slim-turn out ys k i r inv h got =
       let xs : List ℕ = take i nodes in
-      let l : length xs ≡ i = length-take-le i nodes (omega arith) in
       let next : xs ++ (getD nodes i 0 ∷ []) ≡ take (i + 1) nodes = sym (ap (λ (c : ℕ). take c nodes) (add-one i) ∙ take-suc nodes i 0 h) in
-      let p = onto xs out ys k r (getD nodes i 0) (omega arith) (inv .3) (inv .4) got in
+      let p = onto xs out ys k r (getD nodes i 0) (inv .3) (inv .4) got in
       let s = length-slim eqb (take (i + 1) nodes) in
       let l₁ : length (take (i + 1) nodes) ≡ i + 1 = length-take-le (i + 1) nodes (omega arith) in
       let r-is : r ≡ length (slim eqb (take (i + 1) nodes)) = p .0 ∙ ap (λ (z : List ℕ). length (slim eqb z)) next in
-      let y-is : ys ≡ front (zeros 258) (slim eqb (take (i + 1) nodes)) = p .1 ∙ ap (λ (z : List ℕ). front (zeros 258) (slim eqb z)) next in (
-        omega arith,
-        omega arith,
-        ap length y-is ∙ length-front (zeros 258) (slim eqb (take (i + 1) nodes)) (omega (arith, length-replicate {A = ℕ} 258 0)) ∙
-            length-replicate {A = ℕ} 258 0,
-        r-is,
-        y-is,
-      )
+      let y-is : ys ≡ front out₀ (slim eqb (take (i + 1) nodes)) = p .1 ∙ ap (λ (z : List ℕ). front out₀ (slim eqb z)) next in
+      (omega arith, omega arith, ap length y-is ∙ length-front out₀ (slim eqb (take (i + 1) nodes)) (omega arith), r-is, y-is)
 
-  pub slim-end : (out ys : List ℕ) (k i r last : ℕ) → Slimmed nodes out k i → length nodes ≤ i
-      → (r ≡ length (pushed (take k out) last)) × (ys ≡ front out (pushed (take k out) last))
-      → (r ≡ length (slim eqb (nodes ++ last ∷ []))) × (ys ≡ front (zeros 258) (slim eqb (nodes ++ last ∷ [])))
+  pub slim-end : (out ys : List ℕ) (k i r last : ℕ) → Slimmed nodes out₀ out k i → length nodes ≤ i
+      → (r ≡ length (pushed (take k out) last)) × (ys ≡ front out (pushed (take k out) last)) → FrontIs (slim eqb (nodes ++ last ∷ [])) out₀ r ys
   slim-end out ys k i r last inv h got =
       let all : take i nodes ≡ nodes = take-all i nodes h in
-      let p = onto (take i nodes) out ys k r last (omega (arith, ap length all)) (inv .3) (inv .4) got in
-      (p .0 ∙ ap (λ (z : List ℕ). length (slim eqb (z ++ last ∷ []))) all, p .1 ∙ ap (λ (z : List ℕ). front (zeros 258) (slim eqb (z ++ last ∷ []))) all)
-
-abbrev made : ℕ → List ℕ → Along
-made c ns = record { count = c; nodes = ns }
-
-pub filled-is : (r : ℕ) (ys xs : List ℕ) → (r ≡ length xs) × (ys ≡ front (zeros 258) xs) → record { count = r; nodes = ys } ≡ filled xs
-unfolding filled
-filled-is r ys xs got = ap₂ made (got .0) (got .1)
+      let p = onto (take i nodes) out ys k r last (inv .3) (inv .4) got in
+      let count : r ≡ length (slim eqb (nodes ++ last ∷ [])) = p .0 ∙ ap (λ (z : List ℕ). length (slim eqb (z ++ last ∷ []))) all in
+      record {
+        count = count;
+        fits = omega (arith, count, length-slim eqb (nodes ++ last ∷ []), length-append nodes (last ∷ []));
+        held = p .1 ∙ ap (λ (z : List ℕ). front out₀ (slim eqb (z ++ last ∷ []))) all;
+      }

@@ -9,11 +9,11 @@ use lib.Seq.{take-suc}
 use lib.Ieee.{Float, nan}
 use Rattle.lists.specs.Gather.{gathered, slim}
 use Rattle.lists.specs.Sort.{insert, sortOnto, sorted}
-use Rattle.lists.specs.Regions.{front, zeros}
+use Rattle.lists.specs.Regions.{front}
 use Rattle.lists.proofs.Sort.{sortOnto-append}
 use Rattle.cutting.specs.Edges.{Edge, key}
 use Rattle.rules.specs.Nodes.{Projected, projected, byProjection, alongEdge}
-use Rattle.edge_nodes.specs.Lent.{listed, under, collectedIn, unlessNone, sortedIn, filled}
+use Rattle.edge_nodes.specs.Lent.{listed, under, collectedIn, unlessNone, sortedIn, FrontIs}
 use Rattle.edge_nodes.proofs.Under.{map-append}
 use Rattle.edge_nodes.proofs.Count.{length-collected}
 
@@ -50,12 +50,13 @@ module _ (coords : List Float) (subject cutter : List Edge) (met : List ℕ) (e 
       (ys ≡ sortOnto byProjection xs (map (projected coords (key e)) (under (length met / 5) subject met 0 e))))
       (by-cutter : (m ≡ n + length (under (length met / 5) cutter met 1 e)) ×
       (zs ≡ sortOnto byProjection ys (map (projected coords (key e)) (under (length met / 5) cutter met 1 e)))) where
-    pub no-nodes : m ≡ 1 → record { count = 0; nodes = zeros 258 } ≡ filled (sortedIn coords subject cutter met e)
-    unfolding sortedIn filled front
-    no-nodes h =
+    pub no-nodes : m ≡ 1 → (out : List ℕ) → FrontIs (sortedIn coords subject cutter met e) out 0 out
+    unfolding sortedIn front
+    no-nodes h out =
         let z : collectedIn subject cutter met e ≡ [] =
         none-in (collectedIn subject cutter met e) (omega (arith, length-collected subject cutter met e, by-subject .0, by-cutter .0, h)) in
-        sym (ap (λ (l : List ℕ). filled (unlessNone coords e l)) z)
+        let none : unlessNone coords e (collectedIn subject cutter met e) ≡ [] = ap (unlessNone coords e) z in
+        record { count = sym (ap length none); fits = omega arith; held = sym (ap (λ (l : List ℕ). front out l) none) }
 
     all-sorted : (along : List Float) (nodes : List ℕ) (k : ℕ) → k ≡ key e .0 → xs ≡ insert byProjection (place k) (listed along nodes 0)
         → zs ≡ sorted byProjection (map place (key e .0 ∷ collectedIn subject cutter met e))

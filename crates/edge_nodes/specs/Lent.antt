@@ -1,15 +1,18 @@
 -- The nodes of an edge as they stand in lent lists: what only this crate's contracts cite. Assumes nothing.
+use mathlib.Core.Path.{_≡_}
 use mathlib.Core.Bool.{Bool, cond}
 use mathlib.Core.List.{List, [], _∷_, _++_}
-use Prim.Native.Nat.{ℕ, _+_, _*_, _-_, _/_}
+use Prim.Native.Nat.{ℕ, _+_, _*_, _-_, _/_, _≤_}
 use lib.Dec.{ltb, eqb}
 use lib.ListN.{length, getD, take}
 use lib.Ieee.{Float, nan}
 use Rattle.lists.specs.Gather.{gathered, each}
-use Rattle.lists.specs.Regions.{front, zeros}
+use Rattle.lists.specs.Regions.{front}
 use Rattle.cutting.specs.Edges.{Edge, edgeAt, key, sameKey}
 use Rattle.rules.specs.Nodes.{Projected, alongEdge}
-use Rattle.edge_nodes.specs.declared.Along.{Along}
+use Rattle.regions.specs.declared.Regions.{Regions}
+use Rattle.regions.specs.Runs.{Lies, runIn, meshEdges}
+use Rattle.edge_nodes.specs.Links.{Linked}
 
 -- the first n nodes with their projections
 unfoldable pub listed : List Float → List ℕ → ℕ → List Projected
@@ -51,6 +54,24 @@ crowdedAt es subject cutter met i = ltb mostNodes (length (collectedIn subject c
 unfoldable pub pushed : List ℕ → ℕ → List ℕ
 pushed xs v = cond (eqb (length xs) 0) (v ∷ []) (xs ++ cond (eqb (getD xs (length xs - 1) 0) v) [] (v ∷ []))
 
--- as the answer
-unfoldable pub filled : List ℕ → Along
-filled xs = record { count = length xs; nodes = front (zeros 258) xs }
+-- a list comes to hold xs in front; the answer is how many they are
+pub record FrontIs (xs out : List ℕ) (r : ℕ) (out′ : List ℕ) : Type 0 where
+  pub count : r ≡ length xs
+  pub fits : r ≤ length out
+  pub held : out′ ≡ front out xs
+
+-- ---- where edges, meetings and links stand in regions of the working list
+
+-- the nodes collected under the key of e
+abbrev pub collectedOn : List ℕ → Regions → Edge → List ℕ
+collectedOn w g e = collectedIn (meshEdges w (g .subject)) (meshEdges w (g .cutter)) (runIn w (g .met)) e
+
+-- the sorted nodes of the key of e
+abbrev pub nodesOn : List Float → List ℕ → Regions → Edge → List ℕ
+nodesOn coords w g e = sortedIn coords (meshEdges w (g .subject)) (meshEdges w (g .cutter)) (runIn w (g .met)) e
+
+-- The meetings are chained, and under the key of e at most 256 nodes were collected (refusal 9).
+pub record Few (w : List ℕ) (g : Regions) (e : Edge) : Type 0 where
+  pub lies : Lies g (length w)
+  pub linked : Linked (meshEdges w (g .subject)) (meshEdges w (g .cutter)) (runIn w (g .met)) (runIn w (g .links))
+  pub few : length (collectedOn w g e) ≤ 256

@@ -1,4 +1,4 @@
-pub mod Lent
 pub mod Links
+pub mod Lent
 pub mod Chained
 pub mod Stored

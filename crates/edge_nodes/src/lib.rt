@@ -9,6 +9,8 @@ use keys::same_key;
 use lists::insert_at_f64;
 use lists::insert_at_u32;
 use plane::point_at;
+use regions::Regions;
+use regions::part;
 ghost use mathlib.Core.Path.{_≡_};
 ghost use mathlib.Core.List.{[], _∷_, _++_, map};
 ghost use Prim.Native.Nat.{ℕ, _+_, _*_, _/_, _≤_, _<_, min, max};
@@ -24,13 +26,7 @@ ghost use Rattle.cutting.specs.Lent.{pairs};
 ghost use Rattle.rules.specs.Nodes.{signBit, totalBefore, projected, byProjection};
 ghost use Rattle.edge_nodes.specs.Links.{Linked};
 ghost use Rattle.edge_nodes.specs.Chained.{Chains};
-ghost use Rattle.edge_nodes.specs.Lent.{listed, metNodes, underAt, under, collectedIn, sortedIn, crowdedAt, pushed, filled};
-
-// Some nodes of an edge, in order: the first `count`, and zeros behind them.
-pub struct Along {
-    pub count: usize,
-    pub nodes: [u32; 258],
-}
+ghost use Rattle.edge_nodes.specs.Lent.{listed, metNodes, underAt, under, collectedIn, sortedIn, crowdedAt, pushed, FrontIs, nodesOn, Few};
 
 fn lower(a: u32, b: u32) -> u32
     ensures { λ r. ⌜ r ≡ min a b ⌝ }
@@ -235,27 +231,22 @@ fn push(out: &mut [u32], k: usize, v: u32) -> usize
     k + 1
 }
 
-// The nodes with `last` behind them, adjacent equals dropped.
-fn dedup(nodes: &[u32], last: u32) -> Along
-    requires { ⌜ length (now nodes) ≤ 257 ⌝ }
-    ensures { λ r. ⌜ r ≡ filled (slim eqb (now (nodes .entry) ++ last ∷ [])) ⌝ }
+// Writes the nodes with `last` behind them, adjacent equals dropped, to the front of `out`. Answers how many they are.
+fn dedup(nodes: &[u32], last: u32, out: &mut [u32]) -> usize
+    requires { ⌜ length (now nodes) < length (now out) ⌝ }
+    ensures { λ r. ⌜ FrontIs (slim eqb (now (nodes .entry) ++ last ∷ [])) (now (out .entry)) r (now (out .exit)) ⌝ }
 {
-    let mut out = [0u32; 258];
     let mut k: usize = 0;
     let mut i: usize = 0;
     while i < nodes.len() {
-        k = push(&mut out, k, nodes[i]);
+        k = push(out, k, nodes[i]);
         i += 1;
     }
-    k = push(&mut out, k, last);
-    Along {
-        count: k,
-        nodes: out,
-    }
+    push(out, k, last)
 }
 
-// The sorted nodes of the key of a, b.
-pub fn sorted_nodes(
+// Writes the sorted nodes of the key of a, b to the front of `out`. Answers how many they are.
+fn sorted_nodes(
     coords: &[f64],
     subject: &[u32],
     cutter: &[u32],
@@ -263,9 +254,12 @@ pub fn sorted_nodes(
     links: &[u32],
     a: u32,
     b: u32,
-) -> Along
-    requires { ⌜ Linked (pairs (now subject)) (pairs (now cutter)) (now met) (now links) × (length (collectedIn (pairs (now subject)) (pairs (now cutter)) (now met) (a, b)) ≤ 256) ⌝ }
-    ensures { λ r. ⌜ r ≡ filled (sortedIn (now (coords .entry)) (pairs (now (subject .entry))) (pairs (now (cutter .entry))) (now (met .entry)) (a, b)) ⌝ }
+    out: &mut [u32],
+) -> usize
+    requires { ⌜ Linked (pairs (now subject)) (pairs (now cutter)) (now met) (now links)
+        × (length (collectedIn (pairs (now subject)) (pairs (now cutter)) (now met) (a, b)) ≤ 256) × (258 ≤ length (now out)) ⌝ }
+    ensures { λ r. ⌜ FrontIs (sortedIn (now (coords .entry)) (pairs (now (subject .entry))) (pairs (now (cutter .entry))) (now (met .entry)) (a, b))
+        (now (out .entry)) r (now (out .exit)) ⌝ }
 {
     let mut along = [0.0; 257];
     let mut ns = [0u32; 257];
@@ -275,12 +269,28 @@ pub fn sorted_nodes(
     let n = collect(coords, subject, met, links, 0, a, b, &mut along, &mut ns, 1);
     let m = collect(coords, cutter, met, links, 1, a, b, &mut along, &mut ns, n);
     if m == 1 {
-        return Along {
-            count: 0,
-            nodes: [0u32; 258],
-        };
+        return 0;
     }
-    dedup(&ns[..m], k1)
+    dedup(&ns[..m], k1, out)
+}
+
+// The same, where edges, meetings and links stand in regions of w.
+pub fn nodes_on(coords: &[f64], w: &[u32], g: Regions, a: u32, b: u32, out: &mut [u32]) -> usize
+    requires { ⌜ Few (now w) g (a, b) × (258 ≤ length (now out)) ⌝ }
+    ensures { λ r. ⌜ FrontIs (nodesOn (now (coords .entry)) (now (w .entry)) g (a, b)) (now (out .entry)) r (now (out .exit)) ⌝ }
+{
+    let s = g.subject;
+    let c = g.cutter;
+    sorted_nodes(
+        coords,
+        part(w, s.edges),
+        part(w, c.edges),
+        part(w, g.met),
+        part(w, g.links),
+        a,
+        b,
+        out,
+    )
 }
 
 // How many nodes meeting q collects under the key of a, b.

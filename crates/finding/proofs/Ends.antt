@@ -2,16 +2,16 @@
 use mathlib.Core.Path.{_≡_, refl, sym, ap, ap₂, _∙_}
 use mathlib.Core.Bool.{Bool, true, false, cond, not, _||_, true≢false}
 use mathlib.Core.List.{List, [], _++_, append-nil}
-use Prim.Native.Nat.{ℕ, _+_, _*_, _-_, _/_, _≤_, _<_}
+use Prim.Native.Nat.{ℕ, _+_, _*_, _-_, _/_, _≤_}
 use native.Mathlib.Omega.{arith}
 use lib.Dec.{eqb, leb}
-use lib.ListN.{length, take, drop, length-append}
+use lib.ListN.{length, take, length-append}
 use lib.Ieee.{Float}
 use borrow.Author.Tests.{leb-true, leb-false, lt-leb, not-true, not-false}
 use Rattle.lists.specs.Search.{has}
 use Rattle.lists.specs.Gather.{joined}
-use Rattle.lists.specs.Regions.{run, front, put, copied}
-use Rattle.lists.proofs.Regions.{length-front, take-front-of, front-put, copied-fits, length-copied, length-run, put-append}
+use Rattle.lists.specs.Regions.{run, front, put, copied, zeros, fzeros}
+use Rattle.lists.proofs.Regions.{length-front, take-front-of, front-put, copied-fits, length-copied, put-append}
 use Rattle.cutting.specs.Edges.{Edge}
 use Rattle.cutting.specs.Lent.{flatEdges, pairs}
 use Rattle.cutting.proofs.Pairs.{pairs-ends}
@@ -22,20 +22,40 @@ use Rattle.rules.specs.Nodes.{overfull, crowded}
 use Rattle.rules.specs.Operations.{sceneFor}
 use Rattle.rules.specs.Refusals.{ofMeeting, firstRefusal}
 use Rattle.snap.proofs.Places.{put-front}
+use Rattle.regions.specs.declared.Regions.{Regions}
+use Rattle.regions.specs.Runs.{runIn}
+use Rattle.meetings.specs.declared.Found.{Found as MeetFound}
 use Rattle.meetings.specs.Booked.{booked, netOn, meetingsAt}
+use Rattle.meetings.specs.MeetingsFound.{MeetingsRoom, MeetingsFound, meetingsFound}
+use Rattle.meetings.proofs.Early.{early-met}
 use Rattle.meetings.proofs.Reading.{length-booked, booked-at, meetings-fit, by-edges}
+use Rattle.meetings.proofs.Settled.{leaves as meet-leaves, foundWith, all-left as met-all-left, code-left as met-code-left}
 use Rattle.edge_nodes.specs.Links.{linksOf, Linked}
 use Rattle.edge_nodes.specs.Lent.{crowdedAt}
-use Rattle.edge_nodes.proofs.Linked.{linked}
 use Rattle.edge_nodes.specs.Stored.{noMet, Stored}
 use Rattle.edge_nodes.proofs.Scene.{numbers-stored, overfull-is}
-use Rattle.finding.specs.declared.numbering.Regions.{Regions}
-use Rattle.finding.specs.declared.stages.Found.{Found}
-use Rattle.finding.specs.Nets.{Fit, NetRoom, subjectAt, cutterAt, metAt, regionsOf, netted}
-use Rattle.finding.specs.Found.{foundEvents, foundAs, refusedAs, chains, linksIn, worked, bothFull}
+use Rattle.finding.specs.declared.numbering.NetPlaces.{NetPlaces}
+use Rattle.finding.specs.Nets.{Fit, NetRoom, FindAsks, subjectAt, cutterAt, metAt, netsOf, netted}
+use Rattle.finding.specs.Found.{
+  foundEvents,
+  foundAs,
+  refusedAs,
+  regionsBy,
+  chains,
+  linksIn,
+  worked,
+  FoundLists,
+  refusedLists,
+  foundOf,
+  bothFull,
+  LinkedIn,
+  LinkRoom,
+  linkedBy,
+}
 use Rattle.finding.proofs.Whole.{length-held, subjects-held, cutters-held, subjects-before, cutters-before}
-use Rattle.finding.proofs.Held.{with, subjects-found, cutters-found, met-found, behind-found, worked-with, links-long}
-use Rattle.finding.proofs.Events.{early-met, few-met, no-place, met-refused, met-all}
+use Rattle.finding.proofs.Held.{Holds, holds-linked, with, subjects-found, cutters-found, met-found, length-worked, worked-holds}
+use Rattle.finding.proofs.Events.{few-met, no-place, met-refused, met-all}
+use Rattle.finding.proofs.Settled.{leaves, all-left, zeros-left}
 
 -- ---- `place_coords`
 
@@ -75,27 +95,18 @@ module _ (es fs ms : List ℕ) where
   unfolding bothFull
   second-full x y e f g = g ∙ sym (ap (λ (u : Bool). u || ofCutter) (sym e ∙ f))
 
--- a part as it is lent
-pub part-is : (w : List ℕ) (a n : ℕ) → take (a + n - a) (drop a w) ≡ run w a n
-unfolding run
-part-is w a n = let e : a + n - a ≡ n = omega arith in ap (λ (i : ℕ). take i (drop a w)) e
+-- of parts of the working list
+module _ (w : List ℕ) (g : Regions) (es fs ms : List ℕ) (is-es : es ≡ runIn w (g .subject .edges)) (is-fs : fs ≡ runIn w (g .cutter .edges)) (is-ms : ms ≡ runIn w (g .met)) where
+  -- what `either_overfull` asks
+  pub parts-asked : (ls : List ℕ) → ls ≡ runIn w (g .links) → LinkedIn w g → Linked (pairs es) (pairs fs) ms ls × (length ms ≤ 327680)
+  parts-asked ls is-ls ok = rw (is-es, is-fs, is-ms, is-ls) (ok .linked, ok .few)
 
-pub parts-are : (w : List ℕ) (a b c i j k : ℕ) (r : Bool) → r ≡ bothFull (take (a + i - a) (drop a w)) (take (b + j - b) (drop b w)) (take (c + k - c) (drop c w))
-    → r ≡ bothFull (run w a i) (run w b j) (run w c k)
-parts-are w a b c i j k r e =
-    e ∙ ap₂ (λ (x y : List ℕ). bothFull x y (take (c + k - c) (drop c w))) (part-is w a i) (part-is w b j) ∙ ap (bothFull (run w a i) (run w b j)) (part-is w c k)
-
--- what `either_overfull` asks, of parts as they are lent
-pub parts-asked : (w : List ℕ) (a b c i j k l : ℕ) → c + k + l ≤ length w → k ≤ 327680 → Linked (pairs (run w a i)) (pairs (run w b j)) (run w c k) (run w (c + k) l)
-    → Linked (pairs (take (a + i - a) (drop a w))) (pairs (take (b + j - b) (drop b w))) (take (c + k - c) (drop c w)) (take (c + k + l - (c + k)) (drop (c + k) w))
-    × (length (take (c + k - c) (drop c w)) ≤ 327680)
-parts-asked w a b c i j k l fits few held =
-    rw (part-is w a i, part-is w b j, part-is w c k, part-is w (c + k) l) (held, omega (arith, few, length-run w c k (omega (arith, fits))))
+  pub parts-full : (r : Bool) → r ≡ bothFull es fs ms → r ≡ bothFull (runIn w (g .subject .edges)) (runIn w (g .cutter .edges)) (runIn w (g .met))
+  parts-full r e = e ∙ ap₂ (λ (x y : List ℕ). bothFull x y ms) is-es is-fs ∙ ap (bothFull (runIn w (g .subject .edges)) (runIn w (g .cutter .edges))) is-ms
 
 -- ---- `find`
 
-module _ (op m : ℕ) (sc cc : List Float) (sn se cn ce : List ℕ) (fs : Fit false (mesh sc sn se [] [])) (fc : Fit (eqb op 5) (mesh cc cn ce [] [])) (w₀ : List ℕ)
-    (room : NetRoom m (mesh sc sn se [] []) (mesh cc cn ce [] []) (length w₀)) (most : m ≤ 65536) (oc : List Float) where
+module _ (op m : ℕ) (sc cc : List Float) (sn se cn ce : List ℕ) (w₀ : List ℕ) (ok : FindAsks op m (mesh sc sn se [] []) (mesh cc cn ce [] []) (length w₀)) (oc : List Float) where
   abbrev lines : Bool
   lines = eqb op 5
 
@@ -104,6 +115,12 @@ module _ (op m : ℕ) (sc cc : List Float) (sn se cn ce : List ℕ) (fs : Fit fa
 
   abbrev c : Mesh
   c = mesh cc cn ce [] []
+
+  abbrev fs : Fit false s
+  fs = ok .subject
+
+  abbrev fc : Fit lines c
+  fc = ok .cutter
 
   abbrev scene : Scene
   scene = sceneFor op s c
@@ -123,40 +140,57 @@ module _ (op m : ℕ) (sc cc : List Float) (sn se cn ce : List ℕ) (fs : Fit fa
   len : length (sc ++ cc) ≡ placed
   len = length-append sc cc
 
-  pub room₀ : NetRoom 0 s c (length w₀)
-  room₀ = omega (arith, room)
+  room₀ : NetRoom 0 s c (length w₀)
+  room₀ = omega (arith, ok .room)
 
-  -- what `find` answers
-  abbrev Told : Found → List Float → List ℕ → Type 0
-  Told a oc′ w′ =
-      ((q n : ℕ) → a .code ≡ firstRefusal m (length oc / 2) q n (foundEvents op s c)) × ((a .code ≡ 0 → ⊥) → a ≡ refusedAs (a .code))
-      × (a .code ≡ 0 → (a ≡ foundAs op s c) × (oc′ ≡ front oc (scene .coords)) × (w′ ≡ worked op s c w₀))
+  -- ---- 9, by the numbers
 
-  refused-end : (a : Found) (code : ℕ) (oc′ : List Float) (w′ : List ℕ) → a ≡ refusedAs code → (code ≡ 0 → ⊥)
-      → ((q n : ℕ) → code ≡ firstRefusal m (length oc / 2) q n (foundEvents op s c)) → Told a oc′ w′
-  unfolding refusedAs
-  refused-end a code oc′ w′ e z k =
-      let is : a .code ≡ code = ap (λ (x : Found). x .code) e in
-      (λ q n. is ∙ k q n, λ y. e ∙ ap refusedAs (sym is), λ y. absurd (z (sym is ∙ y)))
+  stored : Stored (scene .met) (booked (scene .met))
+  unfolding sceneOf
+  stored =
+      numbers-stored (scene .met) (booked (scene .met)) (length-booked (scene .met)) (λ q i h l. booked-at (scene .met) q i noMet h l)
+      (λ q h. meetings-fit (sc ++ cc) (subjectNet s) (cutterNet lines s c) q noMet h .3)
+
+  full-is : (es : List Edge) → has (crowdedAt (pairs (flatEdges es)) (pairs (flatEdges subjects)) (pairs (flatEdges cutters)) (booked (scene .met)))
+      (length (flatEdges es) / 2) ≡ overfull scene es
+  unfolding sceneOf
+  full-is es =
+      ap₂ (λ (a b : List Edge). has (crowdedAt (pairs (flatEdges es)) a b (booked (scene .met))) (length (flatEdges es) / 2)) (pairs-ends subjects) (pairs-ends cutters)
+      ∙ overfull-is scene (booked (scene .met)) stored (flatEdges es) ∙ ap (overfull scene) (pairs-ends es)
+
+  crowded-is : bothFull (flatEdges subjects) (flatEdges cutters) (booked (scene .met)) ≡ crowded scene
+  unfolding crowded sceneOf bothFull
+  crowded-is = ap₂ (λ (a b : Bool). a || b) (full-is subjects) (full-is cutters)
+
+  -- ---- from stage to stage
+
+  -- a refusal, where both lists are still as long
+  refused-end : (code : ℕ) → (code ≡ 0 → ⊥) → code ≡ firstRefusal m (length oc / 2) 0 0 (foundEvents op s c) → (oc′ : List Float) (w′ : List ℕ) → length oc′ ≡ length oc
+      → length w′ ≡ length w₀ → (x : FoundLists) → x ≡ refusedLists code oc′ w′ → x ≡ foundOf op m s c oc w₀
+  refused-end code z e oc′ w′ lo lw x is =
+      is ∙ ap₂ (λ (i j : ℕ). leaves (refusedAs code) (fzeros i) (zeros j)) lo lw ∙ ap (λ (k : ℕ). refusedLists k oc w₀) e
+      ∙ sym (zeros-left op m s c oc w₀ (λ y. z (e ∙ y)))
 
   -- 12 for the lent coordinates
-  pub twelve : (b : Bool) → b ≡ leb placed (length oc) → not b ≡ true → (a : Found) (oc′ : List Float) (w′ : List ℕ) → a ≡ refusedAs 12 → Told a oc′ w′
+  pub twelve : (b : Bool) → b ≡ leb placed (length oc) → not b ≡ true → (oc′ : List Float) → length oc′ ≡ length oc → (x : FoundLists) → x ≡ refusedLists 12 oc′ w₀
+      → x ≡ foundOf op m s c oc w₀
   unfolding foundEvents
-  twelve b e t a oc′ w′ is =
-      refused-end a 12 oc′ w′ is (λ y. absurd (omega (arith, y)))
+  twelve b e t oc′ lo x is =
+      refused-end 12 (λ y. absurd (omega (arith, y)))
       (no-place points m (length oc / 2) (joined ofMeeting (scene .met)) (crowded scene)
-      (omega (arith, leb-false placed (length oc) (sym e ∙ not-true b t), len, fs .even, fc .even)))
+      (omega (arith, leb-false placed (length oc) (sym e ∙ not-true b t), len, fs .even, fc .even)) 0 0)
+      oc′ w₀ lo refl x is
 
   -- the coordinates are placed, and the nets stand in the working list
-  module _ (b₀ : Bool) (oc₁ : List Float) (pe : (b₀ ≡ leb placed (length oc)) × (b₀ ≡ true → oc₁ ≡ front oc (sc ++ cc))) (left : not b₀ ≡ false) (r : Regions) (w₁ : List ℕ)
-      (ne : (r ≡ regionsOf lines s c) × (w₁ ≡ netted lines s c w₀)) where
+  module _ (b₀ : Bool) (oc₁ : List Float) (pe : (b₀ ≡ leb placed (length oc)) × (b₀ ≡ true → oc₁ ≡ front oc (sc ++ cc))) (left : not b₀ ≡ false) (r : NetPlaces) (w₁ : List ℕ)
+      (ne : (r ≡ netsOf lines s c) × (w₁ ≡ netted lines s c w₀)) where
     fits : placed ≤ length oc
     fits = leb-true placed (length oc) (sym (pe .0) ∙ not-false b₀ left)
 
     oe : oc₁ ≡ front oc (sc ++ cc)
     oe = pe .1 (not-false b₀ left)
 
-    re : r ≡ regionsOf lines s c
+    re : r ≡ netsOf lines s c
     re = ne .0
 
     we : w₁ ≡ netted lines s c w₀
@@ -168,24 +202,27 @@ module _ (op m : ℕ) (sc cc : List Float) (sn se cn ce : List ℕ) (fs : Fit fa
     length-work : length w₁ ≡ length w₀
     length-work = ap length we ∙ length-held lines sc cc sn se cn ce fs fc w₀ room₀
 
-    -- what `compute_intersections` asks
-    pub asked : (placed ≤ length oc₁) × (2 * (placed / 2) ≡ placed) × (placed ≤ 65536) × (r .from + 2 * r .subject ≤ r .base) × (r .subject ≤ 65536)
-        × (r .at + 2 * r .cutter ≤ r .base) × (r .cutter ≤ 65536) × (r .base + 5 * m ≤ length w₁) × (m ≤ 65536)
-    unfolding regionsOf
-    asked =
+    asked-of : MeetingsRoom (length oc₁) (length w₁) placed (netsOf lines s c .from) (netsOf lines s c .subject) (netsOf lines s c .at) (netsOf lines s c .cutter)
+        (netsOf lines s c .base) m
+    unfolding netsOf
+    asked-of =
         let a = subjects-before lines sc cc sn se cn ce fs fc w₀ room₀ in
         let b = cutters-before lines sc cc sn se cn ce fs fc w₀ room₀ in
-        rw re (
-          omega (arith, fits, length-placed),
-          omega (arith, fs .even, fc .even),
-          omega (arith, fs .even, fc .even, fs .mostNodes, fc .mostNodes),
-          a .0,
-          a .1,
-          b .0,
-          b .1,
-          omega (arith, room, length-work),
-          most,
-        )
+        record {
+          placedFits = omega (arith, fits, length-placed);
+          placedEven = omega (arith, fs .even, fc .even);
+          placedMost = omega (arith, fs .even, fc .even, fs .mostNodes, fc .mostNodes);
+          subjectFits = a .0;
+          subjectMost = a .1;
+          cutterFits = b .0;
+          cutterMost = b .1;
+          metFits = omega (arith, ok .room, length-work);
+          metMost = ok .most;
+        }
+
+    -- what `compute_intersections` asks
+    pub asked : MeetingsRoom (length oc₁) (length w₁) placed (r .from) (r .subject) (r .at) (r .cutter) (r .base) m
+    asked = rw re asked-of
 
     abbrev found : List Met
     found = meetingsAt oc₁ w₁ placed (r .from) (r .subject) (r .at) (r .cutter)
@@ -200,9 +237,9 @@ module _ (op m : ℕ) (sc cc : List Float) (sn se cn ce : List ℕ) (fs : Fit fa
         ∙ ap pairs (cutters-held lines sc cc sn se cn ce fs fc w₀ room₀) ∙ pairs-ends cutters
 
     met-are : found ≡ scene .met
-    unfolding regionsOf sceneOf
+    unfolding netsOf sceneOf
     met-are =
-        ap (λ (x : Regions). meetingsAt oc₁ w₁ placed (x .from) (x .subject) (x .at) (x .cutter)) re
+        ap (λ (x : NetPlaces). meetingsAt oc₁ w₁ placed (x .from) (x .subject) (x .at) (x .cutter)) re
         ∙ ap (λ (l : List Float). meetings l (netOn (pairs (run w₁ (subjectAt s c) (2 * length subjects))))
         (netOn (pairs (run w₁ (cond lines (length cc / 2) (cutterAt s c)) (2 * length cutters)))))
         (ap (take placed) oe ∙ take-front-of oc (sc ++ cc) placed len)
@@ -212,181 +249,130 @@ module _ (op m : ℕ) (sc cc : List Float) (sn se cn ce : List ℕ) (fs : Fit fa
     points-fit : points ≤ length oc / 2
     points-fit = omega (arith, fits, len)
 
-    rooms : (q n : ℕ) → firstRefusal m (length oc₁ / 2 - placed / 2) q n (joined ofMeeting found) ≡ firstRefusal m (length oc / 2 - points) q n (joined ofMeeting (scene .met))
-    rooms q n =
-        ap₂ (λ (k : ℕ) (ms : List Met). firstRefusal m k q n (joined ofMeeting ms)) (ap₂ (λ (i j : ℕ). i / 2 - j / 2) length-placed (sym len)) met-are
+    -- the meetings are found
+    module _ (f : MeetFound) (oc₂ : List Float) (w₂ : List ℕ)
+        (told : meet-leaves f oc₂ w₂ ≡ meetingsFound m placed (r .from) (r .subject) (r .at) (r .cutter) (r .base) oc₁ w₁) (lo : length oc₂ ≡ length oc₁)
+        (lw : length w₂ ≡ length w₁) where
+      code-met : f .code ≡ firstRefusal m (length oc₁ / 2 - placed / 2) 0 0 (joined ofMeeting found)
+      code-met = ap (λ (x : MeetingsFound). x .answer .code) told ∙ met-code-left m placed (r .from) (r .subject) (r .at) (r .cutter) (r .base) oc₁ w₁
 
-    -- 8, and 12 for a new point
-    pub met-stop : (code : ℕ) → ((q n : ℕ) → code ≡ firstRefusal m (length oc₁ / 2 - placed / 2) q n (joined ofMeeting found)) → (code ≡ 0 → ⊥)
-        → (a : Found) (oc′ : List Float) (w′ : List ℕ) → a ≡ refusedAs code → Told a oc′ w′
-    unfolding foundEvents
-    met-stop code e z a oc′ w′ is =
-        refused-end a code oc′ w′ is z (met-refused points m (length oc / 2) (joined ofMeeting (scene .met)) (crowded scene) points-fit code z (λ q n. e q n ∙ rooms q n))
+      code-is : f .code ≡ firstRefusal m (length oc / 2 - points) 0 0 (joined ofMeeting (scene .met))
+      code-is =
+          code-met ∙ ap₂ (λ (k : ℕ) (ms : List Met). firstRefusal m k 0 0 (joined ofMeeting ms)) (ap₂ (λ (i j : ℕ). i / 2 - j / 2) length-placed (sym len)) met-are
 
-    module _ (code k next : ℕ) (oc₂ : List Float) (w₂ : List ℕ)
-        (told : ((q n : ℕ) → code ≡ firstRefusal m (length oc₁ / 2 - placed / 2) q n (joined ofMeeting found))
-        × (code ≡ 0 → (k ≡ length found) × (next ≡ (placed + length (addedBy found)) / 2) × (oc₂ ≡ put oc₁ placed (addedBy found)) × (w₂ ≡ put w₁ (r .base) (booked found))))
-        (z : code ≡ 0) where
-      none : (q n : ℕ) → 0 ≡ firstRefusal m (length oc / 2 - points) q n (joined ofMeeting (scene .met))
-      none q n = sym z ∙ told .0 q n ∙ rooms q n
+      length-coords : length oc₂ ≡ length oc
+      length-coords = lo ∙ length-placed
 
-      -- the meetings have their places
-      pub few : k ≤ m
-      few = omega (arith, told .1 z .0, ap length met-are, few-met (scene .met) m (length oc / 2 - points) 0 0 (sym (none 0 0)))
+      -- 8, and 12 for a new point
+      pub met-stop : (f .code ≡ 0 → ⊥) → (x : FoundLists) → x ≡ refusedLists (f .code) oc₂ w₂ → x ≡ foundOf op m s c oc w₀
+      unfolding foundEvents
+      met-stop z x is =
+          refused-end (f .code) z (met-refused points m (length oc / 2) (joined ofMeeting (scene .met)) (crowded scene) points-fit (f .code) z 0 0 code-is) oc₂ w₂ length-coords
+          (lw ∙ length-work) x is
 
-      booked-long : length (booked (scene .met)) ≡ 5 * k
-      booked-long = omega (arith, length-booked (scene .met), told .1 z .0, ap length met-are)
+      module _ (z : f .code ≡ 0) where
+        all : meet-leaves f oc₂ w₂ ≡ meet-leaves (foundWith 0 (length found) ((placed + length (addedBy found)) / 2)) (put oc₁ placed (addedBy found))
+            (put w₁ (r .base) (booked found))
+        all = told ∙ met-all-left m placed (r .from) (r .subject) (r .at) (r .cutter) (r .base) oc₁ w₁ (sym code-met ∙ z)
 
-      -- the meetings, and nothing behind them yet
-      work-then : w₂ ≡ with op sc cc sn se cn ce fs fc w₀ room₀ []
-      unfolding regionsOf
-      work-then =
-          told .1 z .3 ∙ ap₂ (λ (w : List ℕ) (ms : List Met). put w (r .base) (booked ms)) we met-are
-          ∙ ap (λ (x : Regions). put (netted lines s c w₀) (x .base) (booked (scene .met))) re
-          ∙ ap (put (netted lines s c w₀) (metAt s c)) (sym (append-nil (booked (scene .met))))
+        count : f .met ≡ length (scene .met)
+        count = ap (λ (x : MeetingsFound). x .answer .met) all ∙ ap length met-are
 
-      -- a run of a list w with zs behind the meetings, by places that the regions give
-      module _ (w zs : List ℕ) (is : w ≡ with op sc cc sn se cn ce fs fc w₀ room₀ zs) where
-        held : (a n : Regions → ℕ) → run w (a r) (n r) ≡ run (with op sc cc sn se cn ce fs fc w₀ room₀ zs) (a (regionsOf lines s c)) (n (regionsOf lines s c))
-        held a n = ap₂ (λ (x : Regions) (v : List ℕ). run v (a x) (n x)) re is
+        -- the meetings have their places
+        few : length (scene .met) ≤ m
+        few = few-met (scene .met) m (length oc / 2 - points) 0 0 (sym code-is ∙ z)
 
-        subjects-lent : run w (r .from) (2 * r .subject) ≡ flatEdges subjects
-        unfolding regionsOf
-        subjects-lent = held (λ x. x .from) (λ x. 2 * x .subject) ∙ subjects-found op sc cc sn se cn ce fs fc w₀ room₀ zs
+        link-asked-of : (h : ℕ) → h ≡ placed / 2 + 1 → LinkRoom (netsOf lines s c) (length (scene .met)) h (length w₀)
+        unfolding netsOf
+        link-asked-of h e =
+            record {
+              subjectFits = subjects-before lines sc cc sn se cn ce fs fc w₀ room₀ .0;
+              cutterFits = cutters-before lines sc cc sn se cn ce fs fc w₀ room₀ .0;
+              linksFit = omega (arith, e, ok .room, few, fs .even, fc .even);
+              some = omega (arith, e);
+              few = omega (arith, few, ok .most);
+            }
 
-        cutters-lent : run w (r .at) (2 * r .cutter) ≡ flatEdges cutters
-        unfolding regionsOf
-        cutters-lent = held (λ x. x .at) (λ x. 2 * x .cutter) ∙ cutters-found op sc cc sn se cn ce fs fc w₀ room₀ zs
+        -- what `link` asks
+        pub link-asked : (h : ℕ) → h ≡ placed / 2 + 1 → LinkRoom r (f .met) h (length w₂)
+        link-asked h e = rw (re, count, lw, length-work) (link-asked-of h e)
 
-        met-lent : run w (r .base) (5 * k) ≡ booked (scene .met)
-        unfolding regionsOf
-        met-lent =
-            held (λ x. x .base) (λ x. 5 * k) ∙ ap (λ (i : ℕ). run (with op sc cc sn se cn ce fs fc w₀ room₀ zs) (metAt s c) (5 * i)) (told .1 z .0 ∙ ap length met-are)
-            ∙ met-found op sc cc sn se cn ce fs fc w₀ room₀ zs
+        -- the meetings, and nothing behind them yet
+        work-then : w₂ ≡ with op sc cc sn se cn ce fs fc w₀ room₀ []
+        unfolding netsOf
+        work-then =
+            ap (λ (x : MeetingsFound). x .work) all ∙ ap₂ (λ (w : List ℕ) (ms : List Met). put w (r .base) (booked ms)) we met-are
+            ∙ ap (λ (x : NetPlaces). put (netted lines s c w₀) (x .base) (booked (scene .met))) re
+            ∙ ap (put (netted lines s c w₀) (metAt s c)) (sym (append-nil (booked (scene .met))))
 
-        behind-lent : (n : ℕ) → n ≡ length zs → run w (r .base + 5 * k) n ≡ zs
-        unfolding regionsOf
-        behind-lent n l =
-            held (λ x. x .base + 5 * k) (λ x. n)
-            ∙ ap₂ (λ (i j : ℕ). run (with op sc cc sn se cn ce fs fc w₀ room₀ zs) (metAt s c + 5 * i) j) (told .1 z .0 ∙ ap length met-are) l
-            ∙ behind-found op sc cc sn se cn ce fs fc w₀ room₀ zs
-
-      -- what `link_meetings` asks
-      pub links-asked : (h : ℕ) → h ≡ placed / 2 + 1
-          → (r .from + 2 * r .subject ≤ r .base + 5 * k) × (r .at + 2 * r .cutter ≤ r .base + 5 * k) × (r .base + 5 * k ≤ r .base + 5 * k) ×
-          (r .base + 5 * k + 2 * h + 2 * k ≤ length w₁)
-          × (0 < h) × (k ≤ 65536)
-      unfolding regionsOf
-      links-asked h e =
-          let fit : metAt s c + 5 * k + 2 * h + 2 * k ≤ length w₁ = omega (arith, e, room, few, length-work, fs .even, fc .even) in
-          (omega (arith, asked .3), omega (arith, asked .5), omega arith, rw re fit, omega (arith, e), omega (arith, few, most))
-
-      -- ---- with the links
-
-      module _ (h : ℕ) (he : h ≡ placed / 2 + 1) (w₃ : List ℕ)
-          (le : w₃ ≡ put w₂ (r .base + 5 * k) (linksOf h (pairs (run w₂ (r .from) (2 * r .subject))) (pairs (run w₂ (r .at) (2 * r .cutter))) (run w₂ (r .base) (5 * k)))) where
-        chains-are : h ≡ chains s c
-        chains-are = omega (arith, he, fs .even, fc .even)
-
-        links-are : linksOf h (pairs (run w₂ (r .from) (2 * r .subject))) (pairs (run w₂ (r .at) (2 * r .cutter))) (run w₂ (r .base) (5 * k)) ≡ linksIn op s c
-        unfolding sceneOf
-        links-are =
-            ap₂ (λ (es fs : List ℕ). linksOf h (pairs es) (pairs fs) (run w₂ (r .base) (5 * k))) (subjects-lent w₂ [] work-then) (cutters-lent w₂ [] work-then)
-            ∙ ap₂ (λ (es fs : List Edge). linksOf h es fs (run w₂ (r .base) (5 * k))) (pairs-ends subjects) (pairs-ends cutters)
-            ∙ ap₂ (λ (i : ℕ) (ms : List ℕ). linksOf i subjects cutters ms) chains-are (met-lent w₂ [] work-then)
-
-        pub work-with : w₃ ≡ with op sc cc sn se cn ce fs fc w₀ room₀ (linksIn op s c)
-        unfolding regionsOf
-        work-with =
-            let base : metAt s c ≤ length (netted lines s c w₀) = omega (arith, room, length-held lines sc cc sn se cn ce fs fc w₀ room₀) in
-            let end : r .base + 5 * k ≡ metAt s c + length (booked (scene .met)) = rw re (omega (arith, booked-long)) in
+        linked-is : linkedBy (netsOf lines s c) (length (scene .met)) (chains s c) (with op sc cc sn se cn ce fs fc w₀ room₀ []) ≡ worked op s c w₀
+        unfolding linkedBy netsOf worked sceneOf
+        linked-is =
+            let w = with op sc cc sn se cn ce fs fc w₀ room₀ [] in
+            let base : metAt s c ≤ length (netted lines s c w₀) = omega (arith, ok .room, length-held lines sc cc sn se cn ce fs fc w₀ room₀) in
+            let end : metAt s c + 5 * length (scene .met) ≡ metAt s c + length (booked (scene .met)) = omega (arith, length-booked (scene .met)) in
             let fit : metAt s c + length (booked (scene .met)) ≤ length (netted lines s c w₀) = omega
-            (arith, booked-long, few, room, length-held lines sc cc sn se cn ce fs fc w₀ room₀) in
-            let then : w₂ ≡ put (netted lines s c w₀) (metAt s c) (booked (scene .met)) = work-then ∙ ap (put (netted lines s c w₀) (metAt s c))
-            (append-nil (booked (scene .met))) in
-            le ∙ ap₂ (λ (i : ℕ) (ls : List ℕ). put w₂ i ls) end links-are ∙ ap (λ (w : List ℕ). put w (metAt s c + length (booked (scene .met))) (linksIn op s c)) then
+            (arith, length-booked (scene .met), few, ok .room, length-held lines sc cc sn se cn ce fs fc w₀ room₀) in
+            ap₂ (λ (es fs : List ℕ). put w (metAt s c + 5 * length (scene .met)) (linksOf (chains s c) (pairs es) (pairs fs) (run w (metAt s c) (5 * length (scene .met)))))
+            (subjects-found op sc cc sn se cn ce fs fc w₀ room₀ []) (cutters-found op sc cc sn se cn ce fs fc w₀ room₀ [])
+            ∙ ap₂ (λ (es fs : List Edge). put w (metAt s c + 5 * length (scene .met)) (linksOf (chains s c) es fs (run w (metAt s c) (5 * length (scene .met)))))
+            (pairs-ends subjects) (pairs-ends cutters)
+            ∙ ap₂ (λ (i : ℕ) (ms : List ℕ). put w i (linksOf (chains s c) subjects cutters ms)) end (met-found op sc cc sn se cn ce fs fc w₀ room₀ [])
+            ∙ ap (λ (v : List ℕ). put (put (netted lines s c w₀) (metAt s c) v) (metAt s c + length (booked (scene .met))) (linksIn op s c)) (append-nil (booked (scene .met)))
             ∙ put-append (netted lines s c w₀) (metAt s c) base (booked (scene .met)) (linksIn op s c) fit
 
-        pub work-is : w₃ ≡ worked op s c w₀
-        work-is = work-with ∙ sym (worked-with op sc cc sn se cn ce fs fc w₀ room₀)
+        -- ---- with the links
 
-        lent-linked : Linked (pairs (flatEdges subjects)) (pairs (flatEdges cutters)) (booked (scene .met)) (linksIn op s c)
-        unfolding sceneOf
-        lent-linked = rw (pairs-ends subjects, pairs-ends cutters) (linked (chains s c) subjects cutters (booked (scene .met)) (omega arith))
+        module _ (h : ℕ) (he : h ≡ placed / 2 + 1) (g : Regions) (w₃ : List ℕ) (le : (g ≡ regionsBy r (f .met) h) × (w₃ ≡ linkedBy r (f .met) h w₂)) where
+          chains-are : h ≡ chains s c
+          chains-are = omega (arith, he, fs .even, fc .even)
 
-        -- what `crowded` asks
-        pub crowded-asks : (r .from + 2 * r .subject ≤ r .base) × (r .at + 2 * r .cutter ≤ r .base) × (r .base + 5 * k + 2 * (h + k) ≤ length w₁) × (k ≤ 65536)
-            × Linked (pairs (run w₃ (r .from) (2 * r .subject))) (pairs (run w₃ (r .at) (2 * r .cutter))) (run w₃ (r .base) (5 * k)) (run w₃ (r .base + 5 * k) (2 * (h + k)))
-        crowded-asks =
-            let a = links-asked h he in
-            let long : 2 * (h + k) ≡ length (linksIn op s c) = omega (arith, chains-are, links-long op sc cc sn se cn ce fs fc w₀ room₀, told .1 z .0, ap length met-are) in (
-              asked .3,
-              asked .5,
-              omega (arith, a .3),
-              a .5,
-              rw (
-                subjects-lent w₃ (linksIn op s c) work-with,
-                cutters-lent w₃ (linksIn op s c) work-with,
-                met-lent w₃ (linksIn op s c) work-with,
-                behind-lent w₃ (linksIn op s c) work-with (2 * (h + k)) long,
-              ) lent-linked,
-            )
+          regions-are : g ≡ foundAs op s c .regions
+          unfolding foundAs
+          regions-are = le .0 ∙ ap (λ (x : NetPlaces). regionsBy x (f .met) h) re ∙ ap₂ (regionsBy (netsOf lines s c)) count chains-are
 
-      stored : Stored (scene .met) (booked (scene .met))
-      unfolding sceneOf
-      stored =
-          numbers-stored (scene .met) (booked (scene .met)) (length-booked (scene .met)) (λ q i h l. booked-at (scene .met) q i noMet h l)
-          (λ q h. meetings-fit (sc ++ cc) (subjectNet s) (cutterNet lines s c) q noMet h .3)
+          work-is : w₃ ≡ worked op s c w₀
+          work-is =
+              le .1 ∙ ap₂ (λ (x : NetPlaces) (w : List ℕ). linkedBy x (f .met) h w) re work-then
+              ∙ ap₂ (λ (i j : ℕ). linkedBy (netsOf lines s c) i j (with op sc cc sn se cn ce fs fc w₀ room₀ [])) count chains-are ∙ linked-is
 
-      full-is : (es : List Edge) → has (crowdedAt (pairs (flatEdges es)) (pairs (flatEdges subjects)) (pairs (flatEdges cutters)) (booked (scene .met))) (length (flatEdges es) / 2) ≡ overfull scene es
-      unfolding sceneOf
-      full-is es =
-          ap₂ (λ (a b : List Edge). has (crowdedAt (pairs (flatEdges es)) a b (booked (scene .met))) (length (flatEdges es) / 2)) (pairs-ends subjects) (pairs-ends cutters)
-          ∙ overfull-is scene (booked (scene .met)) stored (flatEdges es) ∙ ap (overfull scene) (pairs-ends es)
+          held : Holds op s c g w₃
+          held = rw (regions-are, work-is) (worked-holds op sc cc sn se cn ce fs fc w₀ room₀ m (ok .room) few (ok .most))
 
-      crowded-is : bothFull (flatEdges subjects) (flatEdges cutters) (booked (scene .met)) ≡ crowded scene
-      unfolding crowded sceneOf bothFull
-      crowded-is = ap₂ (λ (a b : Bool). a || b) (full-is subjects) (full-is cutters)
+          -- what `crowded` asks
+          pub crowded-asks : LinkedIn w₃ g
+          crowded-asks = holds-linked op s c g w₃ held
 
-      -- ---- on 0
+          module _ (b : Bool) (be : b ≡ bothFull (runIn w₃ (g .subject .edges)) (runIn w₃ (g .cutter .edges)) (runIn w₃ (g .met))) where
+            b-is : b ≡ crowded scene
+            unfolding sceneOf
+            b-is =
+                be ∙ ap₂ (λ (x y : List ℕ). bothFull x y (runIn w₃ (g .met))) (held .subject-edges) (held .cutter-edges)
+                ∙ ap (bothFull (flatEdges subjects) (flatEdges cutters)) (held .met) ∙ crowded-is
 
-      abbrev foundWith : Regions → ℕ → ℕ → ℕ → Found
-      foundWith x i j h = record { code = 0; regions = x; met = i; next = j; chains = h }
+            end-code : cond b 9 0 ≡ firstRefusal m (length oc / 2) 0 0 (foundEvents op s c)
+            unfolding foundEvents
+            end-code =
+                ap (λ (t : Bool). cond t 9 0) b-is
+                ∙ met-all points m (length oc / 2) (joined ofMeeting (scene .met)) (crowded scene) points-fit (early-met (scene .met)) 0 0 (sym z ∙ code-is)
 
-      answer-is : (h : ℕ) → h ≡ placed / 2 + 1 → foundWith r k next h ≡ foundAs op s c
-      unfolding foundAs sceneOf
-      answer-is h he =
-          let all : h ≡ chains s c = omega (arith, he, fs .even, fc .even) in
-          let half : next ≡ length (sc ++ cc ++ addedBy (scene .met)) / 2 =
-          told .1 z .1 ∙ ap₂ (λ (i : ℕ) (ms : List Met). (i + length (addedBy ms)) / 2) (sym len) met-are ∙ ap (λ (i : ℕ). i / 2)
-          (sym (length-append (sc ++ cc) (addedBy (scene .met)))) in
-          ap₂ (λ (x : Regions) (l : ℕ). foundWith x k next l) re all ∙ ap₂ (λ (i j : ℕ). foundWith (regionsOf lines s c) i j (chains s c)) (told .1 z .0 ∙ ap length met-are) half
+            -- 9
+            pub nine-stop : b ≡ true → (x : FoundLists) → x ≡ refusedLists 9 oc₂ w₃ → x ≡ foundOf op m s c oc w₀
+            nine-stop t x is =
+                refused-end 9 (λ y. absurd (omega (arith, y))) (sym (ap (λ (u : Bool). cond u 9 0) t) ∙ end-code) oc₂ w₃ length-coords
+                (ap length work-is ∙ length-worked op sc cc sn se cn ce fs fc w₀ room₀ m (ok .room) few) x is
 
-      coords-are : oc₂ ≡ front oc (scene .coords)
-      unfolding sceneOf
-      coords-are =
-          told .1 z .2 ∙ ap₂ (λ (l : List Float) (ms : List Met). put l placed (addedBy ms)) oe met-are
-          ∙ put-front placed oc (sc ++ cc) (addedBy (scene .met)) len fits
-
-      module _ (h : ℕ) (he : h ≡ placed / 2 + 1) (w₃ : List ℕ)
-          (le : w₃ ≡ put w₂ (r .base + 5 * k) (linksOf h (pairs (run w₂ (r .from) (2 * r .subject))) (pairs (run w₂ (r .at) (2 * r .cutter))) (run w₂ (r .base) (5 * k))))
-          (b : Bool) (be : b ≡ bothFull (run w₃ (r .from) (2 * r .subject)) (run w₃ (r .at) (2 * r .cutter)) (run w₃ (r .base) (5 * k))) where
-        b-is : b ≡ crowded scene
-        b-is =
-            let with-links = work-with h he w₃ le in
-            be ∙ ap₂ (λ (x y : List ℕ). bothFull x y (run w₃ (r .base) (5 * k))) (subjects-lent w₃ (linksIn op s c) with-links) (cutters-lent w₃ (linksIn op s c) with-links)
-            ∙ ap (bothFull (flatEdges subjects) (flatEdges cutters)) (met-lent w₃ (linksIn op s c) with-links) ∙ crowded-is
-
-        end-code : (q n : ℕ) → cond b 9 0 ≡ firstRefusal m (length oc / 2) q n (foundEvents op s c)
-        unfolding foundEvents
-        end-code q n =
-            ap (λ (t : Bool). cond t 9 0) b-is
-            ∙ met-all points m (length oc / 2) (joined ofMeeting (scene .met)) (crowded scene) points-fit (early-met (scene .met)) none q n
-
-        -- 9
-        pub nine-stop : b ≡ true → (a : Found) (oc′ : List Float) (w′ : List ℕ) → a ≡ refusedAs 9 → Told a oc′ w′
-        nine-stop t a oc′ w′ is = refused-end a 9 oc′ w′ is (λ y. absurd (omega (arith, y))) (λ q n. sym (ap (λ (u : Bool). cond u 9 0) t) ∙ end-code q n)
-
-        -- none
-        pub all-found : b ≡ false → Told (foundWith r k next h) oc₂ w₃
-        all-found f = (λ q n. sym (ap (λ (u : Bool). cond u 9 0) f) ∙ end-code q n, λ y. absurd (y refl), λ y. (answer-is h he, coords-are, work-is h he w₃ le))
+            -- none
+            pub all-found : b ≡ false → leaves (record { code = 0; regions = g; next = f .next }) oc₂ w₃ ≡ foundOf op m s c oc w₀
+            unfolding foundAs sceneOf
+            all-found e =
+                let half : f .next ≡ length (sc ++ cc ++ addedBy (scene .met)) / 2 =
+                ap (λ (x : MeetingsFound). x .answer .next) all
+                ∙ ap₂ (λ (i : ℕ) (ms : List Met). (i + length (addedBy ms)) / 2) (sym len) met-are ∙ ap (λ (i : ℕ). i / 2)
+                (sym (length-append (sc ++ cc) (addedBy (scene .met)))) in
+                let coords : oc₂ ≡ front oc (scene .coords) =
+                ap (λ (x : MeetingsFound). x .coords) all ∙ ap₂ (λ (l : List Float) (ms : List Met). put l placed (addedBy ms)) oe met-are
+                ∙ put-front placed oc (sc ++ cc) (addedBy (scene .met)) len fits in
+                ap₂ (λ (x : Regions) (i : ℕ). leaves (record { code = 0; regions = x; next = i }) oc₂ w₃) regions-are half
+                ∙ ap₂ (leaves (foundAs op s c)) coords work-is
+                ∙ sym (all-left op m s c oc w₀ (sym end-code ∙ ap (λ (u : Bool). cond u 9 0) e))

@@ -9,31 +9,8 @@ use lib.ListN.{length, replicate}
 use Rattle.lists.specs.Gather.{joined}
 use Rattle.rules.specs.Meetings.{Met}
 use Rattle.rules.specs.Refusals.{Event, meeting, point, piece, stop, ofMeeting, firstRefusal}
+use Rattle.meetings.proofs.Early.{Early}
 use Rattle.rules.proofs.Course.{refused-first, points-fit, points-over}
-
--- no piece is placed, and each stop has its number
-abbrev pub Early : List Event → Type 0
-Early [] = Unit {0}
-Early (meeting ∷ es) = Early es
-Early (point ∷ es) = Early es
-Early (piece k ∷ es) = ⊥
-Early (stop r ∷ es) = (r ≡ 0 → ⊥) × Early es
-
-pub early-append : (es fs : List Event) → Early es → Early fs → Early (es ++ fs)
-early-append [] fs a b = b
-early-append (meeting ∷ es) fs a b = early-append es fs a b
-early-append (point ∷ es) fs a b = early-append es fs a b
-early-append (piece k ∷ es) fs a b = absurd a
-early-append (stop r ∷ es) fs a b = (a .0, early-append es fs (a .1) b)
-
-pub early-points : (k : ℕ) → Early (replicate k point)
-early-points zero = tt
-early-points (suc k) = early-points k
-
-pub early-met : (ms : List Met) → Early (joined ofMeeting ms)
-unfolding joined
-early-met [] = tt
-early-met (x ∷ ms) = early-append (replicate (length (x .point) / 2) point) (joined ofMeeting ms) (early-points (length (x .point) / 2)) (early-met ms)
 
 pub early-nine : (t : Bool) → Early (cond t (stop 9 ∷ []) [])
 early-nine true = (λ e. absurd (omega (arith, e)), tt)
@@ -105,11 +82,11 @@ module _ (k m p : ℕ) (js : List Event) (t : Bool) where
     placed : (q n : ℕ) → firstRefusal m p q n events ≡ firstRefusal m (p - k) q n (js ++ last)
     placed q n = ap (firstRefusal m p q n) regroup ∙ points-fit k (js ++ last) m p q n h
 
-    pub met-refused : (code : ℕ) → (code ≡ 0 → ⊥) → ((q n : ℕ) → code ≡ firstRefusal m (p - k) q n js) → (q n : ℕ) → code ≡ firstRefusal m p q n events
-    met-refused zero z e q n = absurd (z refl)
-    met-refused (suc code) z e q n = sym (placed q n ∙ refused-first js last m (p - k) q n code (sym (e q n)))
+    pub met-refused : (code : ℕ) → (code ≡ 0 → ⊥) → (q n : ℕ) → code ≡ firstRefusal m (p - k) q n js → code ≡ firstRefusal m p q n events
+    met-refused zero z q n e = absurd (z refl)
+    met-refused (suc code) z q n e = sym (placed q n ∙ refused-first js last m (p - k) q n code (sym e))
 
-    pub met-all : Early js → ((q n : ℕ) → 0 ≡ firstRefusal m (p - k) q n js) → (q n : ℕ) → cond t 9 0 ≡ firstRefusal m p q n events
-    met-all a e q n =
-        let r = passes js m (p - k) q n a (sym (e q n)) in
+    pub met-all : Early js → (q n : ℕ) → 0 ≡ firstRefusal m (p - k) q n js → cond t 9 0 ≡ firstRefusal m p q n events
+    met-all a q n e =
+        let r = passes js m (p - k) q n a (sym e) in
         sym (placed q n ∙ r .2 last ∙ nine t (r .0) (r .1) q n)

@@ -46,6 +46,11 @@ module _ (w e n s c : List ℕ) (p₁ p₂ p₃ p₄ : ℕ) where
     pub second-two : run two p₂ (length n) ≡ n
     second-two = run-put one p₂ (omega (arith, length-one)) n (length n) refl
 
+    pub second-four : run four p₂ (length n) ≡ n
+    second-four =
+        run-before three p₄ (omega (arith, length-three)) c p₂ (length n) (omega arith)
+        ∙ run-before two p₃ (omega (arith, length-two)) s p₂ (length n) (omega arith) ∙ second-two
+
     pub third-four : run four p₃ (length s) ≡ s
     third-four = run-before three p₄ (omega (arith, length-three)) c p₃ (length s) (omega arith) ∙ run-put two p₃ (omega (arith, length-two)) s (length s) refl
 

@@ -6,5 +6,6 @@ pub mod Whole
 pub mod Held
 pub mod Events
 pub mod Scenes
+pub mod Settled
 pub mod Ends
 pub mod Result

@@ -1,11 +1,11 @@
 -- What this stage asks is what the entry gives. Assumes nothing.
 use mathlib.Core.Bool.{Bool, false}
-use Prim.Native.Nat.{ℕ, _≤_}
+use Prim.Native.Nat.{ℕ}
 use native.Mathlib.Omega.{arith}
 use lib.Dec.{eqb}
 use Rattle.entry.specs.Mesh.{Mesh}
 use Rattle.entry.specs.Passed.{Sound, Passed}
-use Rattle.finding.specs.Nets.{plain, Fit, NetRoom}
+use Rattle.finding.specs.Nets.{plain, Fit, FindAsks}
 
 abbrev pub bare : Mesh → Mesh
 bare m = plain (m .coords) (m .nodes) (m .ends)
@@ -24,5 +24,5 @@ fit-of lines m ok =
     }
 
 -- the `requires` of `find`
-pub ready : (op m : ℕ) (s c : Mesh) (w : ℕ) → Passed op m s c w → (m ≤ 65536) × Fit false (bare s) × Fit (eqb op 5) (bare c) × NetRoom m (bare s) (bare c) w
-ready op m s c w ok = (ok .most, fit-of false s (ok .subject), fit-of (eqb op 5) c (ok .cutter), omega (arith, ok .room))
+pub ready : (op m : ℕ) (s c : Mesh) (w : ℕ) → Passed op m s c w → FindAsks op m (bare s) (bare c) w
+ready op m s c w ok = record { most = ok .most; subject = fit-of false s (ok .subject); cutter = fit-of (eqb op 5) c (ok .cutter); room = omega (arith, ok .room) }

@@ -7,7 +7,7 @@ use lib.Dec.{eqb}
 use lib.ListN.{length, getD, replicate}
 use lib.Ieee.{Float}
 use Rattle.lists.specs.Gather.{joined}
-use Rattle.lists.specs.Regions.{front, put, zeros}
+use Rattle.lists.specs.Regions.{put}
 use Rattle.cutting.specs.Edges.{Edge}
 use Rattle.cutting.specs.Lent.{flatEdges}
 use Rattle.entry.specs.Mesh.{Mesh, nodeCount}
@@ -19,13 +19,18 @@ use Rattle.rules.specs.Nodes.{collected, crowded}
 use Rattle.rules.specs.Cell.{outcomeOf}
 use Rattle.rules.specs.Operations.{sceneFor, kept, overCells}
 use Rattle.rules.specs.Refusals.{Event, point, stop, ofMeeting, ofCell, course, courseWith, firstRefusal}
+use Rattle.regions.specs.declared.Regions.{Regions}
 use Rattle.meetings.specs.Booked.{booked, netOn}
+use Rattle.meetings.proofs.Early.{Early, early-append, early-points, early-met, any-room}
 use Rattle.meetings.proofs.Reading.{by-edges}
-use Rattle.finding.specs.declared.numbering.Regions.{Regions}
-use Rattle.finding.specs.Nets.{copiedAt, subjectAt, cutterAt, metAt, chainRoom, regionsOf, netted}
-use Rattle.finding.specs.Found.{foundEvents, chains, foundAs}
+use Rattle.edge_nodes.specs.Links.{linksOf}
+use Rattle.finding.specs.declared.numbering.NetPlaces.{NetPlaces}
+use Rattle.finding.specs.declared.stages.Found.{Found}
+use Rattle.finding.specs.Nets.{copiedAt, subjectAt, cutterAt, metAt, netsOf, netted}
+use Rattle.finding.specs.Found.{foundEvents, chains, regionsBy, foundAs, linksIn, worked}
 use Rattle.finding.proofs.Passed.{bare}
-use Rattle.finding.proofs.Events.{Early, early-append, early-points, early-met, early-nine, passes}
+use Rattle.finding.proofs.Held.{Holds}
+use Rattle.finding.proofs.Events.{early-nine, passes}
 
 -- 9 goes by the edges and the meetings
 abbrev crowdedBy : List Edge → List Edge → List Met → Bool
@@ -48,11 +53,12 @@ module _ (lines : Bool) (s c : Mesh) where
   unfolding cutterNet weld usedNodes sortedIndicesFor cellsOf cellAt
   cutters-bare = refl
 
-  pub regions-bare : regionsOf lines (bare s) (bare c) ≡ regionsOf lines s c
-  unfolding regionsOf
-  regions-bare =
+  places-bare : netsOf lines (bare s) (bare c) ≡ netsOf lines s c
+  unfolding netsOf
+  places-bare =
       ap₂ (λ (es fs : List Edge). record {
         entries = nodeCount c;
+        copied = copiedAt s c;
         from = subjectAt s c;
         subject = length es;
         at = cond lines (nodeCount c) (cutterAt s c);
@@ -60,6 +66,13 @@ module _ (lines : Bool) (s c : Mesh) where
         base = metAt s c;
       })
       subjects-bare cutters-bare
+
+  netted-bare : (w : List ℕ) → netted lines (bare s) (bare c) w ≡ netted lines s c w
+  unfolding netted weld usedNodes sortedIndicesFor subjectNet cutterNet cellsOf cellAt
+  netted-bare w = refl
+
+abbrev foundWith : Regions → ℕ → Found
+foundWith g next = record { code = 0; regions = g; next = next }
 
 module _ (op : ℕ) (s c : Mesh) where
   pub met-bare : sceneFor op (bare s) (bare c) .met ≡ sceneFor op s c .met
@@ -90,22 +103,35 @@ module _ (op : ℕ) (s c : Mesh) where
   pub found-bare : foundAs op (bare s) (bare c) ≡ foundAs op s c
   unfolding foundAs
   found-bare =
-      ap (λ (r : Regions). record {
-        code = 0;
-        regions = r;
-        met = length (sceneFor op (bare s) (bare c) .met);
-        next = length
-            (sceneFor op (bare s) (bare c) .coords) / 2;
-        chains = chains s c;
-      }) (regions-bare (eqb op 5) s c)
-      ∙ ap₂ (λ (ms : List Met) (xs : List Float). record {
-        code = 0;
-        regions = regionsOf (eqb op 5) s c;
-        met = length ms;
-        next = length xs / 2;
-        chains = chains
-            s c;
-      }) met-bare coords-bare
+      ap (λ (x : NetPlaces). foundWith (regionsBy x (length (sceneFor op (bare s) (bare c) .met)) (chains s c)) (length (sceneFor op (bare s) (bare c) .coords) / 2))
+      (places-bare (eqb op 5) s c)
+      ∙ ap₂ (λ (ms : List Met) (xs : List Float). foundWith (regionsBy (netsOf (eqb op 5) s c) (length ms) (chains s c)) (length xs / 2)) met-bare coords-bare
+
+  links-bare : linksIn op (bare s) (bare c) ≡ linksIn op s c
+  unfolding sceneOf
+  links-bare =
+      ap₂ (λ (es fs : List Edge). linksOf (chains s c) es fs (booked (sceneFor op (bare s) (bare c) .met))) (subjects-bare (eqb op 5) s c) (cutters-bare (eqb op 5) s c)
+      ∙ ap (λ (ms : List Met). linksOf (chains s c) (sceneFor op s c .subject .edges) (sceneFor op s c .cutter .edges) (booked ms)) met-bare
+
+  pub worked-bare : (w : List ℕ) → worked op (bare s) (bare c) w ≡ worked op s c w
+  unfolding worked
+  worked-bare w =
+      ap₂ (λ (ms : List Met) (ls : List ℕ). put (netted (eqb op 5) (bare s) (bare c) w) (metAt s c) (booked ms ++ ls)) met-bare links-bare
+      ∙ ap (λ (v : List ℕ). put v (metAt s c) (booked (sceneFor op s c .met) ++ linksIn op s c)) (netted-bare (eqb op 5) s c w)
+
+  pub holds-bare : (g : Regions) (w : List ℕ) → Holds op (bare s) (bare c) g w → Holds op s c g w
+  unfolding sceneOf
+  holds-bare g w h =
+      record {
+        lies = h .lies;
+        subject-edges = h .subject-edges ∙ ap flatEdges (subjects-bare (eqb op 5) s c);
+        subject-entries = h .subject-entries;
+        cutter-edges = h .cutter-edges ∙ ap flatEdges (cutters-bare (eqb op 5) s c);
+        cutter-entries = h .cutter-entries ∙ ap (λ (ws : List ℕ). map (λ n. getD ws n 0) (c .nodes)) (weld-bare (eqb op 5) s c);
+        met = h .met ∙ ap booked met-bare;
+        links = h .links ∙ links-bare;
+        few = rw met-bare at (h .few);
+      }
 
   -- the course begins with what is found, and then come the cells
   pub course-is : let sc : Scene = sceneFor op s c in
@@ -114,14 +140,20 @@ module _ (op : ℕ) (s c : Mesh) where
   unfolding courseWith foundEvents
   course-is = refl
 
-  -- where that isn't refused, the cells' pieces and node entries have their whole room
-  pub found-passes : (m p q n : ℕ) → firstRefusal m p q n (foundEvents op s c) ≡ 0
-      → (m′ : ℕ) × (p′ : ℕ) × ((fs : List Event) → firstRefusal m p q n (foundEvents op s c ++ fs) ≡ firstRefusal m′ p′ q n fs)
+  -- no piece is placed
+  found-early : Early (foundEvents op s c)
   unfolding foundEvents
-  found-passes m p q n e =
+  found-early =
       let sc : Scene = sceneFor op s c in
       let k : ℕ = length (s .coords ++ c .coords) / 2 in
-      let early : Early (foundEvents op s c) =
       early-append (replicate k point ++ joined ofMeeting (sc .met)) (cond (crowded sc) (stop 9 ∷ []) [])
-      (early-append (replicate k point) (joined ofMeeting (sc .met)) (early-points k) (early-met (sc .met))) (early-nine (crowded sc)) in
-      passes (foundEvents op s c) m p q n early e
+      (early-append (replicate k point) (joined ofMeeting (sc .met)) (early-points k) (early-met (sc .met))) (early-nine (crowded sc))
+
+  -- so room for pieces and node entries doesn't matter
+  pub found-any-room : (m p q n : ℕ) → firstRefusal m p q n (foundEvents op s c) ≡ firstRefusal m p 0 0 (foundEvents op s c)
+  found-any-room m p q n = any-room (foundEvents op s c) found-early m p q n
+
+  -- and where nothing is refused, the cells' pieces and node entries have their whole room
+  pub found-passes : (m p q n : ℕ) → firstRefusal m p q n (foundEvents op s c) ≡ 0
+      → (m′ : ℕ) × (p′ : ℕ) × ((fs : List Event) → firstRefusal m p q n (foundEvents op s c ++ fs) ≡ firstRefusal m′ p′ q n fs)
+  found-passes m p q n e = passes (foundEvents op s c) m p q n found-early e

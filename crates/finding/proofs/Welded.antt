@@ -11,8 +11,7 @@ use Rattle.lists.proofs.Regions.{front-in, put-before, copy-start, copy-turn}
 use Rattle.entry.specs.Mesh.{Mesh, nodeCount}
 use Rattle.rules.specs.Snap.{weld}
 use Rattle.snap.specs.Steps.{Below}
-use Rattle.snap.proofs.Welds.{length-weld, weld-below}
-use Rattle.finding.specs.Nets.{cutterEntries}
+use Rattle.snap.proofs.Welds.{length-weld}
 
 -- ---- the turns
 
@@ -53,5 +52,3 @@ pub numbers-read : (s c : Mesh) (w₀ z cn : List ℕ) → Below (nodeCount c) c
 numbers-read s c w₀ z cn b =
     map-known _ _ (nodeCount c) cn b
     (λ k h. front-in w₀ (weld s c ++ z) k 0 (omega (arith, length-append (weld s c) z, length-weld s c)) ∙ List·getD-append (weld s c) z 0 k (omega (arith, length-weld s c)))
-
--- ---- what is written: each number is that of a node of one of the meshes

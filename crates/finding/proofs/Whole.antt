@@ -18,14 +18,14 @@ use Rattle.rules.specs.Neighbours.{computeDescending, lineEdges, subjectNet, cu
 use Rattle.snap.proofs.Welds.{weld-lists, length-weld}
 use Rattle.neighbours.proofs.Edges.{ends-pairs}
 use Rattle.neighbours.proofs.Threads.{put-swap}
-use Rattle.finding.specs.declared.numbering.Regions.{Regions}
-use Rattle.finding.specs.Nets.{Fit, NetRoom, cutterEntries, copiedAt, subjectAt, cutterAt, metAt, chainRoom, regionsOf, netted}
+use Rattle.finding.specs.declared.numbering.NetPlaces.{NetPlaces}
+use Rattle.finding.specs.Nets.{Fit, NetRoom, cutterEntries, copiedAt, subjectAt, cutterAt, metAt, chainRoom, netsOf, netted}
 use Rattle.finding.proofs.Cells.{cellsIn, cells-lists, cells-renumbered, few-edges, prior-two, line-pairs}
 use Rattle.finding.proofs.Layers as layers
 use Rattle.finding.proofs.Welded.{numbers-read}
 
-abbrev regionsWith : ℕ → ℕ → ℕ → ℕ → ℕ → ℕ → Regions
-regionsWith e f s a c b = record { entries = e; from = f; subject = s; at = a; cutter = c; base = b }
+abbrev placesWith : ℕ → ℕ → ℕ → ℕ → ℕ → ℕ → ℕ → NetPlaces
+placesWith e t f s a c b = record { entries = e; copied = t; from = f; subject = s; at = a; cutter = c; base = b }
 
 -- ends of a mesh that fits
 pub rising : (lines : Bool) (m : Mesh) → Fit lines m → Rising (m .ends) (length (m .nodes))
@@ -165,7 +165,8 @@ module _ (lines : Bool) (sc cc : List Float) (sn se cn ce : List ℕ) where
         subject-read : run w₃ (copiedAt s c) (length sn) ≡ sn
         subject-read =
             ap (λ (w : List ℕ). run w (copiedAt s c) (length sn)) three-is
-            ∙ layers.second-two numbers entries sn (flatEdges subjects) behind (nodeCount c) (copiedAt s c) (subjectAt s c) (cutterAt s c) h₁ (omega arith) h₃ (h₄ behind few-behind)
+            ∙ layers.second-two numbers entries sn (flatEdges subjects) behind (nodeCount c) (copiedAt s c) (subjectAt s c) (cutterAt s c) h₁ (omega arith) h₃
+            (h₄ behind few-behind)
 
         found-are : computeDescending (cellsOf (mesh [] (run w₃ (copiedAt s c) (length sn)) se [] [])) ≡ subjects
         found-are = ap (λ (ns : List ℕ). computeDescending (cellsIn ns se)) subject-read ∙ sym subjects-are
@@ -176,12 +177,12 @@ module _ (lines : Bool) (sc cc : List Float) (sn se cn ce : List ℕ) where
         four-is : w₄ ≡ put three (metAt s c) clear
         four-is = d₄ .1 ∙ ap₂ (λ (w : List ℕ) (es : List Edge). put (put w (subjectAt s c) (flatEdges es)) (metAt s c) clear) three-is found-are
 
-        regions-are : (a l : ℕ) → a ≡ cond lines (nodeCount c) (cutterAt s c) → l ≡ length cutters
-            → regionsWith (nodeCount c) (subjectAt s c) k a l (metAt s c) ≡ regionsOf lines s c
-        unfolding regionsOf
-        regions-are a l p q =
-            ap (λ (i : ℕ). regionsWith (nodeCount c) (subjectAt s c) i a l (metAt s c)) k-is
-            ∙ ap₂ (λ (i j : ℕ). regionsWith (nodeCount c) (subjectAt s c) (length subjects) i j (metAt s c)) p q
+        places-are : (a l : ℕ) → a ≡ cond lines (nodeCount c) (cutterAt s c) → l ≡ length cutters
+            → placesWith (nodeCount c) (copiedAt s c) (subjectAt s c) k a l (metAt s c) ≡ netsOf lines s c
+        unfolding netsOf
+        places-are a l p q =
+            ap (λ (i : ℕ). placesWith (nodeCount c) (copiedAt s c) (subjectAt s c) i a l (metAt s c)) k-is
+            ∙ ap₂ (λ (i j : ℕ). placesWith (nodeCount c) (copiedAt s c) (subjectAt s c) (length subjects) i j (metAt s c)) p q
 
         -- the zeros again
         again : put (put (put three (metAt s c) clear) (cutterAt s c) (flatEdges cutters)) (metAt s c) clear ≡ put (put three (cutterAt s c) (flatEdges cutters)) (metAt s c) clear
@@ -194,10 +195,10 @@ module _ (lines : Bool) (sc cc : List Float) (sn se cn ce : List ℕ) where
 
         -- of lines
         pub lines-end : lines ≡ true
-            → (regionsWith (nodeCount c) (subjectAt s c) k (nodeCount c) (length cn / 2) (metAt s c) ≡ regionsOf lines s c) × (w₄ ≡ netted lines s c w₀)
+            → (placesWith (nodeCount c) (copiedAt s c) (subjectAt s c) k (nodeCount c) (length cn / 2) (metAt s c) ≡ netsOf lines s c) × (w₄ ≡ netted lines s c w₀)
         unfolding netted
         lines-end e = (
-          regions-are (nodeCount c) (length cn / 2) (sym (ap (λ (t : Bool). cond t (nodeCount c) (cutterAt s c)) e))
+          places-are (nodeCount c) (length cn / 2) (sym (ap (λ (t : Bool). cond t (nodeCount c) (cutterAt s c)) e))
               (omega (arith, ap length (cutters-lines e), pairs-length entries, length-entries)),
           four-is ∙ ap (λ (w : List ℕ). put w (metAt s c) clear) (sym (put-none three (cutterAt s c)) ∙ ap
               (λ (t : Bool). put three (cutterAt s c) (cond t [] (flatEdges cutters))) (sym e)),
@@ -207,16 +208,17 @@ module _ (lines : Bool) (sc cc : List Float) (sn se cn ce : List ℕ) where
         pub cells-end : lines ≡ false → (w₅ : List ℕ) (l : ℕ)
             → (l ≡ length (computeDescending (cellsOf (mesh [] (run w₄ (nodeCount c) (length cn)) ce [] []))))
             × (w₅ ≡ put (put w₄ (cutterAt s c) (flatEdges (computeDescending (cellsOf (mesh [] (run w₄ (nodeCount c) (length cn)) ce [] []))))) (metAt s c) (zeros (chainRoom s c)))
-            → (regionsWith (nodeCount c) (subjectAt s c) k (cutterAt s c) l (metAt s c) ≡ regionsOf lines s c) × (w₅ ≡ netted lines s c w₀)
+            → (placesWith (nodeCount c) (copiedAt s c) (subjectAt s c) k (cutterAt s c) l (metAt s c) ≡ netsOf lines s c) × (w₅ ≡ netted lines s c w₀)
         unfolding netted
         cells-end e w₅ l d₅ =
             let read : run w₄ (nodeCount c) (length cn) ≡ entries =
             ap₂ (λ (w : List ℕ) (n : ℕ). run w (nodeCount c) n) four-is (sym length-entries)
             ∙ run-before three (metAt s c) (omega (arith, room, length-three)) clear (nodeCount c) (length entries) (omega (arith, length-entries))
-            ∙ layers.first-three numbers entries sn (flatEdges subjects) behind (nodeCount c) (copiedAt s c) (subjectAt s c) (cutterAt s c) h₁ (omega arith) h₃ (h₄ behind few-behind) in
+            ∙ layers.first-three numbers entries sn (flatEdges subjects) behind (nodeCount c) (copiedAt s c) (subjectAt s c) (cutterAt s c) h₁ (omega arith) h₃
+            (h₄ behind few-behind) in
             let are : computeDescending (cellsOf (mesh [] (run w₄ (nodeCount c) (length cn)) ce [] [])) ≡ cutters =
             ap (λ (ns : List ℕ). computeDescending (cellsIn ns ce)) read ∙ sym (cutters-cells e) in (
-              regions-are (cutterAt s c) l (sym (ap (λ (t : Bool). cond t (nodeCount c) (cutterAt s c)) e)) (d₅ .0 ∙ ap length are),
+              places-are (cutterAt s c) l (sym (ap (λ (t : Bool). cond t (nodeCount c) (cutterAt s c)) e)) (d₅ .0 ∙ ap length are),
               d₅ .1 ∙ ap₂ (λ (w : List ℕ) (es : List Edge). put (put w (cutterAt s c) (flatEdges es)) (metAt s c) clear) four-is are ∙ again
                   ∙ ap (λ (t : Bool). put (put three (cutterAt s c) (cond t [] (flatEdges cutters))) (metAt s c) clear) (sym e),
             )
@@ -248,6 +250,10 @@ module _ (lines : Bool) (sc cc : List Float) (sn se cn ce : List ℕ) where
 
       pub entries-held : run held (nodeCount c) (length cn) ≡ entries
       entries-held = ap (run held (nodeCount c)) (sym length-entries) ∙ entries-whole
+
+      pub copied-held : run held (copiedAt s c) (length sn) ≡ sn
+      copied-held = before (copiedAt s c) (length sn) (omega arith) ∙ layers.second-four numbers entries sn (flatEdges subjects) behind
+          (nodeCount c) (copiedAt s c) (subjectAt s c) (cutterAt s c) h₁ (omega arith) h₃ (h₄ behind few-behind)
 
       pub subjects-held : run held (subjectAt s c) (2 * length subjects) ≡ flatEdges subjects
       subjects-held =

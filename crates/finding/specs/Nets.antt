@@ -1,8 +1,9 @@
 -- Both meshes under one numbering, in the working list. Assumes nothing.
 use mathlib.Core.Path.{_≡_}
-use mathlib.Core.Bool.{Bool, true, cond}
+use mathlib.Core.Bool.{Bool, true, false, cond}
 use mathlib.Core.List.{List, [], _++_, map}
 use Prim.Native.Nat.{ℕ, _+_, _*_, _≤_, _<_}
+use lib.Dec.{eqb}
 use lib.ListN.{length, getD}
 use lib.Ieee.{Float}
 use Rattle.lists.specs.Regions.{front, put, zeros}
@@ -10,7 +11,7 @@ use Rattle.cutting.specs.Lent.{flatEdges}
 use Rattle.entry.specs.Mesh.{Mesh, mesh, nodeCount, prior, cellSize}
 use Rattle.rules.specs.Snap.{weld}
 use Rattle.rules.specs.Neighbours.{subjectNet, cutterNet}
-use Rattle.finding.specs.declared.numbering.Regions.{Regions}
+use Rattle.finding.specs.declared.numbering.NetPlaces.{NetPlaces}
 
 -- a mesh without its kinds and families, at which nothing here looks (proofs/Scenes.antt)
 abbrev pub plain : List Float → List ℕ → List ℕ → Mesh
@@ -32,6 +33,13 @@ pub record Fit (lines : Bool) (m : Mesh) : Type 0 where
 -- a working list of w numbers, for the edges on chains, and for m meetings and their links
 abbrev pub NetRoom : ℕ → Mesh → Mesh → ℕ → Type 0
 NetRoom m s c w = 3 * (nodeCount s + nodeCount c) + 4 * (length (s .nodes) + length (c .nodes)) + 7 * m + 2 ≤ w
+
+-- what `find` asks
+pub record FindAsks (op m : ℕ) (s c : Mesh) (work : ℕ) : Type 0 where
+  pub most : m ≤ 65536
+  pub subject : Fit false s
+  pub cutter : Fit (eqb op 5) c
+  pub room : NetRoom m s c work
 
 -- ---- the regions
 
@@ -58,10 +66,11 @@ module _ (s c : Mesh) where
   chainRoom = nodeCount s + nodeCount c + 1 + (length (s .nodes) + length (c .nodes))
 
 -- where they begin, and how many edges there are; the edges of lines are the cutter's entries
-unfoldable pub regionsOf : Bool → Mesh → Mesh → Regions
-regionsOf lines s c =
+unfoldable pub netsOf : Bool → Mesh → Mesh → NetPlaces
+netsOf lines s c =
     record {
       entries = nodeCount c;
+      copied = copiedAt s c;
       from = subjectAt s c;
       subject = length (subjectNet s .edges);
       at = cond lines (nodeCount c) (cutterAt s c);

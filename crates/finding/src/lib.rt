@@ -3,6 +3,5 @@
 mod numbering;
 mod stages;
 
-pub use numbering::Regions;
 pub use stages::Found;
 pub use stages::find;

@@ -8,14 +8,16 @@ ghost use Prim.Native.Nat.{_+_, _≤_};
 ghost use lib.ListN.{length, getD};
 ghost use Rattle.lists.specs.Regions.{put};
 ghost use Rattle.snap.specs.Steps.{Below};
-ghost use Rattle.finding.specs.Nets.{plain, Fit, NetRoom, regionsOf, netted};
+ghost use Rattle.finding.specs.Nets.{plain, Fit, NetRoom, netsOf, netted};
 use lists::copy_u32;
 use neighbours::compute_descending;
 use snap::duplicates_from;
 
-// Where the cutter's entries begin; where the subject's edges begin and how many there are; the same of the cutter's; where there is room behind them.
-pub struct Regions {
+// Where the cutter's entries begin, then the subject's; where the subject's edges begin and how many there are; the same of the cutter's; where there is
+// room behind them.
+pub struct NetPlaces {
     pub entries: usize,
+    pub copied: usize,
     pub from: usize,
     pub subject: usize,
     pub at: usize,
@@ -46,10 +48,10 @@ pub(crate) fn nets(
     cn: &[u32],
     ce: &[u32],
     w: &mut [u32],
-) -> Regions
+) -> NetPlaces
     requires { ⌜ Fit false (plain (now sc) (now sn) (now se)) × Fit lines (plain (now cc) (now cn) (now ce))
         × NetRoom 0 (plain (now sc) (now sn) (now se)) (plain (now cc) (now cn) (now ce)) (length (now w)) ⌝ }
-    ensures { λ r. ⌜ (r ≡ regionsOf lines (plain (now (sc .entry)) (now (sn .entry)) (now (se .entry))) (plain (now (cc .entry)) (now (cn .entry)) (now (ce .entry))))
+    ensures { λ r. ⌜ (r ≡ netsOf lines (plain (now (sc .entry)) (now (sn .entry)) (now (se .entry))) (plain (now (cc .entry)) (now (cn .entry)) (now (ce .entry))))
         × (now (w .exit) ≡ netted lines (plain (now (sc .entry)) (now (sn .entry)) (now (se .entry))) (plain (now (cc .entry)) (now (cn .entry)) (now (ce .entry))) (now (w .entry))) ⌝ }
 {
     let entries = cc.len() / 2;
@@ -65,8 +67,9 @@ pub(crate) fn nets(
     copy_u32(w, copied, sn);
     let subject = compute_descending(w, se, copied, sn.len(), from, base, h, n);
     if lines {
-        return Regions {
+        return NetPlaces {
             entries,
+            copied,
             from,
             subject,
             at: entries,
@@ -75,8 +78,9 @@ pub(crate) fn nets(
         };
     }
     let cutter = compute_descending(w, ce, entries, cn.len(), at, base, h, n);
-    Regions {
+    NetPlaces {
         entries,
+        copied,
         from,
         subject,
         at,

@@ -1,50 +1,57 @@
 // The stages before the cells, one after the other.
 ghost use mathlib.Core.Path.{_≡_};
-ghost use mathlib.Core.Bool.{true, false};
+ghost use mathlib.Core.Bool.{true};
 ghost use mathlib.Core.List.{_++_};
-ghost use Prim.Native.Nat.{ℕ, _+_, _*_, _/_, _≤_};
-ghost use lib.Dec.{eqb, leb};
+ghost use Prim.Native.Nat.{_+_, _≤_};
+ghost use lib.Dec.{leb};
 ghost use lib.ListN.{length};
-ghost use Rattle.lists.specs.Regions.{run, front};
+ghost use Rattle.lists.specs.Regions.{front};
 ghost use Rattle.cutting.specs.Lent.{pairs};
+ghost use Rattle.regions.specs.Runs.{runIn};
 ghost use Rattle.edge_nodes.specs.Links.{Linked};
-ghost use Rattle.rules.specs.Operations.{sceneFor};
-ghost use Rattle.rules.specs.Refusals.{firstRefusal};
-ghost use Rattle.finding.specs.Nets.{plain, Fit, NetRoom};
-ghost use Rattle.finding.specs.Found.{bothFull, foundEvents, foundAs, refusedAs, worked};
-use crate::numbering::Regions;
+ghost use Rattle.finding.specs.Nets.{plain, FindAsks};
+ghost use Rattle.finding.specs.Found.{regionsBy, refusedLists, foundOf, bothFull, LinkedIn, LinkRoom, linkedBy};
+use crate::numbering::NetPlaces;
 use crate::numbering::nets;
 use edge_nodes::link_meetings;
 use edge_nodes::overfull;
 use lists::copy_f64;
+use lists::zero_f64;
+use lists::zero_u32;
 use meetings::compute_intersections;
+use regions::MeshRuns;
+use regions::Regions;
+use regions::Run;
+use regions::part;
 
-// The refusal or 0; where the edges stand, how many meetings, nodes and chains of meetings there are.
+// The refusal or 0; where both meshes, the meetings and their links stand in the working list; how many nodes there are.
 pub struct Found {
     pub code: u32,
     pub regions: Regions,
-    pub met: usize,
     pub next: usize,
-    pub chains: usize,
 }
 
-fn refused(code: u32) -> Found
-    ensures { λ r. ⌜ r ≡ refusedAs code ⌝ }
+// Both lists to zero, and the refusal's number.
+fn refused(oc: &mut [f64], w: &mut [u32], code: u32) -> Found
+    ensures { λ r. ⌜ record { answer = r; coords = now (oc .exit); work = now (w .exit) } ≡ refusedLists code (now (oc .entry)) (now (w .entry)) ⌝ }
 {
+    zero_f64(oc);
+    zero_u32(w);
+    let none = Run { from: 0, end: 0 };
+    let mesh = MeshRuns {
+        edges: none,
+        entries: none,
+    };
     let regions = Regions {
-        entries: 0,
-        from: 0,
-        subject: 0,
-        at: 0,
-        cutter: 0,
-        base: 0,
+        subject: mesh,
+        cutter: mesh,
+        met: none,
+        links: none,
     };
     Found {
         code,
         regions,
-        met: 0,
         next: 0,
-        chains: 0,
     }
 }
 
@@ -70,30 +77,56 @@ fn either_overfull(subject: &[u32], cutter: &[u32], met: &[u32], links: &[u32]) 
     overfull(cutter, subject, cutter, met, links)
 }
 
-// Refusal 9, by the working list, in which the links of h chains stand behind the meetings.
-fn crowded(
-    w: &[u32],
-    from: usize,
-    subject: usize,
-    at: usize,
-    cutter: usize,
-    base: usize,
-    met: usize,
-    h: usize,
-) -> bool
-    requires { ⌜ (from + 2 * subject ≤ base) × (at + 2 * cutter ≤ base) × (base + 5 * met + 2 * (h + met) ≤ length (now w)) × (met ≤ 65536)
-        × Linked (pairs (run (now w) from (2 * subject))) (pairs (run (now w) at (2 * cutter))) (run (now w) base (5 * met)) (run (now w) (base + 5 * met) (2 * (h + met))) ⌝ }
-    ensures { λ r. ⌜ r ≡ bothFull (run (now (w .entry)) from (2 * subject)) (run (now (w .entry)) at (2 * cutter)) (run (now (w .entry)) base (5 * met)) ⌝ }
+// Refusal 9, by the working list.
+fn crowded(w: &[u32], g: Regions) -> bool
+    requires { ⌜ LinkedIn (now w) g ⌝ }
+    ensures { λ r. ⌜ r ≡ bothFull (runIn (now (w .entry)) (g .subject .edges)) (runIn (now (w .entry)) (g .cutter .edges)) (runIn (now (w .entry)) (g .met)) ⌝ }
 {
-    let s = from + 2 * subject;
-    let c = at + 2 * cutter;
-    let e = base + 5 * met;
-    let l = e + 2 * (h + met);
-    either_overfull(&w[from..s], &w[at..c], &w[base..e], &w[e..l])
+    let subject = part(w, g.subject.edges);
+    let cutter = part(w, g.cutter.edges);
+    let met = part(w, g.met);
+    let links = part(w, g.links);
+    either_overfull(subject, cutter, met, links)
 }
 
-// The coordinates of both meshes and the new points go to the front of oc, the edges, the meetings and their links to the working list. Where it refuses, both lists
-// are to be cleared.
+// Writes the links of h chains behind the meetings, and names the regions.
+fn link(w: &mut [u32], n: NetPlaces, met: usize, h: usize) -> Regions
+    requires { ⌜ LinkRoom n met h (length (now w)) ⌝ }
+    ensures { λ r. ⌜ (r ≡ regionsBy n met h) × (now (w .exit) ≡ linkedBy n met h (now (w .entry))) ⌝ }
+{
+    let end = n.base + 5 * met;
+    link_meetings(w, n.from, n.subject, n.at, n.cutter, n.base, met, end, h);
+    Regions {
+        subject: MeshRuns {
+            edges: Run {
+                from: n.from,
+                end: n.from + 2 * n.subject,
+            },
+            entries: Run {
+                from: n.copied,
+                end: n.from,
+            },
+        },
+        cutter: MeshRuns {
+            edges: Run {
+                from: n.at,
+                end: n.at + 2 * n.cutter,
+            },
+            entries: Run {
+                from: n.entries,
+                end: n.copied,
+            },
+        },
+        met: Run { from: n.base, end },
+        links: Run {
+            from: end,
+            end: end + 2 * (h + met),
+        },
+    }
+}
+
+// The coordinates of both meshes and the new points go to the front of oc, the edges, the meetings and their links to the working list. A refusal leaves
+// zeros.
 pub fn find(
     op: u32,
     m: u32,
@@ -106,17 +139,12 @@ pub fn find(
     oc: &mut [f64],
     w: &mut [u32],
 ) -> Found
-    requires { ⌜ (m ≤ 65536) × Fit false (plain (now sc) (now sn) (now se)) × Fit (eqb op 5) (plain (now cc) (now cn) (now ce))
-        × NetRoom m (plain (now sc) (now sn) (now se)) (plain (now cc) (now cn) (now ce)) (length (now w)) ⌝ }
-    ensures { λ r. ⌜ ((q n : ℕ) → r .code ≡ firstRefusal m (length (now (oc .entry)) / 2) q n
-        (foundEvents op (plain (now (sc .entry)) (now (sn .entry)) (now (se .entry))) (plain (now (cc .entry)) (now (cn .entry)) (now (ce .entry)))))
-        × ((r .code ≡ 0 → ⊥) → r ≡ refusedAs (r .code))
-        × (r .code ≡ 0 → (r ≡ foundAs op (plain (now (sc .entry)) (now (sn .entry)) (now (se .entry))) (plain (now (cc .entry)) (now (cn .entry)) (now (ce .entry))))
-        × (now (oc .exit) ≡ front (now (oc .entry)) (sceneFor op (plain (now (sc .entry)) (now (sn .entry)) (now (se .entry))) (plain (now (cc .entry)) (now (cn .entry)) (now (ce .entry))) .coords))
-        × (now (w .exit) ≡ worked op (plain (now (sc .entry)) (now (sn .entry)) (now (se .entry))) (plain (now (cc .entry)) (now (cn .entry)) (now (ce .entry))) (now (w .entry)))) ⌝ }
+    requires { ⌜ FindAsks op m (plain (now sc) (now sn) (now se)) (plain (now cc) (now cn) (now ce)) (length (now w)) ⌝ }
+    ensures { λ r. ⌜ record { answer = r; coords = now (oc .exit); work = now (w .exit) }
+        ≡ foundOf op m (plain (now (sc .entry)) (now (sn .entry)) (now (se .entry))) (plain (now (cc .entry)) (now (cn .entry)) (now (ce .entry))) (now (oc .entry)) (now (w .entry)) ⌝ }
 {
     if !place_coords(sc, cc, oc) {
-        return refused(12);
+        return refused(oc, w, 12);
     }
     let n = nets(op == 5, sc, sn, se, cc, cn, ce, w);
     let f = compute_intersections(
@@ -132,28 +160,15 @@ pub fn find(
     );
     let code = f.code;
     if code != 0 {
-        return refused(code);
+        return refused(oc, w, code);
     }
-    let h = (sc.len() + cc.len()) / 2 + 1;
-    link_meetings(
-        w,
-        n.from,
-        n.subject,
-        n.at,
-        n.cutter,
-        n.base,
-        f.met,
-        n.base + 5 * f.met,
-        h,
-    );
-    if crowded(w, n.from, n.subject, n.at, n.cutter, n.base, f.met, h) {
-        return refused(9);
+    let g = link(w, n, f.met, (sc.len() + cc.len()) / 2 + 1);
+    if crowded(w, g) {
+        return refused(oc, w, 9);
     }
     Found {
         code: 0,
-        regions: n,
-        met: f.met,
+        regions: g,
         next: f.next,
-        chains: h,
     }
 }

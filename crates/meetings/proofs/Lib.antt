@@ -1,3 +1,5 @@
+pub mod Early
 pub mod Reading
+pub mod Settled
 pub mod Adding
 pub mod Loops

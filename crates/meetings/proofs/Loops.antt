@@ -10,7 +10,7 @@ use lib.Seq.{length-take-le}
 use lib.Ieee.{Float}
 use Rattle.lists.specs.Search.{first}
 use Rattle.lists.specs.Gather.{joined}
-use Rattle.lists.specs.Regions.{run, front, put}
+use Rattle.lists.specs.Regions.{run, front, put, zeros, fzeros}
 use Rattle.lists.proofs.Search.{first-from}
 use Rattle.lists.proofs.Regions.{put-before, run-before, length-run, getD-run}
 use Rattle.segments.specs.Meet.{meeting}
@@ -31,7 +31,9 @@ use Rattle.spatial_index.proofs.Covered.{covered}
 use Rattle.spatial_index.proofs.Candidates.{places-next, places-end, candidates-from}
 use Rattle.meetings.specs.declared.Found.{Found}
 use Rattle.meetings.specs.Booked.{booked, netOn, edgesIn, meetingsAt}
+use Rattle.meetings.specs.MeetingsFound.{MeetingsRoom, meetingsFound}
 use Rattle.meetings.specs.Steps.{edgeIn, metOf, metFrom, metWith, Ready, Grown, Answered}
+use Rattle.meetings.proofs.Settled.{leaves, foundWith, all-left, zeros-left}
 use Rattle.meetings.proofs.Adding.{length-added, grown-none, grown-then, answered-then, answered-stop, answered, onto, length-points, length-numbers}
 
 -- ---- the meetings of an edge, behind those found
@@ -267,39 +269,58 @@ module _ (oc : List Float) (w : List ℕ) (placed se sn ce cn base m : ℕ) wher
   Through oc′ w′ f i =
       (i ≤ sn) × Grown m base oc w 0 (placed / 2) (metTo i) oc′ w′ f × Ready oc′ w′ placed base m (f .met) (f .next) × (length oc′ ≡ length oc) × (length w′ ≡ length w)
 
-  abbrev pub Promised : List Float → List ℕ → Found → Type 0
-  Promised oc′ w′ r =
-      ((q n : ℕ) → r .code ≡ firstRefusal m (length oc / 2 - placed / 2) q n (joined ofMeeting allMet))
-      × (r .code ≡ 0 → (r .met ≡ length allMet) × (r .next ≡ (placed + length (addedBy allMet)) / 2)
-      × (oc′ ≡ put oc placed (addedBy allMet)) × (w′ ≡ put w base (booked allMet)))
-
-  module _ (pre : (placed ≤ length oc) × (2 * (placed / 2) ≡ placed) × (placed ≤ 65536) × (se + 2 * sn ≤ base) × (sn ≤ 65536) × (ce + 2 * cn ≤ base) ×
-      (cn ≤ 65536) × (base + 5 * m ≤ length w) × (m ≤ 65536)) where
+  module _ (pre : MeetingsRoom (length oc) (length w) placed se sn ce cn base m) where
     ready₀ : Ready oc w placed base m 0 (placed / 2)
-    ready₀ = (pre .0, pre .2, pre .7, pre .8, omega arith, omega (arith, pre .1), omega (arith, pre .0, pre .1), omega (arith, pre .1))
+    ready₀ = (
+      pre .placedFits,
+      pre .placedMost,
+      pre .metFits,
+      pre .metMost,
+      omega arith,
+      omega (arith, pre .placedEven),
+      omega (arith, pre .placedFits, pre .placedEven),
+      omega (arith, pre .placedEven),
+    )
 
-    -- what the contract says
-    pub settled : (oc′ : List Float) (w′ : List ℕ) (r : Found) → Answered m base oc w 0 (placed / 2) allMet oc′ w′ r → Promised oc′ w′ r
-    unfolding firstRefusal
-    settled oc′ w′ r a = (λ q n. coded q n (ℕ-discrete (r .code) 0), λ z. lists (a .grown z))
-      where
-        whole : m - 0 ≡ m
-        whole = omega arith
+    -- ---- what the contract says
 
-        coded : (q n : ℕ) → Dec (r .code ≡ 0) → r .code ≡ firstRefusal m (length oc / 2 - placed / 2) q n (joined ofMeeting allMet)
-        coded q n (yes z) =
-            z ∙ sym (a .grown z .goes q n []) ∙ ap₂ (λ (k : ℕ) (es : List Event). firstRefusal k (length oc / 2 - placed / 2) q n es) whole (append-nil (joined ofMeeting allMet))
-        coded q n (no z) = a .refused z q n ∙ ap (λ (k : ℕ). firstRefusal k (length oc / 2 - placed / 2) q n (joined ofMeeting allMet)) whole
+    module _ (oc′ : List Float) (w′ : List ℕ) (r : Found) (a : Answered m base oc w 0 (placed / 2) allMet oc′ w′ r) where
+      abbrev refusedWith : ℕ
+      refusedWith = firstRefusal m (length oc / 2 - placed / 2) 0 0 (joined ofMeeting allMet)
 
-        lists : Grown m base oc w 0 (placed / 2) allMet oc′ w′ r
-            → (r .met ≡ length allMet) × (r .next ≡ (placed + length (addedBy allMet)) / 2) × (oc′ ≡ put oc placed (addedBy allMet)) × (w′ ≡ put w base (booked allMet))
-        lists g =
-            let at : base + 5 * 0 ≡ base = omega arith in (
-              omega (arith, g .met-is),
-              omega (arith, g .next-is, pre .1),
-              g .points ∙ ap (λ (k : ℕ). put oc k (addedBy allMet)) (pre .1),
-              g .numbers ∙ ap (λ (k : ℕ). put w k (booked allMet)) at,
-            )
+      coded : Dec (r .code ≡ 0) → r .code ≡ refusedWith
+      unfolding firstRefusal
+      coded (yes z) =
+          let whole : m - 0 ≡ m = omega arith in
+          z ∙ sym (a .grown z .goes 0 0 []) ∙ ap₂ (λ (k : ℕ) (es : List Event). firstRefusal k (length oc / 2 - placed / 2) 0 0 es) whole (append-nil (joined ofMeeting allMet))
+      coded (no z) =
+          let whole : m - 0 ≡ m = omega arith in
+          a .refused z 0 0 ∙ ap (λ (k : ℕ). firstRefusal k (length oc / 2 - placed / 2) 0 0 (joined ofMeeting allMet)) whole
+
+      code-is : r .code ≡ refusedWith
+      code-is = coded (ℕ-discrete (r .code) 0)
+
+      -- none is refused
+      pub all-found : r .code ≡ 0 → leaves r oc′ w′ ≡ meetingsFound m placed se sn ce cn base oc w
+      all-found z =
+          let g = a .grown z in
+          let at : base + 5 * 0 ≡ base = omega arith in
+          let count : r .met ≡ length allMet = omega (arith, g .met-is) in
+          let half : r .next ≡ (placed + length (addedBy allMet)) / 2 = omega (arith, g .next-is, pre .placedEven) in
+          let points : oc′ ≡ put oc placed (addedBy allMet) = g .points ∙ ap (λ (k : ℕ). put oc k (addedBy allMet)) (pre .placedEven) in
+          let numbers : w′ ≡ put w base (booked allMet) = g .numbers ∙ ap (λ (k : ℕ). put w k (booked allMet)) at in
+          ap (λ (k : ℕ). leaves (foundWith k (r .met) (r .next)) oc′ w′) z
+          ∙ ap₂ (λ (i j : ℕ). leaves (foundWith 0 i j) oc′ w′) count half
+          ∙ ap₂ (leaves (foundWith 0 (length allMet) ((placed + length (addedBy allMet)) / 2))) points numbers
+          ∙ sym (all-left m placed se sn ce cn base oc w (sym code-is ∙ z))
+
+      -- one is
+      pub one-refused : (r .code ≡ 0 → ⊥) → length oc′ ≡ length oc → length w′ ≡ length w → (oc″ : List Float) (w″ : List ℕ) → oc″ ≡ fzeros (length oc′) → w″ ≡ zeros (length w′)
+          → leaves (foundWith (r .code) 0 0) oc″ w″ ≡ meetingsFound m placed se sn ce cn base oc w
+      one-refused z lo lw oc″ w″ eo ew =
+          ap₂ (leaves (foundWith (r .code) 0 0)) (eo ∙ ap fzeros lo) (ew ∙ ap zeros lw)
+          ∙ ap (λ (k : ℕ). leaves (foundWith k 0 0) (fzeros (length oc)) (zeros (length w))) code-is
+          ∙ sym (zeros-left m placed se sn ce cn base oc w (λ y. z (code-is ∙ y)))
 
     -- the boxes that `block_bounds` makes
     pub covered-by : (w₀ boxes : List Float) → boxes ≡ front w₀ (blockBoxes (take placed oc) (take (ce + 2 * cn - ce) (drop ce w)) (length w₀ / 4))
@@ -312,7 +333,7 @@ module _ (oc : List Float) (w : List ℕ) (placed se sn ce cn base m : ℕ) wher
     pub begin : (f : Found) → f .code ≡ 0 → f .met ≡ 0 → f .next ≡ placed / 2 → Through oc w f 0
     unfolding meetingsTo
     begin f c a b =
-        let none = grown-none m base oc w 0 (placed / 2) f c a b (omega arith) (omega (arith, pre .0, pre .1)) in
+        let none = grown-none m base oc w 0 (placed / 2) f c a b (omega arith) (omega (arith, pre .placedFits, pre .placedEven)) in
         (omega arith, none, ready-on oc w placed base m 0 (placed / 2) ready₀ [] oc w f none, refl, refl)
 
     -- the boxes made at the start still cover
@@ -321,7 +342,7 @@ module _ (oc : List Float) (w : List ℕ) (placed se sn ce cn base m : ℕ) wher
     covers oc₁ w₁ f i boxes inv c =
         rw (
           coords-kept oc w placed base m 0 (placed / 2) ready₀ (metTo i) oc₁ w₁ f (inv .1),
-          edges-kept oc w placed base m 0 (placed / 2) ready₀ (metTo i) oc₁ w₁ f (inv .1) ce cn (pre .5),
+          edges-kept oc w placed base m 0 (placed / 2) ready₀ (metTo i) oc₁ w₁ f (inv .1) ce cn (pre .cutterFits),
         ) c
 
     module _ (oc₁ : List Float) (w₁ : List ℕ) (f : Found) (i : ℕ) (inv : Through oc₁ w₁ f i) (l : i < sn) (oc₂ : List Float) (w₂ : List ℕ) (h : Found)
@@ -332,14 +353,15 @@ module _ (oc : List Float) (w : List ℕ) (placed se sn ce cn base m : ℕ) wher
           metWith (take placed oc) i (edgeAt (subject .edges) i) (cutter .edges) ((length (take placed oc) + length (addedBy (metTo i))) / 2)
 
       next-is : f .next ≡ (length (take placed oc) + length (addedBy (metTo i))) / 2
-      next-is = omega (arith, inv .1 .next-is, length-take-le placed oc (pre .0), pre .1)
+      next-is = omega (arith, inv .1 .next-is, length-take-le placed oc (pre .placedFits), pre .placedEven)
 
       here-is : here ≡ metWith (take placed oc₁) i (edgeIn w₁ se i) (edgesIn w₁ ce cn) (f .next)
       here-is =
           let kc = coords-kept oc w placed base m 0 (placed / 2) ready₀ (metTo i) oc₁ w₁ f (inv .1) in
-          let kf = edges-kept oc w placed base m 0 (placed / 2) ready₀ (metTo i) oc₁ w₁ f (inv .1) ce cn (pre .5) in
+          let kf = edges-kept oc w placed base m 0 (placed / 2) ready₀ (metTo i) oc₁ w₁ f (inv .1) ce cn (pre .cutterFits) in
           let ke : edgeAt (subject .edges) i ≡ edgeIn w₁ se i =
-          edge-at w se sn i (omega (arith, pre .3, pre .7)) l ∙ sym (edge-kept oc w placed base m 0 (placed / 2) ready₀ (metTo i) oc₁ w₁ f (inv .1) se i (omega (arith, pre .3))) in
+          edge-at w se sn i (omega (arith, pre .subjectFits, pre .metFits)) l ∙ sym
+          (edge-kept oc w placed base m 0 (placed / 2) ready₀ (metTo i) oc₁ w₁ f (inv .1) se i (omega (arith, pre .subjectFits))) in
           ap₂ (λ (cs : List Float) (n : ℕ). metWith cs i (edgeAt (subject .edges) i) (cutter .edges) n) (sym kc) (sym next-is)
           ∙ ap₂ (λ (e : Edge) (fs : List Edge). metWith (take placed oc₁) i e fs (f .next)) ke (sym kf)
 
@@ -365,7 +387,7 @@ module _ (oc : List Float) (w : List ℕ) (placed se sn ce cn base m : ℕ) wher
           )
 
       count : length (subject .edges) ≡ sn
-      count = count-in w se sn (omega (arith, pre .3, pre .7))
+      count = count-in w se sn (omega (arith, pre .subjectFits, pre .metFits))
 
       pub stop : (h .code ≡ 0 → ⊥) → Answered m base oc w 0 (placed / 2) allMet oc₂ w₂ h
       unfolding meetings
@@ -378,6 +400,6 @@ module _ (oc : List Float) (w : List ℕ) (placed se sn ce cn base m : ℕ) wher
     pub finish : (oc₁ : List Float) (w₁ : List ℕ) (f : Found) (i : ℕ) → Through oc₁ w₁ f i → sn ≤ i → Answered m base oc w 0 (placed / 2) allMet oc₁ w₁ f
     unfolding meetings
     finish oc₁ w₁ f i inv l =
-        let all : length (subject .edges) ≡ i = omega (arith, inv .0, count-in w se sn (omega (arith, pre .3, pre .7))) in
+        let all : length (subject .edges) ≡ i = omega (arith, inv .0, count-in w se sn (omega (arith, pre .subjectFits, pre .metFits))) in
         let whole : allMet ≡ metTo i = ap (λ (k : ℕ). metTo k) all in
         onto m base oc w 0 (placed / 2) _ _ oc₁ w₁ f whole (answered m base oc w 0 (placed / 2) (metTo i) oc₁ w₁ f (inv .1))

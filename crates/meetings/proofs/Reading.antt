@@ -7,9 +7,7 @@ use lib.ListN.{length, getD, take, List·getD-append}
 use lib.Seq.{getD-append-add}
 use lib.Ieee.{Float}
 use Rattle.lists.specs.Gather.{joined}
-use Rattle.lists.specs.Regions.{put}
 use Rattle.lists.proofs.Gather.{places-at}
-use Rattle.lists.proofs.Regions.{put-in}
 use Rattle.segments.specs.Meet.{meeting}
 use Rattle.segments.specs.declared.Meeting.{Meeting}
 use Rattle.segments.specs.declared.Meeting.the-variants.{Apart, Existing, New, Overlap}

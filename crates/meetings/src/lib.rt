@@ -2,16 +2,17 @@
 // working list.
 ghost use mathlib.Core.Path.{_≡_};
 ghost use mathlib.Core.List.{[], _∷_};
-ghost use Prim.Native.Nat.{ℕ, _+_, _*_, _-_, _/_, _≤_, _<_};
+ghost use Prim.Native.Nat.{_+_, _*_, _/_, _≤_, _<_};
 ghost use lib.ListN.{length, take};
-ghost use Rattle.lists.specs.Gather.{joined};
 ghost use Rattle.lists.specs.Regions.{put};
 ghost use Rattle.segments.specs.Meet.{meeting};
-ghost use Rattle.rules.specs.Meetings.{nodeOf, segmentOf, addedBy};
-ghost use Rattle.rules.specs.Refusals.{ofMeeting, firstRefusal};
+ghost use Rattle.rules.specs.Meetings.{nodeOf, segmentOf};
 ghost use Rattle.spatial_index.specs.Blocks.{Covered};
-ghost use Rattle.meetings.specs.Booked.{edgesIn, booked, meetingsAt};
+ghost use Rattle.meetings.specs.Booked.{edgesIn, meetingsAt};
+ghost use Rattle.meetings.specs.MeetingsFound.{MeetingsRoom, meetingsFound};
 ghost use Rattle.meetings.specs.Steps.{edgeIn, metOf, metWith, Ready, Answered};
+use lists::zero_f64;
+use lists::zero_u32;
 use plane::point_at;
 use segments::Meeting;
 use segments::PointId;
@@ -232,8 +233,7 @@ fn of_edges(
     base: usize,
     m: usize,
 ) -> Found
-    requires { ⌜ ((placed ≤ length (now oc)) × (2 * (placed / 2) ≡ placed) × (placed ≤ 65536) × (se + 2 * sn ≤ base) × (sn ≤ 65536) × (ce + 2 * cn ≤ base) × (cn ≤ 65536)
-        × (base + 5 * m ≤ length (now w)) × (m ≤ 65536)) × (Covered (take placed (now oc)) (edgesIn (now w) ce cn) (now boxes)) ⌝ }
+    requires { ⌜ MeetingsRoom (length (now oc)) (length (now w)) placed se sn ce cn base m × Covered (take placed (now oc)) (edgesIn (now w) ce cn) (now boxes) ⌝ }
     ensures { λ r. ⌜ Answered m base (now (oc .entry)) (now (w .entry)) 0 (placed / 2) (meetingsAt (now (oc .entry)) (now (w .entry)) placed se sn ce cn)
         (now (oc .exit)) (now (w .exit)) r ⌝ }
 {
@@ -254,7 +254,8 @@ fn of_edges(
 }
 
 // The meetings by subject edge, then candidate in rising index; new points are numbered as found. The first `placed` numbers of oc are the coordinates
-// of both meshes. The sn edges of the subject stand at se, the cn edges of the cutter at ce; the meetings go to base, five numbers each.
+// of both meshes. The sn edges of the subject stand at se, the cn edges of the cutter at ce; the meetings go to base, five numbers each. A refusal leaves
+// zeros.
 pub fn compute_intersections(
     oc: &mut [f64],
     w: &mut [u32],
@@ -266,16 +267,22 @@ pub fn compute_intersections(
     base: usize,
     m: usize,
 ) -> Found
-    requires { ⌜ (placed ≤ length (now oc)) × (2 * (placed / 2) ≡ placed) × (placed ≤ 65536) × (se + 2 * sn ≤ base) × (sn ≤ 65536) × (ce + 2 * cn ≤ base) × (cn ≤ 65536)
-        × (base + 5 * m ≤ length (now w)) × (m ≤ 65536) ⌝ }
-    ensures { λ r. ⌜ ((q n : ℕ) → r .code ≡ firstRefusal m (length (now (oc .entry)) / 2 - placed / 2) q n
-        (joined ofMeeting (meetingsAt (now (oc .entry)) (now (w .entry)) placed se sn ce cn)))
-        × (r .code ≡ 0 → (r .met ≡ length (meetingsAt (now (oc .entry)) (now (w .entry)) placed se sn ce cn))
-        × (r .next ≡ (placed + length (addedBy (meetingsAt (now (oc .entry)) (now (w .entry)) placed se sn ce cn))) / 2)
-        × (now (oc .exit) ≡ put (now (oc .entry)) placed (addedBy (meetingsAt (now (oc .entry)) (now (w .entry)) placed se sn ce cn)))
-        × (now (w .exit) ≡ put (now (w .entry)) base (booked (meetingsAt (now (oc .entry)) (now (w .entry)) placed se sn ce cn)))) ⌝ }
+    requires { ⌜ MeetingsRoom (length (now oc)) (length (now w)) placed se sn ce cn base m ⌝ }
+    ensures { λ r. ⌜ record { answer = r; coords = now (oc .exit); work = now (w .exit) }
+        ≡ meetingsFound m placed se sn ce cn base (now (oc .entry)) (now (w .entry)) ⌝ }
 {
     let mut boxes = [0.0; 4096];
     block_bounds(&oc[..placed], &w[ce..ce + 2 * cn], &mut boxes);
-    of_edges(oc, w, &boxes, placed, se, sn, ce, cn, base, m)
+    let f = of_edges(oc, w, &boxes, placed, se, sn, ce, cn, base, m);
+    let code = f.code;
+    if code != 0 {
+        zero_f64(oc);
+        zero_u32(w);
+        return Found {
+            code,
+            met: 0,
+            next: 0,
+        };
+    }
+    f
 }

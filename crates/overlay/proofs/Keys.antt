@@ -17,14 +17,13 @@ use Rattle.entry.specs.Mesh.{cellSize}
 use Rattle.rules.specs.Neighbours.{added, addedAll, descendingTo, computeDescending}
 use Rattle.rules.specs.Meetings.{Scene}
 use Rattle.rules.specs.Nodes.{collected, overfull, crowded}
-use Rattle.edge_nodes.specs.Links.{Linked}
-use Rattle.edge_nodes.specs.Lent.{collectedIn}
-use Rattle.edge_nodes.specs.Stored.{Stored}
-use Rattle.edge_nodes.proofs.Scene.{collected-is}
-use Rattle.cells.specs.Cells.{Uncrowded}
+use Rattle.regions.specs.declared.Regions.{Regions}
+use Rattle.edge_nodes.specs.Lent.{collectedOn}
+use Rattle.cells.specs.Cells.{AllFew}
 use Rattle.cells.proofs.Scene.{same-keys}
 use Rattle.pieces.specs.Pieces.{runsOf}
 use Rattle.pieces.proofs.Runs.{length-runs}
+use Rattle.finding.specs.Found.{LinkedIn}
 use Rattle.cutting_cells.specs.Listed.{CellsReady}
 
 -- one of the edges es has the key of e
@@ -86,26 +85,25 @@ descending-has (suc n) cells j i h l = go (decLe (suc j) n) (λ b. descending-ha
         subst (λ (k : ℕ). Among (addedAll (descendingTo n cells) (ring (getD cells k []))) (edgeAt (ring (getD cells j [])) i)) (sym same)
         (all-have (ring (getD cells j [])) (descendingTo n cells) i l)
 
-pub cells-ready : (subject cutter : List Edge) (met links own stops : List ℕ) → Uncrowded subject cutter met links (computeDescending (runsOf own stops))
+pub cells-ready : (work : List ℕ) (g : Regions) (own stops : List ℕ) → AllFew work g (computeDescending (runsOf own stops))
     → ((i : ℕ) → i < length stops → cellSize stops i ≤ 256)
-    → CellsReady subject cutter met links own stops
-cells-ready subject cutter met links own stops few small i h =
+    → CellsReady work g own stops
+cells-ready work g own stops few small i h =
     let cells : List (List ℕ) = runsOf own stops in
     let below : i < length cells = omega (arith, h, length-runs own stops) in
-    (same-keys subject cutter met links (computeDescending cells) few (ring (getD cells i [])) (λ k l. descending-has (length cells) cells i k below l), small i h)
+    (same-keys work g (computeDescending cells) few (ring (getD cells i [])) (λ k l. descending-has (length cells) cells i k below l), small i h)
 
 -- ---- refusal 9 passed
 
-module _ (sc : Scene) (met links : List ℕ) (stored : Stored (sc .met) met) (linked : Linked (sc .subject .edges) (sc .cutter .edges) met links) where
-  few-under : (es : List Edge) → overfull sc es ≡ false → (i : ℕ) → i < length es → length (collectedIn (sc .subject .edges) (sc .cutter .edges) met (edgeAt es i)) ≤ 256
+module _ (sc : Scene) (w : List ℕ) (g : Regions) (linked : LinkedIn w g) (same : (e : Edge) → collectedOn w g e ≡ collected sc e) where
+  few-under : (es : List Edge) → overfull sc es ≡ false → AllFew w g es
   few-under es none i h =
       let few : length (collected sc (edgeAt es i)) ≤ 256 = ltb-false 256 (length (collected sc (edgeAt es i)))
       (has-none (λ k. ltb 256 (length (collected sc (edgeAt es k)))) (length es) i none h) in
-      omega (arith, few, ap length (collected-is sc met stored (edgeAt es i)))
+      record { lies = linked .lies; linked = linked .linked; few = omega (arith, few, ap length (same (edgeAt es i))) }
 
-  pub not-crowded : crowded sc ≡ false
-      → Uncrowded (sc .subject .edges) (sc .cutter .edges) met links (sc .subject .edges) × Uncrowded (sc .subject .edges) (sc .cutter .edges) met links (sc .cutter .edges)
+  pub not-crowded : crowded sc ≡ false → AllFew w g (sc .subject .edges) × AllFew w g (sc .cutter .edges)
   unfolding crowded
   not-crowded h =
       let both = or-false (overfull sc (sc .subject .edges)) (overfull sc (sc .cutter .edges)) h in
-      (record { linked = linked; few = few-under (sc .subject .edges) (both .0) }, record { linked = linked; few = few-under (sc .cutter .edges) (both .1) })
+      (few-under (sc .subject .edges) (both .0), few-under (sc .cutter .edges) (both .1))

@@ -5,7 +5,7 @@ use Prim.Native.Nat.{ℕ, _+_, _*_, _-_, _/_, _^_, _≤_, _<_}
 use native.Mathlib.Omega.{arith}
 use lib.ListN.{length, take}
 use lib.Ieee.{Float}
-use Rattle.lists.specs.Regions.{front, zeros}
+use Rattle.lists.specs.Regions.{zeros}
 use Rattle.entry.specs.Mesh.{Mesh}
 use Rattle.entry.specs.Passed.{Passed}
 use Rattle.rules.specs.Meetings.{Scene}
@@ -14,19 +14,18 @@ use Rattle.rules.specs.Refusals.{firstRefusal}
 use Rattle.rules.specs.Overlay.{lentLists, result, stateOf, answered}
 use Rattle.pieces.specs.Pieces.{room}
 use Rattle.finding.specs.declared.stages.Found.{Found}
-use Rattle.finding.specs.Found.{foundEvents, foundAs, refusedAs, worked}
+use Rattle.finding.specs.Found.{foundEvents, foundOf}
 use Rattle.finding.proofs.Passed.{bare, ready}
-use Rattle.finding.proofs.Result.{met-few, code-is, coords-are}
+use Rattle.finding.proofs.Settled.{leaves}
+use Rattle.finding.proofs.Result.{met-few, code-is}
 use Rattle.finding.proofs.Scenes.{course-is, found-passes}
 use Rattle.cutting_cells.specs.declared.Listed.{Listed}
-use Rattle.cutting_cells.specs.Listed.{MeshesIn, cellEvents, ListedBehind, Fits, overBoth, noneYet}
-use Rattle.overlay.specs.Lent.{part, MeshesReady}
+use Rattle.cutting_cells.specs.Listed.{MeshesIn, MeshesReady, cellEvents, ListedBehind, Fits, overBoth, noneYet}
 use Rattle.overlay.proofs.Whole.{found-refused, cells-state, cells-answered, points-are}
-use Rattle.overlay.proofs.Found.{coords-long, next-is, next-long, points-in, regions-in, lists-hold, lists-ready}
+use Rattle.overlay.proofs.Found.{coords-long, placed, next-is, next-long, points-in, lists-hold, lists-ready}
 
 module _ (op m : ℕ) (s c : Mesh) (oc : List Float) (on oe ok of w : List ℕ) (pa : Passed op m s c (length w)) (x : Found) (oc₁ : List Float) (w₁ : List ℕ)
-    (told : ((q n : ℕ) → x .code ≡ firstRefusal m (length oc / 2) q n (foundEvents op (bare s) (bare c))) × ((x .code ≡ 0 → ⊥) → x ≡ refusedAs (x .code))
-    × (x .code ≡ 0 → (x ≡ foundAs op (bare s) (bare c)) × (oc₁ ≡ front oc (sceneFor op (bare s) (bare c) .coords)) × (w₁ ≡ worked op (bare s) (bare c) w))) where
+    (told : leaves x oc₁ w₁ ≡ foundOf op m (bare s) (bare c) oc w) where
   abbrev sc : Scene
   sc = sceneFor op s c
 
@@ -37,7 +36,7 @@ module _ (op m : ℕ) (s c : Mesh) (oc : List Float) (on oe ok of w : List ℕ) 
       × (code ≡ 0 → result 0 pieces points doubled (lentLists oc₂ on₂ oe₂ ok₂ of₂ (zeros (length w))) ≡ answered op s c (lentLists oc on oe ok of w))
 
   told-all : (q n : ℕ) → x .code ≡ firstRefusal m (length oc / 2) q n (foundEvents op s c)
-  told-all = let t = ready op m s c (length w) pa in code-is op m s c (t .0) (t .1) (t .2) w (t .3) oc oc₁ w₁ x told
+  told-all = code-is op m s c w (ready op m s c (length w) pa) oc oc₁ w₁ x told
 
   pub stops-found : (x .code ≡ 0 → ⊥) → (a p q d : ℕ) → a ≡ x .code → (oc₂ : List Float) (on₂ oe₂ ok₂ of₂ : List ℕ) → Ran a p q d oc₂ on₂ oe₂ ok₂ of₂
   stops-found n a p q d e oc₂ on₂ oe₂ ok₂ of₂ = (
@@ -50,29 +49,12 @@ module _ (op m : ℕ) (s c : Mesh) (oc : List Float) (on oe ok of w : List ℕ) 
     passed : firstRefusal m (length oc / 2) (room oe ok of) (length on) (foundEvents op s c) ≡ 0
     passed = sym (told-all (room oe ok of) (length on)) ∙ z
 
-    abbrev subject : List ℕ
-    subject = part w₁ (x .regions .from) (x .regions .from + 2 * x .regions .subject)
+    -- what `cut_meshes` asks
+    pub asked : MeshesReady op w₁ (x .regions) (s .ends) (s .kinds) (s .families) (c .ends) (c .kinds) (c .families)
+    asked = lists-ready op m s c w pa oc oc₁ w₁ x told z
 
-    abbrev cutter : List ℕ
-    cutter = part w₁ (x .regions .at) (x .regions .at + 2 * x .regions .cutter)
-
-    abbrev met : List ℕ
-    met = part w₁ (x .regions .base) (x .regions .base + 5 * x .met)
-
-    abbrev links : List ℕ
-    links = part w₁ (x .regions .base + 5 * x .met) (x .regions .base + 5 * x .met + 2 * (x .chains + x .met))
-
-    abbrev nodes : List ℕ
-    nodes = part w₁ (x .regions .entries) (x .regions .entries + length (c .nodes))
-
-    -- what `cut_found` asks
-    pub asked : (2 * x .next ≤ length oc₁) × (x .regions .from + 2 * x .regions .subject ≤ length w₁) × (x .regions .at + 2 * x .regions .cutter ≤ length w₁) ×
-        (x .regions .base + 5 * x .met + 2 * (x .chains + x .met) ≤ length w₁)
-        × (x .regions .entries + length (c .nodes) ≤ length w₁) × MeshesReady op subject cutter met links (s .nodes) (s .ends) (s .kinds) (s .families) nodes
-        (c .ends) (c .kinds) (c .families)
-    asked =
-        let h = regions-in op m s c w pa oc oc₁ w₁ x told z in
-        (points-in op m s c w pa oc oc₁ w₁ x told z, h .0, h .1, h .2, h .3, lists-ready op m s c w pa oc oc₁ w₁ x told z)
+    pub points-fit : 2 * x .next ≤ length oc₁
+    points-fit = points-in op m s c w pa oc oc₁ w₁ x told z
 
     pub next-range : ((length (s .coords) + length (c .coords)) / 2 ≤ x .next) × (x .next < 2 ^ 32)
     next-range =
@@ -83,7 +65,7 @@ module _ (op m : ℕ) (s c : Mesh) (oc : List Float) (on oe ok of w : List ℕ) 
 
     module _ (r : Listed) (on′ oe′ ok′ of′ : List ℕ)
         (got : (r .code ≡ 0 → Fits (length (s .ends) + length (c .ends)) noneYet on oe ok of r)
-        × ((v : Scene) → MeshesIn v (take (2 * x .next) oc₁) subject cutter met (s .nodes) (s .ends) (s .kinds) (s .families) nodes (c .ends) (c .kinds) (c .families)
+        × ((v : Scene) → MeshesIn v (take (2 * x .next) oc₁) w₁ (x .regions) (s .ends) (s .kinds) (s .families) (c .ends) (c .kinds) (c .families)
         → ListedBehind (overBoth op v (cellEvents op v)) (overBoth op v (λ u. kept v u op)) noneYet on oe ok of r on′ oe′ ok′ of′)) where
       listed : ListedBehind (overBoth op sc (cellEvents op sc)) (overBoth op sc (λ u. kept sc u op)) noneYet on oe ok of r on′ oe′ ok′ of′
       listed = got .1 sc (lists-hold op m s c w pa oc oc₁ w₁ x told z)
@@ -102,7 +84,7 @@ module _ (op m : ℕ) (s c : Mesh) (oc : List Float) (on oe ok of w : List ℕ) 
           let half : length (s .coords) + length (c .coords) ≡ 2 * ((length (s .coords) + length (c .coords)) / 2) = omega (arith, pa .subject .even, pa .cutter .even) in (
             sym y ∙ state-is,
             λ _. cells-answered op m s c oc on oe ok of w (foundEvents op s c) (course-is op s c) (f .0) (f .1) (f .2) r on′ oe′ ok′ of′ listed y oc₁
-                (let t = ready op m s c (length w) pa in coords-are op m s c (t .0) (t .1) (t .2) w (t .3) oc oc₁ w₁ x told z)
+                (placed op m s c w pa oc oc₁ w₁ x told z)
                 (x .next - (length (s .coords) + length (c .coords)) / 2)
                 (points-are op s c (x .next) ((length (s .coords) + length (c .coords)) / 2) half (next-is op m s c w pa oc oc₁ w₁ x told z)),
           )

@@ -1,5 +1,5 @@
 -- The whole from its parts: what is found before the cells, and the cells. Assumes nothing.
-use mathlib.Core.Path.{_≡_, refl, sym, ap, ap₂, _∙_}
+use mathlib.Core.Path.{_≡_, sym, ap, ap₂, _∙_}
 use mathlib.Core.List.{List, _++_, map}
 use Prim.Native.Nat.{ℕ, _+_, _*_, _-_, _/_}
 use native.Mathlib.Nat.{zero-add}
@@ -9,60 +9,15 @@ use lib.Ieee.{Float}
 use Rattle.lists.specs.Regions.{front, zeros}
 use Rattle.lists.proofs.Regions.{front-put}
 use Rattle.cutting.specs.Outcome.{flat, stops}
-use Rattle.cutting.specs.Lent.{flatEdges, pairs}
-use Rattle.cutting.proofs.Pairs.{pairs-ends}
 use Rattle.entry.specs.Mesh.{Mesh}
-use Rattle.rules.specs.Mesh.{theSubject, theCutter, cellAt, cellsOf}
-use Rattle.rules.specs.Snap.{weld}
-use Rattle.rules.specs.Neighbours.{renumbered, subjectNet, cutterNet}
 use Rattle.rules.specs.Meetings.{Scene, addedBy, sceneOf}
 use Rattle.rules.specs.Operations.{sceneFor, kept, listingWith}
 use Rattle.rules.specs.Refusals.{Event, course, firstRefusal}
 use Rattle.rules.specs.Overlay.{Lists, lentLists, result, written, stateOf, stateWith, answered, answeredWith}
-use Rattle.edge_nodes.specs.Stored.{Stored}
-use Rattle.pieces.specs.Pieces.{runsOf, room}
+use Rattle.pieces.specs.Pieces.{room}
 use Rattle.pieces.proofs.Room.{refused}
 use Rattle.cutting_cells.specs.declared.Listed.{Listed}
-use Rattle.cutting_cells.specs.Listed.{MeshIn, MeshesIn, cellEvents, nodesOf, ListedBehind, overBoth, noneYet}
-
--- ---- the scene of the definitions stands in the lists
-
-module _ (op : ℕ) (s c : Mesh) (coords : List Float) (subject cutter met nodes : List ℕ) (ep : sceneFor op s c .coords ≡ coords)
-    (es : subject ≡ flatEdges (sceneFor op s c .subject .edges)) (ec : cutter ≡ flatEdges (sceneFor op s c .cutter .edges))
-    (em : Stored (sceneFor op s c .met) met) (en : renumbered (weld s c) (cellsOf c) ≡ runsOf nodes (c .ends)) where
-  abbrev sc : Scene
-  sc = sceneFor op s c
-
-  subject-edges : sc .subject .edges ≡ pairs subject
-  subject-edges = sym (pairs-ends (sc .subject .edges)) ∙ ap pairs (sym es)
-
-  cutter-edges : sc .cutter .edges ≡ pairs cutter
-  cutter-edges = sym (pairs-ends (sc .cutter .edges)) ∙ ap pairs (sym ec)
-
-  subject-cells : sc .subject .cells ≡ runsOf (s .nodes) (s .ends)
-  unfolding sceneOf subjectNet cellsOf cellAt
-  subject-cells = refl
-
-  cutter-cells : sc .cutter .cells ≡ runsOf nodes (c .ends)
-  unfolding sceneOf cutterNet
-  cutter-cells = en
-
-  subject-mesh : MeshIn sc theSubject (s .nodes) (s .ends) (s .kinds) (s .families)
-  unfolding sceneOf subjectNet
-  subject-mesh = record { cells = subject-cells; kindsAre = refl; familiesAre = refl }
-
-  cutter-mesh : MeshIn sc theCutter nodes (c .ends) (c .kinds) (c .families)
-  unfolding sceneOf cutterNet
-  cutter-mesh = record { cells = cutter-cells; kindsAre = refl; familiesAre = refl }
-
-  pub meshes-in : MeshesIn sc coords subject cutter met (s .nodes) (s .ends) (s .kinds) (s .families) nodes (c .ends) (c .kinds) (c .families)
-  meshes-in =
-      record {
-        subjectCut = record { points = ep; subjectEdges = subject-edges; cutterEdges = cutter-edges; meetings = em; nearEdges = cutter-edges; nearCells = cutter-cells };
-        cutterCut = record { points = ep; subjectEdges = subject-edges; cutterEdges = cutter-edges; meetings = em; nearEdges = subject-edges; nearCells = subject-cells };
-        subjectMesh = subject-mesh;
-        cutterMesh = cutter-mesh;
-      }
+use Rattle.cutting_cells.specs.Listed.{cellEvents, nodesOf, ListedBehind, overBoth, noneYet}
 
 -- ---- the refusal of the state, and the answer
 

@@ -1,5 +1,4 @@
 // The overlay of two meshes: the public call.
-use cutting_cells::Listed;
 use cutting_cells::cut_meshes;
 use entry::entry;
 use finding::find;
@@ -7,15 +6,10 @@ use lists::zero_f64;
 use lists::zero_u8;
 use lists::zero_u32;
 ghost use mathlib.Core.Path.{_≡_};
-ghost use Prim.Native.Nat.{_+_, _*_, _≤_};
-ghost use lib.ListN.{length, take};
+ghost use lib.ListN.{length};
 ghost use Rattle.lists.specs.Regions.{zeros};
 ghost use Rattle.entry.specs.Mesh.{mesh};
 ghost use Rattle.entry.specs.Refused.{entryOf};
-ghost use Rattle.rules.specs.Meetings.{Scene};
-ghost use Rattle.rules.specs.Operations.{kept};
-ghost use Rattle.cutting_cells.specs.Listed.{MeshesIn, cellEvents, ListedBehind, Fits, overBoth, noneYet};
-ghost use Rattle.overlay.specs.Lent.{part, MeshesReady};
 ghost use Rattle.rules.specs.Overlay.{lentLists, result, cleared, stateOf, answered, overlayOf};
 
 // The refusal or 0, and the counts of pieces and new points; `doubled` is 0, as no table names a neighbour twice, and is kept for readers of old
@@ -36,69 +30,6 @@ fn plain(code: u32) -> Answer
         points: 0,
         doubled: 0,
     }
-}
-
-// Cuts the cells by what stands in oc and w: `next` points; s edges of the subject, c of the cutter and the meetings, from `from`, `at` and `base` on, with
-// the links of h chains behind these; the n node entries of the cutter, from `entries` on.
-fn cut_found(
-    op: u32,
-    next: usize,
-    entries: usize,
-    from: usize,
-    s: usize,
-    at: usize,
-    c: usize,
-    base: usize,
-    met: usize,
-    h: usize,
-    n: usize,
-    oc: &[f64],
-    w: &[u32],
-    sn: &[u32],
-    se: &[u32],
-    sk: &[u8],
-    sf: &[u32],
-    ce: &[u32],
-    ck: &[u8],
-    cf: &[u32],
-    on: &mut [u32],
-    oe: &mut [u32],
-    ok: &mut [u8],
-    of: &mut [u32],
-) -> Listed
-    requires { ⌜ (2 * next ≤ length (now oc)) × (from + 2 * s ≤ length (now w)) × (at + 2 * c ≤ length (now w)) × (base + 5 * met + 2 * (h + met) ≤ length (now w)) × (entries + n ≤ length (now w))
-        × MeshesReady op (part (now w) from (from + 2 * s)) (part (now w) at (at + 2 * c)) (part (now w) base (base + 5 * met)) (part (now w) (base + 5 * met) (base + 5 * met + 2 * (h + met))) (now sn) (now se) (now sk) (now sf) (part (now w) entries (entries + n)) (now ce) (now ck) (now cf) ⌝ }
-    ensures { λ r. ⌜ (r .code ≡ 0 → Fits (length (now (se .entry)) + length (now (ce .entry))) noneYet (now (on .entry)) (now (oe .entry)) (now (ok .entry)) (now (of .entry)) r)
-        × ((v : Scene) → MeshesIn v (take (2 * next) (now (oc .entry))) (part (now (w .entry)) from (from + 2 * s)) (part (now (w .entry)) at (at + 2 * c)) (part (now (w .entry)) base (base + 5 * met)) (now (sn .entry)) (now (se .entry)) (now (sk .entry)) (now (sf .entry)) (part (now (w .entry)) entries (entries + n)) (now (ce .entry)) (now (ck .entry)) (now (cf .entry))
-        → ListedBehind (overBoth op v (cellEvents op v)) (overBoth op v (λ w. kept v w op))
-        noneYet (now (on .entry)) (now (oe .entry)) (now (ok .entry)) (now (of .entry)) r (now (on .exit)) (now (oe .exit)) (now (ok .exit)) (now (of .exit))) ⌝ }
-{
-    let k = 2 * next;
-    let s_end = from + 2 * s;
-    let c_end = at + 2 * c;
-    let met_end = base + 5 * met;
-    let links_end = met_end + 2 * (h + met);
-    let n_end = entries + n;
-    cut_meshes(
-        op,
-        &oc[..k],
-        &w[from..s_end],
-        &w[at..c_end],
-        &w[base..met_end],
-        &w[met_end..links_end],
-        sn,
-        se,
-        sk,
-        sf,
-        &w[entries..n_end],
-        ce,
-        ck,
-        cf,
-        on,
-        oe,
-        ok,
-        of,
-    )
 }
 
 // The stages behind the entry. Where one refuses, the lists are to be cleared.
@@ -135,23 +66,13 @@ fn run(
         return plain(code);
     }
     let next = f.next;
-    let met = f.met;
+    let k = 2 * next;
     let g = f.regions;
-    let r = cut_found(
+    let r = cut_meshes(
         op,
-        next,
-        g.entries,
-        g.from,
-        g.subject,
-        g.at,
-        g.cutter,
-        g.base,
-        met,
-        f.chains,
-        cn.len(),
-        oc,
+        &oc[..k],
         work,
-        sn,
+        g,
         se,
         sk,
         sf,

@@ -16,19 +16,19 @@ use Rattle.cells.proofs.outline_repeats.Statement.{statement}
 use Rattle.cells.proofs.outline_repeats.Tie as tie
 
 abbrev Inv-loop : tie.InvT-loop
-Inv-loop coords subject cutter met links cell darts₀ i₀ darts i =
-    (length darts ≡ 518)
-    × (repeats (outlineFrom coords (pairs subject) (pairs cutter) met cell i) ≡ repeats (outlineIn coords (pairs subject) (pairs cutter) met cell))
+Inv-loop coords w g cell nodes₀ darts₀ i₀ nodes darts i =
+    (length darts ≡ 518) × (length nodes ≡ length nodes₀)
+    × (repeats (outlineFrom coords w g cell i) ≡ repeats (outlineIn coords w g cell))
 
 abbrev μ-loop : tie.MeasureT-loop
-μ-loop coords subject cutter met links cell darts₀ i₀ darts i = length cell - i
+μ-loop coords w g cell nodes₀ darts₀ i₀ nodes darts i = length cell - i
 
 -- places of the code, each counted once
-abbrev entry-at-loop-holds : tie.After-shared-slice-known6 Inv-loop μ-loop → tie.Start Inv-loop μ-loop
-entry-at-loop-holds c = c .before .before .before .before .before .before
+abbrev entry-at-loop-holds : tie.After-slice-known Inv-loop μ-loop → tie.Start Inv-loop μ-loop
+entry-at-loop-holds c = c .before .before .before .before
 
 abbrev entry-of-loop : tie.At-loop Inv-loop μ-loop → tie.Start Inv-loop μ-loop
-entry-of-loop c = c .before .before .before .before .before .before .before
+entry-of-loop c = c .before .before .before .before .before
 
 abbrev loop-at-returns-3 : tie.After-loop Inv-loop μ-loop → tie.At-loop Inv-loop μ-loop
 loop-at-returns-3 c = c .before
@@ -40,16 +40,16 @@ abbrev in-loop : tie.After-next-corner Inv-loop μ-loop → tie.In-loop Inv-loop
 in-loop c = c .before .before
 
 abbrev next-corner-at-lay-own-requires : tie.After-darts Inv-loop μ-loop → tie.After-next-corner Inv-loop μ-loop
-next-corner-at-lay-own-requires c = c .before
+next-corner-at-lay-own-requires c = c .before .before
 
 abbrev next-corner-of-lay-own : tie.After-lay-own Inv-loop μ-loop → tie.After-next-corner Inv-loop μ-loop
-next-corner-of-lay-own c = c .before .before
+next-corner-of-lay-own c = c .before .before .before
 
 abbrev lay-own-at-slice-aggregate-edges-repeat : tie.After-darts3 Inv-loop μ-loop → tie.After-lay-own Inv-loop μ-loop
-lay-own-at-slice-aggregate-edges-repeat c = c .before .before
+lay-own-at-slice-aggregate-edges-repeat c = c .before .before .before .before
 
 abbrev lay-own-of-edges-repeat : tie.After-edges-repeat Inv-loop μ-loop → tie.After-lay-own Inv-loop μ-loop
-lay-own-of-edges-repeat c = c .before .before .before
+lay-own-of-edges-repeat c = c .before .before .before .before .before
 
 abbrev edges-repeat-of-else1 : tie.Else1 Inv-loop μ-loop → tie.After-edges-repeat Inv-loop μ-loop
 edges-repeat-of-else1 c = c .before
@@ -58,18 +58,21 @@ abbrev edges-repeat-at-returns : tie.Then1 Inv-loop μ-loop → tie.After-edges-
 edges-repeat-at-returns c = c .before
 
 abbrev else1-at-slice-aggregate-meets-later : tie.After-darts4 Inv-loop μ-loop → tie.Else1 Inv-loop μ-loop
-else1-at-slice-aggregate-meets-later c = c .before
+else1-at-slice-aggregate-meets-later c = c .before .before
 
-abbrev else1-at-loop-again : tie.Else2 Inv-loop μ-loop → tie.Else1 Inv-loop μ-loop
-else1-at-loop-again c = c .before .before .before
+abbrev else1-of-meets-later : tie.After-meets-later Inv-loop μ-loop → tie.Else1 Inv-loop μ-loop
+else1-of-meets-later c = c .before .before .before
 
-abbrev else1-at-returns-2 : tie.Then2 Inv-loop μ-loop → tie.Else1 Inv-loop μ-loop
-else1-at-returns-2 c = c .before .before .before
+abbrev meets-later-at-loop-again : tie.Else2 Inv-loop μ-loop → tie.After-meets-later Inv-loop μ-loop
+meets-later-at-loop-again c = c .before .before .before
+
+abbrev meets-later-at-returns-2 : tie.Then2 Inv-loop μ-loop → tie.After-meets-later Inv-loop μ-loop
+meets-later-at-returns-2 c = c .before .before .before
 
 loop-holds : tie.Need-loop-holds Inv-loop μ-loop
 loop-holds c =
     let a = entry-at-loop-holds c .args in
-    (refl, sym (ap repeats (all-from (a .coords .now) (pairs (a .subject .now)) (pairs (a .cutter .now)) (a .met .now) (a .cell .now))))
+    (refl, refl, sym (ap repeats (all-from (a .coords .now) (a .w .now) (a .g) (a .cell .now))))
 
 lay-own-requires : tie.Need-lay-own-requires Inv-loop μ-loop
 lay-own-requires c κs =
@@ -77,11 +80,9 @@ lay-own-requires c κs =
     let at-entry = entry-of-loop (loop-of-in-loop at-in-loop) in
     let a = at-entry .args in
     let l = loop-of-in-loop at-in-loop .loop in
-    let t = at-in-loop .loop-test .taken in
-    let x = c .before .next-corner in (
-      at-entry .pre .linked,
-      from-few (a .coords .now) (pairs (a .subject .now)) (pairs (a .cutter .now)) (a .met .now) (a .cell .now) (l .i) (x .result) t
-          (x .ensures) (a .links .now) (at-entry .pre),
+    let x = next-corner-at-lay-own-requires c .next-corner in (
+      from-few (a .coords .now) (a .w .now) (a .g) (a .cell .now) (l .i) (x .result) (at-in-loop .loop-test .taken) (x .ensures) (at-entry .pre .0),
+      omega (arith, l .inv .1, at-entry .pre .1),
       omega (arith, l .inv .0),
     )
 
@@ -89,7 +90,12 @@ slice-aggregate-edges-repeat : tie.Need-slice-aggregate-edges-repeat Inv-loop μ
 slice-aggregate-edges-repeat c =
     let at-loop = loop-of-in-loop (in-loop (next-corner-of-lay-own (lay-own-at-slice-aggregate-edges-repeat c))) in
     let o = lay-own-at-slice-aggregate-edges-repeat c .lay-own in
-    sym (length-take-le _ _ (omega (arith, o .ensures .few, o .kept .1 .1 .1 .1 .1 .1 .1 .0, at-loop .loop .inv .0)))
+    sym (length-take-le _ _ (omega (
+      arith,
+      o .ensures .few,
+      o .kept .1 .1 .1 .1 .1 .1 .0,
+      at-loop .loop .inv .0,
+    )))
 
 returns : tie.Need-returns Inv-loop μ-loop
 returns c =
@@ -103,7 +109,7 @@ returns c =
     let o = at-lay-own .lay-own in
     let read = laid-read _ _ _ _ (o .ensures) in
     let own = c .before .edges-repeat .ensures ∙ ap repeats read in
-    sym (sym (l .inv .1) ∙ repeats-now (a .coords .now) (pairs (a .subject .now)) (pairs (a .cutter .now)) (a .met .now) (a .cell .now) (l .i) (x .result) t
+    sym (sym (l .inv .2) ∙ repeats-now (a .coords .now) (a .w .now) (a .g) (a .cell .now) (l .i) (x .result) t
     (x .ensures) (c .before .edges-repeat .result) own (c .if1 .taken))
 
 slice-aggregate-meets-later : tie.Need-slice-aggregate-meets-later Inv-loop μ-loop
@@ -111,11 +117,17 @@ slice-aggregate-meets-later c =
     let at-lay-own = lay-own-of-edges-repeat (edges-repeat-of-else1 (else1-at-slice-aggregate-meets-later c)) in
     let at-loop = loop-of-in-loop (in-loop (next-corner-of-lay-own at-lay-own)) in
     let o = at-lay-own .lay-own in
-    sym (length-take-le _ _ (omega (arith, o .ensures .few, o .kept .1 .1 .1 .1 .1 .1 .1 .0, at-loop .loop .inv .0)))
+    sym (length-take-le _ _ (omega (
+      arith,
+      o .ensures .few,
+      o .kept .1 .1 .1 .1 .1 .1 .0,
+      at-loop .loop .inv .0,
+    )))
 
 returns-2 : tie.Need-returns-2 Inv-loop μ-loop
 returns-2 c =
-    let at-edges-repeat = edges-repeat-of-else1 (else1-at-returns-2 c) in
+    let at-meets-later = meets-later-at-returns-2 c in
+    let at-edges-repeat = edges-repeat-of-else1 (else1-of-meets-later at-meets-later) in
     let at-next-corner = next-corner-of-lay-own (lay-own-of-edges-repeat at-edges-repeat) in
     let at-loop = loop-of-in-loop (in-loop at-next-corner) in
     let a = entry-of-loop at-loop .args in
@@ -125,16 +137,19 @@ returns-2 c =
     let o = lay-own-of-edges-repeat at-edges-repeat .lay-own in
     let read = laid-read _ _ _ _ (o .ensures) in
     let own = at-edges-repeat .edges-repeat .ensures ∙ ap repeats read in
-    let later = c .before .meets-later .ensures ∙ ap (λ (ds : List Edge). edgesMeet ds
-    (outlineFrom (a .coords .now) (pairs (a .subject .now)) (pairs (a .cutter .now)) (a .met .now) (a .cell .now) (l .i + 1))) read in
-    sym (sym (l .inv .1) ∙ repeats-later (a .coords .now) (pairs (a .subject .now)) (pairs (a .cutter .now)) (a .met .now) (a .cell .now) (l .i) (x .result) t
-    (x .ensures) (at-edges-repeat .edges-repeat .result) own (else1-at-returns-2 c .if1 .left) (c .before .meets-later .result) later (c .if2 .taken))
+    let later = at-meets-later .meets-later .ensures ∙ ap (λ (ds : List Edge). edgesMeet ds
+    (outlineFrom (a .coords .now) (a .w .now) (a .g) (a .cell .now) (l .i + 1))) read in
+    sym (sym (l .inv .2) ∙ repeats-later (a .coords .now) (a .w .now) (a .g) (a .cell .now) (l .i) (x .result) t
+    (x .ensures) (at-edges-repeat .edges-repeat .result) own
+    (else1-of-meets-later at-meets-later .if1 .left) (at-meets-later .meets-later .result) later (c .if2 .taken))
 
 loop-again : tie.Need-loop-again Inv-loop μ-loop
 loop-again c =
-    let at-edges-repeat = edges-repeat-of-else1 (else1-at-loop-again c) in
+    let at-meets-later = meets-later-at-loop-again c in
+    let at-edges-repeat = edges-repeat-of-else1 (else1-of-meets-later at-meets-later) in
     let at-next-corner = next-corner-of-lay-own (lay-own-of-edges-repeat at-edges-repeat) in
     let at-loop = loop-of-in-loop (in-loop at-next-corner) in
+    let nodes-kept = at-meets-later .meets-later .kept .1 .1 .1 .1 .0 in
     let a = entry-of-loop at-loop .args in
     let l = at-loop .loop in
     let t = in-loop at-next-corner .loop-test .taken in
@@ -142,12 +157,14 @@ loop-again c =
     let o = lay-own-of-edges-repeat at-edges-repeat .lay-own in
     let read = laid-read _ _ _ _ (o .ensures) in
     let own = at-edges-repeat .edges-repeat .ensures ∙ ap repeats read in
-    let later = c .before .meets-later .ensures ∙ ap (λ (ds : List Edge). edgesMeet ds
-    (outlineFrom (a .coords .now) (pairs (a .subject .now)) (pairs (a .cutter .now)) (a .met .now) (a .cell .now) (l .i + 1))) read in (
-      o .kept .1 .1 .1 .1 .1 .1 .1 .0 ∙ l .inv .0,
-      sym (repeats-on (a .coords .now) (pairs (a .subject .now)) (pairs (a .cutter .now)) (a .met .now)
-          (a .cell .now) (l .i) (x .result) t (x .ensures) (at-edges-repeat .edges-repeat .result) own (else1-at-loop-again c .if1 .left)
-          (c .before .meets-later .result) later (c .if2 .left)) ∙ l .inv .1,
+    let later = at-meets-later .meets-later .ensures ∙ ap (λ (ds : List Edge). edgesMeet ds
+    (outlineFrom (a .coords .now) (a .w .now) (a .g) (a .cell .now) (l .i + 1))) read in (
+      o .kept .1 .1 .1 .1 .1 .1 .0 ∙ l .inv .0,
+      nodes-kept ∙ o .kept .1 .1 .1 .1 .1 .0 ∙ l .inv .1,
+      sym (repeats-on (a .coords .now) (a .w .now) (a .g)
+          (a .cell .now) (l .i) (x .result) t (x .ensures) (at-edges-repeat .edges-repeat .result) own
+          (else1-of-meets-later at-meets-later .if1 .left)
+          (at-meets-later .meets-later .result) later (c .if2 .left)) ∙ l .inv .2,
     )
 
 returns-3 : tie.Need-returns-3 Inv-loop μ-loop
@@ -155,9 +172,9 @@ returns-3 c =
     let at-entry = entry-of-loop (loop-at-returns-3 c) in
     let a = at-entry .args in
     let l = c .before .loop in
-    sym (sym (l .inv .1) ∙ repeats-out (a .coords .now) (pairs (a .subject .now)) (pairs (a .cutter .now)) (a .met .now) (a .cell .now) (l .i) (c .loop-test .left))
+    sym (sym (l .inv .2) ∙ repeats-out (a .coords .now) (a .w .now) (a .g) (a .cell .now) (l .i) (c .loop-test .left))
 
 pub outline-repeats-spec : {M : Type 1} → statement M
 outline-repeats-spec = tie.close (tie.spec Inv-loop μ-loop loop-holds (λ c. search needs) (λ c. search needs) (λ c κs. search needs) (λ c. search needs)
-    lay-own-requires (λ c. search needs) slice-aggregate-edges-repeat (λ c κs. search needs) returns (λ c. search needs) (λ c. search needs)
-    slice-aggregate-meets-later (λ c κs. search needs) returns-2 (λ c. search needs) loop-again returns-3)
+    lay-own-requires (λ c. search needs) slice-aggregate-edges-repeat (λ c κs. search needs) (λ c. search needs) returns (λ c. search needs)
+    (λ c. search needs) slice-aggregate-meets-later (λ c κs. search needs) (λ c. search needs) returns-2 (λ c. search needs) loop-again (λ c. search needs) returns-3)

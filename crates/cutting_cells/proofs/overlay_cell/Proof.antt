@@ -1,211 +1,238 @@
-use mathlib.Core.Path.{_≡_, sym, _∙_}
+use mathlib.Core.Path.{sym, _∙_}
+use Prim.Native.Nat.{ℕ}
 use native.Mathlib.Omega.{arith}
-use lib.ListN.{length, length-map, length-take}
+use lib.ListN.{length, length-take, length-replicate}
 use lib.Seq.{length-take-le}
-use Rattle.cutting.specs.Lent.{pairs}
-use Rattle.cutting_cells.proofs.Cell.{ready, cell-refused, cell-placed, cell-full, cell-fits}
+use Rattle.cells.specs.Cells.{cut}
+use Rattle.cutting_cells.proofs.Cell.{ready, first-lent, covered-lent, rise-lent, placed-lent, cell-refused, cell-placed, cell-full, cell-fits}
 use borrow.Author.Needs.{needs}
 use Rattle.cutting_cells.proofs.overlay_cell.Statement.{statement}
 use Rattle.cutting_cells.proofs.overlay_cell.Tie as tie
+use Rattle.cutting_cells.proofs.overlay_cell.Reads as reads
+use Rattle.cutting_cells.proofs.overlay_cell.Lts as lts
+use Rattle.cutting_cells.proofs.kind_of.Reads as kind-of-reads
+use Rattle.cutting_cells.proofs.outcome_of.Reads as outcome-of-reads
+use Rattle.cutting_cells.proofs.refused.Reads as refused-reads
+use Rattle.pieces.proofs.place_pieces.Reads as place-pieces-reads
+use Rattle.regions.proofs.part.Reads as part-reads
+use Rattle.spatial_index.proofs.bounds2.Reads as bounds2-reads
+use Rattle.spatial_index.proofs.in_bounds.Reads as in-bounds-reads
 
 -- places of the code, each counted once
-abbrev entry : tie.After-bounds2 → tie.Start
-entry c = c .before .before .before .before .before .before .before .before .before .before .before .before .before .before .before
+abbrev entry : tie.After-part → tie.Start
+entry c = c .before .before .before .before .before .before .before .before .before .before .before
+
+abbrev part-of-bounds2 : tie.After-bounds2 → tie.After-part
+part-of-bounds2 c = c .before
 
 abbrev bounds2-of-in-bounds : tie.After-in-bounds → tie.After-bounds2
 bounds2-of-in-bounds c = c .before
 
 abbrev in-bounds-of-outcome-of : tie.After-outcome-of → tie.After-in-bounds
-in-bounds-of-outcome-of c = c .before
+in-bounds-of-outcome-of c = c .before .before .before
 
 abbrev outcome-of-of-else1 : tie.Else1 → tie.After-outcome-of
-outcome-of-of-else1 c = c .before
-
-abbrev outcome-of-at-returns : tie.After-refused → tie.After-outcome-of
-outcome-of-at-returns c = c .before .before
+outcome-of-of-else1 c = c .before .before .before
 
 abbrev else1 : tie.After-kind-of → tie.Else1
-else1 c = c .before .before .before
+else1 c = c .before
 
-abbrev kind-of-at-array-share-prefix-runs : tie.After-place-pieces-arg4 → tie.After-kind-of
-kind-of-at-array-share-prefix-runs c = c .before .before .before .before
+abbrev outcome-of-at-returns : tie.After-refused → tie.After-outcome-of
+outcome-of-at-returns c = c .before .before .before .before
 
-abbrev kind-of-at-slice-aggregate-place-pieces : tie.After-runs2 → tie.After-kind-of
-kind-of-at-slice-aggregate-place-pieces c = c .before .before .before .before .before
+abbrev kind-of-of-part2 : tie.After-part2 → tie.After-kind-of
+kind-of-of-part2 c = c .before
 
-abbrev kind-of-at-slice-aggregate-place-pieces-2 : tie.After-stops2 → tie.After-kind-of
-kind-of-at-slice-aggregate-place-pieces-2 c = c .before .before .before .before .before .before
+abbrev part2-at-array-share-prefix-runs : tie.After-place-pieces-arg4 → tie.After-part2
+part2-at-array-share-prefix-runs c = c .before .before .before .before
 
-abbrev kind-of-of-place-pieces : tie.After-place-pieces → tie.After-kind-of
-kind-of-of-place-pieces c = c .before .before .before .before .before .before .before
+abbrev part2-at-slice-aggregate-place-pieces : tie.After-runs3 → tie.After-part2
+part2-at-slice-aggregate-place-pieces c = c .before .before .before .before .before
 
-abbrev place-pieces-at-same-length-5 : tie.Else2 → tie.After-place-pieces
-place-pieces-at-same-length-5 c = c .before .before .before .before .before .before .before .before .before
+abbrev part2-at-slice-aggregate-place-pieces-2 : tie.After-stops3 → tie.After-part2
+part2-at-slice-aggregate-place-pieces-2 c = c .before .before .before .before .before .before
 
-abbrev place-pieces-at-same-length : tie.After-refused2 → tie.After-place-pieces
-place-pieces-at-same-length c = c .before .before .before .before .before .before .before .before .before .before
+abbrev part2-of-place-pieces : tie.After-place-pieces → tie.After-part2
+part2-of-place-pieces c = c .before .before .before .before .before .before .before
+
+abbrev place-pieces-at-returns-3 : tie.Else2 → tie.After-place-pieces
+place-pieces-at-returns-3 c = c .before .before .before .before .before .before .before .before .before
+
+abbrev place-pieces-at-returns-2 : tie.After-refused2 → tie.After-place-pieces
+place-pieces-at-returns-2 c = c .before .before .before .before .before .before .before .before .before .before
 
 in-bounds-requires : tie.Need-in-bounds-requires
-in-bounds-requires c κs = entry c .pre .2
-
-outcome-of-requires : tie.Need-outcome-of-requires
-outcome-of-requires c κs =
-    let at-entry = entry (bounds2-of-in-bounds c) in
-    (at-entry .pre .0, at-entry .pre .1, at-entry .pre .2, at-entry .pre .3)
+in-bounds-requires c κs =
+    let at-entry = entry (part-of-bounds2 c) in
+    let a = at-entry .args in
+    covered-lent (a .coords .now) (a .w .now) (a .other) _ (c .before .part .ensures) (a .boxes .now) (at-entry .pre .1)
 
 returns : tie.Need-returns
 returns c =
-    let at-outcome-of = outcome-of-at-returns c in
-    let at-in-bounds = in-bounds-of-outcome-of at-outcome-of in
-    let at-bounds2 = bounds2-of-in-bounds at-in-bounds in
-    let a = entry at-bounds2 .args in (
-      λ z. absurd (c .before .if1 .taken (sym (c .refused .ensures .0) ∙ z)),
-      λ sc i scene this. cell-refused (a .op) (a .cutter) (a .coords .now) (a .subject .now) (a .cut .now) (a .met .now) (a .near .now) (a .nodes .now)
-          (a .ends .now) (a .on .now) (a .oe .now) (a .ok .now) (a .of .now) (a .p) (a .cell .now) (a .kind) (a .family) (at-bounds2 .bounds2 .result)
-          (at-bounds2 .bounds2 .ensures) (at-in-bounds .in-bounds .result) (at-in-bounds .in-bounds .ensures) (at-outcome-of .outcome-of .result)
-          (at-outcome-of .outcome-of .ensures) sc i scene this (c .before .if1 .taken) (c .refused .result) (c .refused .ensures) (a .on .now) (a .oe .now)
-          (a .ok .now) (a .of .now),
+    let at-in-bounds = in-bounds-of-outcome-of (outcome-of-at-returns c) in
+    let at-part = part-of-bounds2 (bounds2-of-in-bounds at-in-bounds) in
+    let a = entry at-part .args in
+    let near = at-part .part in
+    let box = bounds2-of-in-bounds at-in-bounds .bounds2 in
+    let found = at-in-bounds .in-bounds in
+    let at = first-lent (a .coords .now) (a .w .now) (a .other) _ (near .ensures) (box .result) (found .result) (found .ensures) in
+    let out = outcome-of-at-returns c .outcome-of in
+    let x = cut (out .result) (out .last .1 .1 .1 .1 .1 .1 .0) (out .last .1 .1 .1 .1 .1 .1 .1 .0) in
+    let refusal = c .refused in (
+      λ z. absurd (c .before .if1 .taken (sym (refusal .ensures .0) ∙ z)),
+      λ sc i scene this. cell-refused (a .op) (a .cutter) (a .coords .now) (a .w .now) (a .g) (a .other) (a .ends .now) (a .on .now) (a .oe .now) (a .ok .now)
+          (a .of .now) (a .p) (a .cell .now) (a .kind) (a .family) (box .result) (box .ensures) (found .result) at _ _ x (out .ensures)
+          sc i scene this (c .before .if1 .taken) (refusal .result) (refusal .ensures) (a .on .now) (a .oe .now) (a .ok .now) (a .of .now),
     )
+
+part-requires-2 : tie.Need-part-requires-2
+part-requires-2 c κs =
+    let at-entry = entry (part-of-bounds2 (bounds2-of-in-bounds (in-bounds-of-outcome-of (outcome-of-of-else1 (else1 c))))) in
+    at-entry .pre .0 .entries
 
 array-share-prefix-runs : tie.Need-array-share-prefix-runs
 array-share-prefix-runs c =
-    let at-outcome-of = outcome-of-of-else1 (else1 (kind-of-at-array-share-prefix-runs c)) in
+    let at-outcome-of = outcome-of-of-else1 (else1 (kind-of-of-part2 (part2-at-array-share-prefix-runs c))) in
     let at-bounds2 = bounds2-of-in-bounds (in-bounds-of-outcome-of at-outcome-of) in
-    let a = entry at-bounds2 .args in ready (a .coords .now) (pairs (a .subject .now)) (pairs (a .cut .now)) (a .met .now) (pairs (a .near .now))
-    (a .cell .now) (at-bounds2 .bounds2 .result) (in-bounds-of-outcome-of at-outcome-of .in-bounds .result) (at-outcome-of .outcome-of .result)
-    (at-outcome-of .outcome-of .ensures) .corners
+    let at-entry = entry (part-of-bounds2 at-bounds2) in
+    let a = at-entry .args in
+    let near = part-of-bounds2 at-bounds2 .part in
+    let box = at-bounds2 .bounds2 in
+    let found = in-bounds-of-outcome-of at-outcome-of .in-bounds in
+    let at = first-lent (a .coords .now) (a .w .now) (a .other) _ (near .ensures) (box .result) (found .result) (found .ensures) in
+    let out = at-outcome-of .outcome-of in
+    let x = cut (out .result) (out .last .1 .1 .1 .1 .1 .1 .0) (out .last .1 .1 .1 .1 .1 .1 .1 .0) in
+    let held = ready (a .coords .now) (a .w .now) (a .g) (record { edges = a .other .edges; bounds = box .result; first = found .result }) (a .cell .now) _ _ x (out .ensures) in
+    held .corners
 
 slice-aggregate-place-pieces : tie.Need-slice-aggregate-place-pieces
 slice-aggregate-place-pieces c =
-    let at-outcome-of = outcome-of-of-else1 (else1 (kind-of-at-slice-aggregate-place-pieces c)) in
+    let at-outcome-of = outcome-of-of-else1 (else1 (kind-of-of-part2 (part2-at-slice-aggregate-place-pieces c))) in
     let at-bounds2 = bounds2-of-in-bounds (in-bounds-of-outcome-of at-outcome-of) in
-    let a = entry at-bounds2 .args in sym (length-take-le _ _ (ready (a .coords .now) (pairs (a .subject .now)) (pairs (a .cut .now)) (a .met .now)
-    (pairs (a .near .now)) (a .cell .now) (at-bounds2 .bounds2 .result) (in-bounds-of-outcome-of at-outcome-of .in-bounds .result)
-    (at-outcome-of .outcome-of .result) (at-outcome-of .outcome-of .ensures) .corners))
+    let at-entry = entry (part-of-bounds2 at-bounds2) in
+    let a = at-entry .args in
+    let near = part-of-bounds2 at-bounds2 .part in
+    let box = at-bounds2 .bounds2 in
+    let found = in-bounds-of-outcome-of at-outcome-of .in-bounds in
+    let at = first-lent (a .coords .now) (a .w .now) (a .other) _ (near .ensures) (box .result) (found .result) (found .ensures) in
+    let out = at-outcome-of .outcome-of in
+    let x = cut (out .result) (out .last .1 .1 .1 .1 .1 .1 .0) (out .last .1 .1 .1 .1 .1 .1 .1 .0) in
+    let held = ready (a .coords .now) (a .w .now) (a .g) (record { edges = a .other .edges; bounds = box .result; first = found .result }) (a .cell .now) _ _ x (out .ensures) in
+    sym (length-take-le _ _ (held .corners))
 
 array-share-prefix-stops : tie.Need-array-share-prefix-stops
 array-share-prefix-stops c =
-    let at-outcome-of = outcome-of-of-else1 (else1 (kind-of-at-slice-aggregate-place-pieces c)) in
+    let at-outcome-of = outcome-of-of-else1 (else1 (kind-of-of-part2 (part2-at-slice-aggregate-place-pieces c))) in
     let at-bounds2 = bounds2-of-in-bounds (in-bounds-of-outcome-of at-outcome-of) in
-    let a = entry at-bounds2 .args in ready (a .coords .now) (pairs (a .subject .now)) (pairs (a .cut .now)) (a .met .now) (pairs (a .near .now))
-    (a .cell .now) (at-bounds2 .bounds2 .result) (in-bounds-of-outcome-of at-outcome-of .in-bounds .result) (at-outcome-of .outcome-of .result)
-    (at-outcome-of .outcome-of .ensures) .pieces
+    let at-entry = entry (part-of-bounds2 at-bounds2) in
+    let a = at-entry .args in
+    let near = part-of-bounds2 at-bounds2 .part in
+    let box = at-bounds2 .bounds2 in
+    let found = in-bounds-of-outcome-of at-outcome-of .in-bounds in
+    let at = first-lent (a .coords .now) (a .w .now) (a .other) _ (near .ensures) (box .result) (found .result) (found .ensures) in
+    let out = at-outcome-of .outcome-of in
+    let x = cut (out .result) (out .last .1 .1 .1 .1 .1 .1 .0) (out .last .1 .1 .1 .1 .1 .1 .1 .0) in
+    let held = ready (a .coords .now) (a .w .now) (a .g) (record { edges = a .other .edges; bounds = box .result; first = found .result }) (a .cell .now) _ _ x (out .ensures) in
+    held .pieces
 
 slice-aggregate-place-pieces-2 : tie.Need-slice-aggregate-place-pieces-2
 slice-aggregate-place-pieces-2 c =
-    let at-outcome-of = outcome-of-of-else1 (else1 (kind-of-at-slice-aggregate-place-pieces-2 c)) in
+    let at-outcome-of = outcome-of-of-else1 (else1 (kind-of-of-part2 (part2-at-slice-aggregate-place-pieces-2 c))) in
     let at-bounds2 = bounds2-of-in-bounds (in-bounds-of-outcome-of at-outcome-of) in
-    let a = entry at-bounds2 .args in sym (length-take-le _ _ (ready (a .coords .now) (pairs (a .subject .now)) (pairs (a .cut .now)) (a .met .now)
-    (pairs (a .near .now)) (a .cell .now) (at-bounds2 .bounds2 .result) (in-bounds-of-outcome-of at-outcome-of .in-bounds .result)
-    (at-outcome-of .outcome-of .result) (at-outcome-of .outcome-of .ensures) .pieces))
+    let at-entry = entry (part-of-bounds2 at-bounds2) in
+    let a = at-entry .args in
+    let near = part-of-bounds2 at-bounds2 .part in
+    let box = at-bounds2 .bounds2 in
+    let found = in-bounds-of-outcome-of at-outcome-of .in-bounds in
+    let at = first-lent (a .coords .now) (a .w .now) (a .other) _ (near .ensures) (box .result) (found .result) (found .ensures) in
+    let out = at-outcome-of .outcome-of in
+    let x = cut (out .result) (out .last .1 .1 .1 .1 .1 .1 .0) (out .last .1 .1 .1 .1 .1 .1 .1 .0) in
+    let held = ready (a .coords .now) (a .w .now) (a .g) (record { edges = a .other .edges; bounds = box .result; first = found .result }) (a .cell .now) _ _ x (out .ensures) in
+    sym (length-take-le _ _ (held .pieces))
 
 place-pieces-requires : tie.Need-place-pieces-requires
 place-pieces-requires c κs =
-    let at-outcome-of = outcome-of-of-else1 (else1 (kind-of-at-slice-aggregate-place-pieces-2 c)) in
+    let at-outcome-of = outcome-of-of-else1 (else1 (kind-of-of-part2 (part2-at-slice-aggregate-place-pieces-2 c))) in
     let at-bounds2 = bounds2-of-in-bounds (in-bounds-of-outcome-of at-outcome-of) in
-    let at-entry = entry at-bounds2 in
+    let at-entry = entry (part-of-bounds2 at-bounds2) in
     let a = at-entry .args in
-    let o = at-outcome-of .outcome-of in
-    let long : length (o .result .nodes) ≡ 1024 = sym (length-map (o .result .nodes) _) ∙ o .ok .1 .1 .1 .1 .1 .0 .1 .0 .1 in (
+    let near = part-of-bounds2 at-bounds2 .part in
+    let box = at-bounds2 .bounds2 in
+    let found = in-bounds-of-outcome-of at-outcome-of .in-bounds in
+    let at = first-lent (a .coords .now) (a .w .now) (a .other) _ (near .ensures) (box .result) (found .result) (found .ensures) in
+    let out = at-outcome-of .outcome-of in
+    let x = cut (out .result) (out .last .1 .1 .1 .1 .1 .1 .0) (out .last .1 .1 .1 .1 .1 .1 .1 .0) in
+    let held = ready (a .coords .now) (a .w .now) (a .g) (record { edges = a .other .edges; bounds = box .result; first = found .result }) (a .cell .now) _ _ x (out .ensures) in (
+      rise-lent (a .w .now) (a .other) _ (a .ends .now) (part2-at-slice-aggregate-place-pieces-2 c .part2 .ensures) (at-entry .pre .0 .rise),
+      held .rise,
       at-entry .pre .4,
-      ready (a .coords .now) (pairs (a .subject .now)) (pairs (a .cut .now)) (a .met .now) (pairs (a .near .now)) (a .cell .now)
-          (at-bounds2 .bounds2 .result) (in-bounds-of-outcome-of at-outcome-of .in-bounds .result) (at-outcome-of .outcome-of .result)
-          (at-outcome-of .outcome-of .ensures) .rise,
       at-entry .pre .5,
-      at-entry .pre .6,
-      omega (arith, at-entry .pre .7, long, length-take (o .result .entries) (o .result .nodes)),
+      omega (arith, at-entry .pre .6, out .kept .1 .1 .1 .1 .1 .1 .0, length-take (out .result .entries) (out .last .1 .1 .1 .1 .1 .1 .0)),
     )
-
-same-length : tie.Need-same-length
-same-length c =
-    let on-kept = place-pieces-at-same-length c .place-pieces .kept .1 .1 .1 .1 .1 .0 in
-    on-kept
-
-same-length-2 : tie.Need-same-length-2
-same-length-2 c =
-    let oe-kept = place-pieces-at-same-length c .place-pieces .kept .1 .1 .1 .1 .1 .1 .0 in
-    oe-kept
-
-same-length-3 : tie.Need-same-length-3
-same-length-3 c =
-    let ok-kept = place-pieces-at-same-length c .place-pieces .kept .1 .1 .1 .1 .1 .1 .1 .0 in
-    ok-kept
-
-same-length-4 : tie.Need-same-length-4
-same-length-4 c =
-    let of-kept = place-pieces-at-same-length c .place-pieces .kept .1 .1 .1 .1 .1 .1 .1 .1 .0 in
-    of-kept
 
 returns-2 : tie.Need-returns-2
 returns-2 c =
-    let at-place-pieces = place-pieces-at-same-length c in
-    let at-kind-of = kind-of-of-place-pieces at-place-pieces in
-    let at-outcome-of = outcome-of-of-else1 (else1 at-kind-of) in
-    let at-in-bounds = in-bounds-of-outcome-of at-outcome-of in
-    let at-bounds2 = bounds2-of-in-bounds at-in-bounds in
-    let on-last = at-place-pieces .place-pieces .last .1 .1 .1 .1 .1 .0 in
-    let oe-last = at-place-pieces .place-pieces .last .1 .1 .1 .1 .1 .1 .0 in
-    let ok-last = at-place-pieces .place-pieces .last .1 .1 .1 .1 .1 .1 .1 .0 in
-    let of-last = at-place-pieces .place-pieces .last .1 .1 .1 .1 .1 .1 .1 .1 .0 in
-    let a = entry at-bounds2 .args in (
-      λ z. absurd (c .before .if2 .taken (sym (c .refused2 .ensures .0) ∙ z)),
-      λ sc i scene this. cell-full (a .op) (a .cutter) (a .coords .now) (a .subject .now) (a .cut .now) (a .met .now) (a .near .now) (a .nodes .now)
-          (a .ends .now) (a .on .now) (a .oe .now) (a .ok .now) (a .of .now) (a .p) (a .cell .now) (a .kind) (a .family) (at-bounds2 .bounds2 .result)
-          (at-bounds2 .bounds2 .ensures) (at-in-bounds .in-bounds .result) (at-in-bounds .in-bounds .ensures) (at-outcome-of .outcome-of .result)
-          (at-outcome-of .outcome-of .ensures) sc i scene this (else1 at-kind-of .if1 .left) (at-kind-of .kind-of .result) (at-kind-of .kind-of .ensures)
-          (at-place-pieces .place-pieces .result) on-last oe-last ok-last of-last (at-place-pieces .place-pieces .ensures) (c .before .if2 .taken)
-          (c .refused2 .result) (c .refused2 .ensures) on-last oe-last ok-last of-last,
+    let at-part2 = part2-of-place-pieces (place-pieces-at-returns-2 c) in
+    let at-else1 = else1 (kind-of-of-part2 at-part2) in
+    let at-in-bounds = in-bounds-of-outcome-of (outcome-of-of-else1 at-else1) in
+    let at-part = part-of-bounds2 (bounds2-of-in-bounds at-in-bounds) in
+    let a = entry at-part .args in
+    let near = at-part .part in
+    let box = bounds2-of-in-bounds at-in-bounds .bounds2 in
+    let found = at-in-bounds .in-bounds in
+    let at = first-lent (a .coords .now) (a .w .now) (a .other) _ (near .ensures) (box .result) (found .result) (found .ensures) in
+    let out = outcome-of-of-else1 at-else1 .outcome-of in
+    let x = cut (out .result) (out .last .1 .1 .1 .1 .1 .1 .0) (out .last .1 .1 .1 .1 .1 .1 .1 .0) in
+    let own = kind-of-of-part2 at-part2 .kind-of in
+    let placed = place-pieces-at-returns-2 c .place-pieces in
+    let on-last = placed .last .1 .1 .1 .1 .1 .0 in
+    let oe-last = placed .last .1 .1 .1 .1 .1 .1 .0 in
+    let ok-last = placed .last .1 .1 .1 .1 .1 .1 .1 .0 in
+    let of-last = placed .last .1 .1 .1 .1 .1 .1 .1 .1 .0 in
+    let got = placed-lent (a .op) (a .cutter) (a .coords .now) (a .w .now) (a .other) _ (a .ends .now) (at-part2 .part2 .ensures) (a .p .count)
+    (a .p .entries) (own .result) (a .family) _ (a .on .now) (a .oe .now) (a .ok .now) (a .of .now) (placed .result) on-last oe-last ok-last of-last (placed .ensures) in
+    let refusal = c .refused2 in (
+      λ z. absurd (c .before .if2 .taken (sym (refusal .ensures .0) ∙ z)),
+      λ sc i scene this. cell-full (a .op) (a .cutter) (a .coords .now) (a .w .now) (a .g) (a .other) (a .ends .now) (a .on .now) (a .oe .now) (a .ok .now)
+          (a .of .now) (a .p) (a .cell .now) (a .kind) (a .family) (box .result) (box .ensures) (found .result) at _ _ x (out .ensures)
+          sc i scene this (at-else1 .if1 .left) _ (near .ensures) (own .result) (own .ensures) (placed .result) on-last oe-last ok-last of-last got
+          (c .before .if2 .taken) (refusal .result) (refusal .ensures) on-last oe-last ok-last of-last,
     )
-
-same-length-5 : tie.Need-same-length-5
-same-length-5 c =
-    let on-kept = place-pieces-at-same-length-5 c .place-pieces .kept .1 .1 .1 .1 .1 .0 in
-    on-kept
-
-same-length-6 : tie.Need-same-length-6
-same-length-6 c =
-    let oe-kept = place-pieces-at-same-length-5 c .place-pieces .kept .1 .1 .1 .1 .1 .1 .0 in
-    oe-kept
-
-same-length-7 : tie.Need-same-length-7
-same-length-7 c =
-    let ok-kept = place-pieces-at-same-length-5 c .place-pieces .kept .1 .1 .1 .1 .1 .1 .1 .0 in
-    ok-kept
-
-same-length-8 : tie.Need-same-length-8
-same-length-8 c =
-    let of-kept = place-pieces-at-same-length-5 c .place-pieces .kept .1 .1 .1 .1 .1 .1 .1 .1 .0 in
-    of-kept
 
 returns-3 : tie.Need-returns-3
 returns-3 c =
-    let at-place-pieces = place-pieces-at-same-length-5 c in
-    let at-kind-of = kind-of-of-place-pieces at-place-pieces in
-    let at-outcome-of = outcome-of-of-else1 (else1 at-kind-of) in
-    let at-in-bounds = in-bounds-of-outcome-of at-outcome-of in
-    let at-bounds2 = bounds2-of-in-bounds at-in-bounds in
-    let at-entry = entry at-bounds2 in
-    let on-last = at-place-pieces .place-pieces .last .1 .1 .1 .1 .1 .0 in
-    let oe-last = at-place-pieces .place-pieces .last .1 .1 .1 .1 .1 .1 .0 in
-    let ok-last = at-place-pieces .place-pieces .last .1 .1 .1 .1 .1 .1 .1 .0 in
-    let of-last = at-place-pieces .place-pieces .last .1 .1 .1 .1 .1 .1 .1 .1 .0 in
+    let at-part2 = part2-of-place-pieces (place-pieces-at-returns-3 c) in
+    let at-else1 = else1 (kind-of-of-part2 at-part2) in
+    let at-in-bounds = in-bounds-of-outcome-of (outcome-of-of-else1 at-else1) in
+    let at-part = part-of-bounds2 (bounds2-of-in-bounds at-in-bounds) in
+    let at-entry = entry at-part in
     let a = at-entry .args in
-    let o = at-outcome-of .outcome-of in
-    let long : length (o .result .nodes) ≡ 1024 = sym (length-map (o .result .nodes) _) ∙ o .ok .1 .1 .1 .1 .1 .0 .1 .0 .1 in
-    let many : length (o .result .stops) ≡ 1024 = sym (length-map (o .result .stops) _) ∙ o .ok .1 .1 .1 .1 .1 .1 .0 .1 .0 .1 in (
-      λ _. cell-fits (a .op) (a .cutter) (a .coords .now) (a .subject .now) (a .cut .now) (a .met .now) (a .near .now) (a .nodes .now) (a .ends .now)
-          (a .on .now) (a .oe .now) (a .ok .now) (a .of .now) (a .p) (a .cell .now) (a .kind) (a .family) (at-bounds2 .bounds2 .result)
-          (at-bounds2 .bounds2 .ensures) (at-in-bounds .in-bounds .result) (at-in-bounds .in-bounds .ensures) (at-outcome-of .outcome-of .result)
-          (at-outcome-of .outcome-of .ensures) (at-kind-of .kind-of .result) (at-place-pieces .place-pieces .result) on-last oe-last ok-last of-last
-          (at-place-pieces .place-pieces .ensures) long many (at-entry .pre .5) (at-entry .pre .6) (c .if2 .left),
-      λ sc i scene this. cell-placed (a .op) (a .cutter) (a .coords .now) (a .subject .now) (a .cut .now) (a .met .now) (a .near .now) (a .nodes .now)
-          (a .ends .now) (a .on .now) (a .oe .now) (a .ok .now) (a .of .now) (a .p) (a .cell .now) (a .kind) (a .family) (at-bounds2 .bounds2 .result)
-          (at-bounds2 .bounds2 .ensures) (at-in-bounds .in-bounds .result) (at-in-bounds .in-bounds .ensures) (at-outcome-of .outcome-of .result)
-          (at-outcome-of .outcome-of .ensures) sc i scene this (else1 at-kind-of .if1 .left) (at-kind-of .kind-of .result) (at-kind-of .kind-of .ensures)
-          (at-place-pieces .place-pieces .result) on-last oe-last ok-last of-last (at-place-pieces .place-pieces .ensures) (c .if2 .left),
+    let near = at-part .part in
+    let box = bounds2-of-in-bounds at-in-bounds .bounds2 in
+    let found = at-in-bounds .in-bounds in
+    let at = first-lent (a .coords .now) (a .w .now) (a .other) _ (near .ensures) (box .result) (found .result) (found .ensures) in
+    let out = outcome-of-of-else1 at-else1 .outcome-of in
+    let x = cut (out .result) (out .last .1 .1 .1 .1 .1 .1 .0) (out .last .1 .1 .1 .1 .1 .1 .1 .0) in
+    let own = kind-of-of-part2 at-part2 .kind-of in
+    let placed = place-pieces-at-returns-3 c .place-pieces in
+    let on-last = placed .last .1 .1 .1 .1 .1 .0 in
+    let oe-last = placed .last .1 .1 .1 .1 .1 .1 .0 in
+    let ok-last = placed .last .1 .1 .1 .1 .1 .1 .1 .0 in
+    let of-last = placed .last .1 .1 .1 .1 .1 .1 .1 .1 .0 in
+    let got = placed-lent (a .op) (a .cutter) (a .coords .now) (a .w .now) (a .other) _ (a .ends .now) (at-part2 .part2 .ensures) (a .p .count)
+    (a .p .entries) (own .result) (a .family) _ (a .on .now) (a .oe .now) (a .ok .now) (a .of .now) (placed .result) on-last oe-last ok-last of-last (placed .ensures) in (
+      λ _. cell-fits (a .op) (a .cutter) (a .coords .now) (a .w .now) (a .g) (a .other) (a .ends .now) (a .on .now) (a .oe .now) (a .ok .now)
+          (a .of .now) (a .p) (a .cell .now) (a .kind) (a .family) (box .result) (box .ensures) (found .result) at _ _ x (out .ensures)
+          (own .result) (placed .result) on-last oe-last ok-last of-last got (out .kept .1 .1 .1 .1 .1 .1 .0 ∙ length-replicate {A = ℕ} 1024 0)
+          (out .kept .1 .1 .1 .1 .1 .1 .1 .0 ∙ length-replicate {A = ℕ} 1024 0) (at-entry .pre .4) (at-entry .pre .5) (c .if2 .left),
+      λ sc i scene this. cell-placed (a .op) (a .cutter) (a .coords .now) (a .w .now) (a .g) (a .other) (a .ends .now) (a .on .now) (a .oe .now) (a .ok .now)
+          (a .of .now) (a .p) (a .cell .now) (a .kind) (a .family) (box .result) (box .ensures) (found .result) at _ _ x (out .ensures)
+          sc i scene this (at-else1 .if1 .left) _ (near .ensures) (own .result) (own .ensures) (placed .result) on-last oe-last ok-last of-last got
+          (c .if2 .left),
     )
 
 pub overlay-cell-spec : {M : Type 1} → statement M
-overlay-cell-spec = tie.close (tie.spec (λ c κs. search needs) in-bounds-requires outcome-of-requires (λ c κs. search needs) returns (λ c κs. search needs)
-    array-share-prefix-runs slice-aggregate-place-pieces array-share-prefix-stops slice-aggregate-place-pieces-2 place-pieces-requires (λ c κs. search needs)
-    same-length same-length-2 same-length-3 same-length-4 returns-2 same-length-5 same-length-6 same-length-7 same-length-8 returns-3)
+overlay-cell-spec = tie.close (tie.spec (λ c κs. search needs) (λ c κs. search needs) in-bounds-requires (λ c. search needs) (λ c. search needs)
+    (λ c κs. search needs) (λ c κs. search needs) returns (λ c κs. search needs) part-requires-2 array-share-prefix-runs slice-aggregate-place-pieces
+    array-share-prefix-stops slice-aggregate-place-pieces-2 place-pieces-requires (λ c κs. search needs) (λ c. search needs) (λ c. search needs)
+    (λ c. search needs) (λ c. search needs) returns-2 (λ c. search needs) (λ c. search needs) (λ c. search needs) (λ c. search needs) returns-3)

@@ -1,8 +1,10 @@
-use mathlib.Core.Path.{sym, ap, _∙_}
+use mathlib.Core.Path.{sym, subst}
+use mathlib.Core.List.{List}
+use Prim.Native.Nat.{ℕ}
 use native.Mathlib.Omega.{arith}
 use lib.Seq.{length-take-le}
 use Rattle.cutting.specs.Lent.{pairs}
-use Rattle.edge_nodes.specs.Lent.{filled}
+use Rattle.edge_nodes.specs.Lent.{FrontIs}
 use Rattle.edge_nodes.proofs.Count.{length-collected}
 use Rattle.edge_nodes.proofs.Walk.{subject-chains, cutter-chains}
 use Rattle.edge_nodes.proofs.Sorted.{map-listed, no-nodes, some-nodes}
@@ -19,7 +21,7 @@ use Rattle.edge_nodes.proofs.upper.Reads as upper-reads
 
 -- places of the code, each counted once
 abbrev entry : tie.After-lower → tie.Start
-entry c = c .before .before .before .before .before .before
+entry c = c .before .before .before .before .before .before .before
 
 abbrev lower-of-upper : tie.After-upper → tie.After-lower
 lower-of-upper c = c .before
@@ -48,8 +50,11 @@ collect2-at-returns c = c .before .before .before
 abbrev else1-at-slice-aggregate-dedup : tie.After-ns7 → tie.Else1
 else1-at-slice-aggregate-dedup c = c .before
 
-abbrev else1-at-returns-2 : tie.After-dedup → tie.Else1
-else1-at-returns-2 c = c .before .before
+abbrev else1-at-dedup-requires : tie.After-dedup-arg → tie.Else1
+else1-at-dedup-requires c = c .before .before
+
+abbrev else1-at-returns-2 : tie.After-slice-known2 → tie.Else1
+else1-at-returns-2 c = c .before .before .before .before .before
 
 -- either kind has its links: the order of the two is settled by what is returned
 collect-requires : tie.Need-collect-requires
@@ -88,7 +93,7 @@ returns c =
     let one = at-collect .collect in
     let two = collect2-at-returns c .collect2 in
     no-nodes (a .coords .now) (pairs (a .subject .now)) (pairs (a .cutter .now)) (a .met .now) (a .a, a .b) (one .result) (two .result) _ _ _ (one .ensures)
-    (two .ensures) (c .if1 .taken)
+    (two .ensures) (c .if1 .taken) (a .out .now)
 
 array-share-prefix-ns : tie.Need-array-share-prefix-ns
 array-share-prefix-ns c =
@@ -110,13 +115,14 @@ slice-aggregate-dedup c =
 
 dedup-requires : tie.Need-dedup-requires
 dedup-requires c κs =
-    let at-collect2 = collect2-of-else1 (else1-at-slice-aggregate-dedup c) in
+    let at-collect2 = collect2-of-else1 (else1-at-dedup-requires c) in
     let at-insert-node = insert-node-of-collect (collect-of-collect2 at-collect2) in
+    let at-entry = entry (lower-of-upper (upper-of-insert-node at-insert-node)) in
     let nodes-kept-by-collect = collect-of-collect2 at-collect2 .collect .kept .1 .1 .1 .1 .1 .1 .1 .1 .0 in
     let nodes-kept-by-insert-node = at-insert-node .insert-node .kept .1 .1 .1 .1 .0 in
     let two = at-collect2 .collect2 in
-    let l = array-share-prefix-ns (c .before) in
-    omega (arith, length-take-le (two .result) (two .last .1 .1 .1 .1 .1 .1 .1 .1 .0) l, l, two .kept .1 .1 .1 .1 .1 .1 .1 .1 .0, nodes-kept-by-collect, nodes-kept-by-insert-node)
+    let l = array-share-prefix-ns (else1-at-dedup-requires c) in
+    omega (arith, length-take-le (two .result) (two .last .1 .1 .1 .1 .1 .1 .1 .1 .0) l, l, two .kept .1 .1 .1 .1 .1 .1 .1 .1 .0, nodes-kept-by-collect, nodes-kept-by-insert-node, at-entry .pre .2)
 
 returns-2 : tie.Need-returns-2
 returns-2 c =
@@ -131,11 +137,11 @@ returns-2 c =
     let one = at-collect .collect in
     let two = collect2-of-else1 at-else1 .collect2 in
     let nodes = map-listed (two .last .1 .1 .1 .1 .1 .1 .1 .0) (two .last .1 .1 .1 .1 .1 .1 .1 .1 .0) (two .result) (array-share-prefix-ns (at-else1)) in
-    c .dedup .ensures
-    ∙ ap filled (some-nodes (a .coords .now) (pairs (a .subject .now)) (pairs (a .cutter .now)) (a .met .now) (a .a, a .b) (one .result) (two .result) _ _ _
-    (one .ensures) (two .ensures) _ _ _ (k₀ .result) (k₁ .result) (k₀ .ensures) (k₁ .ensures) (put .ensures) nodes (at-else1 .if1 .left))
+    subst (λ (xs : List ℕ). FrontIs xs (a .out .now) (c .before .before .dedup .result) (c .before .before .dedup .last .1 .1 .0))
+    (some-nodes (a .coords .now) (pairs (a .subject .now)) (pairs (a .cutter .now)) (a .met .now) (a .a, a .b) (one .result) (two .result) _ _ _
+    (one .ensures) (two .ensures) _ _ _ (k₀ .result) (k₁ .result) (k₀ .ensures) (k₁ .ensures) (put .ensures) nodes (at-else1 .if1 .left)) (c .before .before .dedup .ensures)
 
 pub sorted-nodes-spec : {M : Type 1} → statement M
 sorted-nodes-spec = tie.close (tie.spec (λ c κs. search needs) (λ c κs. search needs) (λ c. search needs) (λ c. search needs) (λ c κs. search needs)
     (λ c. search needs) (λ c. search needs) collect-requires (λ c. search needs) (λ c. search needs) collect-requires-2 returns array-share-prefix-ns
-    slice-aggregate-dedup dedup-requires returns-2)
+    slice-aggregate-dedup dedup-requires (λ c. search needs) returns-2)

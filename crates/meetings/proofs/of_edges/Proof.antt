@@ -52,10 +52,10 @@ of-edge-requires c κs =
     let l = at-loop .loop in
     let test = in-loop-at-of-edge-requires c .loop-test .taken in (
       l .inv .2,
-      omega (arith, test, at-entry .pre .0 .3),
-      at-entry .pre .0 .5,
-      omega (arith, test, at-entry .pre .0 .4),
-      at-entry .pre .0 .6,
+      omega (arith, test, at-entry .pre .0 .subjectFits),
+      at-entry .pre .0 .cutterFits,
+      omega (arith, test, at-entry .pre .0 .subjectMost),
+      at-entry .pre .0 .cutterMost,
       covers (a .oc .now) (a .w .now) (a .placed) (a .se) (a .sn) (a .ce) (a .cn) (a .base) (a .m) (at-entry .pre .0) (l .oc) (l .w) (l .f) (l .i)
           (a .boxes .now) (l .inv) (at-entry .pre .1),
     )
@@ -89,7 +89,7 @@ add-i : tie.Need-add-i Inv-loop μ-loop
 add-i c =
     let at-in-loop = in-loop-of-of-edge (of-edge-at-add-i c) in
     let at-entry = entry-of-loop (loop-of-in-loop at-in-loop) in
-    omega (arith, at-in-loop .loop-test .taken, at-entry .pre .0 .4)
+    omega (arith, at-in-loop .loop-test .taken, at-entry .pre .0 .subjectMost)
 
 loop-again : tie.Need-loop-again Inv-loop μ-loop
 loop-again c =

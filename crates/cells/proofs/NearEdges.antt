@@ -1,5 +1,5 @@
 -- The edges near a cell, one after the other. Assumes nothing.
-use mathlib.Core.Path.{_≡_, refl, sym, ap, _∙_}
+use mathlib.Core.Path.{_≡_, refl, sym, ap, _∙_, subst}
 use mathlib.Core.List.{List, [], _∷_, _++_, append-nil, append-assoc}
 use Prim.Native.Nat.{ℕ, _+_, _*_, _/_, _≤_, _<_}
 use native.Mathlib.Omega.{arith}
@@ -16,8 +16,9 @@ use Rattle.cutting.proofs.Pairs.{pairs-length, pairs-at}
 use Rattle.rules.specs.declared.Bounds.{Bounds}
 use Rattle.spatial_index.specs.Candidates.{meets}
 use Rattle.spatial_index.proofs.Candidates.{places-next, places-end}
-use Rattle.edge_nodes.specs.Lent.{collectedIn}
-use Rattle.cells.specs.Cells.{laidIn, nearIn, candidatesFrom, Uncrowded, Held}
+use Rattle.edge_nodes.specs.Lent.{Few}
+use Rattle.regions.specs.declared.Regions.{Regions}
+use Rattle.cells.specs.Cells.{laidIn, nearIn, candidatesFrom, AllFew, Held}
 
 -- ---- `add_near`
 
@@ -28,7 +29,7 @@ near-laid coords e ns xs t u q got = got ∙ ap (λ (l : List ℕ). withEdges co
 -- ---- `near_darts`
 
 -- the table holds the near edges so far, j is the next
-pub record Nearing (coords : List Float) (subject cutter : List Edge) (met near : List ℕ) (b : Bounds) (first₀ : ℕ) (outline : List Edge)
+pub record Nearing (coords : List Float) (work : List ℕ) (g : Regions) (near : List ℕ) (b : Bounds) (first₀ : ℕ) (outline : List Edge)
     (src₀ dst₀ marks₀ src dst marks : List ℕ) (m j : ℕ) : Type 0 where
   pub same-src : length src ≡ length src₀
   pub same-dst : length dst ≡ length dst₀
@@ -37,16 +38,16 @@ pub record Nearing (coords : List Float) (subject cutter : List Edge) (met near 
   pub done : List Laid
   pub from : ℕ
   pub at : first (meets coords (pairs near) b) from (length (pairs near)) ≡ j
-  pub left : done ++ nearIn coords subject cutter met (pairs near) (candidatesFrom coords (pairs near) b from) ≡ nearIn coords subject cutter met (pairs near)
+  pub left : done ++ nearIn coords work g (pairs near) (candidatesFrom coords (pairs near) b from) ≡ nearIn coords work g (pairs near)
       (candidatesFrom coords (pairs near) b first₀)
   pub held : slotsOf src dst marks m ≡ cellTable coords outline done
 
-module _ (coords : List Float) (subject cutter : List Edge) (met near : List ℕ) (b : Bounds) (first₀ : ℕ) (outline : List Edge) (src₀ dst₀ marks₀ : List ℕ) where
+module _ (coords : List Float) (work : List ℕ) (g : Regions) (near : List ℕ) (b : Bounds) (first₀ : ℕ) (outline : List Edge) (src₀ dst₀ marks₀ : List ℕ) where
   abbrev laid : Edge → Laid
-  laid = laidIn coords subject cutter met
+  laid = laidIn coords work g
 
   abbrev nearBy : List ℕ → List Laid
-  nearBy = nearIn coords subject cutter met (pairs near)
+  nearBy = nearIn coords work g (pairs near)
 
   abbrev from-on : ℕ → List ℕ
   from-on = candidatesFrom coords (pairs near) b
@@ -55,7 +56,7 @@ module _ (coords : List Float) (subject cutter : List Edge) (met near : List ℕ
   found k = first (meets coords (pairs near) b) k (length (pairs near))
 
   abbrev Nearing₀ : List ℕ → List ℕ → List ℕ → ℕ → ℕ → Type 0
-  Nearing₀ = Nearing coords subject cutter met near b first₀ outline src₀ dst₀ marks₀
+  Nearing₀ = Nearing coords work g near b first₀ outline src₀ dst₀ marks₀
 
   pub near-start : (n j : ℕ) → n ≤ 1024 → slotsOf src₀ dst₀ marks₀ n ≡ cellTable coords outline [] → j ≡ found first₀ → Nearing₀ src₀ dst₀ marks₀ n j
   near-start n j small t e = record {
@@ -84,8 +85,8 @@ module _ (coords : List Float) (subject cutter : List Edge) (met near : List ℕ
       below : j < length (pairs near)
       below = omega (arith, pairs-length near)
 
-      pub near-few : (links : List ℕ) → Uncrowded subject cutter met links (pairs near) → length (collectedIn subject cutter met e) ≤ 256
-      near-few links u = omega (arith, u .few j below, ap (λ (f : Edge). length (collectedIn subject cutter met f)) at-j)
+      pub near-few : AllFew work g (pairs near) → Few work g e
+      near-few u = subst (λ (f : Edge). Few work g f) at-j (u j below)
 
       split : v .done ++ laid e ∷ nearBy (from-on (j + 1)) ≡ nearBy (from-on first₀)
       unfolding nearIn
