@@ -28,7 +28,8 @@ ghost use Rattle.dart_table.specs.Table.{tableIn, withEdges, Added, Outlined};
 ghost use Rattle.regions.specs.Runs.{Within, runIn};
 ghost use Rattle.spatial_index.specs.Blocks.{Covered};
 ghost use Rattle.edge_nodes.specs.Lent.{Few};
-ghost use Rattle.cells.specs.Cells.{laidIn, outlineIn, nearIn, nearEdgesIn, candidatesFrom, candidatesOf, cut, cutAs, cutBy, cutCell, AllFew, nextCorner, outlineFrom, LaidIn, Held, Tables, Ready};
+ghost use Rattle.cells.specs.Cells.{laidIn, outlineIn, nearIn, nearEdgesIn, candidatesFrom, candidatesOf, cut, cutAs};
+ghost use Rattle.cells.specs.Cells.{cutBy, cutCell, AllFew, nextCorner, outlineFrom, LaidIn, Held, Tables, Ready};
 
 // What a cell comes to: the refusal or 0, how many pieces there are, and corners in them.
 pub struct CutCell {
@@ -83,8 +84,10 @@ fn add_own(
     marks: &mut [u32],
     n: usize,
 ) -> usize
-    requires { ⌜ Few (now w) g (a, b) × (258 ≤ length (now nodes)) × (n ≤ 1024) × (1024 ≤ length (now outline)) × (1024 ≤ length (now src)) × (1024 ≤ length (now dst)) × (1024 ≤ length (now marks)) ⌝ }
-    ensures { λ r. ⌜ Added (now (coords .entry)) 1 (ownDarts (laidIn (now (coords .entry)) (now (w .entry)) g (a, b))) n r (now (src .entry)) (now (dst .entry)) (now (marks .entry)) (now (src .exit)) (now (dst .exit)) (now (marks .exit))
+    requires { ⌜ Few (now w) g (a, b) × (258 ≤ length (now nodes)) × (n ≤ 1024) × (1024 ≤ length (now outline)) × (1024 ≤ length (now src)) × (1024 ≤ length (now dst))
+        × (1024 ≤ length (now marks)) ⌝ }
+    ensures { λ r. ⌜ Added (now (coords .entry)) 1 (ownDarts (laidIn (now (coords .entry)) (now (w .entry)) g (a, b))) n r (now (src .entry)) (now (dst .entry))
+        (now (marks .entry)) (now (src .exit)) (now (dst .exit)) (now (marks .exit))
         × Outlined (ownDarts (laidIn (now (coords .entry)) (now (w .entry)) g (a, b))) n r (now (outline .entry)) (now (outline .exit)) ⌝ }
 {
     let count = nodes_on(coords, w, g, a, b, nodes);
@@ -103,7 +106,8 @@ fn own_darts(
     dst: &mut [u32],
     marks: &mut [u32],
 ) -> usize
-    requires { ⌜ AllFew (now w) g (ring (now cell)) × (258 ≤ length (now nodes)) × (1024 ≤ length (now outline)) × (1024 ≤ length (now src)) × (1024 ≤ length (now dst)) × (1024 ≤ length (now marks)) ⌝ }
+    requires { ⌜ AllFew (now w) g (ring (now cell)) × (258 ≤ length (now nodes)) × (1024 ≤ length (now outline)) × (1024 ≤ length (now src)) × (1024 ≤ length (now dst))
+        × (1024 ≤ length (now marks)) ⌝ }
     ensures { λ r. ⌜ Held (cellTable (now (coords .entry)) (outlineIn (now (coords .entry)) (now (w .entry)) g (now (cell .entry))) []) r (now (src .exit)) (now (dst .exit)) (now (marks .exit))
         × (r ≤ 1024 → take r (now (outline .exit)) ≡ flatEdges (outlineIn (now (coords .entry)) (now (w .entry)) g (now (cell .entry)))) ⌝ }
 {
@@ -225,8 +229,12 @@ fn near_darts(
     marks: &mut [u32],
     n: usize,
 ) -> usize
-    requires { ⌜ AllFew (now w) g (pairs (now near)) × Covered (now coords) (pairs (now near)) (now boxes) × (258 ≤ length (now nodes)) × (n ≤ 1024) × (1024 ≤ length (now src)) × (1024 ≤ length (now dst)) × (1024 ≤ length (now marks)) × (slotsOf (now src) (now dst) (now marks) n ≡ cellTable (now coords) (pairs (now outline)) []) ⌝ }
-    ensures { λ r. ⌜ Held (cellTable (now (coords .entry)) (pairs (now (outline .entry))) (nearIn (now (coords .entry)) (now (w .entry)) g (pairs (now (near .entry))) (candidatesFrom (now (coords .entry)) (pairs (now (near .entry))) (t .bounds) (t .first)))) r (now (src .exit)) (now (dst .exit)) (now (marks .exit)) ⌝ }
+    requires { ⌜ AllFew (now w) g (pairs (now near)) × Covered (now coords) (pairs (now near)) (now boxes) × (258 ≤ length (now nodes)) × (n ≤ 1024)
+        × (1024 ≤ length (now src)) × (1024 ≤ length (now dst)) × (1024 ≤ length (now marks))
+        × (slotsOf (now src) (now dst) (now marks) n ≡ cellTable (now coords) (pairs (now outline)) []) ⌝ }
+    ensures { λ r. ⌜ Held (cellTable (now (coords .entry)) (pairs (now (outline .entry)))
+        (nearIn (now (coords .entry)) (now (w .entry)) g (pairs (now (near .entry)))
+        (candidatesFrom (now (coords .entry)) (pairs (now (near .entry))) (t .bounds) (t .first)))) r (now (src .exit)) (now (dst .exit)) (now (marks .exit)) ⌝ }
 {
     let count = near.len() / 2;
     let mut m = n;
@@ -254,8 +262,11 @@ fn walk_cell(
     runs: &mut [u32],
     stops: &mut [u32],
 ) -> CutCell
-    requires { ⌜ (n ≤ 1024) × (n ≤ length (now src)) × (n ≤ length (now dst)) × (n ≤ length (now marks)) × (length (now outline) ≤ 2048) × (1024 ≤ length (now runs)) × (1024 ≤ length (now stops)) ⌝ }
-    ensures { λ r. ⌜ cut r (now (runs .exit)) (now (stops .exit)) ≡ cutAs (ofWalk (walk (pairs (now (outline .entry))) (slotsOf (now (src .entry)) (now (dst .entry)) (now (marks .entry)) n))) (now (runs .entry)) (now (stops .entry)) ⌝ }
+    requires { ⌜ (n ≤ 1024) × (n ≤ length (now src)) × (n ≤ length (now dst)) × (n ≤ length (now marks)) × (length (now outline) ≤ 2048) × (1024 ≤ length (now runs))
+        × (1024 ≤ length (now stops)) ⌝ }
+    ensures { λ r. ⌜ cut r (now (runs .exit)) (now (stops .exit))
+        ≡ cutAs (ofWalk (walk (pairs (now (outline .entry))) (slotsOf (now (src .entry)) (now (dst .entry)) (now (marks .entry)) n))) (now (runs .entry))
+        (now (stops .entry)) ⌝ }
 {
     let w = walk_dart_map(src, dst, marks, n, outline, runs, stops);
     match w {
@@ -289,7 +300,8 @@ fn cut_outlined(
 ) -> CutCell
     requires { ⌜ Ready (now coords) (now w) g (now boxes) t (now nodes) (now runs) (now stops) × Tables (now coords) (now outline) (now src) (now dst) (now marks) ⌝ }
     ensures { λ r. ⌜ cut r (now (runs .exit)) (now (stops .exit)) ≡ cutBy (pairs (now (outline .entry)))
-        (cellTable (now (coords .entry)) (pairs (now (outline .entry))) (nearIn (now (coords .entry)) (now (w .entry)) g (nearEdgesIn (now (w .entry)) t) (candidatesOf (now (coords .entry)) (now (w .entry)) t)))
+        (cellTable (now (coords .entry)) (pairs (now (outline .entry)))
+        (nearIn (now (coords .entry)) (now (w .entry)) g (nearEdgesIn (now (w .entry)) t) (candidatesOf (now (coords .entry)) (now (w .entry)) t)))
         (now (runs .entry)) (now (stops .entry)) ⌝ }
 {
     if edges_repeat(outline) {
@@ -329,7 +341,8 @@ pub fn cut_cell(
     runs: &mut [u32],
     stops: &mut [u32],
 ) -> CutCell
-    requires { ⌜ AllFew (now w) g (ring (now cell)) × Within (t .edges) (length (now w)) × AllFew (now w) g (nearEdgesIn (now w) t) × Covered (now coords) (nearEdgesIn (now w) t) (now boxes) × (1024 ≤ length (now runs)) × (1024 ≤ length (now stops)) ⌝ }
+    requires { ⌜ AllFew (now w) g (ring (now cell)) × Within (t .edges) (length (now w)) × AllFew (now w) g (nearEdgesIn (now w) t)
+        × Covered (now coords) (nearEdgesIn (now w) t) (now boxes) × (1024 ≤ length (now runs)) × (1024 ≤ length (now stops)) ⌝ }
     ensures { λ r. ⌜ cut r (now (runs .exit)) (now (stops .exit)) ≡ cutCell (now (coords .entry)) (now (w .entry)) g t (now (cell .entry)) (now (runs .entry)) (now (stops .entry)) ⌝ }
 {
     let mut nodes = [0u32; 258];

@@ -215,7 +215,8 @@ fn cut_cells(
         × (length (now kinds) ≡ length (now stops)) × (length (now families) ≡ length (now stops))
         × (p .count ≤ room (now oe) (now ok) (now of)) × (p .entries ≤ length (now on)) × (p .entries + 1024 * length (now stops) < 2 ^ 32) × (p .code ≡ 0) ⌝ }
     ensures { λ r. ⌜ (r .code ≡ 0 → Fits (length (now (stops .entry))) p (now (on .entry)) (now (oe .entry)) (now (ok .entry)) (now (of .entry)) r)
-        × ((sc : Scene) → SceneIn sc (sideOf cutter) (now (coords .entry)) (now (w .entry)) g other (now (ends .entry)) → MeshIn sc (sideOf cutter) (now (own .entry)) (now (stops .entry)) (now (kinds .entry)) (now (families .entry))
+        × ((sc : Scene) → SceneIn sc (sideOf cutter) (now (coords .entry)) (now (w .entry)) g other (now (ends .entry))
+        → MeshIn sc (sideOf cutter) (now (own .entry)) (now (stops .entry)) (now (kinds .entry)) (now (families .entry))
         → ListedBehind (gathered (length (now (stops .entry))) (cellEvents op sc (sideOf cutter))) (gathered (length (now (stops .entry))) (kept sc (sideOf cutter) op))
         p (now (on .entry)) (now (oe .entry)) (now (ok .entry)) (now (of .entry)) r (now (on .exit)) (now (oe .exit)) (now (ok .exit)) (now (of .exit))) ⌝ }
 {

@@ -66,7 +66,9 @@ fn insert_slot(
     mark: u32,
 )
     requires { ⌜ (n < length (now src)) × (n < length (now dst)) × (n < length (now marks)) ⌝ }
-    ensures { λ _. ⌜ Inserted (insert (standsBefore (now (coords .entry))) (record { src = a; dst = b; mark = mark }) (slotsOf (now (src .entry)) (now (dst .entry)) (now (marks .entry)) n)) (n + 1) (now (src .entry)) (now (dst .entry)) (now (marks .entry)) (now (src .exit)) (now (dst .exit)) (now (marks .exit)) ⌝ }
+    ensures { λ _. ⌜ Inserted (insert (standsBefore (now (coords .entry))) (record { src = a; dst = b; mark = mark })
+        (slotsOf (now (src .entry)) (now (dst .entry)) (now (marks .entry)) n)) (n + 1) (now (src .entry)) (now (dst .entry)) (now (marks .entry)) (now (src .exit))
+        (now (dst .exit)) (now (marks .exit)) ⌝ }
 {
     let k = place(coords, src, dst, n, a, b);
     lists::insert_at_u32(src, n, k, a);
@@ -86,7 +88,8 @@ fn add_dart(
     n: usize,
 )
     requires { ⌜ (n + 2 ≤ length (now src)) × (n + 2 ≤ length (now dst)) × (n + 2 ≤ length (now marks)) ⌝ }
-    ensures { λ _. ⌜ Inserted (sortOnto (standsBefore (now (coords .entry))) (slotsOf (now (src .entry)) (now (dst .entry)) (now (marks .entry)) n) (edgeSlots back ((a, b) ∷ []))) (n + 2) (now (src .entry)) (now (dst .entry)) (now (marks .entry)) (now (src .exit)) (now (dst .exit)) (now (marks .exit)) ⌝ }
+    ensures { λ _. ⌜ Inserted (sortOnto (standsBefore (now (coords .entry))) (slotsOf (now (src .entry)) (now (dst .entry)) (now (marks .entry)) n)
+        (edgeSlots back ((a, b) ∷ []))) (n + 2) (now (src .entry)) (now (dst .entry)) (now (marks .entry)) (now (src .exit)) (now (dst .exit)) (now (marks .exit)) ⌝ }
 {
     insert_slot(coords, src, dst, marks, n, a, b, 0);
     insert_slot(coords, src, dst, marks, n + 1, b, a, back);
@@ -112,9 +115,12 @@ fn add_along(
     marks: &mut [u32],
     n: usize,
 )
-    requires { ⌜ (n + 2 * length (now nodes) ≤ length (now outline) + 2) × (n + 2 * length (now nodes) ≤ length (now src) + 2) × (n + 2 * length (now nodes) ≤ length (now dst) + 2) × (n + 2 * length (now nodes) ≤ length (now marks) + 2) ⌝ }
+    requires { ⌜ (n + 2 * length (now nodes) ≤ length (now outline) + 2) × (n + 2 * length (now nodes) ≤ length (now src) + 2)
+        × (n + 2 * length (now nodes) ≤ length (now dst) + 2) × (n + 2 * length (now nodes) ≤ length (now marks) + 2) ⌝ }
     ensures { λ _. ⌜ now (outline .exit) ≡ put (now (outline .entry)) n (flatEdges (map (reversedIf inv) (windows (now (nodes .entry))))) ⌝ }
-    ensures { λ _. ⌜ Inserted (sortOnto (standsBefore (now (coords .entry))) (slotsOf (now (src .entry)) (now (dst .entry)) (now (marks .entry)) n) (edgeSlots reverseMark (map (reversedIf inv) (windows (now (nodes .entry)))))) (n + 2 * length (windows (now (nodes .entry)))) (now (src .entry)) (now (dst .entry)) (now (marks .entry)) (now (src .exit)) (now (dst .exit)) (now (marks .exit)) ⌝ }
+    ensures { λ _. ⌜ Inserted (sortOnto (standsBefore (now (coords .entry))) (slotsOf (now (src .entry)) (now (dst .entry)) (now (marks .entry)) n)
+        (edgeSlots reverseMark (map (reversedIf inv) (windows (now (nodes .entry)))))) (n + 2 * length (windows (now (nodes .entry)))) (now (src .entry))
+        (now (dst .entry)) (now (marks .entry)) (now (src .exit)) (now (dst .exit)) (now (marks .exit)) ⌝ }
 {
     let mut i = 0;
     let mut k = n;
@@ -143,7 +149,8 @@ fn add_darts(
     n: usize,
 ) -> usize
     requires { ⌜ (0 < length (now nodes)) × (n ≤ 1024) × (1024 ≤ length (now outline)) × (1024 ≤ length (now src)) × (1024 ≤ length (now dst)) × (1024 ≤ length (now marks)) ⌝ }
-    ensures { λ r. ⌜ Added (now (coords .entry)) reverseMark (dartsAlong second (now (nodes .entry))) n r (now (src .entry)) (now (dst .entry)) (now (marks .entry)) (now (src .exit)) (now (dst .exit)) (now (marks .exit)) × Outlined (dartsAlong second (now (nodes .entry))) n r (now (outline .entry)) (now (outline .exit)) ⌝ }
+    ensures { λ r. ⌜ Added (now (coords .entry)) reverseMark (dartsAlong second (now (nodes .entry))) n r (now (src .entry)) (now (dst .entry)) (now (marks .entry))
+        (now (src .exit)) (now (dst .exit)) (now (marks .exit)) × Outlined (dartsAlong second (now (nodes .entry))) n r (now (outline .entry)) (now (outline .exit)) ⌝ }
 {
     let slots = n + 2 * (nodes.len() - 1);
     if 1024 < slots {
@@ -168,7 +175,9 @@ pub fn add_own_edge(
     n: usize,
 ) -> usize
     requires { ⌜ (n ≤ 1024) × (1024 ≤ length (now outline)) × (1024 ≤ length (now src)) × (1024 ≤ length (now dst)) × (1024 ≤ length (now marks)) ⌝ }
-    ensures { λ r. ⌜ (tableIn r (now (src .exit)) (now (dst .exit)) (now (marks .exit)) ≡ withDarts (now (coords .entry)) reverseMark (ownDarts (record { edge = (a, b); nodes = now (nodes .entry) })) (tableIn n (now (src .entry)) (now (dst .entry)) (now (marks .entry))))
+    ensures { λ r. ⌜ (tableIn r (now (src .exit)) (now (dst .exit)) (now (marks .exit))
+        ≡ withDarts (now (coords .entry)) reverseMark (ownDarts (record { edge = (a, b); nodes = now (nodes .entry) }))
+        (tableIn n (now (src .entry)) (now (dst .entry)) (now (marks .entry))))
         × (now (outline .exit) ≡ outlineWith (ownDarts (record { edge = (a, b); nodes = now (nodes .entry) })) n (now (outline .entry))) ⌝ }
 {
     if nodes.len() == 0 {

@@ -96,7 +96,9 @@ fn walk_on(
     stops: &mut [u32],
 ) -> Walked
     requires { ⌜ Room n top (now src) (now dst) (now marks) (now heap) (now nodes) (now stops) ⌝ }
-    ensures { λ r. ⌜ (r ≡ answer (ofWalk (walkFrom true n (now (src .entry)) (now (dst .entry)) (now (marks .entry)) (stacked (now (heap .entry)) top)))) × Written (ofWalk (walkFrom true n (now (src .entry)) (now (dst .entry)) (now (marks .entry)) (stacked (now (heap .entry)) top))) (now (nodes .entry)) (now (stops .entry)) (now (nodes .exit)) (now (stops .exit)) ⌝ }
+    ensures { λ r. ⌜ (r ≡ answer (ofWalk (walkFrom true n (now (src .entry)) (now (dst .entry)) (now (marks .entry)) (stacked (now (heap .entry)) top))))
+        × Written (ofWalk (walkFrom true n (now (src .entry)) (now (dst .entry)) (now (marks .entry)) (stacked (now (heap .entry)) top))) (now (nodes .entry))
+        (now (stops .entry)) (now (nodes .exit)) (now (stops .exit)) ⌝ }
 {
     let mut sp = top;
     let mut at = n;
@@ -157,7 +159,9 @@ fn walk_table(
     stops: &mut [u32],
 ) -> Walked
     requires { ⌜ (n ≤ 1024) × (length (now src) ≡ n) × (length (now dst) ≡ n) × (length (now marks) ≡ n) × (length (now outline) ≤ 2048) × (n ≤ length (now nodes)) × (n ≤ length (now stops)) ⌝ }
-    ensures { λ r. ⌜ (r ≡ answer (ofWalk (walk (pairs (now (outline .entry))) (slotsOf (now (src .entry)) (now (dst .entry)) (now (marks .entry)) n)))) × Written (ofWalk (walk (pairs (now (outline .entry))) (slotsOf (now (src .entry)) (now (dst .entry)) (now (marks .entry)) n))) (now (nodes .entry)) (now (stops .entry)) (now (nodes .exit)) (now (stops .exit)) ⌝ }
+    ensures { λ r. ⌜ (r ≡ answer (ofWalk (walk (pairs (now (outline .entry))) (slotsOf (now (src .entry)) (now (dst .entry)) (now (marks .entry)) n))))
+        × Written (ofWalk (walk (pairs (now (outline .entry))) (slotsOf (now (src .entry)) (now (dst .entry)) (now (marks .entry)) n))) (now (nodes .entry))
+        (now (stops .entry)) (now (nodes .exit)) (now (stops .exit)) ⌝ }
 {
     let mut own = [0u32; 1024];
     let mut heap = [0u32; 2048];
@@ -178,7 +182,10 @@ pub fn walk_dart_map(
     stops: &mut [u32],
 ) -> Walked
     requires { ⌜ (n ≤ 1024) × (n ≤ length (now src)) × (n ≤ length (now dst)) × (n ≤ length (now marks)) × (length (now outline) ≤ 2048) × (n ≤ length (now nodes)) × (n ≤ length (now stops)) ⌝ }
-    ensures { λ r. ⌜ (r ≡ answer (ofWalk (walk (pairs (now (outline .entry))) (slotsOf (now (src .entry)) (now (dst .entry)) (now (marks .entry)) n)))) × (now (nodes .exit) ≡ cornersIn (ofWalk (walk (pairs (now (outline .entry))) (slotsOf (now (src .entry)) (now (dst .entry)) (now (marks .entry)) n))) (now (nodes .entry))) × (now (stops .exit) ≡ endsIn (ofWalk (walk (pairs (now (outline .entry))) (slotsOf (now (src .entry)) (now (dst .entry)) (now (marks .entry)) n))) (now (stops .entry))) ⌝ }
+    ensures { λ r. ⌜ (r ≡ answer (ofWalk (walk (pairs (now (outline .entry))) (slotsOf (now (src .entry)) (now (dst .entry)) (now (marks .entry)) n))))
+        × (now (nodes .exit) ≡ cornersIn (ofWalk (walk (pairs (now (outline .entry))) (slotsOf (now (src .entry)) (now (dst .entry)) (now (marks .entry)) n)))
+        (now (nodes .entry))) × (now (stops .exit) ≡ endsIn (ofWalk
+        (walk (pairs (now (outline .entry))) (slotsOf (now (src .entry)) (now (dst .entry)) (now (marks .entry)) n))) (now (stops .entry))) ⌝ }
 {
     let w = walk_table(&src[..n], &dst[..n], &marks[..n], n, outline, nodes, stops);
     match w {

@@ -176,7 +176,8 @@ fn collect_met(
         × (n + length (underAt (pairs (now edges)) (now met) which (a, b) q) ≤ length (now along)) × (n + length (underAt (pairs (now edges)) (now met) which (a, b) q) ≤ length (now nodes)) ⌝ }
     ensures { λ r. ⌜ (r ≡ n + length (underAt (pairs (now (edges .entry))) (now (met .entry)) which (a, b) q))
         × (listed (now (along .exit)) (now (nodes .exit)) r
-        ≡ sortOnto byProjection (listed (now (along .entry)) (now (nodes .entry)) n) (map (projected (now (coords .entry)) (key (a, b))) (underAt (pairs (now (edges .entry))) (now (met .entry)) which (a, b) q))) ⌝ }
+        ≡ sortOnto byProjection (listed (now (along .entry)) (now (nodes .entry)) n)
+        (map (projected (now (coords .entry)) (key (a, b))) (underAt (pairs (now (edges .entry))) (now (met .entry)) which (a, b) q))) ⌝ }
 {
     if is_under(edges, met, which, a, b, q) {
         return insert_met(coords, met, a, b, q, along, nodes, n);
@@ -202,7 +203,8 @@ fn collect(
         × Chains (pairs (now edges)) (now met) (now links) which ⌝ }
     ensures { λ r. ⌜ (r ≡ n + length (under (length (now (met .entry)) / 5) (pairs (now (edges .entry))) (now (met .entry)) which (a, b)))
         × (listed (now (along .exit)) (now (nodes .exit)) r
-        ≡ sortOnto byProjection (listed (now (along .entry)) (now (nodes .entry)) n) (map (projected (now (coords .entry)) (key (a, b))) (under (length (now (met .entry)) / 5) (pairs (now (edges .entry))) (now (met .entry)) which (a, b)))) ⌝ }
+        ≡ sortOnto byProjection (listed (now (along .entry)) (now (nodes .entry)) n)
+        (map (projected (now (coords .entry)) (key (a, b))) (under (length (now (met .entry)) / 5) (pairs (now (edges .entry))) (now (met .entry)) which (a, b)))) ⌝ }
 {
     let count = met.len() / 5;
     let mut m = n;

@@ -172,7 +172,8 @@ pub fn compute_descending(
 ) -> usize
     requires { ⌜ (at + total ≤ base) × (base + 2 * total ≤ scratch) × (scratch + (h + n) ≤ length (now w)) × (total ≤ n) × (total ≤ 65536) × (0 < h) × (Rising (now cells) total) ⌝ }
     ensures { λ r. ⌜ (r ≡ length (computeDescending (cellsOf (mesh [] (run (now (w .entry)) at total) (now (cells .entry)) [] []))))
-        × (now (w .exit) ≡ put (put (now (w .entry)) base (flatEdges (computeDescending (cellsOf (mesh [] (run (now (w .entry)) at total) (now (cells .entry)) [] []))))) scratch (zeros (h + n))) ⌝ }
+        × (now (w .exit) ≡ put (put (now (w .entry)) base (flatEdges (computeDescending (cellsOf (mesh [] (run (now (w .entry)) at total) (now (cells .entry)) [] [])))))
+        scratch (zeros (h + n))) ⌝ }
 {
     let t = scratch + (h + n);
     zero_u32(&mut w[scratch..t]);

@@ -23,7 +23,8 @@ fn either(x: bool, p: u32, q: u32) -> u32
 // Writes the darts along the nodes, each the other way where `inv` is true, to the front of a flat list of pairs. Answers how many entries they take.
 fn lay_along(inv: bool, nodes: &[u32], darts: &mut [u32]) -> usize
     requires { ⌜ 2 * length (now nodes) ≤ length (now darts) + 2 ⌝ }
-    ensures { λ r. ⌜ (r ≡ 2 * length (map (reversedIf inv) (windows (now (nodes .entry))))) × (now (darts .exit) ≡ front (now (darts .entry)) (flatEdges (map (reversedIf inv) (windows (now (nodes .entry)))))) ⌝ }
+    ensures { λ r. ⌜ (r ≡ 2 * length (map (reversedIf inv) (windows (now (nodes .entry)))))
+        × (now (darts .exit) ≡ front (now (darts .entry)) (flatEdges (map (reversedIf inv) (windows (now (nodes .entry)))))) ⌝ }
 {
     let mut i = 0;
     let mut k = 0;

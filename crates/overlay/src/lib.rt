@@ -54,10 +54,13 @@ fn run(
     work: &mut [u32],
 ) -> Answer
     requires { ⌜ entryOf op m (mesh (now sc) (now sn) (now se) (now sk) (now sf)) (mesh (now cc) (now cn) (now ce) (now ck) (now cf)) (length (now work)) ≡ 0 ⌝ }
-    ensures { λ r. ⌜ (r .code ≡ stateOf op m (mesh (now (sc .entry)) (now (sn .entry)) (now (se .entry)) (now (sk .entry)) (now (sf .entry))) (mesh (now (cc .entry)) (now (cn .entry)) (now (ce .entry)) (now (ck .entry)) (now (cf .entry)))
+    ensures { λ r. ⌜ (r .code ≡ stateOf op m (mesh (now (sc .entry)) (now (sn .entry)) (now (se .entry)) (now (sk .entry)) (now (sf .entry)))
+        (mesh (now (cc .entry)) (now (cn .entry)) (now (ce .entry)) (now (ck .entry)) (now (cf .entry)))
         (lentLists (now (oc .entry)) (now (on .entry)) (now (oe .entry)) (now (ok .entry)) (now (of .entry)) (now (work .entry))))
-        × (r .code ≡ 0 → result 0 (r .pieces) (r .points) (r .doubled) (lentLists (now (oc .exit)) (now (on .exit)) (now (oe .exit)) (now (ok .exit)) (now (of .exit)) (zeros (length (now (work .entry)))))
-        ≡ answered op (mesh (now (sc .entry)) (now (sn .entry)) (now (se .entry)) (now (sk .entry)) (now (sf .entry))) (mesh (now (cc .entry)) (now (cn .entry)) (now (ce .entry)) (now (ck .entry)) (now (cf .entry)))
+        × (r .code ≡ 0 → result 0 (r .pieces) (r .points) (r .doubled)
+        (lentLists (now (oc .exit)) (now (on .exit)) (now (oe .exit)) (now (ok .exit)) (now (of .exit)) (zeros (length (now (work .entry)))))
+        ≡ answered op (mesh (now (sc .entry)) (now (sn .entry)) (now (se .entry)) (now (sk .entry)) (now (sf .entry)))
+        (mesh (now (cc .entry)) (now (cn .entry)) (now (ce .entry)) (now (ck .entry)) (now (cf .entry)))
         (lentLists (now (oc .entry)) (now (on .entry)) (now (oe .entry)) (now (ok .entry)) (now (of .entry)) (now (work .entry)))) ⌝ }
 {
     let f = find(op, m, sc, sn, se, cc, cn, ce, oc, work);

@@ -216,8 +216,10 @@ pub fn place_pieces(
     kind: u8,
     family: u32,
 ) -> Placed
-    requires { ⌜ (Rising (now ends) (length (now nodes))) × (Rising (now stops) (length (now runs))) × (count ≤ room (now oe) (now ok) (now of)) × (entries ≤ length (now on)) × (entries + length (now runs) < 2 ^ 32) ⌝ }
-    ensures { λ r. ⌜ PlacedBehind count entries kind family (passing (isKept op cutter (now (coords .entry)) (runsOf (now (nodes .entry)) (now (ends .entry)))) (runsOf (now (runs .entry)) (now (stops .entry))))
+    requires { ⌜ (Rising (now ends) (length (now nodes))) × (Rising (now stops) (length (now runs))) × (count ≤ room (now oe) (now ok) (now of))
+        × (entries ≤ length (now on)) × (entries + length (now runs) < 2 ^ 32) ⌝ }
+    ensures { λ r. ⌜ PlacedBehind count entries kind family (passing (isKept op cutter (now (coords .entry)) (runsOf (now (nodes .entry)) (now (ends .entry))))
+        (runsOf (now (runs .entry)) (now (stops .entry))))
         (now (on .entry)) (now (oe .entry)) (now (ok .entry)) (now (of .entry)) r (now (on .exit)) (now (oe .exit)) (now (ok .exit)) (now (of .exit)) ⌝ }
 {
     let mut p = Placed {

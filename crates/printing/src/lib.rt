@@ -53,7 +53,8 @@ fn put_listing(
     points: u32,
     doubled: u32,
 ) -> Put
-    ensures { λ r. ⌜ page r (now (out .exit)) ≡ pageWith (page to (now (out .entry))) (listingText (bitsOf (now (coords .entry)) (now (nodes .entry)) (now (ends .entry)) (now (kinds .entry)) (now (families .entry))) pieces points doubled) ⌝ }
+    ensures { λ r. ⌜ page r (now (out .exit)) ≡ pageWith (page to (now (out .entry)))
+        (listingText (bitsOf (now (coords .entry)) (now (nodes .entry)) (now (ends .entry)) (now (kinds .entry)) (now (families .entry))) pieces points doubled) ⌝ }
 {
     let a = lines::put_bytes(out, to, b"(overlay\n");
     let b = lines::put_body(out, a, coords, nodes, ends, kinds, families);
@@ -71,7 +72,10 @@ pub fn print_answer(
     kinds: &[u8],
     families: &[u32],
 ) -> Put
-    ensures { λ r. ⌜ (r ≡ roomFor (length (now (out .entry))) (answerText (told answer (now (coords .entry)) (now (nodes .entry)) (now (ends .entry)) (now (kinds .entry)) (now (families .entry))))) × (now (out .exit) ≡ laidOver (now (out .entry)) (answerText (told answer (now (coords .entry)) (now (nodes .entry)) (now (ends .entry)) (now (kinds .entry)) (now (families .entry))))) ⌝ }
+    ensures { λ r. ⌜ (r ≡ roomFor (length (now (out .entry)))
+        (answerText (told answer (now (coords .entry)) (now (nodes .entry)) (now (ends .entry)) (now (kinds .entry)) (now (families .entry)))))
+        × (now (out .exit) ≡ laidOver (now (out .entry)) (answerText
+        (told answer (now (coords .entry)) (now (nodes .entry)) (now (ends .entry)) (now (kinds .entry)) (now (families .entry))))) ⌝ }
 {
     match answer {
         Answer::Unread => lines::put_bytes(out, Put::At(0), b"(unread)\n"),

@@ -147,7 +147,8 @@ pub(crate) fn put_body(
     kinds: &[u8],
     families: &[u32],
 ) -> Put
-    ensures { λ r. ⌜ page r (now (out .exit)) ≡ pageWith (page to (now (out .entry))) (bodyText (bitsOf (now (coords .entry)) (now (nodes .entry)) (now (ends .entry)) (now (kinds .entry)) (now (families .entry)))) ⌝ }
+    ensures { λ r. ⌜ page r (now (out .exit)) ≡ pageWith (page to (now (out .entry)))
+        (bodyText (bitsOf (now (coords .entry)) (now (nodes .entry)) (now (ends .entry)) (now (kinds .entry)) (now (families .entry)))) ⌝ }
 {
     let a = put_nodes(out, to, coords);
     put_cells(out, a, nodes, ends, kinds, families)

@@ -47,7 +47,12 @@ fn cut<'a, 'b>(
     out: &mut [u8],
 ) -> Put
     requires { ⌜ nodes ≤ 1024 ⌝ }
-    ensures { λ r. ⌜ (r ≡ roomFor (length (now (out .entry))) (answerText (resultTold nodes (overlayOf op m (mesh (now (sc .entry)) (now (sn .entry)) (now (se .entry)) (now (sk .entry)) (now (sf .entry))) (mesh (now (cc .entry)) (now (cn .entry)) (now (ce .entry)) (now (ck .entry)) (now (cf .entry))) blank)))) × (now (out .exit) ≡ laidOver (now (out .entry)) (answerText (resultTold nodes (overlayOf op m (mesh (now (sc .entry)) (now (sn .entry)) (now (se .entry)) (now (sk .entry)) (now (sf .entry))) (mesh (now (cc .entry)) (now (cn .entry)) (now (ce .entry)) (now (ck .entry)) (now (cf .entry))) blank)))) ⌝ }
+    ensures { λ r. ⌜ (r ≡ roomFor (length (now (out .entry)))
+        (answerText (resultTold nodes (overlayOf op m (mesh (now (sc .entry)) (now (sn .entry)) (now (se .entry)) (now (sk .entry)) (now (sf .entry)))
+        (mesh (now (cc .entry)) (now (cn .entry)) (now (ce .entry)) (now (ck .entry)) (now (cf .entry))) blank))))
+        × (now (out .exit) ≡ laidOver (now (out .entry)) (answerText
+        (resultTold nodes (overlayOf op m (mesh (now (sc .entry)) (now (sn .entry)) (now (se .entry)) (now (sk .entry)) (now (sf .entry)))
+        (mesh (now (cc .entry)) (now (cn .entry)) (now (ce .entry)) (now (ck .entry)) (now (cf .entry))) blank)))) ⌝ }
 {
     let mut oc = [0.0; 4096];
     let mut on = [0u32; 8192];

@@ -53,8 +53,11 @@ fn read_within(
     kinds: &mut [u8],
     families: &mut [u32],
 ) -> MeshRead
-    requires { ⌜ (at ≤ length (now s)) × (2 * points ≤ length (now coords)) × (entries ≤ length (now nodes)) × (entries ≤ 4294967295) × (cells ≤ length (now ends)) × (cells ≤ length (now kinds)) × (cells ≤ length (now families)) ⌝ }
-    ensures { λ r. ⌜ (meshAs r (now (s .entry)) (now (coords .exit)) (now (nodes .exit)) (now (ends .exit)) (now (kinds .exit)) (now (families .exit)) ≡ meshFrom (atMost points cells entries) (drop at (now (s .entry)))) × (meshEnd r ≤ length (now (s .entry))) × (countsOf r .points ≤ points) × (countsOf r .cells ≤ cells) × (countsOf r .entries ≤ entries) ⌝ }
+    requires { ⌜ (at ≤ length (now s)) × (2 * points ≤ length (now coords)) × (entries ≤ length (now nodes)) × (entries ≤ 4294967295) × (cells ≤ length (now ends))
+        × (cells ≤ length (now kinds)) × (cells ≤ length (now families)) ⌝ }
+    ensures { λ r. ⌜ (meshAs r (now (s .entry)) (now (coords .exit)) (now (nodes .exit)) (now (ends .exit)) (now (kinds .exit)) (now (families .exit))
+        ≡ meshFrom (atMost points cells entries) (drop at (now (s .entry)))) × (meshEnd r ≤ length (now (s .entry))) × (countsOf r .points ≤ points)
+        × (countsOf r .cells ≤ cells) × (countsOf r .entries ≤ entries) ⌝ }
 {
     let w = words::mesh_word(s, at);
     let Step::Past(a) = w else {
@@ -93,7 +96,11 @@ fn read_mesh(
     families: &mut [u32],
 ) -> MeshRead
     requires { ⌜ at ≤ length (now s) ⌝ }
-    ensures { λ r. ⌜ (meshAs r (now (s .entry)) (now (coords .exit)) (now (nodes .exit)) (now (ends .exit)) (now (kinds .exit)) (now (families .exit)) ≡ meshFrom (limits (length (now (coords .entry))) (length (now (nodes .entry))) (length (now (ends .entry))) (length (now (kinds .entry))) (length (now (families .entry)))) (drop at (now (s .entry)))) × (meshEnd r ≤ length (now (s .entry))) × (2 * countsOf r .points ≤ length (now (coords .entry))) × (countsOf r .entries ≤ length (now (nodes .entry))) × (countsOf r .cells ≤ length (now (ends .entry))) × (countsOf r .cells ≤ length (now (kinds .entry))) × (countsOf r .cells ≤ length (now (families .entry))) ⌝ }
+    ensures { λ r. ⌜ (meshAs r (now (s .entry)) (now (coords .exit)) (now (nodes .exit)) (now (ends .exit)) (now (kinds .exit)) (now (families .exit))
+        ≡ meshFrom (limits (length (now (coords .entry))) (length (now (nodes .entry))) (length (now (ends .entry))) (length (now (kinds .entry)))
+        (length (now (families .entry)))) (drop at (now (s .entry)))) × (meshEnd r ≤ length (now (s .entry))) × (2 * countsOf r .points ≤ length (now (coords .entry)))
+        × (countsOf r .entries ≤ length (now (nodes .entry))) × (countsOf r .cells ≤ length (now (ends .entry))) × (countsOf r .cells ≤ length (now (kinds .entry)))
+        × (countsOf r .cells ≤ length (now (families .entry))) ⌝ }
 {
     let points = least(512, coords.len() / 2);
     let some = least(kinds.len(), families.len());
@@ -128,7 +135,13 @@ fn read_text(
     ck: &mut [u8],
     cf: &mut [u32],
 ) -> Input
-    ensures { λ r. ⌜ (inputAs r (now (sc .exit)) (now (sn .exit)) (now (se .exit)) (now (sk .exit)) (now (sf .exit)) (now (cc .exit)) (now (cn .exit)) (now (ce .exit)) (now (ck .exit)) (now (cf .exit)) ≡ inputFrom (limits (length (now (sc .entry))) (length (now (sn .entry))) (length (now (se .entry))) (length (now (sk .entry))) (length (now (sf .entry)))) (limits (length (now (cc .entry))) (length (now (cn .entry))) (length (now (ce .entry))) (length (now (ck .entry))) (length (now (cf .entry)))) (now (s .entry))) × (2 * subjectOf r .points ≤ length (now (sc .entry))) × (subjectOf r .entries ≤ length (now (sn .entry))) × (subjectOf r .cells ≤ length (now (se .entry))) × (subjectOf r .cells ≤ length (now (sk .entry))) × (subjectOf r .cells ≤ length (now (sf .entry))) × (2 * cutterOf r .points ≤ length (now (cc .entry))) × (cutterOf r .entries ≤ length (now (cn .entry))) × (cutterOf r .cells ≤ length (now (ce .entry))) × (cutterOf r .cells ≤ length (now (ck .entry))) × (cutterOf r .cells ≤ length (now (cf .entry))) ⌝ }
+    ensures { λ r. ⌜ (inputAs r (now (sc .exit)) (now (sn .exit)) (now (se .exit)) (now (sk .exit)) (now (sf .exit)) (now (cc .exit)) (now (cn .exit)) (now (ce .exit))
+        (now (ck .exit)) (now (cf .exit)) ≡ inputFrom (limits (length (now (sc .entry))) (length (now (sn .entry))) (length (now (se .entry))) (length (now (sk .entry)))
+        (length (now (sf .entry)))) (limits (length (now (cc .entry))) (length (now (cn .entry))) (length (now (ce .entry))) (length (now (ck .entry)))
+        (length (now (cf .entry)))) (now (s .entry))) × (2 * subjectOf r .points ≤ length (now (sc .entry))) × (subjectOf r .entries ≤ length (now (sn .entry)))
+        × (subjectOf r .cells ≤ length (now (se .entry))) × (subjectOf r .cells ≤ length (now (sk .entry))) × (subjectOf r .cells ≤ length (now (sf .entry)))
+        × (2 * cutterOf r .points ≤ length (now (cc .entry))) × (cutterOf r .entries ≤ length (now (cn .entry))) × (cutterOf r .cells ≤ length (now (ce .entry)))
+        × (cutterOf r .cells ≤ length (now (ck .entry))) × (cutterOf r .cells ≤ length (now (cf .entry))) ⌝ }
 {
     if 65536 < s.len() {
         return Input::Unread;
@@ -172,7 +185,9 @@ fn clear_rest(
     families: &mut [u32],
 )
     requires { ⌜ (2 * points ≤ length (now coords)) × (entries ≤ length (now nodes)) × (cells ≤ length (now ends)) × (cells ≤ length (now kinds)) × (cells ≤ length (now families)) ⌝ }
-    ensures { λ _. ⌜ (now (coords .exit) ≡ fzeroedFrom (2 * points) (now (coords .entry))) × (now (nodes .exit) ≡ zeroedFrom entries (now (nodes .entry))) × (now (ends .exit) ≡ zeroedFrom cells (now (ends .entry))) × (now (kinds .exit) ≡ zeroedFrom cells (now (kinds .entry))) × (now (families .exit) ≡ zeroedFrom cells (now (families .entry))) ⌝ }
+    ensures { λ _. ⌜ (now (coords .exit) ≡ fzeroedFrom (2 * points) (now (coords .entry))) × (now (nodes .exit) ≡ zeroedFrom entries (now (nodes .entry)))
+        × (now (ends .exit) ≡ zeroedFrom cells (now (ends .entry))) × (now (kinds .exit) ≡ zeroedFrom cells (now (kinds .entry)))
+        × (now (families .exit) ≡ zeroedFrom cells (now (families .entry))) ⌝ }
 {
     lists::zero_f64(&mut coords[2 * points..]);
     lists::zero_u32(&mut nodes[entries..]);
@@ -195,7 +210,13 @@ pub fn read_input(
     ck: &mut [u8],
     cf: &mut [u32],
 ) -> Input
-    ensures { λ r. ⌜ (inputAs r (now (sc .exit)) (now (sn .exit)) (now (se .exit)) (now (sk .exit)) (now (sf .exit)) (now (cc .exit)) (now (cn .exit)) (now (ce .exit)) (now (ck .exit)) (now (cf .exit)) ≡ inputFrom (limits (length (now (sc .entry))) (length (now (sn .entry))) (length (now (se .entry))) (length (now (sk .entry))) (length (now (sf .entry)))) (limits (length (now (cc .entry))) (length (now (cn .entry))) (length (now (ce .entry))) (length (now (ck .entry))) (length (now (cf .entry)))) (now (s .entry))) × MeshRest (subjectOf r) (length (now (sc .entry))) (length (now (sn .entry))) (length (now (se .entry))) (length (now (sk .entry))) (length (now (sf .entry))) (now (sc .exit)) (now (sn .exit)) (now (se .exit)) (now (sk .exit)) (now (sf .exit)) × MeshRest (cutterOf r) (length (now (cc .entry))) (length (now (cn .entry))) (length (now (ce .entry))) (length (now (ck .entry))) (length (now (cf .entry))) (now (cc .exit)) (now (cn .exit)) (now (ce .exit)) (now (ck .exit)) (now (cf .exit)) ⌝ }
+    ensures { λ r. ⌜ (inputAs r (now (sc .exit)) (now (sn .exit)) (now (se .exit)) (now (sk .exit)) (now (sf .exit)) (now (cc .exit)) (now (cn .exit)) (now (ce .exit))
+        (now (ck .exit)) (now (cf .exit)) ≡ inputFrom (limits (length (now (sc .entry))) (length (now (sn .entry))) (length (now (se .entry))) (length (now (sk .entry)))
+        (length (now (sf .entry)))) (limits (length (now (cc .entry))) (length (now (cn .entry))) (length (now (ce .entry))) (length (now (ck .entry)))
+        (length (now (cf .entry)))) (now (s .entry))) × MeshRest (subjectOf r) (length (now (sc .entry))) (length (now (sn .entry))) (length (now (se .entry)))
+        (length (now (sk .entry))) (length (now (sf .entry))) (now (sc .exit)) (now (sn .exit)) (now (se .exit)) (now (sk .exit)) (now (sf .exit))
+        × MeshRest (cutterOf r) (length (now (cc .entry))) (length (now (cn .entry))) (length (now (ce .entry))) (length (now (ck .entry))) (length (now (cf .entry)))
+        (now (cc .exit)) (now (cn .exit)) (now (ce .exit)) (now (ck .exit)) (now (cf .exit)) ⌝ }
 {
     match read_text(s, sc, sn, se, sk, sf, cc, cn, ce, ck, cf) {
         Input::Read {

@@ -4,7 +4,8 @@ ghost use mathlib.Core.List.{[]};
 ghost use Prim.Native.Nat.{_-_, _*_, _≤_};
 ghost use lib.ListN.{length, take, drop};
 ghost use Rattle.text.specs.Read.{nodeFrom, nodesFrom, entriesFrom, headFrom, cellFrom, cellsFrom, firstFrom, empty};
-ghost use Rattle.reading_lines.specs.Lines.{nodeAs, nodeEnd, nodesAs, entriesAs, countEnd, countOf, headAs, headEnd, cellAs, cellEnd, cellCount, cellsAs, cellsEnd, cellsCount, cellsEntries, firstAs, firstEnd};
+ghost use Rattle.reading_lines.specs.Lines.{nodeAs, nodeEnd, nodesAs, entriesAs, countEnd, countOf, headAs, headEnd};
+ghost use Rattle.reading_lines.specs.Lines.{cellAs, cellEnd, cellCount, cellsAs, cellsEnd, cellsCount, cellsEntries, firstAs, firstEnd};
 use crate::words;
 use crate::words::Number;
 use crate::words::Pattern;
@@ -95,7 +96,8 @@ pub fn read_nodes(s: &[u8], at: usize, room: usize, coords: &mut [f64]) -> Count
 // numbers with a space before each, put behind the first `from` of the list, up to `room` in all
 pub fn read_entries(s: &[u8], at: usize, from: usize, room: usize, nodes: &mut [u32]) -> Count
     requires { ⌜ (at ≤ length (now s)) × (from ≤ room) × (room ≤ length (now nodes)) ⌝ }
-    ensures { λ r. ⌜ (entriesAs r (now (s .entry)) (now (nodes .exit)) ≡ entriesFrom (room - from) (take from (now (nodes .entry))) (drop at (now (s .entry)))) × (countEnd r ≤ length (now (s .entry))) × (countOf r ≤ room) ⌝ }
+    ensures { λ r. ⌜ (entriesAs r (now (s .entry)) (now (nodes .exit)) ≡ entriesFrom (room - from) (take from (now (nodes .entry))) (drop at (now (s .entry))))
+        × (countEnd r ≤ length (now (s .entry))) × (countOf r ≤ room) ⌝ }
 {
     let mut k = from;
     let mut p = at;
@@ -141,7 +143,8 @@ pub fn read_head(s: &[u8], at: usize) -> Head
 // a cell line after its word
 pub fn read_cell(s: &[u8], at: usize, from: usize, room: usize, nodes: &mut [u32]) -> CellRead
     requires { ⌜ (at ≤ length (now s)) × (from ≤ room) × (room ≤ length (now nodes)) ⌝ }
-    ensures { λ r. ⌜ (cellAs r (now (s .entry)) (now (nodes .exit)) ≡ cellFrom room (take from (now (nodes .entry))) (drop at (now (s .entry)))) × (cellEnd r ≤ length (now (s .entry))) × (cellCount r ≤ room) ⌝ }
+    ensures { λ r. ⌜ (cellAs r (now (s .entry)) (now (nodes .exit)) ≡ cellFrom room (take from (now (nodes .entry))) (drop at (now (s .entry))))
+        × (cellEnd r ≤ length (now (s .entry))) × (cellCount r ≤ room) ⌝ }
 {
     let h = read_head(s, at);
     let Head::At(kind, family, b) = h else {
@@ -170,7 +173,8 @@ pub fn read_cells(
     families: &mut [u32],
 ) -> CellsRead
     requires { ⌜ (at ≤ length (now s)) × (most ≤ length (now nodes)) × (most ≤ 4294967295) × (room ≤ length (now ends)) × (room ≤ length (now kinds)) × (room ≤ length (now families)) ⌝ }
-    ensures { λ r. ⌜ (cellsAs r (now (s .entry)) (now (nodes .exit)) (now (ends .exit)) (now (kinds .exit)) (now (families .exit)) ≡ cellsFrom most room empty (drop at (now (s .entry)))) × (cellsEnd r ≤ length (now (s .entry))) × (cellsCount r ≤ room) × (cellsEntries r ≤ most) ⌝ }
+    ensures { λ r. ⌜ (cellsAs r (now (s .entry)) (now (nodes .exit)) (now (ends .exit)) (now (kinds .exit)) (now (families .exit))
+        ≡ cellsFrom most room empty (drop at (now (s .entry)))) × (cellsEnd r ≤ length (now (s .entry))) × (cellsCount r ≤ room) × (cellsEntries r ≤ most) ⌝ }
 {
     let mut k = 0;
     let mut e = 0;

@@ -141,7 +141,8 @@ fn number_of(sc: &[f64], order: &[u32], cc: &[f64], mark: u32, j: usize) -> u32
 // w has a mark for each of the cutter's nodes, then `count` used subject nodes in order. The numbers take the marks' place.
 fn number_nodes(sc: &[f64], cc: &[f64], w: &mut [u32], count: usize)
     requires { ⌜ (length (now sc) / 2 ≤ 16384) × (length (now cc) / 2 ≤ 16384) × (length (now cc) / 2 + count ≤ length (now w)) ⌝ }
-    ensures { λ _. ⌜ now (w .exit) ≡ front (now (w .entry)) (each (length (now (cc .entry)) / 2) (λ j. numberBy (now (sc .entry)) (run (now (w .entry)) (length (now (cc .entry)) / 2) count) (now (cc .entry)) (getD (now (w .entry)) j 0) j)) ⌝ }
+    ensures { λ _. ⌜ now (w .exit) ≡ front (now (w .entry)) (each (length (now (cc .entry)) / 2)
+        (λ j. numberBy (now (sc .entry)) (run (now (w .entry)) (length (now (cc .entry)) / 2) count) (now (cc .entry)) (getD (now (w .entry)) j 0) j)) ⌝ }
 {
     let n = cc.len() / 2;
     let end = n + count;
@@ -156,8 +157,10 @@ fn number_nodes(sc: &[f64], cc: &[f64], w: &mut [u32], count: usize)
 
 // The numbers of the cutter's nodes, at the front of w; as many places behind them as the subject has nodes are used, and zero at the end.
 pub fn duplicates_from(sc: &[f64], sn: &[u32], cc: &[f64], cn: &[u32], w: &mut [u32])
-    requires { ⌜ (length (now sc) / 2 ≤ 16384) × (length (now cc) / 2 ≤ 16384) × (length (now cc) / 2 + length (now sc) / 2 ≤ length (now w)) × Below (length (now sc) / 2) (now sn) × Below (length (now cc) / 2) (now cn) ⌝ }
-    ensures { λ _. ⌜ now (w .exit) ≡ front (now (w .entry)) (weld (mesh (now (sc .entry)) (now (sn .entry)) [] [] []) (mesh (now (cc .entry)) (now (cn .entry)) [] [] []) ++ zeros (length (now (sc .entry)) / 2)) ⌝ }
+    requires { ⌜ (length (now sc) / 2 ≤ 16384) × (length (now cc) / 2 ≤ 16384) × (length (now cc) / 2 + length (now sc) / 2 ≤ length (now w))
+        × Below (length (now sc) / 2) (now sn) × Below (length (now cc) / 2) (now cn) ⌝ }
+    ensures { λ _. ⌜ now (w .exit) ≡ front (now (w .entry)) (weld (mesh (now (sc .entry)) (now (sn .entry)) [] [] []) (mesh (now (cc .entry)) (now (cn .entry)) [] [] [])
+        ++ zeros (length (now (sc .entry)) / 2)) ⌝ }
 {
     let n = cc.len() / 2;
     let end = n + sc.len() / 2;

@@ -53,8 +53,11 @@ else1-at-slice-aggregate-dedup c = c .before
 abbrev else1-at-dedup-requires : tie.After-dedup-arg → tie.Else1
 else1-at-dedup-requires c = c .before .before
 
-abbrev else1-at-returns-2 : tie.After-slice-known2 → tie.Else1
-else1-at-returns-2 c = c .before .before .before .before .before
+abbrev else1-of-dedup : tie.After-dedup → tie.Else1
+else1-of-dedup c = c .before .before .before
+
+abbrev dedup-at-returns-2 : tie.After-slice-known2 → tie.After-dedup
+dedup-at-returns-2 c = c .before .before
 
 -- either kind has its links: the order of the two is settled by what is returned
 collect-requires : tie.Need-collect-requires
@@ -122,14 +125,24 @@ dedup-requires c κs =
     let nodes-kept-by-insert-node = at-insert-node .insert-node .kept .1 .1 .1 .1 .0 in
     let two = at-collect2 .collect2 in
     let l = array-share-prefix-ns (else1-at-dedup-requires c) in
-    omega (arith, length-take-le (two .result) (two .last .1 .1 .1 .1 .1 .1 .1 .1 .0) l, l, two .kept .1 .1 .1 .1 .1 .1 .1 .1 .0, nodes-kept-by-collect, nodes-kept-by-insert-node, at-entry .pre .2)
+    omega (
+      arith,
+      length-take-le (two .result) (two .last .1 .1 .1 .1 .1 .1 .1 .1 .0) l,
+      l,
+      two .kept .1 .1 .1 .1 .1 .1 .1 .1 .0,
+      nodes-kept-by-collect,
+      nodes-kept-by-insert-node,
+      at-entry .pre .2,
+    )
 
 returns-2 : tie.Need-returns-2
 returns-2 c =
-    let at-else1 = else1-at-returns-2 c in
+    let at-dedup = dedup-at-returns-2 c in
+    let at-else1 = else1-of-dedup at-dedup in
     let at-collect = collect-of-collect2 (collect2-of-else1 at-else1) in
     let at-upper = upper-of-insert-node (insert-node-of-collect at-collect) in
     let at-entry = entry (lower-of-upper at-upper) in
+    let out-last = at-dedup .dedup .last .1 .1 .0 in
     let a = at-entry .args in
     let k₀ = lower-of-upper at-upper .lower in
     let k₁ = at-upper .upper in
@@ -137,9 +150,9 @@ returns-2 c =
     let one = at-collect .collect in
     let two = collect2-of-else1 at-else1 .collect2 in
     let nodes = map-listed (two .last .1 .1 .1 .1 .1 .1 .1 .0) (two .last .1 .1 .1 .1 .1 .1 .1 .1 .0) (two .result) (array-share-prefix-ns (at-else1)) in
-    subst (λ (xs : List ℕ). FrontIs xs (a .out .now) (c .before .before .dedup .result) (c .before .before .dedup .last .1 .1 .0))
+    subst (λ (xs : List ℕ). FrontIs xs (a .out .now) (at-dedup .dedup .result) out-last)
     (some-nodes (a .coords .now) (pairs (a .subject .now)) (pairs (a .cutter .now)) (a .met .now) (a .a, a .b) (one .result) (two .result) _ _ _
-    (one .ensures) (two .ensures) _ _ _ (k₀ .result) (k₁ .result) (k₀ .ensures) (k₁ .ensures) (put .ensures) nodes (at-else1 .if1 .left)) (c .before .before .dedup .ensures)
+    (one .ensures) (two .ensures) _ _ _ (k₀ .result) (k₁ .result) (k₀ .ensures) (k₁ .ensures) (put .ensures) nodes (at-else1 .if1 .left)) (at-dedup .dedup .ensures)
 
 pub sorted-nodes-spec : {M : Type 1} → statement M
 sorted-nodes-spec = tie.close (tie.spec (λ c κs. search needs) (λ c κs. search needs) (λ c. search needs) (λ c. search needs) (λ c κs. search needs)
