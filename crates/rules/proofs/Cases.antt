@@ -22,9 +22,10 @@ use Rattle.entry.specs.Mesh.{Mesh}
 use Rattle.entry.specs.ByMesh.{meshRefusal}
 use Rattle.rules.specs.Mesh.{Side, theSubject, theCutter}
 use Rattle.rules.specs.Snap.{weld}
+use Rattle.rules.specs.Neighbours.{Net}
 use Rattle.rules.specs.SpatialIndex.{edgeBox, candidates}
-use Rattle.rules.specs.Meetings.{Scene, sceneOf}
-use Rattle.rules.specs.Nodes.{alongEdge}
+use Rattle.rules.specs.Meetings.{Met, Scene, sceneOf}
+use Rattle.rules.specs.Nodes.{alongEdge, crowded}
 use Rattle.rules.specs.Cell.{outlineOf}
 use Rattle.rules.specs.Operations.{piecesOf}
 use Rattle.rules.specs.Overlay.{Lists, Result, result, overlayWith, overlayOf}
@@ -48,6 +49,7 @@ data Row : Type 0 where
   weld-of : Mesh → Mesh → List ℕ → Row  -- two meshes: the numbers of the cutter's nodes
   near-box : List ℕ → Edge → Edge → List ℕ → Row  -- coordinates, an edge, another: it as a candidate
   areas-of : Mesh → Mesh → List ℕ → Row  -- two meshes: the exact doubled areas of the subject's first outline as cut and of its pieces, a sign and a size each
+  crowded-by : ℕ → Bool → Row  -- so many nodes collected under an edge: whether they are too many
   forward-of : Mesh → Mesh → Side → Bool → Row  -- two meshes and one of them: whether its first cell's edges are all forward
 
 -- ---- numbers, meshes and lists of the rows
@@ -168,6 +170,7 @@ square-coords = o ∷ o ∷ ii ∷ o ∷ ii ∷ ii ∷ o ∷ ii ∷ []
 abbrev cut-coords : List ℕ
 cut-coords = square-coords ++ i ∷ -i ∷ iii ∷ -i ∷ iii ∷ iii ∷ i ∷ iii ∷ i ∷ o ∷ i ∷ ii ∷ []
 
+-- The test ends at the first row that doesn't hold, so a change of a rule is refused the sooner the earlier its row: what takes long stands last.
 rows : List Row
 rows =
     -- K1, with one place more in each list than its answer takes
@@ -192,13 +195,6 @@ rows =
     ∷ overlay (case 5 9 square line (fives 15 8 2 2 2 500) (result 0 1 1 0 (onLists
     (square-coords ++ i ∷ -i ∷ i ∷ i ∷ i ∷ o ∷ ii ∷ []) (3 ∷ 0 ∷ 6 ∷ 5 ∷ 6 ∷ 1 ∷ 2 ∷ 5 ∷ []) (7 ∷ 5 ∷ []) (11 ∷ 5 ∷ []) (7 ∷ 5 ∷ []) (replicate 500 0))))
     ∷ set-to base (case 5 9 square line (fives 15 8 2 2 2 500) (refused 11 (noughts 15 8 2 2 2 500)))
-    -- a ditch with a bend and an end; one with a fork, where the walk turns back twice; one that reaches no side is never walked
-    ∷ overlay (case 5 9 square bent (fives 16 9 1 1 1 500) (result 0 1 1 0 (onLists
-    (square-coords ++ i ∷ -i ∷ i ∷ i ∷ half ∷ i ∷ i ∷ o ∷ []) (3 ∷ 0 ∷ 7 ∷ 5 ∷ 6 ∷ 5 ∷ 7 ∷ 1 ∷ 2 ∷ []) (9 ∷ []) (11 ∷ []) (7 ∷ []) (replicate 500 0))))
-    ∷ overlay (case 5 9 square forked (fives 18 11 1 1 1 500) (result 0 1 1 0 (onLists
-    (square-coords ++ i ∷ -i ∷ i ∷ i ∷ half ∷ i ∷ i-half ∷ i ∷ i ∷ o ∷ []) (3 ∷ 0 ∷ 8 ∷ 5 ∷ 6 ∷ 5 ∷ 7 ∷ 5 ∷ 8 ∷ 1 ∷ 2 ∷ []) (11 ∷ []) (11 ∷ []) (7 ∷ []) (replicate 500 0))))
-    ∷ overlay (case 5 9 square inner-line (fives 12 4 1 1 1 500) (result 0 1 0 0 (onLists
-    (square-coords ++ half ∷ i ∷ i ∷ i ∷ []) (3 ∷ 0 ∷ 1 ∷ 2 ∷ []) (4 ∷ []) (11 ∷ []) (7 ∷ []) (replicate 500 0))))
     -- tempting: a piece closes when its first node returns, not its first dart
     ∷ pieces-of (o ∷ o ∷ i ∷ -i ∷ i ∷ i ∷ -i ∷ i ∷ -i ∷ -i ∷ []) ((1, 2) ∷ (2, 0) ∷ (0, 3) ∷ (3, 4) ∷ (4, 0) ∷ (0, 1) ∷ []) (0 ∷ 1 ∷ 2 ∷ 4 ∷ 0 ∷ 3 ∷ []) (3 ∷ 6 ∷ [])
     -- the key's second node isn't sorted with the others
@@ -212,16 +208,41 @@ rows =
     ∷ weld-of unnamed square (4 ∷ 5 ∷ 6 ∷ 7 ∷ [])
     -- boxes that only touch meet
     ∷ near-box (o ∷ o ∷ i ∷ i ∷ i ∷ i ∷ ii ∷ ii ∷ []) (0, 1) (2, 3) (0 ∷ [])
-    -- K1 with room for it and no more; with one number, one node entry, or one place for a piece less; with a working list too short
+    -- 256 nodes collected under an edge aren't too many, 257 are; overlays of so many stand below
+    ∷ crowded-by 256 false
+    ∷ crowded-by 257 true
+    -- K1 with a working list too short
+    ∷ overlay (case 0 2 square strip (fives 20 8 2 2 2 351) (refused 7 (fives 20 8 2 2 2 351)))
+    -- the order of refusals: a meeting beyond M comes before its point that has no place
+    ∷ overlay (case 0 1 square strip (fives 18 0 0 0 0 352) (refused 8 (noughts 18 0 0 0 0 352)))
+    -- K1 with room for it and no more
     ∷ overlay (case 0 2 square strip (fives 20 8 2 2 2 352) (result 0 2 2 0
     (onLists cut-coords (3 ∷ 0 ∷ 8 ∷ 9 ∷ 9 ∷ 8 ∷ 1 ∷ 2 ∷ []) (4 ∷ 8 ∷ []) (11 ∷ 11 ∷ []) (7 ∷ 7 ∷ []) (replicate 352 0))))
+    -- a line twice: lines aren't made unique, but an edge is in a table once; by document 01 alone the cell is doubled
+    ∷ overlay (case 5 9 square twice (fives 20 8 1 1 1 500) (result 0 1 4 0 (onLists
+    (square-coords ++ i ∷ -i ∷ i ∷ iii ∷ i ∷ o ∷ i ∷ o ∷ i ∷ ii ∷ i ∷ ii ∷ []) (3 ∷ 0 ∷ 6 ∷ 7 ∷ 1 ∷ 2 ∷ 8 ∷ 9 ∷ []) (8 ∷ []) (11 ∷ []) (7 ∷ []) (replicate 500 0))))
+    ∷ set-to base (case 5 9 square twice (fives 20 8 1 1 1 500) (result 0 1 4 1 (onLists
+    (square-coords ++ i ∷ -i ∷ i ∷ iii ∷ i ∷ o ∷ i ∷ o ∷ i ∷ ii ∷ i ∷ ii ∷ []) (3 ∷ 0 ∷ 6 ∷ 7 ∷ 1 ∷ 2 ∷ 8 ∷ 9 ∷ []) (8 ∷ []) (11 ∷ []) (7 ∷ []) (replicate 500 0))))
+    -- two cells, both cut
+    ∷ overlay (case 0 9 squares strip (fives 28 16 4 4 4 572) (result 0 4 4 0 (onLists
+    (o ∷ o ∷ ii ∷ o ∷ iv ∷ o ∷ iv ∷ ii ∷ ii ∷ ii ∷ o ∷ ii ∷ i ∷ -i ∷ iii ∷ -i ∷ iii ∷ iii ∷ i ∷ iii ∷ i ∷ o ∷ i ∷ ii ∷ iii ∷ o ∷ iii ∷ ii ∷ [])
+    (5 ∷ 0 ∷ 10 ∷ 11 ∷ 11 ∷ 10 ∷ 1 ∷ 4 ∷ 4 ∷ 1 ∷ 12 ∷ 13 ∷ 13 ∷ 12 ∷ 2 ∷ 3 ∷ []) (4 ∷ 8 ∷ 12 ∷ 16 ∷ []) (11 ∷ 11 ∷ 11 ∷ 11 ∷ []) (7 ∷ 7 ∷ 9 ∷ 9 ∷ []) (replicate 572 0))))
+    -- K1's meshes under Union, Difference, Intersection and SymmetricDifference
+    ∷ overlay (case 1 9 square strip (fives 20 16 3 3 3 500) (result 0 3 2 0
+    (onLists cut-coords (3 ∷ 0 ∷ 8 ∷ 9 ∷ 9 ∷ 8 ∷ 1 ∷ 2 ∷ 7 ∷ 9 ∷ 2 ∷ 1 ∷ 8 ∷ 4 ∷ 5 ∷ 6 ∷ []) (4 ∷ 8 ∷ 16 ∷ []) (11 ∷ 11 ∷ 11 ∷ []) (7 ∷ 7 ∷ 0 ∷ []) (replicate 500 0))))
+    ∷ overlay (case 3 9 square strip (fives 20 4 1 1 1 500) (result 0 1 2 0 (onLists cut-coords (3 ∷ 0 ∷ 8 ∷ 9 ∷ []) (4 ∷ []) (11 ∷ []) (7 ∷ []) (replicate 500 0))))
+    ∷ overlay (case 2 9 square strip (fives 20 4 1 1 1 500) (result 0 1 2 0 (onLists cut-coords (9 ∷ 8 ∷ 1 ∷ 2 ∷ []) (4 ∷ []) (11 ∷ []) (7 ∷ []) (replicate 500 0))))
+    ∷ overlay (case 4 9 square strip (fives 20 12 2 2 2 500) (result 0 2 2 0
+    (onLists cut-coords (3 ∷ 0 ∷ 8 ∷ 9 ∷ 7 ∷ 9 ∷ 2 ∷ 1 ∷ 8 ∷ 4 ∷ 5 ∷ 6 ∷ []) (4 ∷ 12 ∷ []) (11 ∷ 11 ∷ []) (7 ∷ 0 ∷ []) (replicate 500 0))))
+    -- a cell copied
+    ∷ overlay (case 1 9 square away (fives 14 7 2 2 2 500) (result 0 2 0 0
+    (onLists (o ∷ o ∷ ii ∷ o ∷ ii ∷ ii ∷ o ∷ ii ∷ iii ∷ iii ∷ iv ∷ iii ∷ iv ∷ iv ∷ []) (0 ∷ 1 ∷ 2 ∷ 3 ∷ 4 ∷ 5 ∷ 6 ∷ []) (4 ∷ 7 ∷ []) (8 ∷ 5 ∷ [])
+    (7 ∷ 3 ∷ []) (replicate 500 0))))
+    -- K1 with one number, one node entry, or one place for a piece less than its answer takes
     ∷ overlay (case 0 2 square strip (fives 19 8 2 2 2 352) (refused 12 (noughts 19 8 2 2 2 352)))
     ∷ overlay (case 0 2 square strip (fives 20 7 2 2 2 352) (refused 12 (noughts 20 7 2 2 2 352)))
     ∷ overlay (case 0 2 square strip (fives 20 8 1 2 2 352) (refused 12 (noughts 20 8 1 2 2 352)))
-    ∷ overlay (case 0 2 square strip (fives 20 8 2 2 2 351) (refused 7 (fives 20 8 2 2 2 351)))
-    -- the order of refusals: a meeting beyond M comes before its point that has no place; a piece of the first cell before what the second cell's walk
-    -- comes to, and that before a place for another piece
-    ∷ overlay (case 0 1 square strip (fives 18 0 0 0 0 352) (refused 8 (noughts 18 0 0 0 0 352)))
+    -- the order of refusals again: a piece of the first cell comes before what the second cell's walk comes to, and that before a place for another piece
     ∷ overlay (case 1 9 corner wedge (fives 14 7 1 1 1 500) (refused 12 (noughts 14 7 1 1 1 500)))
     ∷ overlay (case 1 9 corner wedge (fives 14 7 2 2 2 500) (refused 11 (noughts 14 7 2 2 2 500)))
     ∷ overlay (case 4 9 corner wedge (fives 14 7 2 2 2 500) (refused 11 (noughts 14 7 2 2 2 500)))
@@ -230,24 +251,13 @@ rows =
     ∷ forward-of corner wedge theCutter false
     ∷ forward-of square strip theSubject true
     ∷ forward-of square strip theCutter true
-    -- K1's meshes under Union, Intersection, Difference and SymmetricDifference
-    ∷ overlay (case 1 9 square strip (fives 20 16 3 3 3 500) (result 0 3 2 0
-    (onLists cut-coords (3 ∷ 0 ∷ 8 ∷ 9 ∷ 9 ∷ 8 ∷ 1 ∷ 2 ∷ 7 ∷ 9 ∷ 2 ∷ 1 ∷ 8 ∷ 4 ∷ 5 ∷ 6 ∷ []) (4 ∷ 8 ∷ 16 ∷ []) (11 ∷ 11 ∷ 11 ∷ []) (7 ∷ 7 ∷ 0 ∷ []) (replicate 500 0))))
-    ∷ overlay (case 2 9 square strip (fives 20 4 1 1 1 500) (result 0 1 2 0 (onLists cut-coords (9 ∷ 8 ∷ 1 ∷ 2 ∷ []) (4 ∷ []) (11 ∷ []) (7 ∷ []) (replicate 500 0))))
-    ∷ overlay (case 3 9 square strip (fives 20 4 1 1 1 500) (result 0 1 2 0 (onLists cut-coords (3 ∷ 0 ∷ 8 ∷ 9 ∷ []) (4 ∷ []) (11 ∷ []) (7 ∷ []) (replicate 500 0))))
-    ∷ overlay (case 4 9 square strip (fives 20 12 2 2 2 500) (result 0 2 2 0
-    (onLists cut-coords (3 ∷ 0 ∷ 8 ∷ 9 ∷ 7 ∷ 9 ∷ 2 ∷ 1 ∷ 8 ∷ 4 ∷ 5 ∷ 6 ∷ []) (4 ∷ 12 ∷ []) (11 ∷ 11 ∷ []) (7 ∷ 0 ∷ []) (replicate 500 0))))
-    -- two cells, both cut; a cell copied; lines aren't made unique, but an edge is in a table once
-    ∷ overlay (case 0 9 squares strip (fives 28 16 4 4 4 572) (result 0 4 4 0 (onLists
-    (o ∷ o ∷ ii ∷ o ∷ iv ∷ o ∷ iv ∷ ii ∷ ii ∷ ii ∷ o ∷ ii ∷ i ∷ -i ∷ iii ∷ -i ∷ iii ∷ iii ∷ i ∷ iii ∷ i ∷ o ∷ i ∷ ii ∷ iii ∷ o ∷ iii ∷ ii ∷ [])
-    (5 ∷ 0 ∷ 10 ∷ 11 ∷ 11 ∷ 10 ∷ 1 ∷ 4 ∷ 4 ∷ 1 ∷ 12 ∷ 13 ∷ 13 ∷ 12 ∷ 2 ∷ 3 ∷ []) (4 ∷ 8 ∷ 12 ∷ 16 ∷ []) (11 ∷ 11 ∷ 11 ∷ 11 ∷ []) (7 ∷ 7 ∷ 9 ∷ 9 ∷ []) (replicate 572 0))))
-    ∷ overlay (case 1 9 square away (fives 14 7 2 2 2 500) (result 0 2 0 0
-    (onLists (o ∷ o ∷ ii ∷ o ∷ ii ∷ ii ∷ o ∷ ii ∷ iii ∷ iii ∷ iv ∷ iii ∷ iv ∷ iv ∷ []) (0 ∷ 1 ∷ 2 ∷ 3 ∷ 4 ∷ 5 ∷ 6 ∷ []) (4 ∷ 7 ∷ []) (8 ∷ 5 ∷ [])
-    (7 ∷ 3 ∷ []) (replicate 500 0))))
-    ∷ overlay (case 5 9 square twice (fives 20 8 1 1 1 500) (result 0 1 4 0 (onLists
-    (square-coords ++ i ∷ -i ∷ i ∷ iii ∷ i ∷ o ∷ i ∷ o ∷ i ∷ ii ∷ i ∷ ii ∷ []) (3 ∷ 0 ∷ 6 ∷ 7 ∷ 1 ∷ 2 ∷ 8 ∷ 9 ∷ []) (8 ∷ []) (11 ∷ []) (7 ∷ []) (replicate 500 0))))
-    ∷ set-to base (case 5 9 square twice (fives 20 8 1 1 1 500) (result 0 1 4 1 (onLists
-    (square-coords ++ i ∷ -i ∷ i ∷ iii ∷ i ∷ o ∷ i ∷ o ∷ i ∷ ii ∷ i ∷ ii ∷ []) (3 ∷ 0 ∷ 6 ∷ 7 ∷ 1 ∷ 2 ∷ 8 ∷ 9 ∷ []) (8 ∷ []) (11 ∷ []) (7 ∷ []) (replicate 500 0))))
+    -- a ditch with a bend and an end; one with a fork, where the walk turns back twice; one that reaches no side is never walked
+    ∷ overlay (case 5 9 square bent (fives 16 9 1 1 1 500) (result 0 1 1 0 (onLists
+    (square-coords ++ i ∷ -i ∷ i ∷ i ∷ half ∷ i ∷ i ∷ o ∷ []) (3 ∷ 0 ∷ 7 ∷ 5 ∷ 6 ∷ 5 ∷ 7 ∷ 1 ∷ 2 ∷ []) (9 ∷ []) (11 ∷ []) (7 ∷ []) (replicate 500 0))))
+    ∷ overlay (case 5 9 square forked (fives 18 11 1 1 1 500) (result 0 1 1 0 (onLists
+    (square-coords ++ i ∷ -i ∷ i ∷ i ∷ half ∷ i ∷ i-half ∷ i ∷ i ∷ o ∷ []) (3 ∷ 0 ∷ 8 ∷ 5 ∷ 6 ∷ 5 ∷ 7 ∷ 5 ∷ 8 ∷ 1 ∷ 2 ∷ []) (11 ∷ []) (11 ∷ []) (7 ∷ []) (replicate 500 0))))
+    ∷ overlay (case 5 9 square inner-line (fives 12 4 1 1 1 500) (result 0 1 0 0 (onLists
+    (square-coords ++ half ∷ i ∷ i ∷ i ∷ []) (3 ∷ 0 ∷ 1 ∷ 2 ∷ []) (4 ∷ []) (11 ∷ []) (7 ∷ []) (replicate 500 0))))
     -- a triangle whose first edge welding left from a node to itself: it isn't added to the square's table; as an outline it gives 19, and gave pieces of
     -- one and two corners before W14
     ∷ overlay (case 0 9 square welded (fives 14 6 1 1 1 500) (result 0 1 0 0 (onLists
@@ -275,6 +285,16 @@ filled n = replicate n (record { src = 0; dst = 0; mark = 1 })
 
 abbrev slot-to : ℕ → Slot
 slot-to n = record { src = 0; dst = n; mark = 0 }
+
+abbrev net-of : List Edge → Net
+net-of es = record { cells = []; kinds = []; families = []; edges = es }
+
+abbrev one-met : Met
+one-met = record { subjectEdge = 0; cutterEdge = 0; nodes = 2 ∷ []; point = [] }
+
+-- one edge, and n meetings on it with a node each
+abbrev met-often : ℕ → Scene
+met-often n = record { coords = []; subject = net-of ((0, 1) ∷ []); cutter = net-of []; met = replicate n one-met }
 
 -- nodes 0 to n - 1, all of them at (0, 0)
 abbrev pgon : ℕ → Mesh
@@ -314,6 +334,7 @@ holds (nodes-along coords k ns ms) = same (alongEdge (floats coords) k ns) ms
 holds (weld-of s c ns) = same (weld s c) ns
 holds (near-box coords e f js) = same (candidates (floats coords) (f ∷ []) (edgeBox (floats coords) e)) js
 holds (areas-of s c ns) = same (joined sign-size (areasOf (sceneOf false s c))) ns
+holds (crowded-by n t) = eqb (bit (crowded (met-often n))) (bit t)
 holds (forward-of s c w t) = eqb (bit (forwardCell (sceneOf false s c) w 0)) (bit t)
 
 all-hold : List Row → Bool
