@@ -16,7 +16,7 @@ use Rattle.lists.proofs.Gather.{each-more, length-each, getD-each}
 use Rattle.lists.proofs.Regions.{length-run, getD-run, put-none, put-store, length-put, put-before, put-in, put-behind}
 use Rattle.cutting.specs.Edges.{Edge, edgeAt}
 use Rattle.cutting.specs.Lent.{pairs}
-use Rattle.neighbours.specs.Chains.{edgeChain}
+use Rattle.keys.specs.Chains.{edgeChain}
 use Rattle.edge_nodes.specs.Links.{chainAt, onChain, headAt, nextAt, linksOf}
 use Rattle.edge_nodes.specs.Chained.{headed, Chained}
 use Rattle.edge_nodes.proofs.Linked.{length-links}

@@ -11,7 +11,7 @@ use Rattle.lists.specs.Search.{first}
 use Rattle.lists.proofs.Search.{first-hit, first-none, first-le, first-from, and-true}
 use Rattle.cutting.specs.Edges.{Edge, edgeAt, key, sameKey}
 use Rattle.edge_nodes.specs.Lent.{underAt, under}
-use Rattle.neighbours.specs.Chains.{chainOf}
+use Rattle.keys.specs.Chains.{chainOf}
 use Rattle.edge_nodes.specs.Links.{chainAt, onChain, headAt, nextAt, linksOf, Linked}
 use Rattle.edge_nodes.specs.Chained.{chainsIn, headIn, nextIn, Chains}
 use Rattle.edge_nodes.proofs.Under.{not-under, under-more}

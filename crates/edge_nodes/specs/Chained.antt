@@ -5,7 +5,7 @@ use Prim.Native.Nat.{ℕ, zero, suc, _+_, _*_, _-_, _/_, _≤_, _<_}
 use lib.ListN.{length, getD, set}
 use Rattle.lists.specs.Search.{first}
 use Rattle.cutting.specs.Edges.{Edge}
-use Rattle.neighbours.specs.Chains.{chainOf}
+use Rattle.keys.specs.Chains.{chainOf}
 use Rattle.edge_nodes.specs.Links.{onChain, headAt, nextAt}
 
 -- meeting q becomes the head of chain c, with the former head behind it

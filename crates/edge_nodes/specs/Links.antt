@@ -8,7 +8,7 @@ use lib.ListN.{length, getD}
 use Rattle.lists.specs.Search.{first}
 use Rattle.lists.specs.Gather.{each}
 use Rattle.cutting.specs.Edges.{Edge, edgeAt}
-use Rattle.neighbours.specs.Chains.{edgeChain}
+use Rattle.keys.specs.Chains.{edgeChain}
 
 module _ (h : ℕ) (es : List Edge) (met : List ℕ) (which : ℕ) where
   -- the chain of meeting q's edge among es: `which` is 0 for its subject edge and 1 for its cutter edge

@@ -1,8 +1,8 @@
 // The meetings chained by the smaller node of their edges' keys, so that those under one key are found without a scan of all.
 use crate::first_of;
 use crate::second_of;
-use neighbours::chain_of;
-use neighbours::edge_chain;
+use keys::chain_of;
+use keys::edge_chain;
 ghost use mathlib.Core.Path.{_≡_};
 ghost use Prim.Native.Nat.{_+_, _*_, _/_, _≤_, _<_};
 ghost use lib.ListN.{length};

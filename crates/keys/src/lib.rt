@@ -1,6 +1,8 @@
-// Keys of edges.
+// Keys of edges, and the chains that edges are put on by them.
 ghost use mathlib.Core.Path.{_≡_};
+ghost use Prim.Native.Nat.{_<_};
 ghost use Rattle.cutting.specs.Edges.{key, sameKey};
+ghost use Rattle.keys.specs.Chains.{chainOf, edgeChain};
 
 // The two node numbers of an edge, smaller first.
 pub struct SortedKey {
@@ -33,4 +35,25 @@ pub fn same_key(a: u32, b: u32, c: u32, d: u32) -> bool
         return false;
     }
     k.second == l.second
+}
+
+// The chain of node v, of h chains.
+pub fn chain_of(v: u32, h: usize) -> usize
+    requires { ⌜ 0 < h ⌝ }
+    ensures { λ r. ⌜ (r ≡ chainOf h v) × (r < h) ⌝ }
+{
+    let c = v as usize;
+    if c < h {
+        return c;
+    }
+    h - 1
+}
+
+// The chain of the edge a, b.
+pub fn edge_chain(h: usize, a: u32, b: u32) -> usize
+    requires { ⌜ 0 < h ⌝ }
+    ensures { λ r. ⌜ (r ≡ edgeChain h (a, b)) × (r < h) ⌝ }
+{
+    let k = key(a, b);
+    chain_of(k.first, h)
 }

@@ -15,7 +15,8 @@ use Rattle.lists.proofs.Search.{has-at, has-some, and-true}
 use Rattle.cutting.specs.Edges.{Edge, edgeAt, key, sameKey}
 use Rattle.cutting.specs.Lent.{pairs}
 use Rattle.cutting.proofs.Pairs.{pairs-length, pairs-at}
-use Rattle.neighbours.specs.Chains.{lastBelow, edgeChain, onChain, Chained, linked}
+use Rattle.keys.specs.Chains.{edgeChain}
+use Rattle.neighbours.specs.Chains.{lastBelow, onChain, Chained, linked}
 
 -- ---- the last index that passes
 

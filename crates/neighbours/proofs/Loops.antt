@@ -19,7 +19,8 @@ use Rattle.entry.specs.Mesh.{mesh, prior, Rising}
 use Rattle.rules.specs.Mesh.{cellAt, cellsOf}
 use Rattle.rules.specs.Neighbours.{added, addedAll, descendingTo, computeDescending}
 use Rattle.neighbours.specs.Cells.{next}
-use Rattle.neighbours.specs.Chains.{edgeChain, Chained, linked, Threaded}
+use Rattle.keys.specs.Chains.{edgeChain}
+use Rattle.neighbours.specs.Chains.{Chained, linked, Threaded}
 use Rattle.neighbours.proofs.Edges.{side, addedTo, addedTo-more, addedTo-end, length-added, length-addedAll, ends-snoc, ends-pairs, ring-each}
 use Rattle.neighbours.proofs.Chains.{keyAt, length-linked, chained-more}
 use Rattle.neighbours.proofs.Threads.{part-is, part-put, threaded-none, read-before, read-one, read-edges, ready, threaded-on, zeroed, cleared-around}

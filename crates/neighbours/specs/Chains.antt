@@ -2,25 +2,18 @@
 use mathlib.Core.Path.{_≡_}
 use mathlib.Core.Bool.{Bool, true, false}
 use mathlib.Core.List.{List}
-use Prim.Native.Nat.{ℕ, zero, suc, _+_, _-_, _<_, min}
+use Prim.Native.Nat.{ℕ, zero, suc, _+_, _<_}
 use lib.Dec.{eqb}
 use lib.ListN.{length, getD, set}
 use Rattle.lists.specs.Regions.{run, put}
-use Rattle.cutting.specs.Edges.{Edge, edgeAt, key}
+use Rattle.cutting.specs.Edges.{Edge, edgeAt}
 use Rattle.cutting.specs.Lent.{flatEdges}
+use Rattle.keys.specs.Chains.{edgeChain}
 
 -- 1 + the last index below n that passes p; 0 where none does
 unfoldable pub lastBelow : (ℕ → Bool) → ℕ → ℕ
 lastBelow p zero = 0
 lastBelow p (suc n) = elim (p n) [ true ↦ suc n | false ↦ lastBelow p n ]
-
--- the chain of node v, of h chains: nodes from h - 1 on share the last
-abbrev pub chainOf : ℕ → ℕ → ℕ
-chainOf h v = min v (h - 1)
-
--- the chain of an edge
-abbrev pub edgeChain : ℕ → Edge → ℕ
-edgeChain h e = chainOf h (key e .0)
 
 abbrev pub onChain : ℕ → List Edge → ℕ → ℕ → Bool
 onChain h es c i = eqb (edgeChain h (edgeAt es i)) c

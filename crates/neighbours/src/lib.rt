@@ -1,6 +1,6 @@
 // The edges of cells (document 01, module 5), in a region of the working list. An edge takes two numbers there. While they are written, they are on
 // chains in a second region, so that one with the same key is found without a scan of all.
-use keys::key;
+use keys::edge_chain;
 use keys::same_key;
 use lists::zero_u32;
 ghost use mathlib.Core.Path.{_≡_};
@@ -15,28 +15,8 @@ ghost use Rattle.entry.specs.Mesh.{mesh, Rising};
 ghost use Rattle.rules.specs.Mesh.{cellsOf};
 ghost use Rattle.rules.specs.Neighbours.{added, addedAll, computeDescending};
 ghost use Rattle.neighbours.specs.Cells.{next};
-ghost use Rattle.neighbours.specs.Chains.{chainOf, edgeChain, Chained, linked, Threaded};
-
-// The chain of node v, of h chains.
-pub fn chain_of(v: u32, h: usize) -> usize
-    requires { ⌜ 0 < h ⌝ }
-    ensures { λ r. ⌜ (r ≡ chainOf h v) × (r < h) ⌝ }
-{
-    let c = v as usize;
-    if c < h {
-        return c;
-    }
-    h - 1
-}
-
-// The chain of the edge a, b.
-pub fn edge_chain(h: usize, a: u32, b: u32) -> usize
-    requires { ⌜ 0 < h ⌝ }
-    ensures { λ r. ⌜ (r ≡ edgeChain h (a, b)) × (r < h) ⌝ }
-{
-    let k = key(a, b);
-    chain_of(k.first, h)
-}
+ghost use Rattle.keys.specs.Chains.{edgeChain};
+ghost use Rattle.neighbours.specs.Chains.{Chained, linked, Threaded};
 
 // Whether some pair has the key of the edge a, b: those on its chain are looked at, from the last to the first.
 fn has_key(edges: &[u32], links: &[u32], h: usize, a: u32, b: u32) -> bool

@@ -8,7 +8,7 @@ use Rattle.neighbours.proofs.has_key.Tie as tie
 use Rattle.neighbours.proofs.has_key.Reads as reads
 use Rattle.neighbours.proofs.has_key.Lts as lts
 use Rattle.keys.proofs.same_key.Reads as same-key-reads
-use Rattle.neighbours.proofs.edge_chain.Reads as edge-chain-reads
+use Rattle.keys.proofs.edge_chain.Reads as edge-chain-reads
 
 abbrev Inv-loop : tie.InvT-loop
 Inv-loop edges links h a b c e₀ e = Passed h edges a b e

@@ -7,7 +7,7 @@ use Rattle.neighbours.proofs.link_edge.Statement.{statement}
 use Rattle.neighbours.proofs.link_edge.Tie as tie
 use Rattle.neighbours.proofs.link_edge.Reads as reads
 use Rattle.neighbours.proofs.link_edge.Lts as lts
-use Rattle.neighbours.proofs.edge_chain.Reads as edge-chain-reads
+use Rattle.keys.proofs.edge_chain.Reads as edge-chain-reads
 
 -- places of the code, each counted once
 abbrev entry : tie.After-slice-known2 → tie.Start

@@ -7,7 +7,7 @@ use Rattle.edge_nodes.proofs.chains.head_of.Statement.{statement}
 use Rattle.edge_nodes.proofs.chains.head_of.Tie as tie
 use Rattle.edge_nodes.proofs.chains.head_of.Reads as reads
 use Rattle.edge_nodes.proofs.chains.head_of.Lts as lts
-use Rattle.neighbours.proofs.chain_of.Reads as chain-of-reads
+use Rattle.keys.proofs.chain_of.Reads as chain-of-reads
 
 -- places of the code, each counted once
 abbrev entry : tie.After-chain-of → tie.Start

@@ -1,9 +1,9 @@
 use mathlib.Core.Path.{ap, _∙_}
 use Rattle.cutting.specs.Edges.{Edge}
-use Rattle.neighbours.specs.Chains.{chainOf}
+use Rattle.keys.specs.Chains.{chainOf}
 use borrow.Author.Needs.{needs}
-use Rattle.neighbours.proofs.edge_chain.Statement.{statement}
-use Rattle.neighbours.proofs.edge_chain.Tie as tie
+use Rattle.keys.proofs.edge_chain.Statement.{statement}
+use Rattle.keys.proofs.edge_chain.Tie as tie
 
 -- places of the code, each counted once
 abbrev entry : tie.After-chain-of → tie.Start
