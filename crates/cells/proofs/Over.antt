@@ -17,6 +17,7 @@ use Rattle.cutting.proofs.Pairs.{ends-length, pairs-ends}
 use Rattle.outlines.specs.Meets.{edgesMeet}
 use Rattle.outlines.proofs.Flat.{Holds}
 use Rattle.outlines.proofs.Appended.{meets-append, repeats-append}
+use Rattle.corners.specs.Corners.{nextCorner}
 use Rattle.lists.specs.Gather.{joined}
 use Rattle.lists.specs.Sort.{sorted}
 use Rattle.lists.proofs.Gather.{length-slim}
@@ -25,7 +26,7 @@ use Rattle.lists.proofs.Sort.{length-sorted}
 use Rattle.rules.specs.Nodes.{Projected, projected, byProjection, alongEdge}
 use Rattle.edge_nodes.specs.Lent.{collectedOn, unlessNone, sortedIn, nodesOn, Few}
 use Rattle.regions.specs.declared.Regions.{Regions}
-use Rattle.cells.specs.Cells.{laidIn, outlineIn, AllFew, nextCorner, outlineFrom, LaidIn}
+use Rattle.cells.specs.Cells.{laidIn, outlineIn, AllFew, outlineFrom, LaidIn}
 use Rattle.cells.proofs.Own.{sidesFrom, sides-all, sides-next}
 
 -- ---- the edges of a cell, from one on

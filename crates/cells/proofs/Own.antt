@@ -11,6 +11,7 @@ use lib.Ieee.{Float}
 use Rattle.lists.specs.Gather.{gathered, joined}
 use Rattle.lists.specs.Sort.{sortOnto, sorted}
 use Rattle.lists.proofs.Gather.{joined-snoc}
+use Rattle.corners.specs.Corners.{nextCorner}
 use Rattle.cutting.specs.Edges.{Edge, edgeAt, hops, ring}
 use Rattle.cutting.specs.Cell.{Laid, ownDarts, outlineDarts, edgeSlots, standsBefore, cellTable}
 use Rattle.cutting.specs.Lent.{slotsOf, flatEdges}
@@ -18,7 +19,7 @@ use Rattle.dart_table.specs.Table.{Added, Outlined}
 use Rattle.dart_table.proofs.Joins.{outline-more, none-near, own-turn, own-full}
 use Rattle.edge_nodes.specs.Lent.{Few}
 use Rattle.regions.specs.declared.Regions.{Regions}
-use Rattle.cells.specs.Cells.{laidIn, outlineIn, AllFew, nextCorner, Held}
+use Rattle.cells.specs.Cells.{laidIn, outlineIn, AllFew, Held}
 
 -- ---- round the corners
 
@@ -44,17 +45,6 @@ sides-next cell i h =
     go : (y : ℕ) (d : List ℕ) → hops y (d ++ getD cell 0 0 ∷ []) ≡ (y, getD (d ++ cell) 0 0) ∷ around (getD cell 0 0) d
     go y [] = refl
     go y (z ∷ zs) = refl
-
--- the corner after corner i, inside the list and at its end
-pub next-inside : (cell : List ℕ) (i : ℕ) → i + 1 < length cell → getD cell (i + 1) 0 ≡ nextCorner cell i
-unfolding nextCorner
-next-inside cell i h = ap (λ (d : List ℕ). getD (d ++ cell) 0 0) (sym (drop-cons cell (i + 1) 0 h))
-
-pub next-last : (cell : List ℕ) (i : ℕ) → i < length cell → length cell ≤ i + 1 → getD cell 0 0 ≡ nextCorner cell i
-unfolding nextCorner
-next-last cell i h past =
-    let at : length cell ≡ i + 1 = le-antisymm past (omega arith) in
-    ap (λ (d : List ℕ). getD (d ++ cell) 0 0) (sym (drop-length cell) ∙ ap (λ (k : ℕ). drop k cell) at)
 
 pub sides-end : (cell : List ℕ) (i : ℕ) → i ≡ length cell → sidesFrom cell i ≡ []
 sides-end cell i e = ap (around (getD cell 0 0)) (ap (λ (k : ℕ). drop k cell) e ∙ drop-length cell)

@@ -1,9 +1,9 @@
 -- One cell cut by the other mesh's edges near it (document 01, modules 6 and 7), where edges, meetings and links stand in regions of the working list.
 -- Assumes nothing.
 use mathlib.Core.Path.{_≡_}
-use mathlib.Core.List.{List, [], _++_, map}
-use Prim.Native.Nat.{ℕ, _+_, _*_, _≤_, _<_}
-use lib.ListN.{length, getD, drop}
+use mathlib.Core.List.{List, [], map}
+use Prim.Native.Nat.{ℕ, _*_, _≤_, _<_}
+use lib.ListN.{length, drop}
 use lib.Ieee.{Float}
 use Rattle.lists.specs.Regions.{front, zeros}
 use Rattle.cutting.specs.Edges.{Edge, edgeAt, ring}
@@ -77,10 +77,6 @@ abbrev pub AllFew : List ℕ → Regions → List Edge → Type 0
 AllFew work g es = (i : ℕ) → i < length es → Few work g (edgeAt es i)
 
 -- ---- what only inner functions' contracts cite
-
--- the corner after corner i; after the last comes the first
-unfoldable pub nextCorner : List ℕ → ℕ → ℕ
-nextCorner cell i = getD (drop (i + 1) cell ++ cell) 0 0
 
 -- the outline darts of a cell's own edges from edge k on
 unfoldable pub outlineFrom : List Float → List ℕ → Regions → List ℕ → ℕ → List Edge

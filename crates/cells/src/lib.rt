@@ -1,5 +1,6 @@
 // One cell cut by the other mesh's edges near it. Edges are pairs of numbers, meetings five numbers each and chained by links: all of them stand in
 // regions of the working list w.
+use corners::next_corner;
 use dart_table::add_near_edge;
 use dart_table::add_own_edge;
 use dart_walk::Walked;
@@ -28,8 +29,7 @@ ghost use Rattle.dart_table.specs.Table.{tableIn, withEdges, Added, Outlined};
 ghost use Rattle.regions.specs.Runs.{Within, runIn};
 ghost use Rattle.spatial_index.specs.Blocks.{Covered};
 ghost use Rattle.edge_nodes.specs.Lent.{Few};
-ghost use Rattle.cells.specs.Cells.{laidIn, outlineIn, nearIn, nearEdgesIn, candidatesFrom, candidatesOf, cut, cutAs};
-ghost use Rattle.cells.specs.Cells.{cutBy, cutCell, AllFew, nextCorner, outlineFrom, LaidIn, Held, Tables, Ready};
+ghost use Rattle.cells.specs.Cells.{laidIn, outlineIn, nearIn, nearEdgesIn, candidatesFrom, candidatesOf, cut, cutAs, cutBy, cutCell, AllFew, outlineFrom, LaidIn, Held, Tables, Ready};
 
 // What a cell comes to: the refusal or 0, how many pieces there are, and corners in them.
 pub struct CutCell {
@@ -56,18 +56,6 @@ pub fn refused(code: u32, runs: &mut [u32], stops: &mut [u32]) -> CutCell
         pieces: 0,
         entries: 0,
     }
-}
-
-// The corner after corner i; after the last comes the first.
-pub fn next_corner(cell: &[u32], i: usize) -> u32
-    requires { ⌜ i < length (now cell) ⌝ }
-    ensures { λ r. ⌜ r ≡ nextCorner (now (cell .entry)) i ⌝ }
-{
-    let j = i + 1;
-    if j < cell.len() {
-        return cell[j];
-    }
-    cell[0]
 }
 
 // Adds the darts of the cell's own edge from a to b to the table of n slots and to the n entries of the outline. `nodes` is room for its nodes.

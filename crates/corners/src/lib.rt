@@ -1,7 +1,8 @@
 // The corners of a polygon (document 01, module 2): a run of node numbers, with the coordinates a flat list, x then y; its signed area.
 ghost use mathlib.Core.Path.{_≡_};
-ghost use lib.ListN.{getD};
-ghost use Rattle.corners.specs.Corners.{cornerAt, cornerAfter, cornerBefore, oriented, areaTerm, doubledSum, signedArea2, turned, intoCcw2};
+ghost use Prim.Native.Nat.{_<_};
+ghost use lib.ListN.{length, getD};
+ghost use Rattle.corners.specs.Corners.{cornerAt, cornerAfter, cornerBefore, nextCorner, oriented, areaTerm, doubledSum, signedArea2, turned, intoCcw2};
 use plane::Point;
 use plane::point_at;
 
@@ -47,6 +48,18 @@ pub fn previous(n: usize, i: usize) -> usize
         return n - 1;
     }
     i - 1
+}
+
+// The node of the corner after corner i; after the last comes the first.
+pub fn next_corner(cell: &[u32], i: usize) -> u32
+    requires { ⌜ i < length (now cell) ⌝ }
+    ensures { λ r. ⌜ r ≡ nextCorner (now (cell .entry)) i ⌝ }
+{
+    let j = i + 1;
+    if j < cell.len() {
+        return cell[j];
+    }
+    cell[0]
 }
 
 fn term(coords: &[f64], corners: &[u32], i: usize) -> f64

@@ -22,7 +22,8 @@ use Rattle.cutting.proofs.Pairs.{ends-append, pairs-ends, pairs-length}
 use Rattle.regions.specs.declared.Regions.{Regions}
 use Rattle.regions.specs.Runs.{runIn}
 use Rattle.cells.specs.declared.Near.{Near}
-use Rattle.cells.specs.Cells.{nextCorner, nearEdgesIn, Cut, cut, cutAs, cutCell}
+use Rattle.corners.specs.Corners.{nextCorner}
+use Rattle.cells.specs.Cells.{nearEdgesIn, Cut, cut, cutAs, cutCell}
 use Rattle.cells.proofs.Own.{sidesFrom, sides-all, sides-next, sides-end}
 use Rattle.cutting_cells.specs.Listed.{cutIn}
 

@@ -2,7 +2,7 @@
 use cells::CutCell;
 use cells::Near;
 use cells::cut_cell;
-use cells::next_corner;
+use corners::next_corner;
 use lists::copy_u32;
 use outlines::edges_repeat;
 use pieces::place_pieces;

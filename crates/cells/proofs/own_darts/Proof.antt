@@ -10,7 +10,7 @@ use Rattle.cells.proofs.own_darts.Tie as tie
 use Rattle.cells.proofs.own_darts.Reads as reads
 use Rattle.cells.proofs.own_darts.Lts as lts
 use Rattle.cells.proofs.add_own.Reads as add-own-reads
-use Rattle.cells.proofs.next_corner.Reads as next-corner-reads
+use Rattle.corners.proofs.next_corner.Reads as next-corner-reads
 
 abbrev Inv-loop : tie.InvT-loop
 Inv-loop coords w g cell nodes₀ outline₀ src₀ dst₀ marks₀ n₀ i₀ nodes outline src dst marks n i = Outlining coords w g cell outline₀ src₀ dst₀ marks₀ outline src dst

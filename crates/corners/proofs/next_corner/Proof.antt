@@ -1,9 +1,9 @@
-use Rattle.cells.proofs.Own.{next-inside, next-last}
+use Rattle.corners.proofs.Corners.{next-inside, next-last}
 use borrow.Author.Needs.{needs}
-use Rattle.cells.proofs.next_corner.Statement.{statement}
-use Rattle.cells.proofs.next_corner.Tie as tie
-use Rattle.cells.proofs.next_corner.Reads as reads
-use Rattle.cells.proofs.next_corner.Lts as lts
+use Rattle.corners.proofs.next_corner.Statement.{statement}
+use Rattle.corners.proofs.next_corner.Tie as tie
+use Rattle.corners.proofs.next_corner.Reads as reads
+use Rattle.corners.proofs.next_corner.Lts as lts
 
 -- places of the code, each counted once
 abbrev entry-at-returns : tie.After-shared-slice-known → tie.Start
