@@ -14,7 +14,7 @@ use Rattle.rules.specs.Operations.{Piece}
 use Rattle.rules.specs.Refusals.{Event, piece, firstRefusal}
 use Rattle.pieces.specs.Pieces.{room, events}
 use Rattle.pieces.proofs.Room.{flat-append, stops-append, fits, behind, refused}
-use Rattle.cutting_cells.specs.declared.Listed.{Listed}
+use Rattle.pieces.specs.declared.Listed.{Listed}
 use Rattle.cutting_cells.specs.Listed.{nodesOf, ListedBehind}
 
 -- the first n stand before the others

@@ -2,15 +2,16 @@
 use mathlib.Core.Path.{_≡_, refl, sym, ap, ap₂, _∙_, subst}
 use mathlib.Core.Bool.{Bool, true, false, cond}
 use mathlib.Core.List.{List}
-use Prim.Native.Nat.{ℕ, _+_, _/_, _-_, _≤_}
+use Prim.Native.Nat.{ℕ, _+_, _/_, _-_, _≤_, _<_}
 use native.Mathlib.Omega.{arith}
 use lib.Dec.{ltb}
-use lib.ListN.{length, getD, take, replicate, length-map, length-take}
+use lib.ListN.{length, getD, set, take, replicate, length-map, length-take, length-replicate, replicate-append-replicate}
 use lib.Ieee.{Float}
 use borrow.Author.Tests.{ltb-true, ltb-false}
 use Rattle.lists.specs.Search.{first}
 use Rattle.lists.specs.Gather.{passing}
 use Rattle.lists.specs.Regions.{put}
+use Rattle.lists.proofs.Regions.{put-none, put-store}
 use Rattle.lists.proofs.Gather.{length-passing, tally-le}
 use Rattle.cutting.specs.Edges.{Edge}
 use Rattle.cutting.specs.Setting.{ours}
@@ -38,12 +39,13 @@ use Rattle.cells.specs.declared.CutCell.{CutCell}
 use Rattle.cells.specs.declared.Near.{Near}
 use Rattle.cells.specs.Cells.{outlineIn, tableIn, nearEdgesIn, candidatesOf, Cut, cutAs, cutBy, cutCell}
 use Rattle.cells.proofs.Scene.{cut-is, copied-is, from-first, none-near, Read, read-pieces, read-refusal}
-use Rattle.pieces.specs.declared.Placed.{Placed}
-use Rattle.pieces.specs.Pieces.{sideOf, runsOf, isKept, room, events, PlacedBehind}
+use Rattle.pieces.specs.declared.Keep.{Keep}
+use Rattle.pieces.specs.Pieces.{sideOf, runsOf, keepOf, isKept, room, events, placing, placedBehind}
 use Rattle.pieces.proofs.Runs.{length-runs, read-back, stops-rise, kept-within}
-use Rattle.pieces.proofs.Behind.{fit}
+use Rattle.pieces.proofs.Room.{only-pieces}
+use Rattle.pieces.proofs.Placing.{code-met, all-placed, none-placed, fit}
 use Rattle.pieces.proofs.Listing.{kept-nodes, kept-kinds, kept-families, events-nodes}
-use Rattle.cutting_cells.specs.declared.Listed.{Listed}
+use Rattle.pieces.specs.declared.Listed.{Listed}
 use Rattle.cutting_cells.specs.Listed.{cutIn, SceneIn, CellIn, cellEvents, nodesOf, ListedBehind, Fits}
 
 -- ---- cell i of a scene, where k is its first candidate
@@ -130,12 +132,12 @@ pub rise-lent : (work : List ℕ) (o : MeshRuns) (nodes ends : List ℕ) → nod
     → Rising ends (length nodes)
 rise-lent work o nodes ends lent h = subst (λ (ns : List ℕ). Rising ends (length ns)) (sym lent) h
 
-pub placed-lent : (op : ℕ) (cutter : Bool) (coords : List Float) (work : List ℕ) (o : MeshRuns) (nodes ends : List ℕ) → nodes ≡ runIn work (o .entries)
-    → (count entries own family : ℕ) (rs : List (List ℕ)) (on oe ok of : List ℕ) (q : Placed) (on′ oe′ ok′ of′ : List ℕ)
-    → PlacedBehind count entries own family (passing (isKept op cutter coords (runsOf nodes ends)) rs) on oe ok of q on′ oe′ ok′ of′
-    → PlacedBehind count entries own family (passing (isKept op cutter coords (runsOf (runIn work (o .entries)) ends)) rs) on oe ok of q on′ oe′ ok′ of′
-placed-lent op cutter coords work o nodes ends lent count entries own family rs on oe ok of q on′ oe′ ok′ of′ h =
-    subst (λ (ns : List ℕ). PlacedBehind count entries own family (passing (isKept op cutter coords (runsOf ns ends)) rs) on oe ok of q on′ oe′ ok′ of′) lent h
+pub placed-lent : (op : ℕ) (w : Side) (k : Keep) → k ≡ keepOf op w → (coords : List Float) (work : List ℕ) (o : MeshRuns) (nodes ends : List ℕ) → nodes ≡ runIn work (o .entries)
+    → (top top′ : ℕ) → top ≡ top′ → (p : Listed) (t : ℕ) (rs : List (List ℕ)) (on oe ot : List ℕ) (q : Listed) (on′ oe′ ot′ : List ℕ)
+    → placing q on′ oe′ ot′ ≡ placedBehind top p t (passing (isKept k coords (runsOf nodes ends)) rs) on oe ot
+    → placing q on′ oe′ ot′ ≡ placedBehind top′ p t (passing (isKept (keepOf op w) coords (runsOf (runIn work (o .entries)) ends)) rs) on oe ot
+placed-lent op w k kept-by coords work o nodes ends lent top top′ most p t rs on oe ot q on′ oe′ ot′ h =
+    h ∙ (λ s. placedBehind (most s) p t (passing (isKept (kept-by s) coords (runsOf (lent s) ends)) rs) on oe ot)
 
 -- ---- `overlay_cell`
 
@@ -155,7 +157,7 @@ module _ (op : ℕ) (cutter : Bool) (coords : List Float) (work : List ℕ) (g :
   r = x .answer
 
   abbrev test : List ℕ → Bool
-  test = isKept op cutter coords (runsOf (runIn work (o .entries)) ends)
+  test = isKept (keepOf op w) coords (runsOf (runIn work (o .entries)) ends)
 
   -- the pieces that are lent
   abbrev runs : List (List ℕ)
@@ -221,17 +223,17 @@ module _ (op : ℕ) (cutter : Bool) (coords : List Float) (work : List ℕ) (g :
 
       kept-are : nodesOf these ≡ passing test runs
       kept-are =
-          kept-nodes sc op cutter i
-          ∙ (λ s. passing (isKept op cutter (scene .points s) (scene .nearCells s)) (outcomePieces (made .is s)))
+          kept-nodes sc op w i
+          ∙ (λ s. passing (isKept (keepOf op w) (scene .points s) (scene .nearCells s)) (outcomePieces (made .is s)))
           ∙ ap (passing test) (sym runs-are)
 
       events-are : cellEvents op sc w i ≡ events (nodesOf these)
       events-are = ap (λ (o : Outcome). ofCell o these) (made .is) ∙ events-nodes these
 
-      module _ (near : List ℕ) (lent : near ≡ runIn work (o .edges)) (own : ℕ) (eo : own ≡ cond (ltb k (length near / 2)) 11 kind) (q : Placed) (on′ oe′ ok′ of′ : List ℕ)
-          (got : PlacedBehind (p .count) (p .entries) own family (passing test runs) on oe ok of q on′ oe′ ok′ of′) where
-        all-got : PlacedBehind (p .count) (p .entries) own family (nodesOf these) on oe ok of q on′ oe′ ok′ of′
-        all-got = subst (λ (ks : List (List ℕ)). PlacedBehind (p .count) (p .entries) own family ks on oe ok of q on′ oe′ ok′ of′) (sym kept-are) got
+      module _ (near : List ℕ) (lent : near ≡ runIn work (o .edges)) (own : ℕ) (eo : own ≡ cond (ltb k (length near / 2)) 11 kind) (q : Listed) (on′ oe′ of′ : List ℕ)
+          (got : placing q on′ oe′ of′ ≡ placedBehind (room oe ok of) p family (passing test runs) on oe of) where
+        all-got : placing q on′ oe′ of′ ≡ placedBehind (room oe ok of) p family (nodesOf these) on oe of
+        all-got = got ∙ ap (λ (ks : List (List ℕ)). placedBehind (room oe ok of) p family ks on oe of) (sym kept-are)
 
         own-is : own ≡ kindOf sc w i
         own-is =
@@ -239,58 +241,84 @@ module _ (op : ℕ) (cutter : Bool) (coords : List Float) (work : List ℕ) (g :
             ∙ kind-at sc w i k first-at kind (this .kindIs)
 
         code-is : (m s : ℕ) → q .code ≡ firstRefusal m s (room oe ok of - p .count) (length on - p .entries) (cellEvents op sc w i)
-        code-is m s = all-got .code m s ∙ ap (firstRefusal m s (room oe ok of - p .count) (length on - p .entries)) (sym events-are)
+        code-is m s =
+            code-met (room oe ok of) p family (nodesOf these) on oe of q on′ oe′ of′ all-got
+            ∙ sym (only-pieces m s (room oe ok of - p .count) (length on - p .entries) (nodesOf these))
+            ∙ ap (firstRefusal m s (room oe ok of - p .count) (length on - p .entries)) (sym events-are)
 
         long : length (nodesOf these) ≡ length these
         long = length-map these (λ x. x .nodes)
 
-        pub cell-placed : q .code ≡ 0
-            → ListedBehind (cellEvents op sc w i) these p on oe ok of (record { code = 0; count = q .count; entries = q .entries }) on′ oe′ ok′ of′
-        cell-placed y =
+        pub cell-placed : q .code ≡ 0 → (ok′ : List ℕ) → ok′ ≡ put ok (p .count) (replicate (q .count - p .count) own)
+            → ListedBehind (cellEvents op sc w i) these p on oe ok of q on′ oe′ ok′ of′
+        cell-placed y ok′ filled =
+            let a = all-placed (room oe ok of) p family (nodesOf these) on oe of q on′ oe′ of′ all-got y in
+            let more : q .count - p .count ≡ length these = omega (arith, a .counted, long) in
             record {
-              code = λ m s. sym y ∙ code-is m s;
-              uncounted = λ h. absurd (h refl);
+              code = code-is;
+              uncounted = λ h. absurd (h y);
               placed = λ _. events-are;
-              counted = λ _. all-got .counted y ∙ ap (λ (n : ℕ). p .count + n) long;
-              entered = λ _. all-got .entered y;
-              corners = λ _. all-got .corners y;
-              ends = λ _. all-got .ends y;
-              kinds = λ _. all-got .kinds y ∙ ap (put ok (p .count)) (ap₂ (λ (n v : ℕ). replicate n v) long own-is ∙ sym (kept-kinds sc op cutter i));
-              families = λ _. all-got .families y ∙ ap (put of (p .count)) (ap₂ (λ (n v : ℕ). replicate n v) long (sym (this .familyIs)) ∙ sym (kept-families sc op cutter i));
+              counted = λ _. a .counted ∙ ap (λ (n : ℕ). p .count + n) long;
+              entered = λ _. a .entered;
+              corners = λ _. a .corners;
+              ends = λ _. a .ends;
+              kinds = λ _. filled ∙ ap (put ok (p .count)) (ap₂ (λ (n v : ℕ). replicate n v) more own-is ∙ sym (kept-kinds sc op w i));
+              families = λ _. a .tags ∙ ap (put of (p .count)) (ap₂ (λ (n v : ℕ). replicate n v) long (sym (this .familyIs)) ∙ sym (kept-families sc op w i));
             }
 
-        pub cell-full : (q .code ≡ 0 → ⊥) → (a : Listed) → (a .code ≡ q .code) × (a .count ≡ 0) × (a .entries ≡ 0) → (on″ oe″ ok″ of″ : List ℕ)
-            → ListedBehind (cellEvents op sc w i) these p on oe ok of a on″ oe″ ok″ of″
-        cell-full n a e on″ oe″ ok″ of″ =
+        pub cell-full : (q .code ≡ 0 → ⊥) → (on″ oe″ ok″ of″ : List ℕ) → ListedBehind (cellEvents op sc w i) these p on oe ok of q on″ oe″ ok″ of″
+        cell-full n on″ oe″ ok″ of″ =
+            let a = none-placed (room oe ok of) p family (nodesOf these) on oe of q on′ oe′ of′ all-got n in
             record {
-              code = λ m s. e .0 ∙ code-is m s;
-              uncounted = λ h. (e .1, e .2);
-              placed = λ z. no z;
-              counted = λ z. no z;
-              entered = λ z. no z;
-              corners = λ z. no z;
-              ends = λ z. no z;
-              kinds = λ z. no z;
-              families = λ z. no z;
+              code = code-is;
+              uncounted = λ h. (a .counted, a .entered);
+              placed = λ z. absurd (n z);
+              counted = λ z. absurd (n z);
+              entered = λ z. absurd (n z);
+              corners = λ z. absurd (n z);
+              ends = λ z. absurd (n z);
+              kinds = λ z. absurd (n z);
+              families = λ z. absurd (n z);
             }
-          where
-            no : {A : Type 0} → a .code ≡ 0 → A
-            no v = absurd (n (sym (e .0) ∙ v))
 
   -- what is placed fits
-  pub cell-fits : (own : ℕ) (q : Placed) (on′ oe′ ok′ of′ : List ℕ) → PlacedBehind (p .count) (p .entries) own family (passing test runs) on oe ok of q on′ oe′ ok′ of′
-      → length (x .corners) ≡ 1024 → length (x .stops) ≡ 1024 → p .count ≤ room oe ok of → p .entries ≤ length on → q .code ≡ 0
-      → Fits 1 p on oe ok of (record { code = 0; count = q .count; entries = q .entries })
-  cell-fits own q on′ oe′ ok′ of′ got ln ls hc he z =
-      let y = ready coords work g t cell runs₀ stops₀ x er in
-      let f = fit own family (p .count) (p .entries) (passing test runs) on oe ok of q on′ oe′ ok′ of′ got hc he z in
-      let few = short test (take (r .entries) (x .corners)) (take (r .pieces) (x .stops)) in
-      let low = kept-within test (take (r .entries) (x .corners)) (take (r .pieces) (x .stops)) (y .rise) in
-      let m = length-take (r .entries) (x .corners) in
-      let s = length-take (r .pieces) (x .stops) in
-      record {
-        pieces = omega (arith, f .0, got .counted z);
-        corners = omega (arith, f .1, got .entered z);
-        fewPieces = omega (arith, few, s, ls, y .pieces, got .counted z);
-        fewCorners = omega (arith, low, m, ln, y .corners, got .entered z);
-      }
+  module _ (q : Listed) (on′ oe′ of′ : List ℕ) (got : placing q on′ oe′ of′ ≡ placedBehind (room oe ok of) p family (passing test runs) on oe of)
+      (hc : p .count ≤ room oe ok of) (he : p .entries ≤ length on) (z : q .code ≡ 0) where
+    pub kinds-fit : (p .count ≤ q .count) × (q .count ≤ length ok)
+    kinds-fit =
+        let a = all-placed (room oe ok of) p family (passing test runs) on oe of q on′ oe′ of′ got z in
+        let f = fit (room oe ok of) p family (passing test runs) on oe of q on′ oe′ of′ got hc he z in
+        (omega (arith, a .counted), omega (arith, f .0))
+
+    pub cell-fits : length (x .corners) ≡ 1024 → length (x .stops) ≡ 1024 → Fits 1 p on oe ok of q
+    cell-fits ln ls =
+        let y = ready coords work g t cell runs₀ stops₀ x er in
+        let a = all-placed (room oe ok of) p family (passing test runs) on oe of q on′ oe′ of′ got z in
+        let f = fit (room oe ok of) p family (passing test runs) on oe of q on′ oe′ of′ got hc he z in
+        let few = short test (take (r .entries) (x .corners)) (take (r .pieces) (x .stops)) in
+        let low = kept-within test (take (r .entries) (x .corners)) (take (r .pieces) (x .stops)) (y .rise) in
+        let m = length-take (r .entries) (x .corners) in
+        let s = length-take (r .pieces) (x .stops) in
+        record {
+          pieces = f .0;
+          corners = f .1;
+          fewPieces = omega (arith, few, s, ls, y .pieces, a .counted);
+          fewCorners = omega (arith, low, m, ln, y .corners, a .entered);
+        }
+
+-- ---- `fill_kinds`
+
+module _ (w : List ℕ) (from v : ℕ) where
+  pub fill-turn : (u : List ℕ) (i : ℕ) → from ≤ i → i < length w → u ≡ put w from (replicate (i - from) v) → set u i v ≡ put w from (replicate (i + 1 - from) v)
+  fill-turn u i low h e =
+      let n : length (replicate (i - from) v) ≡ i - from = length-replicate (i - from) v in
+      let at : i ≡ from + length (replicate (i - from) v) = omega (arith, low, n) in
+      let more : i - from + 1 ≡ i + 1 - from = omega (arith, low) in
+      ap₂ (λ (l : List ℕ) (k : ℕ). set l k v) e at ∙ put-store w from (omega (arith, low, h)) (replicate (i - from) v) v 0 (omega (arith, low, h, n))
+      ∙ ap (put w from) (replicate-append-replicate (i - from) 1 v ∙ ap (λ (k : ℕ). replicate k v) more)
+
+  pub fill-none : w ≡ put w from (replicate (from - from) v)
+  fill-none = let z : 0 ≡ from - from = omega arith in sym (put-none w from) ∙ ap (λ (k : ℕ). put w from (replicate k v)) z
+
+  pub fill-end : (u : List ℕ) (i to : ℕ) → i ≤ to → to ≤ i → u ≡ put w from (replicate (i - from) v) → u ≡ put w from (replicate (to - from) v)
+  fill-end u i to h k e = let same : i - from ≡ to - from = omega (arith, h, k) in e ∙ ap (λ (n : ℕ). put w from (replicate n v)) same

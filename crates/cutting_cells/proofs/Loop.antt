@@ -21,7 +21,7 @@ use Rattle.regions.specs.declared.Regions.{Regions}
 use Rattle.cells.specs.Cells.{AllFew}
 use Rattle.pieces.specs.Pieces.{sideOf, runsOf, room}
 use Rattle.pieces.proofs.Runs.{run-at, part-is, length-cell}
-use Rattle.cutting_cells.specs.declared.Listed.{Listed}
+use Rattle.pieces.specs.declared.Listed.{Listed}
 use Rattle.cutting_cells.specs.Listed.{SceneIn, CellIn, MeshIn, cellEvents, ListedBehind, Fits}
 use Rattle.cutting_cells.proofs.Behind.{gathered-behind, listed-none, listed-refused, listed-more}
 

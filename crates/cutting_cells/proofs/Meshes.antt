@@ -16,7 +16,7 @@ use Rattle.regions.specs.declared.Regions.{Regions}
 use Rattle.regions.specs.Runs.{runIn}
 use Rattle.pieces.specs.Pieces.{room}
 use Rattle.pieces.proofs.Runs.{length-runs}
-use Rattle.cutting_cells.specs.declared.Listed.{Listed}
+use Rattle.pieces.specs.declared.Listed.{Listed}
 use Rattle.cutting_cells.specs.Listed.{SceneIn, MeshIn, MeshesIn, cellEvents, ListedBehind, Fits, overBoth, noneYet}
 use Rattle.cutting_cells.proofs.Behind.{listed-refused, listed-more}
 

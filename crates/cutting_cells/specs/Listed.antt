@@ -24,7 +24,7 @@ use Rattle.edge_nodes.specs.Lent.{nodesOn}
 use Rattle.cells.specs.declared.Near.{Near}
 use Rattle.cells.specs.Cells.{Cut, cutAs, nearEdgesIn, cutCell, AllFew}
 use Rattle.pieces.specs.Pieces.{runsOf, room, events}
-use Rattle.cutting_cells.specs.declared.Listed.{Listed}
+use Rattle.pieces.specs.declared.Listed.{Listed}
 
 -- What a cell comes to: cut by the edges t, or copied where there is none.
 unfoldable pub cutIn : List Float → List ℕ → Regions → Near → List ℕ → List ℕ → List ℕ → Cut

@@ -5,6 +5,8 @@ use cells::cut_cell;
 use corners::next_corner;
 use lists::copy_u32;
 use outlines::edges_repeat;
+use pieces::Listed;
+use pieces::keep_of;
 use pieces::place_pieces;
 use regions::MeshRuns;
 use regions::Regions;
@@ -15,10 +17,11 @@ use spatial_index::bounds2;
 use spatial_index::in_bounds;
 ghost use mathlib.Core.Path.{_≡_};
 ghost use mathlib.Core.Bool.{true, cond};
-ghost use Prim.Native.Nat.{ℕ, _+_, _*_, _^_, _≤_, _<_};
+ghost use Prim.Native.Nat.{ℕ, _+_, _*_, _-_, _^_, _≤_, _<_, min};
 ghost use lib.Dec.{ltb};
-ghost use lib.ListN.{length};
+ghost use lib.ListN.{length, replicate};
 ghost use Rattle.lists.specs.Gather.{gathered};
+ghost use Rattle.lists.specs.Regions.{put};
 ghost use Rattle.cutting.specs.Edges.{ring};
 ghost use Rattle.cutting.specs.Cell.{repeats};
 ghost use Rattle.cutting.specs.Outcome.{copiedOutcome};
@@ -30,13 +33,6 @@ ghost use Rattle.regions.specs.Runs.{Within, meshEdges};
 ghost use Rattle.cells.specs.Cells.{cut, cutAs, nearEdgesIn, AllFew};
 ghost use Rattle.pieces.specs.Pieces.{sideOf, room};
 ghost use Rattle.cutting_cells.specs.Listed.{cutIn, OtherReady, SceneIn, CellIn, MeshIn, cellEvents, ListedBehind, Fits, CellsReady, MeshesReady, MeshesIn, overBoth, noneYet};
-
-// The refusal or 0, and how many pieces and corners there are then.
-pub struct Listed {
-    pub code: u32,
-    pub count: usize,
-    pub entries: usize,
-}
 
 fn refused(code: u32) -> Listed
     ensures { λ r. ⌜ (r .code ≡ code) × (r .count ≡ 0) × (r .entries ≡ 0) ⌝ }
@@ -118,6 +114,33 @@ fn kind_of(kind: u8, first: usize, n: usize) -> u8
     kind
 }
 
+fn least(a: usize, b: usize, c: usize) -> usize
+    ensures { λ r. ⌜ r ≡ min a (min b c) ⌝ }
+{
+    if b <= c {
+        if a <= b {
+            return a;
+        }
+        return b;
+    }
+    if a <= c {
+        return a;
+    }
+    c
+}
+
+// The kind of the pieces from `from` up to `to`.
+fn fill_kinds(ok: &mut [u8], from: usize, to: usize, kind: u8)
+    requires { ⌜ (from ≤ to) × (to ≤ length (now ok)) ⌝ }
+    ensures { λ _. ⌜ now (ok .exit) ≡ put (now (ok .entry)) from (replicate (to - from) kind) ⌝ }
+{
+    let mut i = from;
+    while i < to {
+        ok[i] = kind;
+        i += 1;
+    }
+}
+
 // Places the kept pieces of one cell behind what p counts; `other` is the other mesh, `ends` where its cells end, `boxes` those of blocks of its edges.
 fn overlay_cell(
     op: u32,
@@ -163,32 +186,27 @@ fn overlay_cell(
     let m = r.entries;
     let k = r.pieces;
     let own = kind_of(kind, first, near.len() / 2);
+    let room = least(oe.len(), ok.len(), of.len());
+    let from = p.count;
     let q = place_pieces(
-        op,
-        cutter,
+        keep_of(op, cutter),
         coords,
         part(w, other.entries),
         ends,
         on,
         oe,
-        ok,
         of,
-        p.count,
-        p.entries,
+        room,
+        p,
         &runs[..m],
         &stops[..k],
-        own,
         family,
     );
-    let full = q.code;
-    if full != 0 {
-        return refused(full);
+    if q.code != 0 {
+        return q;
     }
-    Listed {
-        code: 0,
-        count: q.count,
-        entries: q.entries,
-    }
+    fill_kinds(ok, from, q.count, own);
+    q
 }
 
 // Cuts all cells of one mesh, with the corners `own` and their ends `stops`, and places their kept pieces behind what p counts. The searches for the

@@ -19,7 +19,7 @@ use Rattle.finding.proofs.Passed.{bare, ready}
 use Rattle.finding.proofs.Settled.{leaves}
 use Rattle.finding.proofs.Result.{met-few, code-is}
 use Rattle.finding.proofs.Scenes.{course-is, found-passes}
-use Rattle.cutting_cells.specs.declared.Listed.{Listed}
+use Rattle.pieces.specs.declared.Listed.{Listed}
 use Rattle.cutting_cells.specs.Listed.{MeshesIn, MeshesReady, cellEvents, ListedBehind, Fits, overBoth, noneYet}
 use Rattle.overlay.proofs.Whole.{found-refused, cells-state, cells-answered, points-are}
 use Rattle.overlay.proofs.Found.{coords-long, placed, next-is, next-long, points-in, lists-hold, lists-ready}

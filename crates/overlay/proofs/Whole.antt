@@ -16,7 +16,7 @@ use Rattle.rules.specs.Refusals.{Event, course, firstRefusal}
 use Rattle.rules.specs.Overlay.{Lists, lentLists, result, written, stateOf, stateWith, answered, answeredWith}
 use Rattle.pieces.specs.Pieces.{room}
 use Rattle.pieces.proofs.Room.{refused}
-use Rattle.cutting_cells.specs.declared.Listed.{Listed}
+use Rattle.pieces.specs.declared.Listed.{Listed}
 use Rattle.cutting_cells.specs.Listed.{cellEvents, nodesOf, ListedBehind, overBoth, noneYet}
 
 -- ---- the refusal of the state, and the answer

@@ -1,26 +1,22 @@
--- Inside the other mesh or not, and kept or not: the turns of `some_holds`, the answers of `keeps` and `is_kept`. Assumes nothing.
+-- Inside the other mesh or not: the turns of `some_holds`. Assumes nothing.
 use mathlib.Core.Path.{_≡_, refl, sym, ap, _∙_}
-use mathlib.Core.Bool.{Bool, true, false, not, _&&_, _||_}
+use mathlib.Core.Bool.{Bool, true, false, _&&_}
 use mathlib.Core.List.{List, []}
 use Prim.Native.Nat.{ℕ, _+_, _-_, _≤_, _<_}
 use native.Mathlib.Omega.{arith}
 use lib.Ieee.{Float}
 use lib.ListN.{length, getD, take, drop}
 use Rattle.lists.specs.Search.{first, has}
-use Rattle.lists.proofs.Search.{and-true, first-on, first-here, first-end, has-true, has-false}
+use Rattle.lists.proofs.Search.{first-on, first-here, first-end, has-true, has-false}
 use Rattle.insides.specs.Inside.{inside}
 use Rattle.plane.specs.declared.Point.{Point}
 use Rattle.polygons.specs.declared.Inner.the-variants.{Inside}
 use Rattle.entry.specs.Mesh.{prior, Rising}
 use Rattle.entry.proofs.Ends.{prior-more}
-use Rattle.rules.specs.Mesh.{Side}
 use Rattle.rules.specs.SpatialIndex.{boxOf, boxHolds}
 use Rattle.rules.specs.Inside.{someHolds}
-use Rattle.rules.specs.Operations.{keeps, keptByUnion}
-use Rattle.pieces.specs.Pieces.{runsOf, sideOf}
+use Rattle.pieces.specs.Pieces.{runsOf}
 use Rattle.pieces.proofs.Runs.{length-runs, run-at, part-is}
-
--- ---- `some_holds`
 
 -- the cell holds p
 abbrev pub holds : List Float → Point → List ℕ → Bool
@@ -63,20 +59,3 @@ module _ (coords : List Float) (nodes ends : List ℕ) (x y : Float) where
     pub none-holds : length ends ≤ i → false ≡ someHolds coords (runsOf nodes ends) (Inside x y)
     unfolding someHolds
     none-holds h = sym (ap (has test) (length-runs nodes ends) ∙ has-false test (length ends) i (sym (first-end test i (length ends) h) ∙ inv .3) h)
-
--- ---- `is_kept`
-
--- what is kept either way is kept
-pub either-way : (op : ℕ) (w : Side) (t in-it out : Bool) → in-it ≡ keeps op w true → out ≡ keeps op w false → in-it && out ≡ true → true ≡ keeps op w t
-either-way op w true in-it out y n h = sym (and-true in-it out h .0) ∙ y
-either-way op w false in-it out y n h = sym (and-true in-it out h .1) ∙ n
-
-pub asked : (op : ℕ) (w : Side) (t t′ r : Bool) → t′ ≡ t → r ≡ keeps op w t′ → r ≡ keeps op w t
-asked op w t t′ r e h = h ∙ ap (keeps op w) e
-
--- the rule of Union
-pub union-keeps : (cutter t : Bool) → not cutter || not t ≡ keptByUnion (sideOf cutter) t
-union-keeps true true = refl
-union-keeps true false = refl
-union-keeps false true = refl
-union-keeps false false = refl

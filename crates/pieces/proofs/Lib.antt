@@ -1,6 +1,8 @@
 pub mod Room
 pub mod Runs
 pub mod Inside
-pub mod Behind
+pub mod Kept
+pub mod Placing
+pub mod Piece
 pub mod Loops
 pub mod Listing

@@ -9,9 +9,11 @@ use Rattle.lists.proofs.Gather.{length-each, each-head, each-getD}
 use Rattle.rules.specs.Mesh.{Side, other}
 use Rattle.rules.specs.Meetings.{Scene, netOf}
 use Rattle.rules.specs.Cell.{kindOf}
+use Rattle.rules.specs.Inside.{pointInside}
 use Rattle.rules.specs.Operations.{Piece, keeps, piecesOf, pieceAt, pieceWith, liesInside, kept, keptWith}
 use Rattle.rules.specs.Refusals.{Event, piece}
-use Rattle.pieces.specs.Pieces.{sideOf, isKept, events}
+use Rattle.pieces.specs.Pieces.{keepOf, isKept, events}
+use Rattle.pieces.proofs.Kept.{kept-by}
 
 module _ {A B : Type 0} (g : A → B) where
   map-each : (n : ℕ) (f : ℕ → A) → map g (each n f) ≡ each n (λ i. g (f i))
@@ -31,6 +33,11 @@ module _ {A B : Type 0} (g : A → B) where
       go true ih = ap (λ (l : List B). g x ∷ l) ih
       go false ih = ih
 
+passing-same : {A : Type 0} (f g : A → Bool) → ((x : A) → f x ≡ g x) → (xs : List A) → passing f xs ≡ passing g xs
+unfolding passing
+passing-same f g h [] = refl
+passing-same f g h (x ∷ xs) = ap₂ (λ (t : Bool) (l : List _). elim t [ true ↦ x ∷ l | false ↦ l ]) (h x) (passing-same f g h xs)
+
 -- a number that all of them have
 module _ {A : Type 0} (g : A → ℕ) (v : ℕ) where
   each-alike : (n : ℕ) (f : ℕ → A) → ((i : ℕ) → g (f i) ≡ v) → map g (each n f) ≡ replicate n v
@@ -48,30 +55,27 @@ module _ {A : Type 0} (g : A → ℕ) (v : ℕ) where
       go true ih = ap₂ (λ (y : ℕ) (l : List ℕ). y ∷ l) (ap (λ (l : List ℕ). getD l 0 0) e) ih
       go false ih = ih
 
-module _ (sc : Scene) (op : ℕ) (cutter : Bool) (i : ℕ) where
-  abbrev w : Side
-  w = sideOf cutter
-
+module _ (sc : Scene) (op : ℕ) (w : Side) (i : ℕ) where
   abbrev all : List Piece
   all = each (length (piecesOf sc w i)) (pieceAt sc w i)
 
   -- the corners of the pieces of cell i that the operation keeps, their kinds and families
-  pub kept-nodes : map (λ p. p .nodes) (kept sc (sideOf cutter) op i) ≡ passing (isKept op cutter (sc .coords) (netOf sc (other (sideOf cutter)) .cells))
-      (piecesOf sc (sideOf cutter) i)
+  pub kept-nodes : map (λ p. p .nodes) (kept sc w op i) ≡ passing (isKept (keepOf op w) (sc .coords) (netOf sc (other w) .cells)) (piecesOf sc w i)
   unfolding keptWith liesInside pieceWith
   kept-nodes =
       let ps : List (List ℕ) = piecesOf sc w i in
-      let f : List ℕ → Bool = isKept op cutter (sc .coords) (netOf sc (other w) .cells) in
+      let f : List ℕ → Bool = λ q. keeps op w (pointInside (sc .coords) (netOf sc (other w) .cells) q) in
       passing-map (λ (p : Piece). p .nodes) f all ∙ ap (passing f) (map-each (λ (p : Piece). p .nodes) (length ps) (pieceAt sc w i) ∙ each-getD ps [])
+      ∙ passing-same f (isKept (keepOf op w) (sc .coords) (netOf sc (other w) .cells)) (λ q. sym (kept-by op w (pointInside (sc .coords) (netOf sc (other w) .cells) q))) ps
 
-  pub kept-kinds : map (λ p. p .kind) (kept sc (sideOf cutter) op i) ≡ replicate (length (kept sc (sideOf cutter) op i)) (kindOf sc (sideOf cutter) i)
+  pub kept-kinds : map (λ p. p .kind) (kept sc w op i) ≡ replicate (length (kept sc w op i)) (kindOf sc w i)
   unfolding keptWith pieceWith
   kept-kinds =
       let n : ℕ = length (piecesOf sc w i) in
       passing-alike (λ (p : Piece). p .kind) (kindOf sc w i) (λ p. keeps op w (liesInside sc w p)) all
       (each-alike (λ (p : Piece). p .kind) (kindOf sc w i) n (pieceAt sc w i) (λ j. refl) ∙ ap (λ (k : ℕ). replicate k (kindOf sc w i)) (sym (length-each n (pieceAt sc w i))))
 
-  pub kept-families : map (λ p. p .family) (kept sc (sideOf cutter) op i) ≡ replicate (length (kept sc (sideOf cutter) op i)) (getD (netOf sc (sideOf cutter) .families) i 0)
+  pub kept-families : map (λ p. p .family) (kept sc w op i) ≡ replicate (length (kept sc w op i)) (getD (netOf sc w .families) i 0)
   unfolding keptWith pieceWith
   kept-families =
       let n : ℕ = length (piecesOf sc w i) in

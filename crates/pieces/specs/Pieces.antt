@@ -1,18 +1,20 @@
 -- Which pieces are kept, and where they are placed. Assumes nothing.
 use mathlib.Core.Path.{_≡_}
-use mathlib.Core.Bool.{Bool, true, false}
+use mathlib.Core.Bool.{Bool, true, false, cond}
 use mathlib.Core.List.{List, [], map}
-use Prim.Native.Nat.{ℕ, _+_, _-_, min}
+use Prim.Native.Nat.{ℕ, _+_, _-_, _^_, _≤_, _<_, min}
+use lib.Dec.{eqb}
 use lib.ListN.{length, replicate}
 use lib.Ieee.{Float}
-use Rattle.lists.specs.Regions.{put}
+use Rattle.lists.specs.Regions.{put, zeros}
 use Rattle.cutting.specs.Outcome.{flat, stops}
-use Rattle.entry.specs.Mesh.{mesh}
+use Rattle.entry.specs.Mesh.{mesh, Rising}
 use Rattle.rules.specs.Mesh.{cellsOf, Side, theSubject, theCutter}
 use Rattle.rules.specs.Inside.{pointInside}
 use Rattle.rules.specs.Operations.{keeps}
 use Rattle.rules.specs.Refusals.{Event, piece, firstRefusal}
-use Rattle.pieces.specs.declared.Placed.{Placed}
+use Rattle.pieces.specs.declared.Keep.{Keep}
+use Rattle.pieces.specs.declared.Listed.{Listed}
 
 -- ---- runs of node numbers in a flat list, by their ends
 
@@ -26,9 +28,13 @@ abbrev pub sideOf : Bool → Side
 sideOf true = theCutter
 sideOf false = theSubject
 
--- the piece q of a cell of that mesh, where `cells` are those of the other one
-abbrev pub isKept : ℕ → Bool → List Float → List (List ℕ) → List ℕ → Bool
-isKept op cutter coords cells q = keeps op (sideOf cutter) (pointInside coords cells q)
+-- which pieces of the mesh w the operation keeps
+abbrev pub keepOf : ℕ → Side → Keep
+keepOf op w = record { inside = keeps op w true; outside = keeps op w false }
+
+-- the piece q, where `cells` are those of the other mesh
+abbrev pub isKept : Keep → List Float → List (List ℕ) → List ℕ → Bool
+isKept k coords cells q = cond (pointInside coords cells q) (k .inside) (k .outside)
 
 -- ---- placed
 
@@ -39,14 +45,41 @@ room oe ok of = min (length oe) (min (length ok) (length of))
 abbrev pub events : List (List ℕ) → List Event
 events ks = map (λ q. piece (length q)) ks
 
--- The pieces ks go behind the `count` pieces and `entries` corners that the lists on (corners), oe (ends), ok (kinds) and of (families) hold already.
--- The answer is 12, at the first that has no place, and then counts nothing; or 0, and all of them stand there, each with its end, kind and family.
-pub record PlacedBehind (count entries kind family : ℕ) (ks : List (List ℕ)) (on oe ok of : List ℕ) (r : Placed) (on′ oe′ ok′ of′ : List ℕ) : Type 0 where
-  pub code : (m p : ℕ) → r .code ≡ firstRefusal m p (room oe ok of - count) (length on - entries) (events ks)
-  pub uncounted : (r .code ≡ 0 → ⊥) → (r .count ≡ 0) × (r .entries ≡ 0)
-  pub counted : r .code ≡ 0 → r .count ≡ count + length ks
-  pub entered : r .code ≡ 0 → r .entries ≡ entries + length (flat ks)
-  pub corners : r .code ≡ 0 → on′ ≡ put on entries (flat ks)
-  pub ends : r .code ≡ 0 → oe′ ≡ put oe count (stops entries ks)
-  pub kinds : r .code ≡ 0 → ok′ ≡ put ok count (replicate (length ks) kind)
-  pub families : r .code ≡ 0 → of′ ≡ put of count (replicate (length ks) family)
+-- What p counts stands in the lists of corners, ends and tags, `room` pieces have a place, and n more corners can be counted.
+pub record Space (room : ℕ) (p : Listed) (n : ℕ) (on oe ot : List ℕ) : Type 0 where
+  pub counted : p .count ≤ room
+  pub ends : room ≤ length oe
+  pub tags : room ≤ length ot
+  pub corners : p .entries ≤ length on
+  pub short : p .entries + n < 2 ^ 32
+
+-- The other mesh's cells and the pieces are runs by their ends, and there is space behind p.
+pub record Placeable (room : ℕ) (p : Listed) (nodes ends runs stops on oe ot : List ℕ) : Type 0 where
+  pub cells : Rising ends (length nodes)
+  pub pieces : Rising stops (length runs)
+  pub space : Space room p (length runs) on oe ot
+
+-- what placing leaves: the answer, and the lists of corners, ends and tags
+pub record Placing : Type 0 where
+  pub answer : Listed
+  pub corners : List ℕ
+  pub ends : List ℕ
+  pub tags : List ℕ
+
+abbrev pub placing : Listed → List ℕ → List ℕ → List ℕ → Placing
+placing r on oe ot = record { answer = r; corners = on; ends = oe; tags = ot }
+
+-- The pieces ks, each with the tag t, go behind those that p counts; `room` pieces have a place. 12 at the first that has none: then nothing is
+-- counted, and the lists are zero.
+unfoldable pub placedBehind : ℕ → Listed → ℕ → List (List ℕ) → List ℕ → List ℕ → List ℕ → Placing
+placedBehind room p t ks on oe ot =
+    let code = firstRefusal 0 0 (room - p .count) (length on - p .entries) (events ks) in
+    cond (eqb code 0)
+    (placing (record { code = 0; count = p .count + length ks; entries = p .entries + length (flat ks) })
+    (put on (p .entries) (flat ks)) (put oe (p .count) (stops (p .entries) ks)) (put ot (p .count) (replicate (length ks) t)))
+    (placing (record { code = code; count = 0; entries = 0 }) (zeros (length on)) (zeros (length oe)) (zeros (length ot)))
+
+-- before a refusal zeroes the lists: g's answer, and where it is 0 its lists
+pub record BeforeZeroing (g : Placing) (r : Listed) (on oe ot : List ℕ) : Type 0 where
+  pub answer : r ≡ g .answer
+  pub lists : r .code ≡ 0 → placing r on oe ot ≡ g

@@ -2,28 +2,35 @@
 ghost use mathlib.Core.Path.{_≡_};
 ghost use mathlib.Core.Bool.{_&&_, cond};
 ghost use mathlib.Core.List.{[], _∷_};
-ghost use Prim.Native.Nat.{ℕ, _+_, _^_, _≤_, _<_, min};
+ghost use Prim.Native.Nat.{_+_, _^_, _≤_, _<_};
 ghost use lib.Dec.{leb, ltb};
 ghost use lib.ListN.{length};
 ghost use Rattle.lists.specs.Gather.{passing};
-ghost use Rattle.lists.specs.Regions.{put};
+ghost use Rattle.lists.specs.Regions.{put, zeros};
 ghost use Rattle.insides.specs.Inside.{inside};
 ghost use Rattle.polygons.specs.declared.Inner.the-variants.{Inside};
 ghost use Rattle.entry.specs.Mesh.{Rising};
 ghost use Rattle.rules.specs.SpatialIndex.{boxOf, boxHolds};
 ghost use Rattle.rules.specs.Inside.{someHolds, pointInside};
 ghost use Rattle.rules.specs.Operations.{keeps};
-ghost use Rattle.pieces.specs.Pieces.{sideOf, runsOf, isKept, room, PlacedBehind};
+ghost use Rattle.pieces.specs.Pieces.{sideOf, runsOf, keepOf, isKept, Space, Placeable, placing, placedBehind, BeforeZeroing};
 use insides::inside;
 use lists::copy_u32;
+use lists::zero_u32;
 use plane::Point;
 use polygons::Inner;
 use polygons::strict_interior_point;
 use spatial_index::bounds_hold;
 use spatial_index::bounds2;
 
+// Whether the operation keeps those pieces of a mesh that lie inside the other, and those that don't.
+pub struct Keep {
+    pub inside: bool,
+    pub outside: bool,
+}
+
 // The refusal, or 0 and how many pieces and corners there are then.
-pub struct Placed {
+pub struct Listed {
     pub code: u32,
     pub count: usize,
     pub entries: usize,
@@ -89,167 +96,184 @@ fn keeps(op: u32, cutter: bool, inside: bool) -> bool
     true
 }
 
-// Where the operation keeps the piece either way it isn't asked whether it lies inside.
-fn is_kept(
-    op: u32,
-    cutter: bool,
-    coords: &[f64],
-    nodes: &[u32],
-    ends: &[u32],
-    piece: &[u32],
-) -> bool
-    requires { ⌜ Rising (now ends) (length (now nodes)) ⌝ }
-    ensures { λ r. ⌜ r ≡ isKept op cutter (now (coords .entry)) (runsOf (now (nodes .entry)) (now (ends .entry))) (now (piece .entry)) ⌝ }
+// What the operation keeps of the mesh whose cells are cut.
+pub fn keep_of(op: u32, cutter: bool) -> Keep
+    ensures { λ r. ⌜ r ≡ keepOf op (sideOf cutter) ⌝ }
 {
-    if keeps(op, cutter, true) & keeps(op, cutter, false) {
+    Keep {
+        inside: keeps(op, cutter, true),
+        outside: keeps(op, cutter, false),
+    }
+}
+
+// Where the piece is kept either way it isn't asked whether it lies inside.
+fn is_kept(k: Keep, coords: &[f64], nodes: &[u32], ends: &[u32], piece: &[u32]) -> bool
+    requires { ⌜ Rising (now ends) (length (now nodes)) ⌝ }
+    ensures { λ r. ⌜ r ≡ isKept k (now (coords .entry)) (runsOf (now (nodes .entry)) (now (ends .entry))) (now (piece .entry)) ⌝ }
+{
+    if k.inside & k.outside {
         return true;
     }
-    keeps(op, cutter, point_inside(coords, nodes, ends, piece))
+    if point_inside(coords, nodes, ends, piece) {
+        return k.inside;
+    }
+    k.outside
 }
 
 // ---- Placed
-
-fn least(a: usize, b: usize, c: usize) -> usize
-    ensures { λ r. ⌜ r ≡ min a (min b c) ⌝ }
-{
-    if b <= c {
-        if a <= b {
-            return a;
-        }
-        return b;
-    }
-    if a <= c {
-        return a;
-    }
-    c
-}
 
 // Places one piece behind `count` pieces and `entries` corners. Answers whether it has its place; nothing changes where not.
 fn place_piece(
     on: &mut [u32],
     oe: &mut [u32],
-    ok: &mut [u8],
-    of: &mut [u32],
+    ot: &mut [u32],
+    room: usize,
     count: usize,
     entries: usize,
     piece: &[u32],
-    kind: u8,
-    family: u32,
+    tag: u32,
 ) -> bool
-    requires { ⌜ (count ≤ room (now oe) (now ok) (now of)) × (entries + length (now piece) < 2 ^ 32) ⌝ }
-    ensures { λ r. ⌜ (r ≡ (ltb count (room (now (oe .entry)) (now (ok .entry)) (now (of .entry))) && leb (entries + length (now (piece .entry))) (length (now (on .entry)))))
+    requires { ⌜ (count ≤ room) × (room ≤ length (now oe)) × (room ≤ length (now ot)) × (entries + length (now piece) < 2 ^ 32) ⌝ }
+    ensures { λ r. ⌜ (r ≡ (ltb count room && leb (entries + length (now (piece .entry))) (length (now (on .entry)))))
         × (now (on .exit) ≡ cond r (put (now (on .entry)) entries (now (piece .entry))) (now (on .entry)))
         × (now (oe .exit) ≡ cond r (put (now (oe .entry)) count ((entries + length (now (piece .entry))) ∷ [])) (now (oe .entry)))
-        × (now (ok .exit) ≡ cond r (put (now (ok .entry)) count (kind ∷ [])) (now (ok .entry)))
-        × (now (of .exit) ≡ cond r (put (now (of .entry)) count (family ∷ [])) (now (of .entry))) ⌝ }
+        × (now (ot .exit) ≡ cond r (put (now (ot .entry)) count (tag ∷ [])) (now (ot .entry))) ⌝ }
 {
     let next = count + 1;
-    if least(oe.len(), ok.len(), of.len()) < next {
+    if room < next {
         return false;
     }
     if copy_u32(on, entries, piece) {
         oe[count] = (entries + piece.len()) as u32;
-        ok[count] = kind;
-        of[count] = family;
+        ot[count] = tag;
         return true;
     }
     false
 }
 
-// Places one piece if the operation keeps it.
+// Places one piece behind those that p counts, if it is kept.
 fn place_kept(
-    op: u32,
-    cutter: bool,
+    k: Keep,
     coords: &[f64],
     nodes: &[u32],
     ends: &[u32],
     on: &mut [u32],
     oe: &mut [u32],
-    ok: &mut [u8],
-    of: &mut [u32],
-    count: usize,
-    entries: usize,
+    ot: &mut [u32],
+    room: usize,
+    p: Listed,
     piece: &[u32],
-    kind: u8,
-    family: u32,
-) -> Placed
-    requires { ⌜ (Rising (now ends) (length (now nodes))) × (count ≤ room (now oe) (now ok) (now of)) × (entries ≤ length (now on)) × (entries + length (now piece) < 2 ^ 32) ⌝ }
-    ensures { λ r. ⌜ PlacedBehind count entries kind family (passing (isKept op cutter (now (coords .entry)) (runsOf (now (nodes .entry)) (now (ends .entry)))) (now (piece .entry) ∷ []))
-        (now (on .entry)) (now (oe .entry)) (now (ok .entry)) (now (of .entry)) r (now (on .exit)) (now (oe .exit)) (now (ok .exit)) (now (of .exit)) ⌝ }
+    tag: u32,
+) -> Listed
+    requires { ⌜ (Rising (now ends) (length (now nodes))) × Space room p (length (now piece)) (now on) (now oe) (now ot) ⌝ }
+    ensures { λ r. ⌜ BeforeZeroing (placedBehind room p tag
+        (passing (isKept k (now (coords .entry)) (runsOf (now (nodes .entry)) (now (ends .entry)))) (now (piece .entry) ∷ []))
+        (now (on .entry)) (now (oe .entry)) (now (ot .entry))) r (now (on .exit)) (now (oe .exit)) (now (ot .exit)) ⌝ }
 {
-    if is_kept(op, cutter, coords, nodes, ends, piece) {
-        if place_piece(on, oe, ok, of, count, entries, piece, kind, family) {
-            return Placed {
+    if is_kept(k, coords, nodes, ends, piece) {
+        if place_piece(on, oe, ot, room, p.count, p.entries, piece, tag) {
+            return Listed {
                 code: 0,
-                count: count + 1,
-                entries: entries + piece.len(),
+                count: p.count + 1,
+                entries: p.entries + piece.len(),
             };
         }
-        return Placed {
+        return Listed {
             code: 12,
             count: 0,
             entries: 0,
         };
     }
-    Placed {
+    Listed {
         code: 0,
-        count,
-        entries,
+        count: p.count,
+        entries: p.entries,
     }
 }
 
-// Places the pieces that the operation keeps, one after the other, up to the first that has no place.
-pub fn place_pieces(
-    op: u32,
-    cutter: bool,
+// Places the pieces that are kept, one after the other, up to the first that has no place; t is their tag.
+fn place_run(
+    k: Keep,
     coords: &[f64],
     nodes: &[u32],
     ends: &[u32],
     on: &mut [u32],
     oe: &mut [u32],
-    ok: &mut [u8],
-    of: &mut [u32],
-    count: usize,
-    entries: usize,
+    ot: &mut [u32],
+    room: usize,
+    p: Listed,
     runs: &[u32],
     stops: &[u32],
-    kind: u8,
-    family: u32,
-) -> Placed
-    requires { ⌜ (Rising (now ends) (length (now nodes))) × (Rising (now stops) (length (now runs))) × (count ≤ room (now oe) (now ok) (now of))
-        × (entries ≤ length (now on)) × (entries + length (now runs) < 2 ^ 32) ⌝ }
-    ensures { λ r. ⌜ PlacedBehind count entries kind family (passing (isKept op cutter (now (coords .entry)) (runsOf (now (nodes .entry)) (now (ends .entry))))
-        (runsOf (now (runs .entry)) (now (stops .entry))))
-        (now (on .entry)) (now (oe .entry)) (now (ok .entry)) (now (of .entry)) r (now (on .exit)) (now (oe .exit)) (now (ok .exit)) (now (of .exit)) ⌝ }
+    t: u32,
+) -> Listed
+    requires { ⌜ Placeable room p (now nodes) (now ends) (now runs) (now stops) (now on) (now oe) (now ot) ⌝ }
+    ensures { λ r. ⌜ BeforeZeroing (placedBehind room p t
+        (passing (isKept k (now (coords .entry)) (runsOf (now (nodes .entry)) (now (ends .entry)))) (runsOf (now (runs .entry)) (now (stops .entry))))
+        (now (on .entry)) (now (oe .entry)) (now (ot .entry))) r (now (on .exit)) (now (oe .exit)) (now (ot .exit)) ⌝ }
 {
-    let mut p = Placed {
+    let mut q = Listed {
         code: 0,
-        count,
-        entries,
+        count: p.count,
+        entries: p.entries,
     };
-    let mut from: usize = 0;
+    let mut a: usize = 0;
     for i in 0..stops.len() {
-        let to = stops[i] as usize;
-        p = place_kept(
-            op,
-            cutter,
-            coords,
-            nodes,
-            ends,
-            on,
-            oe,
-            ok,
-            of,
-            p.count,
-            p.entries,
-            &runs[from..to],
-            kind,
-            family,
-        );
-        if p.code != 0 {
-            return p;
+        let b = stops[i] as usize;
+        q = place_kept(k, coords, nodes, ends, on, oe, ot, room, q, &runs[a..b], t);
+        if q.code != 0 {
+            return q;
         }
-        from = to;
+        a = b;
     }
-    p
+    q
+}
+
+fn zero_lists(on: &mut [u32], oe: &mut [u32], ot: &mut [u32])
+    ensures { λ _. ⌜ (now (on .exit) ≡ zeros (length (now (on .entry)))) × (now (oe .exit) ≡ zeros (length (now (oe .entry))))
+        × (now (ot .exit) ≡ zeros (length (now (ot .entry)))) ⌝ }
+{
+    zero_u32(on);
+    zero_u32(oe);
+    zero_u32(ot);
+}
+
+// Places the pieces that are kept behind those that p counts, each with the tag. `room` pieces have a place; a refusal leaves zeros.
+pub fn place_pieces(
+    k: Keep,
+    coords: &[f64],
+    nodes: &[u32],
+    ends: &[u32],
+    on: &mut [u32],
+    oe: &mut [u32],
+    ot: &mut [u32],
+    room: usize,
+    p: Listed,
+    runs: &[u32],
+    stops: &[u32],
+    tag: u32,
+) -> Listed
+    requires { ⌜ Placeable room p (now nodes) (now ends) (now runs) (now stops) (now on) (now oe) (now ot) ⌝ }
+    ensures { λ r. ⌜ placing r (now (on .exit)) (now (oe .exit)) (now (ot .exit)) ≡ placedBehind room p tag
+        (passing (isKept k (now (coords .entry)) (runsOf (now (nodes .entry)) (now (ends .entry)))) (runsOf (now (runs .entry)) (now (stops .entry))))
+        (now (on .entry)) (now (oe .entry)) (now (ot .entry)) ⌝ }
+{
+    let r = place_run(
+        k,
+        coords,
+        nodes,
+        ends,
+        on,
+        oe,
+        ot,
+        room,
+        p,
+        runs,
+        stops,
+        tag,
+    );
+    if r.code == 0 {
+        return r;
+    }
+    zero_lists(on, oe, ot);
+    r
 }

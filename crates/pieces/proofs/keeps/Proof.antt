@@ -1,6 +1,6 @@
 -- `pieces::keeps` meets its contract: each answer is what the tests that led there pick. Assumes nothing.
 use borrow.Author.Tests.{eq-eqb, ne-eqb}
-use Rattle.pieces.proofs.Inside.{union-keeps}
+use Rattle.pieces.proofs.Kept.{union-keeps}
 use Rattle.pieces.proofs.keeps.Statement.{statement}
 use Rattle.pieces.proofs.keeps.Tie as tie
 

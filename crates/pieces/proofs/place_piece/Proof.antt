@@ -1,40 +1,30 @@
--- `pieces::place_piece` meets its contract: the stores in the four lists. Assumes nothing.
+-- `pieces::place_piece` meets its contract: the stores in the three lists. Assumes nothing.
 use mathlib.Core.Path.{refl}
-use Rattle.pieces.proofs.Behind.{full, stored, not-stored}
+use Rattle.pieces.proofs.Piece.{full, stored, not-stored}
 use borrow.Author.Needs.{needs}
 use Rattle.pieces.proofs.place_piece.Statement.{statement}
 use Rattle.pieces.proofs.place_piece.Tie as tie
 
 -- places of the code, each counted once
-abbrev entry : tie.After-least → tie.Start
-entry c = c .before .before .before .before .before .before
+abbrev entry-of-else1 : tie.Else1 → tie.Start
+entry-of-else1 c = c .before .before .before .before .before
 
-abbrev least-of-else1 : tie.Else1 → tie.After-least
-least-of-else1 c = c .before
-
-abbrev least-at-returns : tie.Then1 → tie.After-least
-least-at-returns c = c .before
+abbrev entry-at-returns : tie.Then1 → tie.Start
+entry-at-returns c = c .before .before .before .before .before
 
 abbrev else1 : tie.After-copy-u32 → tie.Else1
 else1 c = c .before .before
 
-abbrev copy-u32-at-same-length-5 : tie.Else2 → tie.After-copy-u32
-copy-u32-at-same-length-5 c = c .before .before .before
+abbrev copy-u32-at-same-length-4 : tie.Else2 → tie.After-copy-u32
+copy-u32-at-same-length-4 c = c .before .before .before
 
 abbrev copy-u32-at-same-length : tie.Then2 → tie.After-copy-u32
 copy-u32-at-same-length c = c .before .before .before
 
 returns : tie.Need-returns
 returns c =
-    let at-entry = entry (least-at-returns c) in
-    let a = at-entry .args in (
-      full (a .on .now) (a .oe .now) (a .ok .now) (a .of .now) (a .count) (a .entries) (a .piece .now) (c .before .least .result) (c .before .least .ensures)
-          (c .if1 .taken),
-      refl,
-      refl,
-      refl,
-      refl,
-    )
+    let a = entry-at-returns c .args in
+    (full (a .on .now) (a .room) (a .count) (a .entries) (a .piece .now) (c .if1 .taken), refl, refl, refl)
 
 same-length : tie.Need-same-length
 same-length c =
@@ -43,34 +33,28 @@ same-length c =
 
 returns-2 : tie.Need-returns-2
 returns-2 c =
-    let at-copy-u32 = copy-u32-at-same-length c in
-    let at-least = least-of-else1 (else1 at-copy-u32) in
-    let dst-last = at-copy-u32 .copy-u32 .last .0 in
-    let a = entry at-least .args in
+    let at-else1 = else1 (copy-u32-at-same-length c) in
+    let at-entry = entry-of-else1 at-else1 in
+    let a = at-entry .args in
+    let r = copy-u32-at-same-length c .copy-u32 in
     let s =
-    stored (a .on .now) (a .oe .now) (a .ok .now) (a .of .now) (a .count) (a .entries) (a .piece .now) (at-least .least .result) (at-least .least .ensures)
-    (else1 at-copy-u32 .if1 .left)
-    (at-copy-u32 .copy-u32 .result) dst-last (at-copy-u32 .copy-u32 .ensures) (a .kind) (a .family) (c .if2 .taken) in
-    (s .0, s .1, s .2, s .3, s .4)
+    stored (a .on .now) (a .room) (a .count) (a .entries) (a .piece .now) (at-else1 .if1 .left) (r .result) (r .last .0) (r .ensures)
+    (a .oe .now) (a .ot .now) (a .tag) (at-entry .pre .1) (at-entry .pre .2) (c .if2 .taken) in
+    (s .0, s .1, s .2, s .3)
 
-same-length-5 : tie.Need-same-length-5
-same-length-5 c =
-    let dst-kept = copy-u32-at-same-length-5 c .copy-u32 .kept .0 in
+same-length-4 : tie.Need-same-length-4
+same-length-4 c =
+    let dst-kept = copy-u32-at-same-length-4 c .copy-u32 .kept .0 in
     dst-kept
 
 returns-3 : tie.Need-returns-3
 returns-3 c =
-    let at-copy-u32 = copy-u32-at-same-length-5 c in
-    let at-least = least-of-else1 (else1 at-copy-u32) in
-    let dst-last = at-copy-u32 .copy-u32 .last .0 in
-    let a = entry at-least .args in
-    let s =
-    not-stored (a .on .now) (a .oe .now) (a .ok .now) (a .of .now) (a .count) (a .entries) (a .piece .now) (at-least .least .result) (at-least .least .ensures)
-    (else1 at-copy-u32 .if1 .left)
-    (at-copy-u32 .copy-u32 .result) dst-last (at-copy-u32 .copy-u32 .ensures) (c .if2 .left) in
-    (s .0, s .1, refl, refl, refl)
+    let at-else1 = else1 (copy-u32-at-same-length-4 c) in
+    let a = entry-of-else1 at-else1 .args in
+    let r = copy-u32-at-same-length-4 c .copy-u32 in
+    let s = not-stored (a .on .now) (a .room) (a .count) (a .entries) (a .piece .now) (at-else1 .if1 .left) (r .result) (r .last .0) (r .ensures) (c .if2 .left) in
+    (s .0, s .1, refl, refl)
 
 pub place-piece-spec : {M : Type 1} → statement M
-place-piece-spec = tie.close (tie.spec (λ c. search needs) (λ c κs. search needs) returns (λ c κs. search needs) (λ c. search needs) (λ c. search needs)
-    (λ c. search needs) (λ c. search needs) (λ c. search needs) (λ c. search needs) (λ c. search needs) same-length (λ c. search needs) (λ c. search needs)
-    (λ c. search needs) returns-2 same-length-5 returns-3)
+place-piece-spec = tie.close (tie.spec (λ c. search needs) returns (λ c κs. search needs) (λ c. search needs) (λ c. search needs) (λ c. search needs)
+    (λ c. search needs) (λ c. search needs) (λ c. search needs) same-length (λ c. search needs) (λ c. search needs) returns-2 same-length-4 returns-3)

@@ -1,173 +1,43 @@
--- `pieces::place_pieces` meets its contract: the loop's invariant: of the runs passed those that are kept are placed. Assumes nothing.
-use mathlib.Core.Path.{_∙_}
-use Prim.Native.Nat.{_-_}
-use native.Mathlib.Omega.{arith}
-use lib.ListN.{length}
+-- `pieces::place_pieces` meets its contract: a refusal's lists are zeroed. Assumes nothing.
+use Rattle.lists.specs.Gather.{passing}
 use Rattle.pieces.specs.Pieces.{runsOf, isKept}
-use Rattle.pieces.proofs.Loops.{Going, start₀, ready, turn, stopped, end}
+use Rattle.pieces.proofs.Placing.{zeroed}
 use borrow.Author.Needs.{needs}
 use Rattle.pieces.proofs.place_pieces.Statement.{statement}
 use Rattle.pieces.proofs.place_pieces.Tie as tie
 
-abbrev Inv-loop : tie.InvT-loop
-Inv-loop op cutter coords nodes ends on₀ oe₀ ok₀ of₀ count entries runs stops kind family p₀ from₀ i₀ i-end on oe ok of p from i =
-    Going (isKept op cutter coords (runsOf nodes ends)) runs stops count entries kind family on₀ oe₀ ok₀ of₀ on oe ok of p from i
-
-abbrev μ-loop : tie.MeasureT-loop
-μ-loop op cutter coords nodes ends on₀ oe₀ ok₀ of₀ count entries runs stops kind family p₀ from₀ i₀ i-end on oe ok of p from i = length stops - i
-
 -- places of the code, each counted once
-abbrev entry-at-loop-holds : tie.After-shared-slice-known5 Inv-loop μ-loop → tie.Start Inv-loop μ-loop
-entry-at-loop-holds c = c .before .before .before .before .before .before .before .before .before
+abbrev entry : tie.After-place-run → tie.Start
+entry c = c .before .before .before .before .before .before .before .before .before .before .before .before
 
-abbrev entry-of-loop : tie.At-loop Inv-loop μ-loop → tie.Start Inv-loop μ-loop
-entry-of-loop c = c .before .before .before .before .before .before .before .before .before .before
+abbrev place-run-of-else1 : tie.Else1 → tie.After-place-run
+place-run-of-else1 c = c .before .before .before .before .before .before .before .before
 
-abbrev loop-at-returns-2 : tie.After-loop Inv-loop μ-loop → tie.At-loop Inv-loop μ-loop
-loop-at-returns-2 c = c .before
+abbrev place-run-at-returns : tie.Then1 → tie.After-place-run
+place-run-at-returns c = c .before .before .before .before .before .before .before .before
 
-abbrev loop-of-in-loop : tie.In-loop Inv-loop μ-loop → tie.At-loop Inv-loop μ-loop
-loop-of-in-loop c = c .before
+abbrev else1 : tie.After-zero-lists → tie.Else1
+else1 c = c .before .before .before .before
 
-abbrev in-loop-at-cast-to : tie.After-shared-slice-known6 Inv-loop μ-loop → tie.In-loop Inv-loop μ-loop
-in-loop-at-cast-to c = c .before
+abbrev zero-lists-at-returns-2 : tie.After-slice-known9 → tie.After-zero-lists
+zero-lists-at-returns-2 c = c .before .before .before .before .before .before
 
-abbrev in-loop-at-mul-place-kept : tie.After-place-kept-arg4 Inv-loop μ-loop → tie.In-loop Inv-loop μ-loop
-in-loop-at-mul-place-kept c = c .before .before .before .before .before
+returns : tie.Need-returns
+returns c = place-run-at-returns c .place-run .ensures .lists (c .if1 .taken)
 
-abbrev in-loop-at-place-kept-requires : tie.After-place-kept-arg5 Inv-loop μ-loop → tie.In-loop Inv-loop μ-loop
-in-loop-at-place-kept-requires c = c .before .before .before .before .before .before
-
-abbrev in-loop-of-place-kept : tie.After-place-kept Inv-loop μ-loop → tie.In-loop Inv-loop μ-loop
-in-loop-of-place-kept c = c .before .before .before .before .before .before .before
-
-abbrev place-kept-at-add-i : tie.Else1 Inv-loop μ-loop → tie.After-place-kept Inv-loop μ-loop
-place-kept-at-add-i c = c .before .before .before .before .before .before .before .before .before .before
-
-abbrev place-kept-at-same-length : tie.Then1 Inv-loop μ-loop → tie.After-place-kept Inv-loop μ-loop
-place-kept-at-same-length c = c .before .before .before .before .before .before .before .before .before .before
-
-loop-holds : tie.Need-loop-holds Inv-loop μ-loop
-loop-holds c =
-    let at-entry = entry-at-loop-holds c in
-    let a = at-entry .args in
-    start₀ (isKept (a .op) (a .cutter) (a .coords .now) (runsOf (a .nodes .now) (a .ends .now))) (a .runs .now) (a .stops .now) (at-entry .pre .1) (a .count)
-    (a .entries) (a .kind) (a .family) (a .on .now) (a .oe .now) (a .ok .now) (a .of .now) (at-entry .pre .2) (at-entry .pre .3)
-
-cast-to : tie.Need-cast-to Inv-loop μ-loop
-cast-to c =
-    let at-loop = loop-of-in-loop (in-loop-at-cast-to c) in
-    omega (arith, c .shared-slice-known6 .given (at-loop .loop .i))
-
-mul-place-kept : tie.Need-mul-place-kept Inv-loop μ-loop
-mul-place-kept c =
-    let at-loop = loop-of-in-loop (in-loop-at-mul-place-kept c) in
-    let at-entry = entry-of-loop at-loop in
-    omega (arith, at-entry .pre .1 (at-loop .loop .i) (in-loop-at-mul-place-kept c .loop-test .taken), at-entry .pre .4, at-loop .loop .inv .1)
-
-sub-place-kept : tie.Need-sub-place-kept Inv-loop μ-loop
-sub-place-kept c =
-    let at-loop = loop-of-in-loop (in-loop-at-mul-place-kept c) in
-    omega (arith, entry-of-loop at-loop .pre .1 (at-loop .loop .i) (in-loop-at-mul-place-kept c .loop-test .taken), at-loop .loop .inv .1)
-
-part-place-kept-start : tie.Need-part-place-kept-start Inv-loop μ-loop
-part-place-kept-start c =
-    let at-loop = loop-of-in-loop (in-loop-at-mul-place-kept c) in
-    omega (arith, entry-of-loop at-loop .pre .1 (at-loop .loop .i) (in-loop-at-mul-place-kept c .loop-test .taken), at-loop .loop .inv .1)
-
-part-place-kept-end : tie.Need-part-place-kept-end Inv-loop μ-loop
-part-place-kept-end c =
-    let at-loop = loop-of-in-loop (in-loop-at-mul-place-kept c) in
-    omega (arith, entry-of-loop at-loop .pre .1 (at-loop .loop .i) (in-loop-at-mul-place-kept c .loop-test .taken), at-loop .loop .inv .1)
-
-place-kept-requires : tie.Need-place-kept-requires Inv-loop μ-loop
-place-kept-requires c κs =
-    let at-loop = loop-of-in-loop (in-loop-at-place-kept-requires c) in
-    let at-entry = entry-of-loop at-loop in
-    let a = at-entry .args in
-    let l = at-loop .loop in
-    let f = isKept (a .op) (a .cutter) (a .coords .now) (runsOf (a .nodes .now) (a .ends .now)) in
-    let n = ready f (a .runs .now) (a .stops .now) (at-entry .pre .1) (a .count) (a .entries) (a .kind) (a .family) (a .on .now) (a .oe .now) (a .ok .now)
-    (a .of .now) (at-entry .pre .2) (at-entry .pre .3) (l .on) (l .oe) (l .ok) (l .of) (l .p) (l .from) (l .i) (l .inv)
-    (in-loop-at-place-kept-requires c .loop-test .taken) (at-entry .pre .4) in
-    (at-entry .pre .0, n .0, n .1, n .2)
-
-same-length : tie.Need-same-length Inv-loop μ-loop
-same-length c =
-    let at-loop = loop-of-in-loop (in-loop-of-place-kept (place-kept-at-same-length c)) in
-    let on-kept = place-kept-at-same-length c .place-kept .kept .1 .1 .1 .1 .1 .0 in
-    on-kept ∙ at-loop .loop .inv .6
-
-same-length-2 : tie.Need-same-length-2 Inv-loop μ-loop
-same-length-2 c =
-    let at-loop = loop-of-in-loop (in-loop-of-place-kept (place-kept-at-same-length c)) in
-    let oe-kept = place-kept-at-same-length c .place-kept .kept .1 .1 .1 .1 .1 .1 .0 in
-    oe-kept ∙ at-loop .loop .inv .7
-
-same-length-3 : tie.Need-same-length-3 Inv-loop μ-loop
-same-length-3 c =
-    let at-loop = loop-of-in-loop (in-loop-of-place-kept (place-kept-at-same-length c)) in
-    let ok-kept = place-kept-at-same-length c .place-kept .kept .1 .1 .1 .1 .1 .1 .1 .0 in
-    ok-kept ∙ at-loop .loop .inv .8
-
-same-length-4 : tie.Need-same-length-4 Inv-loop μ-loop
-same-length-4 c =
-    let at-loop = loop-of-in-loop (in-loop-of-place-kept (place-kept-at-same-length c)) in
-    let of-kept = place-kept-at-same-length c .place-kept .kept .1 .1 .1 .1 .1 .1 .1 .1 .0 in
-    of-kept ∙ at-loop .loop .inv .9
-
-returns : tie.Need-returns Inv-loop μ-loop
-returns c =
-    let at-in-loop = in-loop-of-place-kept (place-kept-at-same-length c) in
-    let at-entry = entry-of-loop (loop-of-in-loop at-in-loop) in
-    let a = at-entry .args in
-    let l = loop-of-in-loop at-in-loop .loop in
-    let f = isKept (a .op) (a .cutter) (a .coords .now) (runsOf (a .nodes .now) (a .ends .now)) in
-    let r = place-kept-at-same-length c .place-kept in
-    stopped f (a .runs .now) (a .stops .now) (at-entry .pre .1) (a .count) (a .entries) (a .kind) (a .family) (a .on .now) (a .oe .now) (a .ok .now)
-    (a .of .now) (at-entry .pre .2) (at-entry .pre .3) (l .on) (l .oe) (l .ok) (l .of) (l .p) (l .from) (l .i) (l .inv) (at-in-loop .loop-test .taken)
-    (r .result) (r .last .1 .1 .1 .1 .1 .0) (r .last .1 .1 .1 .1 .1 .1 .0) (r .last .1 .1 .1 .1 .1 .1 .1 .0) (r .last .1 .1 .1 .1 .1 .1 .1 .1 .0) (r .ensures) (c .if1 .taken)
-
-add-i : tie.Need-add-i Inv-loop μ-loop
-add-i c =
-    let at-in-loop = in-loop-of-place-kept (place-kept-at-add-i c) in
-    let at-entry = entry-of-loop (loop-of-in-loop at-in-loop) in
-    omega (arith, at-in-loop .loop-test .taken, at-entry .good, at-entry .fits)
-
-loop-again : tie.Need-loop-again Inv-loop μ-loop
-loop-again c =
-    let at-in-loop = in-loop-of-place-kept (place-kept-at-add-i c) in
-    let at-entry = entry-of-loop (loop-of-in-loop at-in-loop) in
-    let a = at-entry .args in
-    let l = loop-of-in-loop at-in-loop .loop in
-    let f = isKept (a .op) (a .cutter) (a .coords .now) (runsOf (a .nodes .now) (a .ends .now)) in
-    let r = place-kept-at-add-i c .place-kept in
-    turn f (a .runs .now) (a .stops .now) (at-entry .pre .1) (a .count) (a .entries) (a .kind) (a .family) (a .on .now) (a .oe .now) (a .ok .now) (a .of .now)
-    (at-entry .pre .2) (at-entry .pre .3) (l .on) (l .oe) (l .ok) (l .of) (l .p) (l .from) (l .i) (l .inv) (at-in-loop .loop-test .taken) (r .result)
-    (r .last .1 .1 .1 .1 .1 .0) (r .last .1 .1 .1 .1 .1 .1 .0) (r .last .1 .1 .1 .1 .1 .1 .1 .0) (r .last .1 .1 .1 .1 .1 .1 .1 .1 .0) (r .ensures) (c .if1 .left)
-
-same-length-5 : tie.Need-same-length-5 Inv-loop μ-loop
-same-length-5 c = c .before .loop .inv .6
-
-same-length-6 : tie.Need-same-length-6 Inv-loop μ-loop
-same-length-6 c = c .before .loop .inv .7
-
-same-length-7 : tie.Need-same-length-7 Inv-loop μ-loop
-same-length-7 c = c .before .loop .inv .8
-
-same-length-8 : tie.Need-same-length-8 Inv-loop μ-loop
-same-length-8 c = c .before .loop .inv .9
-
-returns-2 : tie.Need-returns-2 Inv-loop μ-loop
+returns-2 : tie.Need-returns-2
 returns-2 c =
-    let at-entry = entry-of-loop (loop-at-returns-2 c) in
+    let at-else1 = else1 (zero-lists-at-returns-2 c) in
+    let at-entry = entry (place-run-of-else1 at-else1) in
     let a = at-entry .args in
-    let l = c .before .loop in
-    let f = isKept (a .op) (a .cutter) (a .coords .now) (runsOf (a .nodes .now) (a .ends .now)) in
-    end f (a .runs .now) (a .stops .now) (at-entry .pre .1) (a .count) (a .entries) (a .kind) (a .family) (a .on .now) (a .oe .now) (a .ok .now) (a .of .now)
-    (at-entry .pre .2) (at-entry .pre .3) (l .on) (l .oe) (l .ok) (l .of) (l .p) (l .from) (l .i) (l .inv) (c .loop-test .left)
+    let r = place-run-of-else1 at-else1 .place-run in
+    let z = zero-lists-at-returns-2 c .zero-lists in
+    let f = isKept (a .k) (a .coords .now) (runsOf (a .nodes .now) (a .ends .now)) in
+    zeroed (a .room) (a .p) (a .tag) (passing f (runsOf (a .runs .now) (a .stops .now))) (a .on .now) (a .oe .now) (a .ot .now)
+    (r .result) (r .last .1 .1 .1 .1 .0) (r .last .1 .1 .1 .1 .1 .0) (r .last .1 .1 .1 .1 .1 .1 .0)
+    (z .last .0) (z .last .1 .0) (z .last .1 .1 .0) (r .ensures .answer) (at-else1 .if1 .left)
+    (r .kept .1 .1 .1 .1 .0) (r .kept .1 .1 .1 .1 .1 .0) (r .kept .1 .1 .1 .1 .1 .1 .0) (z .ensures .0) (z .ensures .1) (z .ensures .2)
 
 pub place-pieces-spec : {M : Type 1} → statement M
-place-pieces-spec = tie.close (tie.spec Inv-loop μ-loop loop-holds (λ c. search needs) (λ c. search needs) cast-to mul-place-kept sub-place-kept
-    part-place-kept-start part-place-kept-end place-kept-requires same-length same-length-2 same-length-3 same-length-4 returns add-i (λ c. search needs)
-    loop-again same-length-5 same-length-6 same-length-7 same-length-8 returns-2)
+place-pieces-spec = tie.close (tie.spec (λ c κs. search needs) (λ c. search needs) (λ c. search needs) (λ c. search needs) returns (λ c κs. search needs)
+    (λ c. search needs) (λ c. search needs) (λ c. search needs) returns-2)
