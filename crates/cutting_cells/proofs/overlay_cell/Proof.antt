@@ -204,7 +204,8 @@ returns-2 c =
     let x = cut (out .result) (out .last .1 .1 .1 .1 .1 .1 .0) (out .last .1 .1 .1 .1 .1 .1 .1 .0) in
     let at = first-lent (a .coords .now) (a .w .now) (a .other) _ (near .ensures) (box .result) (found .result) (found .ensures) in
     let got = placed-lent (a .op) (sideOf (a .cutter)) _ (keep-of-of-part2 at-part2 .keep-of .ensures) (a .coords .now) (a .w .now) (a .other) _ (a .ends .now) (at-part2 .part2 .ensures)
-    _ (room (a .oe .now) (a .ok .now) (a .of .now)) (least-of-part2 at-part2 .least .ensures) (a .p) (a .family) _ (a .on .now) (a .oe .now) (a .of .now) (placed .result) on-last oe-last of-last (placed .ensures) in (
+    _ (room (a .oe .now) (a .ok .now) (a .of .now)) (least-of-part2 at-part2 .least .ensures) (a .p) (a .family) _ (a .on .now) (a .oe .now) (a .of .now) (placed .result) on-last oe-last of-last
+    (placed .ensures) in (
       λ z. absurd (c .if2 .taken z),
       λ sc i scene this. cell-full (a .op) (a .cutter) (a .coords .now) (a .w .now) (a .g) (a .other) (a .ends .now) (a .on .now) (a .oe .now) (a .ok .now)
           (a .of .now) (a .p) (a .cell .now) (a .kind) (a .family) (box .result) (box .ensures) (found .result) at _ _ x (out .ensures)
@@ -233,7 +234,8 @@ fill-kinds-requires c κs =
     let x = cut (out .result) (out .last .1 .1 .1 .1 .1 .1 .0) (out .last .1 .1 .1 .1 .1 .1 .1 .0) in
     let at = first-lent (a .coords .now) (a .w .now) (a .other) _ (near .ensures) (box .result) (found .result) (found .ensures) in
     let got = placed-lent (a .op) (sideOf (a .cutter)) _ (keep-of-of-part2 at-part2 .keep-of .ensures) (a .coords .now) (a .w .now) (a .other) _ (a .ends .now) (at-part2 .part2 .ensures)
-    _ (room (a .oe .now) (a .ok .now) (a .of .now)) (least-of-part2 at-part2 .least .ensures) (a .p) (a .family) _ (a .on .now) (a .oe .now) (a .of .now) (placed .result) on-last oe-last of-last (placed .ensures) in
+    _ (room (a .oe .now) (a .ok .now) (a .of .now)) (least-of-part2 at-part2 .least .ensures) (a .p) (a .family) _ (a .on .now) (a .oe .now) (a .of .now) (placed .result) on-last oe-last of-last
+    (placed .ensures) in
     kinds-fit (a .op) (a .cutter) (a .coords .now) (a .w .now) (a .g) (a .other) (a .ends .now) (a .on .now) (a .oe .now) (a .ok .now)
     (a .of .now) (a .p) (a .cell .now) (a .kind) (a .family) (box .result) (box .ensures) (found .result) at _ _ x (out .ensures)
     (placed .result) on-last oe-last of-last got (at-entry .pre .4) (at-entry .pre .5) (at-else .if2 .left)
@@ -259,7 +261,8 @@ returns-3 c =
     let x = cut (out .result) (out .last .1 .1 .1 .1 .1 .1 .0) (out .last .1 .1 .1 .1 .1 .1 .1 .0) in
     let at = first-lent (a .coords .now) (a .w .now) (a .other) _ (near .ensures) (box .result) (found .result) (found .ensures) in
     let got = placed-lent (a .op) (sideOf (a .cutter)) _ (keep-of-of-part2 at-part2 .keep-of .ensures) (a .coords .now) (a .w .now) (a .other) _ (a .ends .now) (at-part2 .part2 .ensures)
-    _ (room (a .oe .now) (a .ok .now) (a .of .now)) (least-of-part2 at-part2 .least .ensures) (a .p) (a .family) _ (a .on .now) (a .oe .now) (a .of .now) (placed .result) on-last oe-last of-last (placed .ensures) in
+    _ (room (a .oe .now) (a .ok .now) (a .of .now)) (least-of-part2 at-part2 .least .ensures) (a .p) (a .family) _ (a .on .now) (a .oe .now) (a .of .now) (placed .result) on-last oe-last of-last
+    (placed .ensures) in
     let filled = fill c .fill-kinds in (
       λ _. cell-fits (a .op) (a .cutter) (a .coords .now) (a .w .now) (a .g) (a .other) (a .ends .now) (a .on .now) (a .oe .now) (a .ok .now)
           (a .of .now) (a .p) (a .cell .now) (a .kind) (a .family) (box .result) (box .ensures) (found .result) at _ _ x (out .ensures)
