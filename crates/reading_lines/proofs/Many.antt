@@ -8,7 +8,8 @@ use lib.ListN.{length, getD, set, take, drop, length-set}
 use lib.Seq.{take-suc-set, length-take-le}
 use lib.Ieee.{Float}
 use Rattle.text.specs.Text.{nodeWord, cellWord, space}
-use Rattle.text.specs.Read.{Rest, no, past, andThen, afterWord, wordFrom, repeated, nodeFrom, nodeStep, nodesFrom, decimalFrom, entryStep, entriesFrom, Heading, Cell, cellFrom, addCell, cellStep, cellsFrom}
+use Rattle.text.specs.Read.{Rest, no, past, andThen, afterWord, wordFrom, repeated, nodeFrom, nodeStep, nodesFrom}
+use Rattle.text.specs.Read.{decimalFrom, entryStep, entriesFrom, Heading, Cell, cellFrom, addCell, cellStep, cellsFrom}
 use Rattle.text.specs.Given.{Parsed, none, got, Cells}
 use Rattle.text.proofs.Repeats.{repeated-stop, repeated-end, repeated-bad, repeated-step}
 

@@ -12,7 +12,8 @@ use lib.ListN.{length, take, drop}
 use lib.Seq.{append-snoc}
 use lib.Ieee.{Float}
 use Rattle.text.specs.Text.{space, close, newline, nodeWord, cellWord, decimalTo, decimal, glyph, hexTo, hex, nodeText, nodesText, numbersText}
-use Rattle.text.specs.Read.{Rest, no, past, ifWord, andThen, afterWord, wordFrom, digitVal, hexVal, moreFrom, decimalFrom, hexFrom, repeated, nodeFrom, nodeStep, nodesFrom, entryStep, entriesFrom}
+use Rattle.text.specs.Read.{Rest, no, past, ifWord, andThen, afterWord, wordFrom, digitVal, hexVal}
+use Rattle.text.specs.Read.{moreFrom, decimalFrom, hexFrom, repeated, nodeFrom, nodeStep, nodesFrom, entryStep, entriesFrom}
 use Rattle.text.specs.Given.{Parsed, none, got, coordinate}
 use Rattle.text.proofs.Repeats.{repeated-stop}
 

@@ -10,7 +10,8 @@ use lib.ListN.{length, take, drop, length-append, length-take, length-drop}
 use lib.Seq.{append-snoc, length-take-le, take-add}
 use lib.Ieee.{Float}
 use Rattle.text.specs.Text.{space, close, newline, nodeWord, cellWord, meshWord, overlayWord, decimal, hex, nodeText, nodesText, numbersText, cellText, cellsText}
-use Rattle.text.specs.Read.{Rest, no, past, ifWord, andThen, afterWord, wordFrom, digitVal, decimalFrom, hexFrom, repeated, nodeFrom, nodeStep, nodesFrom, entryStep, entriesFrom, Heading, headFrom, Cell, cellFrom, addCell, cellStep, cellsFrom}
+use Rattle.text.specs.Read.{Rest, no, past, ifWord, andThen, afterWord, wordFrom, digitVal, decimalFrom, hexFrom, repeated, nodeFrom}
+use Rattle.text.specs.Read.{nodeStep, nodesFrom, entryStep, entriesFrom, Heading, headFrom, Cell, cellFrom, addCell, cellStep, cellsFrom}
 use Rattle.text.specs.Given.{Parsed, none, got, coordinate, Cells}
 use Rattle.text.specs.Inputs.{Coords, no-coords, pair, Small, no-numbers, small, Rises, no-cells, cell}
 use Rattle.text.proofs.Repeats.{repeated-stop}

@@ -10,7 +10,8 @@ use lib.ListN.{length, take, drop, length-append}
 use lib.Seq.{take-at, drop-at}
 use lib.Ieee.{Float}
 use Rattle.text.specs.Text.{space, close, nodeWord, cellWord, decimal, hex, nodeText, nodesText, numbersText, cellText, cellsText}
-use Rattle.text.specs.Read.{andThen, afterWord, wordFrom, decimalFrom, hexFrom, repeated, nodeFrom, nodeStep, nodesFrom, entryStep, entriesFrom, Heading, headFrom, Cell, cellFrom, addCell, cellStep, cellsFrom}
+use Rattle.text.specs.Read.{andThen, afterWord, wordFrom, decimalFrom, hexFrom, repeated, nodeFrom, nodeStep, nodesFrom}
+use Rattle.text.specs.Read.{entryStep, entriesFrom, Heading, headFrom, Cell, cellFrom, addCell, cellStep, cellsFrom}
 use Rattle.text.specs.Given.{Parsed, got, coordinate, Cells}
 use Rattle.text.specs.Inputs.{Coords, no-coords, pair, Small, no-numbers, small, Rises, no-cells, cell}
 use Rattle.text.proofs.Lines.{cell-apart}

@@ -27,7 +27,8 @@ use Rattle.text.specs.Text.{
   nodesText,
   numbersText,
 }
-use Rattle.text.specs.Read.{inputFrom, firstFrom, meshFrom, nodesFrom, cellsFrom, repeated, nodeStep, nodeFrom, entryStep, entriesFrom, headFrom, cellFrom, addCell, cellStep, decimalFrom, moreFrom, hexFrom, digitVal, hexVal, wordFrom, afterWord, andThen, ifWord}
+use Rattle.text.specs.Read.{inputFrom, firstFrom, meshFrom, nodesFrom, cellsFrom, repeated, nodeStep, nodeFrom, entryStep, entriesFrom, headFrom, cellFrom}
+use Rattle.text.specs.Read.{addCell, cellStep, decimalFrom, moreFrom, hexFrom, digitVal, hexVal, wordFrom, afterWord, andThen, ifWord}
 use Rattle.text.specs.Given.{Parsed, none, got, Limits, atMost, limits}
 use Rattle.text.specs.Inputs.{Input, textOf, given, read}
 
