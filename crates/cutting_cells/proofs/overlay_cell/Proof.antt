@@ -4,9 +4,10 @@ use Prim.Native.Nat.{ℕ}
 use native.Mathlib.Omega.{arith}
 use lib.ListN.{length, length-take, length-replicate}
 use lib.Seq.{length-take-le}
-use Rattle.cells.specs.Cells.{cut}
+use Rattle.cells.specs.declared.Near.{Near}
+use Rattle.cells.specs.Cells.{Cut, cut}
 use Rattle.pieces.specs.Pieces.{sideOf, room}
-use Rattle.cutting_cells.proofs.Cell.{ready, first-lent, covered-lent, rise-lent, placed-lent, cell-refused, cell-placed, cell-full, cell-fits, kinds-fit}
+use Rattle.cutting_cells.proofs.Cell.{Ready, ready, first-lent, covered-lent, rise-lent, placed-lent, cell-refused, cell-placed, cell-full, cell-fits, kinds-fit}
 use borrow.Author.Needs.{needs}
 use Rattle.cutting_cells.proofs.overlay_cell.Statement.{statement}
 use Rattle.cutting_cells.proofs.overlay_cell.Tie as tie
@@ -72,6 +73,17 @@ else2 c = c .before .before .before .before
 abbrev fill : tie.After-slice-known8 → tie.After-fill-kinds
 fill c = c .before .before
 
+-- what the cell comes to, in its lists
+abbrev outcome : tie.After-outcome-of → Cut
+outcome c = cut (c .outcome-of .result) (c .outcome-of .last .1 .1 .1 .1 .1 .1 .0) (c .outcome-of .last .1 .1 .1 .1 .1 .1 .1 .0)
+
+held : (c : tie.After-outcome-of) → Ready (outcome c)
+held c =
+    let at-bounds2 = bounds2-of-in-bounds (in-bounds-of-outcome-of c) in
+    let a = entry (part-of-bounds2 at-bounds2) .args in
+    let near : Near = record { edges = a .other .edges; bounds = at-bounds2 .bounds2 .result; first = in-bounds-of-outcome-of c .in-bounds .result } in
+    ready (a .coords .now) (a .w .now) (a .g) near (a .cell .now) _ _ (outcome c) (c .outcome-of .ensures)
+
 in-bounds-requires : tie.Need-in-bounds-requires
 in-bounds-requires c κs =
     let at-entry = entry (part-of-bounds2 c) in
@@ -88,7 +100,7 @@ returns c =
     let box = at-bounds2 .bounds2 in
     let found = in-bounds-of-outcome-of at-outcome-of .in-bounds in
     let out = at-outcome-of .outcome-of in
-    let x = cut (out .result) (out .last .1 .1 .1 .1 .1 .1 .0) (out .last .1 .1 .1 .1 .1 .1 .1 .0) in
+    let x = outcome at-outcome-of in
     let at = first-lent (a .coords .now) (a .w .now) (a .other) _ (near .ensures) (box .result) (found .result) (found .ensures) in
     let refusal = c .refused in (
       λ z. absurd (c .before .if1 .taken (sym (refusal .ensures .0) ∙ z)),
@@ -103,78 +115,28 @@ part-requires-2 c κs =
     entry (part-of-bounds2 (bounds2-of-in-bounds (in-bounds-of-outcome-of at-outcome-of))) .pre .0 .entries
 
 array-share-prefix-runs : tie.Need-array-share-prefix-runs
-array-share-prefix-runs c =
-    let at-outcome-of = outcome-of-of-else1 (else1 (kind-of (part2-at-runs c))) in
-    let at-bounds2 = bounds2-of-in-bounds (in-bounds-of-outcome-of at-outcome-of) in
-    let at-entry = entry (part-of-bounds2 at-bounds2) in
-    let a = at-entry .args in
-    let near = part-of-bounds2 at-bounds2 .part in
-    let box = at-bounds2 .bounds2 in
-    let found = in-bounds-of-outcome-of at-outcome-of .in-bounds in
-    let out = at-outcome-of .outcome-of in
-    let x = cut (out .result) (out .last .1 .1 .1 .1 .1 .1 .0) (out .last .1 .1 .1 .1 .1 .1 .1 .0) in
-    let held = ready (a .coords .now) (a .w .now) (a .g) (record { edges = a .other .edges; bounds = box .result; first = found .result }) (a .cell .now) _ _ x (out .ensures) in
-    held .corners
+array-share-prefix-runs c = held (outcome-of-of-else1 (else1 (kind-of (part2-at-runs c)))) .corners
 
 slice-aggregate-place-pieces : tie.Need-slice-aggregate-place-pieces
-slice-aggregate-place-pieces c =
-    let at-outcome-of = outcome-of-of-else1 (else1 (kind-of (part2-at-slice c))) in
-    let at-bounds2 = bounds2-of-in-bounds (in-bounds-of-outcome-of at-outcome-of) in
-    let at-entry = entry (part-of-bounds2 at-bounds2) in
-    let a = at-entry .args in
-    let near = part-of-bounds2 at-bounds2 .part in
-    let box = at-bounds2 .bounds2 in
-    let found = in-bounds-of-outcome-of at-outcome-of .in-bounds in
-    let out = at-outcome-of .outcome-of in
-    let x = cut (out .result) (out .last .1 .1 .1 .1 .1 .1 .0) (out .last .1 .1 .1 .1 .1 .1 .1 .0) in
-    let held = ready (a .coords .now) (a .w .now) (a .g) (record { edges = a .other .edges; bounds = box .result; first = found .result }) (a .cell .now) _ _ x (out .ensures) in
-    sym (length-take-le _ _ (held .corners))
+slice-aggregate-place-pieces c = sym (length-take-le _ _ (held (outcome-of-of-else1 (else1 (kind-of (part2-at-slice c)))) .corners))
 
 array-share-prefix-stops : tie.Need-array-share-prefix-stops
-array-share-prefix-stops c =
-    let at-outcome-of = outcome-of-of-else1 (else1 (kind-of (part2-at-slice c))) in
-    let at-bounds2 = bounds2-of-in-bounds (in-bounds-of-outcome-of at-outcome-of) in
-    let at-entry = entry (part-of-bounds2 at-bounds2) in
-    let a = at-entry .args in
-    let near = part-of-bounds2 at-bounds2 .part in
-    let box = at-bounds2 .bounds2 in
-    let found = in-bounds-of-outcome-of at-outcome-of .in-bounds in
-    let out = at-outcome-of .outcome-of in
-    let x = cut (out .result) (out .last .1 .1 .1 .1 .1 .1 .0) (out .last .1 .1 .1 .1 .1 .1 .1 .0) in
-    let held = ready (a .coords .now) (a .w .now) (a .g) (record { edges = a .other .edges; bounds = box .result; first = found .result }) (a .cell .now) _ _ x (out .ensures) in
-    held .pieces
+array-share-prefix-stops c = held (outcome-of-of-else1 (else1 (kind-of (part2-at-slice c)))) .pieces
 
 slice-aggregate-place-pieces-2 : tie.Need-slice-aggregate-place-pieces-2
-slice-aggregate-place-pieces-2 c =
-    let at-outcome-of = outcome-of-of-else1 (else1 (kind-of (part2-at-stops c))) in
-    let at-bounds2 = bounds2-of-in-bounds (in-bounds-of-outcome-of at-outcome-of) in
-    let at-entry = entry (part-of-bounds2 at-bounds2) in
-    let a = at-entry .args in
-    let near = part-of-bounds2 at-bounds2 .part in
-    let box = at-bounds2 .bounds2 in
-    let found = in-bounds-of-outcome-of at-outcome-of .in-bounds in
-    let out = at-outcome-of .outcome-of in
-    let x = cut (out .result) (out .last .1 .1 .1 .1 .1 .1 .0) (out .last .1 .1 .1 .1 .1 .1 .1 .0) in
-    let held = ready (a .coords .now) (a .w .now) (a .g) (record { edges = a .other .edges; bounds = box .result; first = found .result }) (a .cell .now) _ _ x (out .ensures) in
-    sym (length-take-le _ _ (held .pieces))
+slice-aggregate-place-pieces-2 c = sym (length-take-le _ _ (held (outcome-of-of-else1 (else1 (kind-of (part2-at-stops c)))) .pieces))
 
 place-pieces-requires : tie.Need-place-pieces-requires
 place-pieces-requires c κs =
     let at-part2 = part2-at-stops c in
     let at-outcome-of = outcome-of-of-else1 (else1 (kind-of at-part2)) in
-    let at-bounds2 = bounds2-of-in-bounds (in-bounds-of-outcome-of at-outcome-of) in
-    let at-entry = entry (part-of-bounds2 at-bounds2) in
+    let at-entry = entry (part-of-bounds2 (bounds2-of-in-bounds (in-bounds-of-outcome-of at-outcome-of))) in
     let a = at-entry .args in
-    let near = part-of-bounds2 at-bounds2 .part in
-    let box = at-bounds2 .bounds2 in
-    let found = in-bounds-of-outcome-of at-outcome-of .in-bounds in
     let out = at-outcome-of .outcome-of in
-    let x = cut (out .result) (out .last .1 .1 .1 .1 .1 .1 .0) (out .last .1 .1 .1 .1 .1 .1 .1 .0) in
-    let held = ready (a .coords .now) (a .w .now) (a .g) (record { edges = a .other .edges; bounds = box .result; first = found .result }) (a .cell .now) _ _ x (out .ensures) in
     let most = least-of-part2 at-part2 .least .ensures in
     record {
       cells = rise-lent (a .w .now) (a .other) _ (a .ends .now) (at-part2 .part2 .ensures) (at-entry .pre .0 .rise);
-      pieces = held .rise;
+      pieces = held at-outcome-of .rise;
       space = record {
         counted = omega (arith, at-entry .pre .4, most);
         ends = omega (arith, most);
@@ -201,7 +163,7 @@ returns-2 c =
     let box = at-bounds2 .bounds2 in
     let found = in-bounds-of-outcome-of at-outcome-of .in-bounds in
     let out = at-outcome-of .outcome-of in
-    let x = cut (out .result) (out .last .1 .1 .1 .1 .1 .1 .0) (out .last .1 .1 .1 .1 .1 .1 .1 .0) in
+    let x = outcome at-outcome-of in
     let at = first-lent (a .coords .now) (a .w .now) (a .other) _ (near .ensures) (box .result) (found .result) (found .ensures) in
     let got = placed-lent (a .op) (sideOf (a .cutter)) _ (keep-of-of-part2 at-part2 .keep-of .ensures) (a .coords .now) (a .w .now) (a .other) _ (a .ends .now) (at-part2 .part2 .ensures)
     _ (room (a .oe .now) (a .ok .now) (a .of .now)) (least-of-part2 at-part2 .least .ensures) (a .p) (a .family) _ (a .on .now) (a .oe .now) (a .of .now) (placed .result) on-last oe-last of-last
@@ -231,7 +193,7 @@ fill-kinds-requires c κs =
     let box = at-bounds2 .bounds2 in
     let found = in-bounds-of-outcome-of at-outcome-of .in-bounds in
     let out = at-outcome-of .outcome-of in
-    let x = cut (out .result) (out .last .1 .1 .1 .1 .1 .1 .0) (out .last .1 .1 .1 .1 .1 .1 .1 .0) in
+    let x = outcome at-outcome-of in
     let at = first-lent (a .coords .now) (a .w .now) (a .other) _ (near .ensures) (box .result) (found .result) (found .ensures) in
     let got = placed-lent (a .op) (sideOf (a .cutter)) _ (keep-of-of-part2 at-part2 .keep-of .ensures) (a .coords .now) (a .w .now) (a .other) _ (a .ends .now) (at-part2 .part2 .ensures)
     _ (room (a .oe .now) (a .ok .now) (a .of .now)) (least-of-part2 at-part2 .least .ensures) (a .p) (a .family) _ (a .on .now) (a .oe .now) (a .of .now) (placed .result) on-last oe-last of-last
@@ -258,7 +220,7 @@ returns-3 c =
     let box = at-bounds2 .bounds2 in
     let found = in-bounds-of-outcome-of at-outcome-of .in-bounds in
     let out = at-outcome-of .outcome-of in
-    let x = cut (out .result) (out .last .1 .1 .1 .1 .1 .1 .0) (out .last .1 .1 .1 .1 .1 .1 .1 .0) in
+    let x = outcome at-outcome-of in
     let at = first-lent (a .coords .now) (a .w .now) (a .other) _ (near .ensures) (box .result) (found .result) (found .ensures) in
     let got = placed-lent (a .op) (sideOf (a .cutter)) _ (keep-of-of-part2 at-part2 .keep-of .ensures) (a .coords .now) (a .w .now) (a .other) _ (a .ends .now) (at-part2 .part2 .ensures)
     _ (room (a .oe .now) (a .ok .now) (a .of .now)) (least-of-part2 at-part2 .least .ensures) (a .p) (a .family) _ (a .on .now) (a .oe .now) (a .of .now) (placed .result) on-last oe-last of-last
