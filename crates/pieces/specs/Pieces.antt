@@ -1,8 +1,8 @@
 -- Which pieces are kept, and where they are placed. Assumes nothing.
 use mathlib.Core.Path.{_≡_}
 use mathlib.Core.Bool.{Bool, true, false, cond}
-use mathlib.Core.List.{List, [], map}
-use Prim.Native.Nat.{ℕ, _+_, _-_, _^_, _≤_, _<_, min}
+use mathlib.Core.List.{List, [], _++_, map}
+use Prim.Native.Nat.{ℕ, zero, suc, _+_, _-_, _^_, _≤_, _<_}
 use lib.Dec.{eqb}
 use lib.ListN.{length, replicate}
 use lib.Ieee.{Float}
@@ -38,26 +38,43 @@ isKept k coords cells q = cond (pointInside coords cells q) (k .inside) (k .outs
 
 -- ---- placed
 
--- how many pieces have a place in each of ends, kinds and families
-abbrev pub room : List ℕ → List ℕ → List ℕ → ℕ
-room oe ok of = min (length oe) (min (length ok) (length of))
-
+-- what placing a piece asks: a place, and one for each corner
 abbrev pub events : List (List ℕ) → List Event
 events ks = map (λ q. piece (length q)) ks
 
--- What p counts stands in the lists of corners, ends and tags, `room` pieces have a place, and n more corners can be counted.
-pub record Space (room : ℕ) (p : Listed) (n : ℕ) (on oe ot : List ℕ) : Type 0 where
-  pub counted : p .count ≤ room
-  pub ends : room ≤ length oe
-  pub tags : room ≤ length ot
+-- what cells yield: what happens, and the pieces with a tag each
+pub record Yield : Type 0 where
+  pub events : List Event
+  pub pieces : List (List ℕ)
+  pub tags : List ℕ
+
+-- pieces with the same tag
+abbrev pub tagged : ℕ → List (List ℕ) → Yield
+tagged t ks = record { events = events ks; pieces = ks; tags = replicate (length ks) t }
+
+-- one after the other
+abbrev pub nothing : Yield
+nothing = record { events = []; pieces = []; tags = [] }
+
+abbrev pub both : Yield → Yield → Yield
+both y z = record { events = y .events ++ z .events; pieces = y .pieces ++ z .pieces; tags = y .tags ++ z .tags }
+
+unfoldable pub allOf : ℕ → (ℕ → Yield) → Yield
+allOf zero f = nothing
+allOf (suc n) f = both (allOf n f) (f n)
+
+-- What p counts stands in the lists of corners, ends and tags; a piece has a place in both of ends and tags; n more corners can be counted.
+pub record Space (p : Listed) (n : ℕ) (on oe ot : List ℕ) : Type 0 where
+  pub counted : p .count ≤ length oe
+  pub tags : length oe ≤ length ot
   pub corners : p .entries ≤ length on
   pub short : p .entries + n < 2 ^ 32
 
 -- The other mesh's cells and the pieces are runs by their ends, and there is space behind p.
-pub record Placeable (room : ℕ) (p : Listed) (nodes ends runs stops on oe ot : List ℕ) : Type 0 where
+pub record Placeable (p : Listed) (nodes ends runs stops on oe ot : List ℕ) : Type 0 where
   pub cells : Rising ends (length nodes)
   pub pieces : Rising stops (length runs)
-  pub space : Space room p (length runs) on oe ot
+  pub space : Space p (length runs) on oe ot
 
 -- what placing leaves: the answer, and the lists of corners, ends and tags
 pub record Placing : Type 0 where
@@ -69,15 +86,20 @@ pub record Placing : Type 0 where
 abbrev pub placing : Listed → List ℕ → List ℕ → List ℕ → Placing
 placing r on oe ot = record { answer = r; corners = on; ends = oe; tags = ot }
 
--- The pieces ks, each with the tag t, go behind those that p counts; `room` pieces have a place. 12 at the first that has none: then nothing is
--- counted, and the lists are zero.
-unfoldable pub placedBehind : ℕ → Listed → ℕ → List (List ℕ) → List ℕ → List ℕ → List ℕ → Placing
-placedBehind room p t ks on oe ot =
-    let code = firstRefusal 0 0 (room - p .count) (length on - p .entries) (events ks) in
+-- a refusal: nothing is counted, and the lists are zero
+abbrev pub refusedBy : ℕ → List ℕ → List ℕ → List ℕ → Placing
+refusedBy code on oe ot = placing (record { code = code; count = 0; entries = 0 }) (zeros (length on)) (zeros (length oe)) (zeros (length ot))
+
+-- What is yielded goes behind the pieces that p counts; as many pieces have a place as the list of ends is long. At the first that has none, or where
+-- a cell refuses, that is the answer.
+unfoldable pub placedBehind : Listed → Yield → List ℕ → List ℕ → List ℕ → Placing
+placedBehind p y on oe ot =
+    let code = firstRefusal 0 0 (length oe - p .count) (length on - p .entries) (y .events) in
+    let ks = y .pieces in
     cond (eqb code 0)
     (placing (record { code = 0; count = p .count + length ks; entries = p .entries + length (flat ks) })
-    (put on (p .entries) (flat ks)) (put oe (p .count) (stops (p .entries) ks)) (put ot (p .count) (replicate (length ks) t)))
-    (placing (record { code = code; count = 0; entries = 0 }) (zeros (length on)) (zeros (length oe)) (zeros (length ot)))
+    (put on (p .entries) (flat ks)) (put oe (p .count) (stops (p .entries) ks)) (put ot (p .count) (y .tags)))
+    (refusedBy code on oe ot)
 
 -- before a refusal zeroes the lists: g's answer, and where it is 0 its lists
 pub record BeforeZeroing (g : Placing) (r : Listed) (on oe ot : List ℕ) : Type 0 where

@@ -6,14 +6,14 @@ ghost use Prim.Native.Nat.{_+_, _^_, _≤_, _<_};
 ghost use lib.Dec.{leb, ltb};
 ghost use lib.ListN.{length};
 ghost use Rattle.lists.specs.Gather.{passing};
-ghost use Rattle.lists.specs.Regions.{put, zeros};
+ghost use Rattle.lists.specs.Regions.{put};
 ghost use Rattle.insides.specs.Inside.{inside};
 ghost use Rattle.polygons.specs.declared.Inner.the-variants.{Inside};
 ghost use Rattle.entry.specs.Mesh.{Rising};
 ghost use Rattle.rules.specs.SpatialIndex.{boxOf, boxHolds};
 ghost use Rattle.rules.specs.Inside.{someHolds, pointInside};
 ghost use Rattle.rules.specs.Operations.{keeps};
-ghost use Rattle.pieces.specs.Pieces.{sideOf, runsOf, keepOf, isKept, Space, Placeable, placing, placedBehind, BeforeZeroing};
+ghost use Rattle.pieces.specs.Pieces.{sideOf, runsOf, keepOf, isKept, tagged, Space, Placeable, placing, refusedBy, placedBehind, BeforeZeroing};
 use insides::inside;
 use lists::copy_u32;
 use lists::zero_u32;
@@ -127,20 +127,19 @@ fn place_piece(
     on: &mut [u32],
     oe: &mut [u32],
     ot: &mut [u32],
-    room: usize,
     count: usize,
     entries: usize,
     piece: &[u32],
     tag: u32,
 ) -> bool
-    requires { ⌜ (count ≤ room) × (room ≤ length (now oe)) × (room ≤ length (now ot)) × (entries + length (now piece) < 2 ^ 32) ⌝ }
-    ensures { λ r. ⌜ (r ≡ (ltb count room && leb (entries + length (now (piece .entry))) (length (now (on .entry)))))
+    requires { ⌜ (count ≤ length (now oe)) × (length (now oe) ≤ length (now ot)) × (entries + length (now piece) < 2 ^ 32) ⌝ }
+    ensures { λ r. ⌜ (r ≡ (ltb count (length (now (oe .entry))) && leb (entries + length (now (piece .entry))) (length (now (on .entry)))))
         × (now (on .exit) ≡ cond r (put (now (on .entry)) entries (now (piece .entry))) (now (on .entry)))
         × (now (oe .exit) ≡ cond r (put (now (oe .entry)) count ((entries + length (now (piece .entry))) ∷ [])) (now (oe .entry)))
         × (now (ot .exit) ≡ cond r (put (now (ot .entry)) count (tag ∷ [])) (now (ot .entry))) ⌝ }
 {
     let next = count + 1;
-    if room < next {
+    if oe.len() < next {
         return false;
     }
     if copy_u32(on, entries, piece) {
@@ -160,18 +159,17 @@ fn place_kept(
     on: &mut [u32],
     oe: &mut [u32],
     ot: &mut [u32],
-    room: usize,
     p: Listed,
     piece: &[u32],
     tag: u32,
 ) -> Listed
-    requires { ⌜ (Rising (now ends) (length (now nodes))) × Space room p (length (now piece)) (now on) (now oe) (now ot) ⌝ }
-    ensures { λ r. ⌜ BeforeZeroing (placedBehind room p tag
-        (passing (isKept k (now (coords .entry)) (runsOf (now (nodes .entry)) (now (ends .entry)))) (now (piece .entry) ∷ []))
+    requires { ⌜ (Rising (now ends) (length (now nodes))) × Space p (length (now piece)) (now on) (now oe) (now ot) ⌝ }
+    ensures { λ r. ⌜ BeforeZeroing (placedBehind p (tagged tag
+        (passing (isKept k (now (coords .entry)) (runsOf (now (nodes .entry)) (now (ends .entry)))) (now (piece .entry) ∷ [])))
         (now (on .entry)) (now (oe .entry)) (now (ot .entry))) r (now (on .exit)) (now (oe .exit)) (now (ot .exit)) ⌝ }
 {
     if is_kept(k, coords, nodes, ends, piece) {
-        if place_piece(on, oe, ot, room, p.count, p.entries, piece, tag) {
+        if place_piece(on, oe, ot, p.count, p.entries, piece, tag) {
             return Listed {
                 code: 0,
                 count: p.count + 1,
@@ -200,15 +198,14 @@ fn place_run(
     on: &mut [u32],
     oe: &mut [u32],
     ot: &mut [u32],
-    room: usize,
     p: Listed,
     runs: &[u32],
     stops: &[u32],
     t: u32,
 ) -> Listed
-    requires { ⌜ Placeable room p (now nodes) (now ends) (now runs) (now stops) (now on) (now oe) (now ot) ⌝ }
-    ensures { λ r. ⌜ BeforeZeroing (placedBehind room p t
-        (passing (isKept k (now (coords .entry)) (runsOf (now (nodes .entry)) (now (ends .entry)))) (runsOf (now (runs .entry)) (now (stops .entry))))
+    requires { ⌜ Placeable p (now nodes) (now ends) (now runs) (now stops) (now on) (now oe) (now ot) ⌝ }
+    ensures { λ r. ⌜ BeforeZeroing (placedBehind p (tagged t
+        (passing (isKept k (now (coords .entry)) (runsOf (now (nodes .entry)) (now (ends .entry)))) (runsOf (now (runs .entry)) (now (stops .entry)))))
         (now (on .entry)) (now (oe .entry)) (now (ot .entry))) r (now (on .exit)) (now (oe .exit)) (now (ot .exit)) ⌝ }
 {
     let mut q = Listed {
@@ -219,7 +216,7 @@ fn place_run(
     let mut a: usize = 0;
     for i in 0..stops.len() {
         let b = stops[i] as usize;
-        q = place_kept(k, coords, nodes, ends, on, oe, ot, room, q, &runs[a..b], t);
+        q = place_kept(k, coords, nodes, ends, on, oe, ot, q, &runs[a..b], t);
         if q.code != 0 {
             return q;
         }
@@ -228,16 +225,22 @@ fn place_run(
     q
 }
 
-fn zero_lists(on: &mut [u32], oe: &mut [u32], ot: &mut [u32])
-    ensures { λ _. ⌜ (now (on .exit) ≡ zeros (length (now (on .entry)))) × (now (oe .exit) ≡ zeros (length (now (oe .entry))))
-        × (now (ot .exit) ≡ zeros (length (now (ot .entry)))) ⌝ }
+// A refusal leaves zeros.
+pub fn refuse(code: u32, on: &mut [u32], oe: &mut [u32], ot: &mut [u32]) -> Listed
+    ensures { λ r. ⌜ placing r (now (on .exit)) (now (oe .exit)) (now (ot .exit)) ≡ refusedBy code (now (on .entry)) (now (oe .entry)) (now (ot .entry)) ⌝ }
 {
     zero_u32(on);
     zero_u32(oe);
     zero_u32(ot);
+    Listed {
+        code,
+        count: 0,
+        entries: 0,
+    }
 }
 
-// Places the pieces that are kept behind those that p counts, each with the tag. `room` pieces have a place; a refusal leaves zeros.
+// Places the pieces that are kept behind those that p counts, each with the tag. As many pieces have a place as there is room for ends; a refusal leaves
+// zeros.
 pub fn place_pieces(
     k: Keep,
     coords: &[f64],
@@ -246,15 +249,14 @@ pub fn place_pieces(
     on: &mut [u32],
     oe: &mut [u32],
     ot: &mut [u32],
-    room: usize,
     p: Listed,
     runs: &[u32],
     stops: &[u32],
     tag: u32,
 ) -> Listed
-    requires { ⌜ Placeable room p (now nodes) (now ends) (now runs) (now stops) (now on) (now oe) (now ot) ⌝ }
-    ensures { λ r. ⌜ placing r (now (on .exit)) (now (oe .exit)) (now (ot .exit)) ≡ placedBehind room p tag
-        (passing (isKept k (now (coords .entry)) (runsOf (now (nodes .entry)) (now (ends .entry)))) (runsOf (now (runs .entry)) (now (stops .entry))))
+    requires { ⌜ Placeable p (now nodes) (now ends) (now runs) (now stops) (now on) (now oe) (now ot) ⌝ }
+    ensures { λ r. ⌜ placing r (now (on .exit)) (now (oe .exit)) (now (ot .exit)) ≡ placedBehind p (tagged tag
+        (passing (isKept k (now (coords .entry)) (runsOf (now (nodes .entry)) (now (ends .entry)))) (runsOf (now (runs .entry)) (now (stops .entry)))))
         (now (on .entry)) (now (oe .entry)) (now (ot .entry)) ⌝ }
 {
     let r = place_run(
@@ -265,15 +267,14 @@ pub fn place_pieces(
         on,
         oe,
         ot,
-        room,
         p,
         runs,
         stops,
         tag,
     );
-    if r.code == 0 {
+    let code = r.code;
+    if code == 0 {
         return r;
     }
-    zero_lists(on, oe, ot);
-    r
+    refuse(code, on, oe, ot)
 }

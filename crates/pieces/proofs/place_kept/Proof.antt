@@ -31,8 +31,8 @@ place-piece-at-same-length-4 c = c .before .before .before .before .before .befo
 abbrev place-piece-of-then2 : tie.Then2 → tie.After-place-piece
 place-piece-of-then2 c = c .before .before .before .before .before .before .before
 
-abbrev then2-at-add-t20 : tie.After-struct-known → tie.Then2
-then2-at-add-t20 c = c .before
+abbrev then2-at-add-t19 : tie.After-struct-known → tie.Then2
+then2-at-add-t19 c = c .before
 
 abbrev then2-at-same-length : tie.After-struct-known2 → tie.Then2
 then2-at-same-length c = c .before .before
@@ -44,12 +44,12 @@ place-piece-requires : tie.Need-place-piece-requires
 place-piece-requires c κs =
     let at-entry = entry-of-is-kept (is-kept-of-then1 (then1-at-place-piece-requires c)) in
     let s = at-entry .pre .1 in
-    (s .counted, s .ends, s .tags, s .short)
+    (s .counted, s .tags, s .short)
 
-add-t20 : tie.Need-add-t20
-add-t20 c =
-    let at-entry = entry-of-is-kept (is-kept-of-then1 (then1-of-place-piece (place-piece-of-then2 (then2-at-add-t20 c)))) in
-    omega (arith, at-entry .pre .1 .counted, at-entry .pre .1 .ends, at-entry .good, at-entry .fits)
+add-t19 : tie.Need-add-t19
+add-t19 c =
+    let at-entry = entry-of-is-kept (is-kept-of-then1 (then1-of-place-piece (place-piece-of-then2 (then2-at-add-t19 c)))) in
+    omega (arith, at-entry .pre .1 .counted, at-entry .good, at-entry .fits)
 
 same-length : tie.Need-same-length
 same-length c =
@@ -76,7 +76,7 @@ returns c =
     let a = entry-of-is-kept at-is-kept .args in
     let k = at-is-kept .is-kept in
     let r = at-place-piece .place-piece in
-    laid (a .room) (a .p) (a .tag) (a .piece .now) (a .on .now) (a .oe .now) (a .ot .now) (isKept (a .k) (a .coords .now) (runsOf (a .nodes .now) (a .ends .now)))
+    laid (a .p) (a .tag) (a .piece .now) (a .on .now) (a .oe .now) (a .ot .now) (isKept (a .k) (a .coords .now) (runsOf (a .nodes .now) (a .ends .now)))
     (k .result) (k .ensures) (then1-of-place-piece at-place-piece .if1 .taken) (r .result) (r .last .0) (r .last .1 .0) (r .last .1 .1 .0) (r .ensures)
     (then2-at-same-length c .if2 .taken)
 
@@ -102,7 +102,7 @@ returns-2 c =
     let a = at-entry .args in
     let k = is-kept-of-then1 at-then1 .is-kept in
     let r = place-piece-at-same-length-4 c .place-piece in
-    unlaid (a .room) (a .p) (a .tag) (a .piece .now) (a .on .now) (a .oe .now) (a .ot .now) (isKept (a .k) (a .coords .now) (runsOf (a .nodes .now) (a .ends .now)))
+    unlaid (a .p) (a .tag) (a .piece .now) (a .on .now) (a .oe .now) (a .ot .now) (isKept (a .k) (a .coords .now) (runsOf (a .nodes .now) (a .ends .now)))
     (k .result) (k .ensures) (at-then1 .if1 .taken) (r .result) (r .last .0) (r .last .1 .0) (r .last .1 .1 .0) (r .ensures) (at-entry .pre .1 .corners) (c .if2 .left)
 
 returns-3 : tie.Need-returns-3
@@ -110,9 +110,9 @@ returns-3 c =
     let at-entry = entry-of-is-kept (is-kept-at-returns-3 c) in
     let a = at-entry .args in
     let k = c .before .is-kept in
-    skipped (a .room) (a .p) (a .tag) (a .piece .now) (a .on .now) (a .oe .now) (a .ot .now) (isKept (a .k) (a .coords .now) (runsOf (a .nodes .now) (a .ends .now)))
+    skipped (a .p) (a .tag) (a .piece .now) (a .on .now) (a .oe .now) (a .ot .now) (isKept (a .k) (a .coords .now) (runsOf (a .nodes .now) (a .ends .now)))
     (k .result) (k .ensures) (c .if1 .left)
 
 pub place-kept-spec : {M : Type 1} → statement M
-place-kept-spec = tie.close (tie.spec is-kept-requires place-piece-requires add-t20 (λ c. search needs) same-length same-length-2 same-length-3 returns
+place-kept-spec = tie.close (tie.spec is-kept-requires place-piece-requires add-t19 (λ c. search needs) same-length same-length-2 same-length-3 returns
     same-length-4 same-length-5 same-length-6 returns-2 returns-3)

@@ -24,7 +24,7 @@ copy-u32-at-same-length c = c .before .before .before
 returns : tie.Need-returns
 returns c =
     let a = entry-at-returns c .args in
-    (full (a .on .now) (a .room) (a .count) (a .entries) (a .piece .now) (c .if1 .taken), refl, refl, refl)
+    (full (a .on .now) (a .oe .now) (a .count) (a .entries) (a .piece .now) (c .if1 .taken), refl, refl, refl)
 
 same-length : tie.Need-same-length
 same-length c =
@@ -38,8 +38,8 @@ returns-2 c =
     let a = at-entry .args in
     let r = copy-u32-at-same-length c .copy-u32 in
     let s =
-    stored (a .on .now) (a .room) (a .count) (a .entries) (a .piece .now) (at-else1 .if1 .left) (r .result) (r .last .0) (r .ensures)
-    (a .oe .now) (a .ot .now) (a .tag) (at-entry .pre .1) (at-entry .pre .2) (c .if2 .taken) in
+    stored (a .on .now) (a .oe .now) (a .count) (a .entries) (a .piece .now) (at-else1 .if1 .left) (r .result) (r .last .0) (r .ensures)
+    (a .ot .now) (a .tag) (at-entry .pre .1) (c .if2 .taken) in
     (s .0, s .1, s .2, s .3)
 
 same-length-4 : tie.Need-same-length-4
@@ -52,7 +52,7 @@ returns-3 c =
     let at-else1 = else1 (copy-u32-at-same-length-4 c) in
     let a = entry-of-else1 at-else1 .args in
     let r = copy-u32-at-same-length-4 c .copy-u32 in
-    let s = not-stored (a .on .now) (a .room) (a .count) (a .entries) (a .piece .now) (at-else1 .if1 .left) (r .result) (r .last .0) (r .ensures) (c .if2 .left) in
+    let s = not-stored (a .on .now) (a .oe .now) (a .count) (a .entries) (a .piece .now) (at-else1 .if1 .left) (r .result) (r .last .0) (r .ensures) (c .if2 .left) in
     (s .0, s .1, refl, refl)
 
 pub place-piece-spec : {M : Type 1} → statement M

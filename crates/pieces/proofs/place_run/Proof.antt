@@ -10,11 +10,11 @@ use Rattle.pieces.proofs.place_run.Statement.{statement}
 use Rattle.pieces.proofs.place_run.Tie as tie
 
 abbrev Inv-loop : tie.InvT-loop
-Inv-loop k coords nodes ends on₀ oe₀ ot₀ room runs stops t q₀ a₀ i₀ i-end on oe ot q a i =
-    Going (isKept k coords (runsOf nodes ends)) runs stops room q₀ t on₀ oe₀ ot₀ on oe ot q a i
+Inv-loop k coords nodes ends on₀ oe₀ ot₀ runs stops t q₀ a₀ i₀ i-end on oe ot q a i =
+    Going (isKept k coords (runsOf nodes ends)) runs stops q₀ t on₀ oe₀ ot₀ on oe ot q a i
 
 abbrev μ-loop : tie.MeasureT-loop
-μ-loop k coords nodes ends on₀ oe₀ ot₀ room runs stops t q₀ a₀ i₀ i-end on oe ot q a i = length stops - i
+μ-loop k coords nodes ends on₀ oe₀ ot₀ runs stops t q₀ a₀ i₀ i-end on oe ot q a i = length stops - i
 
 -- places of the code, each counted once
 abbrev entry-at-loop-holds : tie.After-shared-slice-known5 Inv-loop μ-loop → tie.Start Inv-loop μ-loop
@@ -52,7 +52,7 @@ loop-holds c =
     let at-entry = entry-at-loop-holds c in
     let a = at-entry .args in
     let f = isKept (a .k) (a .coords .now) (runsOf (a .nodes .now) (a .ends .now)) in
-    start₀ f (a .runs .now) (a .stops .now) (at-entry .pre .pieces) (a .room) (a .p) (a .t) (a .on .now) (a .oe .now) (a .ot .now) (at-entry .pre .space)
+    start₀ f (a .runs .now) (a .stops .now) (at-entry .pre .pieces) (a .p) (a .t) (a .on .now) (a .oe .now) (a .ot .now) (at-entry .pre .space)
 
 cast-b : tie.Need-cast-b Inv-loop μ-loop
 cast-b c =
@@ -92,7 +92,7 @@ place-kept-requires c κs =
     let l = at-loop .loop in
     let f = isKept (a .k) (a .coords .now) (runsOf (a .nodes .now) (a .ends .now)) in (
       at-entry .pre .cells,
-      next-space f (a .runs .now) (a .stops .now) (at-entry .pre .pieces) (a .room) (a .p) (a .t) (a .on .now) (a .oe .now) (a .ot .now)
+      next-space f (a .runs .now) (a .stops .now) (at-entry .pre .pieces) (a .p) (a .t) (a .on .now) (a .oe .now) (a .ot .now)
           (at-entry .pre .space) (l .on) (l .oe) (l .ot) (l .q) (l .a) (l .i) (l .inv) (in-loop-at-place-kept-requires c .loop-test .taken),
     )
 
@@ -122,7 +122,7 @@ returns c =
     let l = loop-of-in-loop at-in-loop .loop in
     let f = isKept (a .k) (a .coords .now) (runsOf (a .nodes .now) (a .ends .now)) in
     let r = place-kept-at-same-length c .place-kept in
-    stopped f (a .runs .now) (a .stops .now) (at-entry .pre .pieces) (a .room) (a .p) (a .t) (a .on .now) (a .oe .now) (a .ot .now) (at-entry .pre .space)
+    stopped f (a .runs .now) (a .stops .now) (at-entry .pre .pieces) (a .p) (a .t) (a .on .now) (a .oe .now) (a .ot .now) (at-entry .pre .space)
     (l .on) (l .oe) (l .ot) (l .q) (l .a) (l .i) (l .inv) (at-in-loop .loop-test .taken)
     (r .result) (r .last .1 .1 .1 .1 .0) (r .last .1 .1 .1 .1 .1 .0) (r .last .1 .1 .1 .1 .1 .1 .0) (r .ensures) (c .if1 .taken)
 
@@ -140,7 +140,7 @@ loop-again c =
     let l = loop-of-in-loop at-in-loop .loop in
     let f = isKept (a .k) (a .coords .now) (runsOf (a .nodes .now) (a .ends .now)) in
     let r = place-kept-at-add-i c .place-kept in
-    turn f (a .runs .now) (a .stops .now) (at-entry .pre .pieces) (a .room) (a .p) (a .t) (a .on .now) (a .oe .now) (a .ot .now) (at-entry .pre .space) (l .on)
+    turn f (a .runs .now) (a .stops .now) (at-entry .pre .pieces) (a .p) (a .t) (a .on .now) (a .oe .now) (a .ot .now) (at-entry .pre .space) (l .on)
     (l .oe) (l .ot) (l .q) (l .a) (l .i) (l .inv) (at-in-loop .loop-test .taken)
     (r .result) (r .last .1 .1 .1 .1 .0) (r .last .1 .1 .1 .1 .1 .0) (r .last .1 .1 .1 .1 .1 .1 .0) (r .ensures)
     (r .kept .1 .1 .1 .1 .0) (r .kept .1 .1 .1 .1 .1 .0) (r .kept .1 .1 .1 .1 .1 .1 .0) (c .if1 .left)
@@ -160,7 +160,7 @@ returns-2 c =
     let a = at-entry .args in
     let l = c .before .loop in
     let f = isKept (a .k) (a .coords .now) (runsOf (a .nodes .now) (a .ends .now)) in
-    end f (a .runs .now) (a .stops .now) (at-entry .pre .pieces) (a .room) (a .p) (a .t) (a .on .now) (a .oe .now) (a .ot .now) (at-entry .pre .space) (l .on)
+    end f (a .runs .now) (a .stops .now) (at-entry .pre .pieces) (a .p) (a .t) (a .on .now) (a .oe .now) (a .ot .now) (at-entry .pre .space) (l .on)
     (l .oe) (l .ot) (l .q) (l .a) (l .i) (l .inv) (c .loop-test .left)
 
 pub place-run-spec : {M : Type 1} → statement M
