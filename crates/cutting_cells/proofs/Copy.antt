@@ -23,9 +23,9 @@ use Rattle.regions.specs.declared.Regions.{Regions}
 use Rattle.regions.specs.Runs.{runIn}
 use Rattle.cells.specs.declared.Near.{Near}
 use Rattle.corners.specs.Corners.{nextCorner}
-use Rattle.cells.specs.Cells.{nearEdgesIn, Cut, cut, cutAs, cutCell}
+use Rattle.cells.specs.Cells.{nearEdgesIn, Cut, cut, cutAs, cutBy, cutCell}
 use Rattle.cells.proofs.Own.{sidesFrom, sides-all, sides-next, sides-end}
-use Rattle.cutting_cells.specs.Listed.{cutIn}
+use Rattle.cutting_cells.specs.Yields.{outcomeBy}
 
 -- ---- the edges of a cell in a flat list
 
@@ -106,16 +106,10 @@ module _ (coords : List Float) (work : List ℕ) (g : Regions) (t : Near) (cell 
   near-length : length (nearEdgesIn work t) ≡ length near / 2
   near-length = ap (λ (l : List ℕ). length (pairs l)) (sym lent) ∙ pairs-length near
 
-  pub out-copied : length near / 2 ≤ t .first → x ≡ cutAs (copiedOutcome cell) on os → x ≡ cutIn coords work g t cell on os
-  unfolding cutIn
+  pub out-copied : length near / 2 ≤ t .first → x ≡ cutAs (copiedOutcome cell) on os → x ≡ cutAs (outcomeBy coords work g t cell) on os
+  unfolding outcomeBy
   out-copied h e = rw (le-ltb (t .first) (length (nearEdgesIn work t)) (omega (arith, h, near-length))) e
 
-  pub out-cut : t .first < length near / 2 → x ≡ cutCell coords work g t cell on os → x ≡ cutIn coords work g t cell on os
-  unfolding cutIn
+  pub out-cut : t .first < length near / 2 → x ≡ cutCell coords work g t cell on os → x ≡ cutAs (outcomeBy coords work g t cell) on os
+  unfolding outcomeBy cutCell cutBy
   out-cut h e = rw (lt-ltb (t .first) (length (nearEdgesIn work t)) (omega (arith, h, near-length))) e
-
-pub kind-cut : (k n kind : ℕ) → k < n → 11 ≡ cond (ltb k n) 11 kind
-kind-cut k n kind h = rw (lt-ltb k n h)
-
-pub kind-copied : (k n kind : ℕ) → n ≤ k → kind ≡ cond (ltb k n) 11 kind
-kind-copied k n kind h = rw (le-ltb k n h)

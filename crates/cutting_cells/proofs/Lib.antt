@@ -1,5 +1,4 @@
-pub mod Cell
-pub mod Behind
 pub mod Copy
+pub mod Cell
 pub mod Loop
 pub mod Meshes

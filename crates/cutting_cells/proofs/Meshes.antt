@@ -1,134 +1,129 @@
 -- `cut_meshes`: the subject's cells, then the cutter's. Assumes nothing.
-use mathlib.Core.Path.{_≡_, sym, ap, _∙_, subst}
-use mathlib.Core.Bool.{Bool, true, false, cond}
-use mathlib.Core.List.{List, [], _++_, append-nil}
-use Prim.Native.Nat.{ℕ, _+_, _*_, _-_, _^_, _≤_, _<_}
+use mathlib.Core.Path.{_≡_, refl, sym, ap, _∙_, subst}
+use mathlib.Core.Bool.{Bool, true, false, cond, not}
+use mathlib.Core.List.{List, [], append-nil}
+use Prim.Native.Nat.{ℕ, _+_, _*_, _≤_, _<_}
 use native.Mathlib.Omega.{arith}
-use lib.ListN.{length}
+use lib.ListN.{length, getD, take, drop}
 use lib.Ieee.{Float}
-use Rattle.lists.specs.Gather.{gathered}
-use Rattle.rules.specs.Mesh.{Side, theSubject, theCutter}
-use Rattle.rules.specs.Meetings.{Scene, netOf}
-use Rattle.rules.specs.Operations.{Piece, cuts, kept, overCells}
-use Rattle.rules.specs.Refusals.{Event}
+use Rattle.rules.specs.Mesh.{Side, theSubject, theCutter, other}
+use Rattle.rules.specs.Operations.{cuts}
 use Rattle.regions.specs.declared.MeshRuns.{MeshRuns}
 use Rattle.regions.specs.declared.Regions.{Regions}
 use Rattle.regions.specs.Runs.{runIn}
-use Rattle.pieces.specs.Pieces.{room}
-use Rattle.pieces.proofs.Runs.{length-runs}
+use Rattle.pieces.specs.declared.Keep.{Keep}
 use Rattle.pieces.specs.declared.Listed.{Listed}
-use Rattle.cutting_cells.specs.Listed.{SceneIn, MeshIn, MeshesIn, cellEvents, ListedBehind, Fits, overBoth, noneYet}
-use Rattle.cutting_cells.proofs.Behind.{listed-refused, listed-more}
+use Rattle.pieces.specs.Pieces.{runsOf, keepOf, sideOf, Yield, nothing, both, allOf, Placing, placing, placedBehind}
+use Rattle.pieces.proofs.Placing.{Steady, steady-all, fit, refused-first, placed-behind}
+use Rattle.cutting_cells.specs.Yields.{yieldOf, runsOn, numberedFrom, cellsYield, meshesYield, noneYet, Few, CellsAsk, MeshesReady}
+use Rattle.cutting_cells.proofs.Cell.{yield-steady}
 
-recast : (es es′ : List Event) (ps ps′ : List Piece) (p : Listed) (on oe ok of : List ℕ) (r : Listed) (on′ oe′ ok′ of′ : List ℕ) → es ≡ es′ → ps ≡ ps′
-    → ListedBehind es ps p on oe ok of r on′ oe′ ok′ of′ → ListedBehind es′ ps′ p on oe ok of r on′ oe′ ok′ of′
-recast es es′ ps ps′ p on oe ok of r on′ oe′ ok′ of′ ee ep x =
-    subst (λ (l : List Event). ListedBehind l ps′ p on oe ok of r on′ oe′ ok′ of′) ee (subst (λ (l : List Piece). ListedBehind es l p on oe ok of r on′ oe′ ok′ of′) ep x)
+-- ---- the cells of one mesh
 
-cells-long : (sc : Scene) (w : Side) (nodes ends kinds families : List ℕ) → MeshIn sc w nodes ends kinds families → length ends ≡ length (netOf sc w .cells)
-cells-long sc w nodes ends kinds families m = sym (ap length (m .cells) ∙ length-runs nodes ends)
+other-side : (cutter : Bool) → sideOf (not cutter) ≡ other (sideOf cutter)
+other-side true = refl
+other-side false = refl
 
-module _ {A : Type 0} (op : ℕ) (sc : Scene) (sn se sk sf cn ce ck cf : List ℕ) (f : Side → ℕ → List A) (ms : MeshIn sc theSubject sn se sk sf)
-    (mc : MeshIn sc theCutter cn ce ck cf) where
-  subject-over : gathered (length se) (f theSubject) ≡ overCells op sc theSubject (f theSubject)
-  subject-over = ap (λ (n : ℕ). gathered n (f theSubject)) (cells-long sc theSubject sn se sk sf ms)
+pub others-are : (g : Regions) (cutter : Bool) (o : MeshRuns) → o ≡ runsOn g (sideOf (not cutter)) → o ≡ runsOn g (other (sideOf cutter))
+others-are g cutter o e = e ∙ ap (runsOn g) (other-side cutter)
 
-  both-cut : cuts op theCutter ≡ true → gathered (length se) (f theSubject) ++ gathered (length ce) (f theCutter) ≡ overBoth op sc f
-  both-cut e =
-      ap (λ (l : List A). l ++ gathered (length ce) (f theCutter)) subject-over
-      ∙ ap (λ (n : ℕ). overCells op sc theSubject (f theSubject) ++ gathered n (f theCutter)) (cells-long sc theCutter cn ce ck cf mc)
-      ∙ ap (λ (t : Bool). overCells op sc theSubject (f theSubject) ++ cond t (gathered (length (netOf sc theCutter .cells)) (f theCutter)) []) (sym e)
+pub numbers-low : (w : Side) (i n k : ℕ) → n + k ≤ 32768 → i < k → numberedFrom w n + i < 32768
+numbers-low theSubject i n k h l = omega (arith, h, l)
+numbers-low theCutter i n k h l = omega (arith, h, l)
 
-  one-cut : cuts op theCutter ≡ false → gathered (length se) (f theSubject) ≡ overBoth op sc f
-  one-cut e =
-      subject-over ∙ sym (append-nil (overCells op sc theSubject (f theSubject)))
-      ∙ ap (λ (t : Bool). overCells op sc theSubject (f theSubject) ++ cond t (gathered (length (netOf sc theCutter .cells)) (f theCutter)) []) (sym e)
+module _ (op : ℕ) (coords : List Float) (work : List ℕ) (g : Regions) (w : Side) (ends stops : List ℕ) where
+  -- cell i
+  abbrev pub cellYield : ℕ → Yield
+  cellYield i = yieldOf coords work g (runsOn g (other w)) ends (keepOf op w) (numberedFrom w (length ends) + i) (getD (runsOf (runIn work (runsOn g w .entries)) stops) i [])
 
-  subject-first : gathered (length se) (f theSubject) ++ overCells op sc theCutter (f theCutter) ≡ overBoth op sc f
-  subject-first = ap (λ (l : List A). l ++ overCells op sc theCutter (f theCutter)) subject-over
+  pub cell-steady : (i : ℕ) → Steady (cellYield i)
+  cell-steady i = yield-steady coords work g (runsOn g (other w)) ends (keepOf op w) (numberedFrom w (length ends) + i) (getD (runsOf (runIn work (runsOn g w .entries)) stops) i [])
 
-module _ (op : ℕ) (coords : List Float) (work : List ℕ) (g : Regions) (se sk sf ce ck cf : List ℕ) (on oe ok of : List ℕ) where
-  abbrev sn : List ℕ
-  sn = runIn work (g .subject .entries)
+  pub all-cells : allOf (length stops) cellYield ≡ cellsYield op coords work g w ends stops
+  unfolding cellsYield
+  all-cells = refl
 
-  abbrev cn : List ℕ
-  cn = runIn work (g .cutter .entries)
+  pub cells-steady : Steady (cellsYield op coords work g w ends stops)
+  cells-steady = subst Steady all-cells (steady-all cellYield (length stops) (λ i h. cell-steady i))
 
-  -- what one mesh's cells come to
-  abbrev pub OneCut : (w : Side) (o : MeshRuns) (ends own stops kinds families : List ℕ) (p : Listed) (on₁ oe₁ ok₁ of₁ : List ℕ) (r : Listed) (on₂ oe₂ ok₂ of₂ : List ℕ) → Type 0
-  OneCut w o ends own stops kinds families p on₁ oe₁ ok₁ of₁ r on₂ oe₂ ok₂ of₂ =
-      (r .code ≡ 0 → Fits (length stops) p on₁ oe₁ ok₁ of₁ r)
-      × ((sc : Scene) → SceneIn sc w coords work g o ends → MeshIn sc w own stops kinds families
-      → ListedBehind (gathered (length stops) (cellEvents op sc w)) (gathered (length stops) (kept sc w op)) p on₁ oe₁ ok₁ of₁ r on₂ oe₂ ok₂ of₂)
+  -- as it is lent
+  pub cell-lent : (o mine : MeshRuns) (k : Keep) (own : List ℕ) (number i : ℕ) (cell : List ℕ) → o ≡ runsOn g (other w) → mine ≡ runsOn g w → k ≡ keepOf op w
+      → own ≡ runIn work (mine .entries) → number ≡ numberedFrom w (length ends) → getD (runsOf own stops) i [] ≡ cell
+      → yieldOf coords work g o ends k (number + i) cell ≡ cellYield i
+  cell-lent o mine k own number i cell eo em ek ew en ec =
+      let corners : cell ≡ getD (runsOf (runIn work (runsOn g w .entries)) stops) i [] =
+      sym ec ∙ ap (λ (l : List ℕ). getD (runsOf l stops) i []) (ew ∙ ap (λ (m : MeshRuns). runIn work (m .entries)) em) in
+      λ s. yieldOf coords work g (eo s) ends (ek s) (en s + i) (corners s)
 
-  -- the corners of its cells are read from the working list
-  pub own-lent : (w : Side) (o : MeshRuns) (ends own own′ stops kinds families : List ℕ) (p : Listed) (on₁ oe₁ ok₁ of₁ : List ℕ) (r : Listed) (on₂ oe₂ ok₂ of₂ : List ℕ)
-      → own ≡ own′ → OneCut w o ends own stops kinds families p on₁ oe₁ ok₁ of₁ r on₂ oe₂ ok₂ of₂
-      → OneCut w o ends own′ stops kinds families p on₁ oe₁ ok₁ of₁ r on₂ oe₂ ok₂ of₂
-  own-lent w o ends own own′ stops kinds families p on₁ oe₁ ok₁ of₁ r on₂ oe₂ ok₂ of₂ e h =
-      subst (λ (l : List ℕ). OneCut w o ends l stops kinds families p on₁ oe₁ ok₁ of₁ r on₂ oe₂ ok₂ of₂) e h
+-- ---- both meshes
 
-  -- what both come to
-  abbrev pub BothCut : (r : Listed) (on₂ oe₂ ok₂ of₂ : List ℕ) → Type 0
-  BothCut r on₂ oe₂ ok₂ of₂ =
-      (r .code ≡ 0 → Fits (length se + length ce) noneYet on oe ok of r)
-      × ((sc : Scene) → MeshesIn sc coords work g se sk sf ce ck cf
-      → ListedBehind (overBoth op sc (cellEvents op sc)) (overBoth op sc (λ w. kept sc w op)) noneYet on oe ok of r on₂ oe₂ ok₂ of₂)
+module _ (op : ℕ) (coords : List Float) (work : List ℕ) (g : Regions) (se ce on oe ot : List ℕ) (ready : MeshesReady op work g se ce) (ht : length oe ≤ length ot) where
+  abbrev first : Yield
+  first = cellsYield op coords work g theSubject ce se
 
-  module _ (p : Listed) (on₁ oe₁ ok₁ of₁ : List ℕ) (one : OneCut theSubject (g .cutter) ce sn se sk sf noneYet on oe ok of p on₁ oe₁ ok₁ of₁) where
-    pub subject-refused : (p .code ≡ 0 → ⊥) → BothCut p on₁ oe₁ ok₁ of₁
-    subject-refused n = (
-      λ z. absurd (n z),
-      λ sc m. recast _ _ _ _ noneYet on oe ok of p on₁ oe₁ ok₁ of₁
-          (subject-first op sc sn se sk sf cn ce ck cf (cellEvents op sc) (m .subjectMesh) (m .cutterMesh))
-          (subject-first op sc sn se sk sf cn ce ck cf (λ w. kept sc w op) (m .subjectMesh) (m .cutterMesh))
-          (listed-refused (gathered (length se) (cellEvents op sc theSubject)) (gathered (length se) (kept sc theSubject op)) noneYet on oe ok of p on₁ oe₁ ok₁ of₁
-          (one .1 sc (m .subjectCut) (m .subjectMesh)) n
-          (overCells op sc theCutter (cellEvents op sc theCutter)) (overCells op sc theCutter (kept sc theCutter op))),
+  abbrev second : Yield
+  second = cellsYield op coords work g theCutter se ce
+
+  abbrev rest : Yield
+  rest = cond (cuts op theCutter) second nothing
+
+  pub asks-first : CellsAsk work g theSubject ce se noneYet on oe ot
+  asks-first =
+      record {
+        others = ready .cutter;
+        within = ready .subject .entries;
+        cells = ready .subjectCells;
+        rise = ready .subject .rise;
+        most = omega (arith, ready .mostSubject, ready .mostCutter);
+        calm = refl;
+        space = record { counted = omega arith; tags = ht; corners = omega arith; short = omega (arith, ready .mostSubject) };
+      }
+
+  module _ (p : Listed) (on₁ oe₁ ot₁ : List ℕ) (one : (placing p on₁ oe₁ ot₁ ≡ placedBehind noneYet first on oe ot) × Few (length se) noneYet p) where
+    pub first-refused : (p .code ≡ 0 → ⊥)
+        → (placing p on₁ oe₁ ot₁ ≡ placedBehind noneYet (meshesYield op coords work g se ce) on oe ot) × Few (length se + length ce) noneYet p
+    unfolding meshesYield
+    first-refused n = (
+      one .0 ∙ sym (refused-first noneYet first rest on oe ot (λ z. n (ap (λ (q : Placing). q .answer .code) (one .0) ∙ z))),
+      record { pieces = omega (arith, one .1 .pieces); corners = omega (arith, one .1 .corners) },
     )
 
-    pub subject-only : p .code ≡ 0 → cuts op theCutter ≡ false → BothCut p on₁ oe₁ ok₁ of₁
-    subject-only z e =
-        let f = one .0 z in (
-          λ _. record {
-            pieces = f .pieces;
-            corners = f .corners;
-            fewPieces = omega (arith, f .fewPieces);
-            fewCorners = omega (arith, f .fewCorners);
-          },
-          λ sc m. recast _ _ _ _ noneYet on oe ok of p on₁ oe₁ ok₁ of₁
-              (one-cut op sc sn se sk sf cn ce ck cf (cellEvents op sc) (m .subjectMesh) (m .cutterMesh) e)
-              (one-cut op sc sn se sk sf cn ce ck cf (λ w. kept sc w op) (m .subjectMesh) (m .cutterMesh) e)
-              (one .1 sc (m .subjectCut) (m .subjectMesh)),
-        )
+    pub first-only : cuts op theCutter ≡ false
+        → (placing p on₁ oe₁ ot₁ ≡ placedBehind noneYet (meshesYield op coords work g se ce) on oe ot) × Few (length se + length ce) noneYet p
+    unfolding meshesYield
+    first-only e = (
+      one .0 ∙ ap (λ (y : Yield). placedBehind noneYet y on oe ot) (sym behind-none ∙ ap (λ (t : Bool). both first (cond t second nothing)) (sym e)),
+      record { pieces = omega (arith, one .1 .pieces); corners = omega (arith, one .1 .corners) },
+    )
+      where
+        behind-none : both first nothing ≡ first
+        behind-none = λ s. record { events = append-nil (first .events) s; pieces = append-nil (first .pieces) s; tags = append-nil (first .tags) s }
 
-    module _ (z : p .code ≡ 0) (ln : length on₁ ≡ length on) (le : length oe₁ ≡ length oe) (lk : length ok₁ ≡ length ok) (lf : length of₁ ≡ length of) where
-      pub second-room : length se ≤ 16384 → length ce ≤ 16384
-          → (p .count ≤ room oe₁ ok₁ of₁) × (p .entries ≤ length on₁) × (p .entries + 1024 * length ce < 2 ^ 32) × (p .code ≡ 0)
-      second-room a b =
-          let f = one .0 z in (
-            omega (arith, f .pieces, le, lk, lf),
-            omega (arith, f .corners, ln),
-            omega (arith, f .fewCorners, a, b),
-            z,
-          )
+    module _ (z : p .code ≡ 0) (ln : length on₁ ≡ length on) (le : length oe₁ ≡ length oe) (lt : length ot₁ ≡ length ot) (e : cuts op theCutter ≡ true) where
+      pub asks-second : CellsAsk work g theCutter se ce p on₁ oe₁ ot₁
+      asks-second =
+          let f = fit noneYet first on oe ot p on₁ oe₁ ot₁ (one .0) (cells-steady op coords work g theSubject ce se) (omega arith) (omega arith) z in
+          record {
+            others = ready .subject;
+            within = ready .cutter .entries;
+            cells = ready .cutterCells e;
+            rise = ready .cutter .rise;
+            most = omega (arith, ready .mostSubject, ready .mostCutter);
+            calm = z;
+            space = record {
+              counted = omega (arith, f .0, le);
+              tags = omega (arith, ht, le, lt);
+              corners = omega (arith, f .1, ln);
+              short = omega (arith, one .1 .corners, ready .mostSubject, ready .mostCutter);
+            };
+          }
 
-      pub both-listed : cuts op theCutter ≡ true → (r : Listed) (on₂ oe₂ ok₂ of₂ : List ℕ)
-          → OneCut theCutter (g .subject) se cn ce ck cf p on₁ oe₁ ok₁ of₁ r on₂ oe₂ ok₂ of₂ → BothCut r on₂ oe₂ ok₂ of₂
-      both-listed e r on₂ oe₂ ok₂ of₂ two =
-          let f = one .0 z in (
-            λ y. let g = two .0 y in
-                record {
-                  pieces = omega (arith, g .pieces, le, lk, lf);
-                  corners = omega (arith, g .corners, ln);
-                  fewPieces = omega (arith, f .fewPieces, g .fewPieces);
-                  fewCorners = omega (arith, f .fewCorners, g .fewCorners);
-                },
-            λ sc m. recast _ _ _ _ noneYet on oe ok of r on₂ oe₂ ok₂ of₂
-                (both-cut op sc sn se sk sf cn ce ck cf (cellEvents op sc) (m .subjectMesh) (m .cutterMesh) e)
-                (both-cut op sc sn se sk sf cn ce ck cf (λ w. kept sc w op) (m .subjectMesh) (m .cutterMesh) e)
-                (listed-more (gathered (length se) (cellEvents op sc theSubject)) (gathered (length se) (kept sc theSubject op)) noneYet on oe ok of p on₁ oe₁ ok₁ of₁
-                (one .1 sc (m .subjectCut) (m .subjectMesh)) (omega arith) (omega arith) z
-                (gathered (length ce) (cellEvents op sc theCutter)) (gathered (length ce) (kept sc theCutter op)) r on₂ oe₂ ok₂ of₂
-                (two .1 sc (m .cutterCut) (m .cutterMesh))),
-          )
+      pub both-placed : (r : Listed) (on₂ oe₂ ot₂ : List ℕ) → (placing r on₂ oe₂ ot₂ ≡ placedBehind p second on₁ oe₁ ot₁) × Few (length ce) p r
+          → (placing r on₂ oe₂ ot₂ ≡ placedBehind noneYet (meshesYield op coords work g se ce) on oe ot) × Few (length se + length ce) noneYet r
+      unfolding meshesYield
+      both-placed r on₂ oe₂ ot₂ two = (
+        two .0
+            ∙ sym (placed-behind noneYet first second on oe ot (cells-steady op coords work g theSubject ce se) (omega arith) ht (omega arith) p on₁ oe₁ ot₁ (one .0) z)
+            ∙ ap (λ (t : Bool). placedBehind noneYet (both first (cond t second nothing)) on oe ot) (sym e),
+        record { pieces = omega (arith, one .1 .pieces, two .1 .pieces); corners = omega (arith, one .1 .corners, two .1 .corners) },
+      )

@@ -1,1 +1,1 @@
-pub mod Listed
+pub mod Yields

@@ -1,8 +1,9 @@
 -- What placing leaves: all that is yielded in the lists, or a refusal and zeros; and one yield behind another. Assumes nothing.
 use mathlib.Core.Path.{_≡_, refl, sym, ap, ap₂, _∙_}
 use mathlib.Core.List.{List, [], _++_, map-append, append-nil, append-assoc}
-use Prim.Native.Nat.{ℕ, zero, suc, _+_, _-_, _≤_}
+use Prim.Native.Nat.{ℕ, zero, suc, _+_, _-_, _≤_, _<_}
 use native.Mathlib.Nat.{add-zero, zero-add, suc-add}
+use native.Mathlib.Numerals.{add-one}
 use native.Mathlib.Omega.{arith}
 use lib.ListN.{length, replicate, length-append, length-replicate, replicate-append-replicate}
 use borrow.Author.Tests.{eq-eqb, ne-eqb}
@@ -32,6 +33,10 @@ tagged-both t ks ls =
     sym (replicate-append-replicate (length ks) (length ls) t ∙ ap (λ (x : ℕ). replicate x t) (sym (length-append ks ls))) in
     λ i. record { events = es i; pieces = ks ++ ls; tags = ts i }
 
+pub allOf-more : (f : ℕ → Yield) (i : ℕ) → allOf (i + 1) f ≡ both (allOf i f) (f i)
+unfolding allOf
+allOf-more f i = rw add-one
+
 -- the first n stand before the others
 pub allOf-behind : (f : ℕ → Yield) (n k : ℕ) → (more : Yield) × (allOf (k + n) f ≡ both (allOf n f) more)
 unfolding allOf
@@ -50,6 +55,35 @@ allOf-behind f n (suc k) =
       pieces = append-assoc (x .pieces) (y .pieces) (z .pieces) i;
       tags = append-assoc (x .tags) (y .tags) (z .tags) i;
     }
+
+-- a refusal that is not met with more behind is not met without
+calm-first : (q n : ℕ) (es fs : List Event) → firstRefusal 0 0 q n (es ++ fs) ≡ 0 → firstRefusal 0 0 q n es ≡ 0
+calm-first q n es fs e = go (firstRefusal 0 0 q n es) refl
+  where
+    go : (x : ℕ) → firstRefusal 0 0 q n es ≡ x → firstRefusal 0 0 q n es ≡ 0
+    go zero h = h
+    go (suc x) h = absurd (omega (arith, refused (firstRefusal 0 0 q n es) es fs 0 0 q n (λ z. absurd (omega (arith, h, z))) refl, h, e))
+
+pub steady-nothing : Steady nothing
+steady-nothing = record { placing = λ q n z. refl; tags = refl }
+
+pub steady-both : (y z : Yield) → Steady y → Steady z → Steady (both y z)
+steady-both y z s t =
+    record {
+      placing = λ q n e.
+          let one = calm-first q n (y .events) (z .events) e in
+          let es = s .placing q n one in
+          let f = fits (y .pieces) 0 0 q n (ap (firstRefusal 0 0 q n) (sym es) ∙ one) in
+          let rest = sym (behind (y .pieces) (z .events) 0 0 q n (f .0) (f .1)) ∙ ap (λ (l : List Event). firstRefusal 0 0 q n (l ++ z .events)) (sym es) ∙ e in
+          ap₂ (λ (a b : List Event). a ++ b) es (t .placing (q - length (y .pieces)) (n - length (flat (y .pieces))) rest)
+          ∙ sym (map-append (λ k. piece (length k)) (y .pieces) (z .pieces));
+      tags = omega (arith, s .tags, t .tags, length-append (y .tags) (z .tags), length-append (y .pieces) (z .pieces));
+    }
+
+pub steady-all : (f : ℕ → Yield) (n : ℕ) → ((i : ℕ) → i < n → Steady (f i)) → Steady (allOf n f)
+unfolding allOf
+steady-all f zero h = steady-nothing
+steady-all f (suc n) h = steady-both (allOf n f) (f n) (steady-all f n (λ i l. h i (omega (arith, l)))) (h n (omega arith))
 
 -- ---- one placing
 
@@ -107,6 +141,16 @@ module _ (p : Listed) (y : Yield) (on oe ot : List ℕ) where
           ends = ap (λ (g : Placing). g .ends) e;
           tags = ap (λ (g : Placing). g .tags) e;
         }
+
+    -- no more is counted than is yielded
+    pub counted-most : (r .count ≤ p .count + length (y .pieces)) × (r .entries ≤ p .entries + length (flat (y .pieces)))
+    counted-most = go (r .code) refl
+      where
+        go : (x : ℕ) → r .code ≡ x → (r .count ≤ p .count + length (y .pieces)) × (r .entries ≤ p .entries + length (flat (y .pieces)))
+        go zero e = let a = all-placed e in (omega (arith, a .counted), omega (arith, a .entered))
+        go (suc x) e =
+            let none = placed ∙ placed-not (λ z. absurd (omega (arith, e, code-met, z))) in
+            (omega (arith, ap (λ (g : Placing). g .answer .count) none), omega (arith, ap (λ (g : Placing). g .answer .entries) none))
 
     -- what is counted has its place
     pub fit : Steady y → p .count ≤ length oe → p .entries ≤ length on → r .code ≡ 0 → (r .count ≤ length oe) × (r .entries ≤ length on)

@@ -144,7 +144,7 @@ abbrev pub Made : Outcome → Type 0
 Made (refusal r) = ⊥
 Made (pieces ps) = Unit {0}
 
-sound-cut : (v : Setting) (outline : List Edge) (t : List Slot) → Sound (cutOutcomeWith v outline t)
+pub sound-cut : (v : Setting) (outline : List Edge) (t : List Slot) → Sound (cutOutcomeWith v outline t)
 unfolding cutOutcomeWith
 sound-cut v outline t = go (v .once && repeats outline) (tooMany (length t)) (not (v .once) && doubled t) (walkWith (v .turning) outline t)
   where
@@ -160,7 +160,7 @@ sound-cut v outline t = go (v .once && repeats outline) (tooMany (length t)) (no
     go false false u broken = never 10
     go false false u (more s) = never 10
 
-sound-copy : (once : Bool) (cell : List ℕ) → Sound (copiedOutcomeWith once cell)
+pub sound-copy : (once : Bool) (cell : List ℕ) → Sound (copiedOutcomeWith once cell)
 sound-copy once cell = go (once && repeats (ring cell))
   where
     go : (a : Bool) → Sound (cond a (refusal 19) (pieces (cell ∷ [])))
