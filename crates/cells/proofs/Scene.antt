@@ -30,7 +30,7 @@ use Rattle.cells.specs.declared.Near.{Near}
 use Rattle.cells.proofs.Cut.{front-fits}
 use Rattle.regions.specs.declared.Regions.{Regions}
 use Rattle.regions.specs.Runs.{runIn, meshEdges}
-use Rattle.cells.specs.Cells.{laidIn, outlineIn, nearIn, tableIn, candidatesFrom, nearEdgesIn, Cut, cutAs, cutBy, cutCell, AllFew}
+use Rattle.cells.specs.Cells.{laidIn, outlineIn, nearIn, tableIn, candidatesFrom, candidatesOf, nearEdgesIn, Cut, cutAs, AllFew}
 
 -- ---- refusal 9 passed
 
@@ -88,17 +88,19 @@ module _ (sc : Scene) (w : Side) (i k : ℕ) (at : k ≡ first (meets (sc .coord
 
   -- a cell with candidates comes to what the rules say of it
   pub cut-is : (work : List ℕ) (g : Regions) → ((e : Edge) → nodesOn (sc .coords) work g e ≡ sortedNodes sc e) → k < length es → (t : Near) → nearEdgesIn work t ≡ es
-      → t .bounds ≡ box → t .first ≡ k → (on os : List ℕ) → cutCell (sc .coords) work g t (cellOf sc w i) on os ≡ cutAs (outcomeOf sc w i) on os
-  unfolding cutCell cutBy nearOf treated
-  cut-is work g same h t near-is box-is first-is on os =
+      → t .bounds ≡ box → t .first ≡ k
+      → cutOutcome (outlineIn (sc .coords) work g (cellOf sc w i)) (tableIn (sc .coords) work g (nearEdgesIn work t) (candidatesOf (sc .coords) work t) (cellOf sc w i))
+      ≡ outcomeOf sc w i
+  unfolding nearOf treated
+  cut-is work g same h t near-is box-is first-is =
       let cell = cellOf sc w i in
       let near = from-first (sc .coords) es box k at h in
-      let by : List Edge → Bounds → ℕ → Cut = λ fs b f.
-      cutBy (outlineIn (sc .coords) work g cell) (tableIn (sc .coords) work g fs (candidatesFrom (sc .coords) fs b f) cell) on os in
+      let by : List Edge → Bounds → ℕ → Outcome = λ fs b f.
+      cutOutcome (outlineIn (sc .coords) work g cell) (tableIn (sc .coords) work g fs (candidatesFrom (sc .coords) fs b f) cell) in
       (λ s. by (near-is s) (box-is s) (first-is s))
-      ∙ ap (λ (js : List ℕ). cutBy (outlineIn (sc .coords) work g cell) (tableIn (sc .coords) work g es js cell) on os) (near .0)
-      ∙ ap₂ (λ (o : List Edge) (u : List Slot). cutAs (cutOutcome o u) on os) (outline-is sc work g same cell) (table-is sc work g same es cell k rest)
-      ∙ ap (λ (js : List ℕ). cutAs (treatedBy sc w i js .outcome ours) on os) (sym (near .1))
+      ∙ ap (λ (js : List ℕ). cutOutcome (outlineIn (sc .coords) work g cell) (tableIn (sc .coords) work g es js cell)) (near .0)
+      ∙ ap₂ (λ (o : List Edge) (u : List Slot). cutOutcome o u) (outline-is sc work g same cell) (table-is sc work g same es cell k rest)
+      ∙ ap (λ (js : List ℕ). treatedBy sc w i js .outcome ours) (sym (near .1))
 
   -- one without is copied
   pub copied-is : length es ≤ k → outcomeOf sc w i ≡ copiedOutcome (cellOf sc w i)

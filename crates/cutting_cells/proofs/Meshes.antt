@@ -14,7 +14,7 @@ use Rattle.regions.specs.Runs.{runIn}
 use Rattle.pieces.specs.declared.Keep.{Keep}
 use Rattle.pieces.specs.declared.Listed.{Listed}
 use Rattle.pieces.specs.Pieces.{runsOf, keepOf, sideOf, Yield, nothing, both, allOf, Placing, placing, placedBehind}
-use Rattle.pieces.proofs.Placing.{Steady, steady-all, fit, refused-first, placed-behind}
+use Rattle.pieces.proofs.Placing.{Steady, steady-nothing, steady-both, steady-all, fit, refused-first, placed-behind}
 use Rattle.cutting_cells.specs.Yields.{yieldOf, runsOn, numberedFrom, cellsYield, meshesYield, noneYet, Few, CellsAsk, MeshesReady}
 use Rattle.cutting_cells.proofs.Cell.{yield-steady}
 
@@ -56,6 +56,16 @@ module _ (op : ℕ) (coords : List Float) (work : List ℕ) (g : Regions) (w : S
       λ s. yieldOf coords work g (eo s) ends (ek s) (en s + i) (corners s)
 
 -- ---- both meshes
+
+pub meshes-steady : (op : ℕ) (coords : List Float) (work : List ℕ) (g : Regions) (se ce : List ℕ) → Steady (meshesYield op coords work g se ce)
+unfolding meshesYield
+meshes-steady op coords work g se ce =
+    steady-both (cellsYield op coords work g theSubject ce se) (cond (cuts op theCutter) (cellsYield op coords work g theCutter se ce) nothing)
+    (cells-steady op coords work g theSubject ce se) (go (cuts op theCutter))
+  where
+    go : (b : Bool) → Steady (cond b (cellsYield op coords work g theCutter se ce) nothing)
+    go true = cells-steady op coords work g theCutter se ce
+    go false = steady-nothing
 
 module _ (op : ℕ) (coords : List Float) (work : List ℕ) (g : Regions) (se ce on oe ot : List ℕ) (ready : MeshesReady op work g se ce) (ht : length oe ≤ length ot) where
   abbrev first : Yield

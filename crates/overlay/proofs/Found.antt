@@ -27,7 +27,8 @@ use Rattle.finding.proofs.Passed.{bare, ready}
 use Rattle.finding.proofs.Held.{Holds}
 use Rattle.finding.proofs.Settled.{leaves}
 use Rattle.finding.proofs.Result.{answer-is, coords-are, calm, holds}
-use Rattle.cutting_cells.specs.Listed.{MeshesIn, MeshesReady}
+use Rattle.cutting_cells.specs.Yields.{MeshesReady}
+use Rattle.overlay.proofs.Yielded.{MeshesIn}
 use Rattle.overlay.proofs.Stands.{meshes-in, meshes-ready}
 
 -- ---- new points take two numbers each
@@ -111,8 +112,8 @@ module _ (op m : ℕ) (s c : Mesh) (w₀ : List ℕ) (ok : Passed op m s c (leng
   points : take (2 * x .next) oc′ ≡ sc .coords
   points = ap (take (2 * x .next)) placed ∙ take-front-of oc (sc .coords) (2 * x .next) next-long
 
-  pub lists-hold : MeshesIn sc (take (2 * x .next) oc′) w′ (x .regions) (s .ends) (s .kinds) (s .families) (c .ends) (c .kinds) (c .families)
+  pub lists-hold : MeshesIn sc (take (2 * x .next) oc′) w′ (x .regions) (s .ends) (c .ends)
   lists-hold = meshes-in op s c (x .regions) w′ held (take (2 * x .next) oc′) (sym points)
 
-  pub lists-ready : MeshesReady op w′ (x .regions) (s .ends) (s .kinds) (s .families) (c .ends) (c .kinds) (c .families)
+  pub lists-ready : MeshesReady op w′ (x .regions) (s .ends) (c .ends)
   lists-ready = meshes-ready op s c (x .regions) w′ held m (length w₀) ok (calm op m s c w₀ asks oc oc′ w′ x told z)

@@ -24,7 +24,7 @@ use Rattle.cells.proofs.Scene.{same-keys}
 use Rattle.pieces.specs.Pieces.{runsOf}
 use Rattle.pieces.proofs.Runs.{length-runs}
 use Rattle.finding.specs.Found.{LinkedIn}
-use Rattle.cutting_cells.specs.Listed.{CellsReady}
+use Rattle.cutting_cells.specs.Yields.{CellsReady}
 
 -- one of the edges es has the key of e
 abbrev pub Among : List Edge → Edge → Type 0

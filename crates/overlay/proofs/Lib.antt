@@ -1,6 +1,8 @@
-pub mod Returns
+pub mod Scene
+pub mod Yielded
 pub mod Keys
 pub mod Stands
-pub mod Whole
 pub mod Found
+pub mod Whole
 pub mod Stages
+pub mod Returns

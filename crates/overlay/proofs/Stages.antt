@@ -1,33 +1,43 @@
 -- The returns of `run`, over plain values. Assumes nothing.
-use mathlib.Core.Path.{_≡_, sym, _∙_}
-use mathlib.Core.List.{List}
-use Prim.Native.Nat.{ℕ, _+_, _*_, _-_, _/_, _^_, _≤_, _<_}
+use mathlib.Core.Path.{_≡_, refl, sym, ap, _∙_, subst}
+use mathlib.Core.List.{List, _++_, map}
+use Prim.Native.Nat.{ℕ, _+_, _*_, _-_, _/_, _^_, _≤_, _<_, min}
 use native.Mathlib.Omega.{arith}
-use lib.ListN.{length, take}
+use lib.ListN.{length, take, drop}
 use lib.Ieee.{Float}
-use Rattle.lists.specs.Regions.{zeros}
+use Rattle.lists.specs.Regions.{front, zeros}
 use Rattle.entry.specs.Mesh.{Mesh}
 use Rattle.entry.specs.Passed.{Passed}
-use Rattle.rules.specs.Meetings.{Scene}
-use Rattle.rules.specs.Operations.{sceneFor, kept}
+use Rattle.rules.specs.Mesh.{Side, theSubject, theCutter}
+use Rattle.rules.specs.Neighbours.{subjectNet, cutterNet}
+use Rattle.rules.specs.Meetings.{Scene, netOf, sceneOf}
+use Rattle.rules.specs.Operations.{sceneFor}
 use Rattle.rules.specs.Refusals.{firstRefusal}
 use Rattle.rules.specs.Overlay.{lentLists, result, stateOf, answered}
-use Rattle.pieces.specs.Pieces.{room}
+use Rattle.regions.specs.declared.Regions.{Regions}
+use Rattle.pieces.specs.declared.Listed.{Listed}
+use Rattle.pieces.specs.Pieces.{Yield, placing, placedBehind}
 use Rattle.finding.specs.declared.stages.Found.{Found}
 use Rattle.finding.specs.Found.{foundEvents, foundOf}
 use Rattle.finding.proofs.Passed.{bare, ready}
 use Rattle.finding.proofs.Settled.{leaves}
 use Rattle.finding.proofs.Result.{met-few, code-is}
 use Rattle.finding.proofs.Scenes.{course-is, found-passes}
-use Rattle.pieces.specs.declared.Listed.{Listed}
-use Rattle.cutting_cells.specs.Listed.{MeshesIn, MeshesReady, cellEvents, ListedBehind, Fits, overBoth, noneYet}
-use Rattle.overlay.proofs.Whole.{found-refused, cells-state, cells-answered, points-are}
+use Rattle.cutting_cells.specs.Yields.{meshesYield, noneYet, Few, MeshesReady}
+use Rattle.cutting_cells.proofs.Meshes.{meshes-steady}
+use Rattle.passes.specs.Tags.{kindBy, familyBy}
+use Rattle.overlay.proofs.Yielded.{ofSide, MeshesIn, meshes-events, meshes-pieces, meshes-kinds, meshes-families}
+use Rattle.overlay.proofs.Whole.{found-refused, cells-state, count-low, tags-fit, cells-answered, points-are}
 use Rattle.overlay.proofs.Found.{coords-long, placed, next-is, next-long, points-in, lists-hold, lists-ready}
 
 module _ (op m : ℕ) (s c : Mesh) (oc : List Float) (on oe ok of w : List ℕ) (pa : Passed op m s c (length w)) (x : Found) (oc₁ : List Float) (w₁ : List ℕ)
     (told : leaves x oc₁ w₁ ≡ foundOf op m (bare s) (bare c) oc w) where
   abbrev sc : Scene
   sc = sceneFor op s c
+
+  -- how many pieces have a place in each of ends, kinds and families
+  abbrev room : ℕ
+  room = min (length oe) (min (length ok) (length of))
 
   -- what `run` ensures
   abbrev pub Ran : (code pieces points doubled : ℕ) (oc₂ : List Float) (on₂ oe₂ ok₂ of₂ : List ℕ) → Type 0
@@ -46,11 +56,11 @@ module _ (op m : ℕ) (s c : Mesh) (oc : List Float) (on oe ok of w : List ℕ) 
   )
 
   module _ (z : x .code ≡ 0) where
-    passed : firstRefusal m (length oc / 2) (room oe ok of) (length on) (foundEvents op s c) ≡ 0
-    passed = sym (told-all (room oe ok of) (length on)) ∙ z
+    passed : firstRefusal m (length oc / 2) (room) (length on) (foundEvents op s c) ≡ 0
+    passed = sym (told-all (room) (length on)) ∙ z
 
     -- what `cut_meshes` asks
-    pub asked : MeshesReady op w₁ (x .regions) (s .ends) (s .kinds) (s .families) (c .ends) (c .kinds) (c .families)
+    pub asked : MeshesReady op w₁ (x .regions) (s .ends) (c .ends)
     asked = lists-ready op m s c w pa oc oc₁ w₁ x told z
 
     pub points-fit : 2 * x .next ≤ length oc₁
@@ -60,34 +70,82 @@ module _ (op m : ℕ) (s c : Mesh) (oc : List Float) (on oe ok of w : List ℕ) 
     next-range =
         let k = coords-long op s c (pa .subject .even) (pa .cutter .even) in
         let l = next-long op m s c w pa oc oc₁ w₁ x told z in
-        let few = met-few op m s c (length oc / 2) (room oe ok of) (length on) passed in
+        let few = met-few op m s c (length oc / 2) (room) (length on) passed in
         (omega (arith, l, k .1, pa .subject .even, pa .cutter .even), omega (arith, l, k .1, k .2, few, pa .most, pa .subject .mostNodes, pa .cutter .mostNodes))
 
-    module _ (r : Listed) (on′ oe′ ok′ of′ : List ℕ)
-        (got : (r .code ≡ 0 → Fits (length (s .ends) + length (c .ends)) noneYet on oe ok of r)
-        × ((v : Scene) → MeshesIn v (take (2 * x .next) oc₁) w₁ (x .regions) (s .ends) (s .kinds) (s .families) (c .ends) (c .kinds) (c .families)
-        → ListedBehind (overBoth op v (cellEvents op v)) (overBoth op v (λ u. kept v u op)) noneYet on oe ok of r on′ oe′ ok′ of′)) where
-      listed : ListedBehind (overBoth op sc (cellEvents op sc)) (overBoth op sc (λ u. kept sc u op)) noneYet on oe ok of r on′ oe′ ok′ of′
-      listed = got .1 sc (lists-hold op m s c w pa oc oc₁ w₁ x told z)
+    abbrev g : Regions
+    g = x .regions
+
+    abbrev coords : List Float
+    coords = take (2 * x .next) oc₁
+
+    ins : MeshesIn sc coords w₁ g (s .ends) (c .ends)
+    ins = lists-hold op m s c w pa oc oc₁ w₁ x told z
+
+    -- what the cells yield
+    abbrev y : Yield
+    y = meshesYield op coords w₁ g (s .ends) (c .ends)
+
+    kinds-stand : (v : Side) → netOf sc v .kinds ≡ ofSide (s .kinds) (c .kinds) v
+    unfolding sceneOf subjectNet cutterNet
+    kinds-stand theSubject = refl
+    kinds-stand theCutter = refl
+
+    families-stand : (v : Side) → netOf sc v .families ≡ ofSide (s .families) (c .families) v
+    unfolding sceneOf subjectNet cutterNet
+    families-stand theSubject = refl
+    families-stand theCutter = refl
+
+    -- the lists of ends and of families, cut to the room, as the cells leave them
+    module _ (top : ℕ) (most : top ≡ room) (r : Listed) (on′ oe′ of′ : List ℕ)
+        (told-cut : (placing r on′ oe′ of′ ≡ placedBehind noneYet y on (take top oe) (take top of)) × Few (length (s .ends) + length (c .ends)) noneYet r) where
+      got : (placing r on′ oe′ of′ ≡ placedBehind noneYet y on (take room oe) (take room of)) × Few (length (s .ends) + length (c .ends)) noneYet r
+      got = (told-cut .0 ∙ ap (λ (n : ℕ). placedBehind noneYet y on (take n oe) (take n of)) most, told-cut .1)
 
       state-is : r .code ≡ stateOf op m s c (lentLists oc on oe ok of w)
       state-is =
-          let f = found-passes op s c m (length oc / 2) (room oe ok of) (length on) passed in
-          cells-state op m s c oc on oe ok of w (foundEvents op s c) (course-is op s c) (f .0) (f .1) (f .2) r on′ oe′ ok′ of′ listed
+          let f = found-passes op s c m (length oc / 2) room (length on) passed in
+          cells-state op m s c oc on oe ok of w (foundEvents op s c) (course-is op s c) (f .0) (f .1) (f .2) y (meshes-steady op coords w₁ g (s .ends) (c .ends))
+          (meshes-events op sc coords w₁ g (s .ends) (c .ends) ins) r on′ oe′ of′ (got .0)
 
       pub stops-cut : (r .code ≡ 0 → ⊥) → (a p q d : ℕ) → a ≡ r .code → (oc₂ : List Float) (on₂ oe₂ ok₂ of₂ : List ℕ) → Ran a p q d oc₂ on₂ oe₂ ok₂ of₂
-      stops-cut n a p q d e oc₂ on₂ oe₂ ok₂ of₂ = (e ∙ state-is, λ y. absurd (n (sym e ∙ y)))
+      stops-cut n a p q d e oc₂ on₂ oe₂ ok₂ of₂ = (e ∙ state-is, λ t. absurd (n (sym e ∙ t)))
 
-      pub ran : r .code ≡ 0 → Ran 0 (r .count) (x .next - (length (s .coords) + length (c .coords)) / 2) 0 oc₁ on′ oe′ ok′ of′
-      ran y =
-          let f = found-passes op s c m (length oc / 2) (room oe ok of) (length on) passed in
-          let half : length (s .coords) + length (c .coords) ≡ 2 * ((length (s .coords) + length (c .coords)) / 2) = omega (arith, pa .subject .even, pa .cutter .even) in (
-            sym y ∙ state-is,
-            λ _. cells-answered op m s c oc on oe ok of w (foundEvents op s c) (course-is op s c) (f .0) (f .1) (f .2) r on′ oe′ ok′ of′ listed y oc₁
-                (placed op m s c w pa oc oc₁ w₁ x told z)
-                (x .next - (length (s .coords) + length (c .coords)) / 2)
-                (points-are op s c (x .next) ((length (s .coords) + length (c .coords)) / 2) half (next-is op m s c w pa oc oc₁ w₁ x told z)),
-          )
+      module _ (t : r .code ≡ 0) where
+        -- the pieces have their places
+        pub count-fits : (r .count ≤ room) × (r .count < 2 ^ 32) × (r .count ≤ length (of′ ++ drop top of))
+        count-fits =
+            let f = found-passes op s c m (length oc / 2) room (length on) passed in
+            let steady = meshes-steady op coords w₁ g (s .ends) (c .ends) in
+            let events = meshes-events op sc coords w₁ g (s .ends) (c .ends) ins in
+            let pieces = meshes-pieces op sc coords w₁ g (s .ends) (c .ends) ins in (
+              count-low op m s c oc on oe ok of w (foundEvents op s c) (course-is op s c) (f .0) (f .1) (f .2) y steady events r on′ oe′ of′ (got .0) t pieces,
+              omega (arith, got .1 .pieces, pa .subject .mostCells, pa .cutter .mostCells),
+              subst (λ (n : ℕ). r .count ≤ length (of′ ++ drop n of)) (sym most)
+                  (tags-fit op m s c oc on oe ok of w (foundEvents op s c) (course-is op s c) (f .0) (f .1) (f .2) y steady events r on′ oe′ of′ (got .0) t pieces),
+            )
 
-      pub count-fits : r .code ≡ 0 → r .count < 2 ^ 32
-      count-fits y = omega (arith, got .0 y .fewPieces, pa .subject .mostCells, pa .cutter .mostCells)
+        ran-room : (ok′ fs : List ℕ) → ok′ ≡ front ok (map (kindBy (s .kinds) (c .kinds)) (take (r .count) (of′ ++ drop room of)))
+            → fs ≡ map (familyBy (s .families) (c .families)) (take (r .count) (of′ ++ drop room of))
+            → Ran 0 (r .count) (x .next - (length (s .coords) + length (c .coords)) / 2) 0 oc₁ on′ (oe′ ++ drop room oe) ok′ (fs ++ drop (r .count) (of′ ++ drop room of))
+        ran-room ok′ fs ek ef =
+            let f = found-passes op s c m (length oc / 2) room (length on) passed in
+            let half : length (s .coords) + length (c .coords) ≡ 2 * ((length (s .coords) + length (c .coords)) / 2) = omega (arith, pa .subject .even, pa .cutter .even) in (
+              sym t ∙ state-is,
+              λ _. cells-answered op m s c oc on oe ok of w (foundEvents op s c) (course-is op s c) (f .0) (f .1) (f .2) y (meshes-steady op coords w₁ g (s .ends) (c .ends))
+                  (meshes-events op sc coords w₁ g (s .ends) (c .ends) ins) r on′ oe′ of′ (got .0) t (meshes-pieces op sc coords w₁ g (s .ends) (c .ends) ins)
+                  (meshes-kinds op sc coords w₁ g (s .ends) (c .ends) ins (s .kinds) (c .kinds) (pa .subject .kindsLong) kinds-stand)
+                  (meshes-families op sc coords w₁ g (s .ends) (c .ends) ins (s .families) (c .families) (pa .subject .familiesLong) families-stand)
+                  ok′ fs ek ef oc₁ (placed op m s c w pa oc oc₁ w₁ x told z)
+                  (x .next - (length (s .coords) + length (c .coords)) / 2)
+                  (points-are op s c (x .next) ((length (s .coords) + length (c .coords)) / 2) half (next-is op m s c w pa oc oc₁ w₁ x told z)),
+            )
+
+        pub ran : (ok′ fs : List ℕ) → ok′ ≡ front ok (map (kindBy (s .kinds) (c .kinds)) (take (r .count) (of′ ++ drop top of)))
+            → fs ≡ map (familyBy (s .families) (c .families)) (take (r .count) (of′ ++ drop top of))
+            → Ran 0 (r .count) (x .next - (length (s .coords) + length (c .coords)) / 2) 0 oc₁ on′ (oe′ ++ drop top oe) ok′ (fs ++ drop (r .count) (of′ ++ drop top of))
+        ran ok′ fs ek ef =
+            subst (λ (n : ℕ). Ran 0 (r .count) (x .next - (length (s .coords) + length (c .coords)) / 2) 0 oc₁ on′ (oe′ ++ drop n oe) ok′
+            (fs ++ drop (r .count) (of′ ++ drop n of))) (sym most)
+            (ran-room ok′ fs (ek ∙ ap (λ (n : ℕ). front ok (map (kindBy (s .kinds) (c .kinds)) (take (r .count) (of′ ++ drop n of)))) most)
+            (ef ∙ ap (λ (n : ℕ). map (familyBy (s .families) (c .families)) (take (r .count) (of′ ++ drop n of))) most))

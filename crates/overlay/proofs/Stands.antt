@@ -30,7 +30,8 @@ use Rattle.cells.specs.Cells.{AllFew}
 use Rattle.pieces.specs.Pieces.{runsOf}
 use Rattle.finding.proofs.Cells.{cells-lists, cells-renumbered}
 use Rattle.finding.proofs.Held.{Holds, holds-linked}
-use Rattle.cutting_cells.specs.Listed.{MeshIn, MeshesIn, MeshesReady}
+use Rattle.cutting_cells.specs.Yields.{MeshesReady}
+use Rattle.overlay.proofs.Yielded.{MeshesIn}
 use Rattle.overlay.proofs.Keys.{cells-ready, not-crowded}
 
 -- ---- lines are never cut
@@ -85,21 +86,13 @@ module _ (op : ℕ) (s c : Mesh) (g : Regions) (w : List ℕ) (h : Holds op s c 
   unfolding sceneOf cutterNet
   cutter-cells = renumbered-cells
 
-  subject-mesh : MeshIn sc theSubject (runIn w (g .subject .entries)) (s .ends) (s .kinds) (s .families)
-  unfolding sceneOf subjectNet
-  subject-mesh = record { cells = subject-cells; kindsAre = refl; familiesAre = refl }
-
-  cutter-mesh : MeshIn sc theCutter (runIn w (g .cutter .entries)) (c .ends) (c .kinds) (c .families)
-  unfolding sceneOf cutterNet
-  cutter-mesh = record { cells = cutter-cells; kindsAre = refl; familiesAre = refl }
-
-  pub meshes-in : (coords : List Float) → sc .coords ≡ coords → MeshesIn sc coords w g (s .ends) (s .kinds) (s .families) (c .ends) (c .kinds) (c .families)
+  pub meshes-in : (coords : List Float) → sc .coords ≡ coords → MeshesIn sc coords w g (s .ends) (c .ends)
   meshes-in coords e =
       record {
         subjectCut = record { points = e; nodesAre = nodes-are; nearEdges = cutter-edges; nearCells = cutter-cells };
         cutterCut = record { points = e; nodesAre = nodes-are; nearEdges = subject-edges; nearCells = subject-cells };
-        subjectMesh = subject-mesh;
-        cutterMesh = cutter-mesh;
+        subjectCells = subject-cells;
+        cutterCells = cutter-cells;
       }
 
   -- ---- what is asked of the lists
@@ -121,7 +114,7 @@ module _ (op : ℕ) (s c : Mesh) (g : Regions) (w : List ℕ) (h : Holds op s c 
     few : AllFew w g (sc .subject .edges) × AllFew w g (sc .cutter .edges)
     few = not-crowded sc w g (holds-linked op s c g w h) collected-are calm
 
-    pub meshes-ready : MeshesReady op w g (s .ends) (s .kinds) (s .families) (c .ends) (c .kinds) (c .families)
+    pub meshes-ready : MeshesReady op w g (s .ends) (c .ends)
     meshes-ready =
         let sl = ap length (h .subject-entries) in
         let cl = ap length (h .cutter-entries) ∙ length-map (c .nodes) (λ k. getD (weld s c) k 0) in
@@ -142,10 +135,6 @@ module _ (op : ℕ) (s c : Mesh) (g : Regions) (w : List ℕ) (h : Holds op s c 
               (few-of (computeDescending (runsOf (runIn w (g .subject .entries)) (s .ends))) (sc .subject .edges) subject-own (few .0)) (ok .subject .cellMost);
           cutterCells = λ t. cells-ready w g (runIn w (g .cutter .entries)) (c .ends)
               (few-of (computeDescending (runsOf (runIn w (g .cutter .entries)) (c .ends))) (sc .cutter .edges) (cutter-own t) (few .1)) (ok .cutter .cellMost);
-          subjectKinds = ok .subject .kindsLong;
-          subjectFamilies = ok .subject .familiesLong;
-          cutterKinds = ok .cutter .kindsLong;
-          cutterFamilies = ok .cutter .familiesLong;
           mostSubject = ok .subject .mostCells;
           mostCutter = ok .cutter .mostCells;
         }

@@ -5,7 +5,10 @@ use finding::find;
 use lists::zero_f64;
 use lists::zero_u8;
 use lists::zero_u32;
+use passes::write_families;
+use passes::write_kinds;
 ghost use mathlib.Core.Path.{_≡_};
+ghost use Prim.Native.Nat.{min};
 ghost use lib.ListN.{length};
 ghost use Rattle.lists.specs.Regions.{zeros};
 ghost use Rattle.entry.specs.Mesh.{mesh};
@@ -32,7 +35,23 @@ fn plain(code: u32) -> Answer
     }
 }
 
-// The stages behind the entry. Where one refuses, the lists are to be cleared.
+fn least(a: usize, b: usize, c: usize) -> usize
+    ensures { λ r. ⌜ r ≡ min a (min b c) ⌝ }
+{
+    if b <= c {
+        if a <= b {
+            return a;
+        }
+        return b;
+    }
+    if a <= c {
+        return a;
+    }
+    c
+}
+
+// The stages behind the entry. The cells' pieces have tags in the list of families; kinds and families are written by them. Where a stage
+// refuses, the lists are to be cleared.
 fn run(
     op: u32,
     m: u32,
@@ -71,29 +90,28 @@ fn run(
     let next = f.next;
     let k = 2 * next;
     let g = f.regions;
+    let room = least(oe.len(), ok.len(), of.len());
     let r = cut_meshes(
         op,
         &oc[..k],
         work,
         g,
         se,
-        sk,
-        sf,
         ce,
-        ck,
-        cf,
         on,
-        oe,
-        ok,
-        of,
+        &mut oe[..room],
+        &mut of[..room],
     );
     let full = r.code;
     if full != 0 {
         return plain(full);
     }
+    let n = r.count;
+    write_kinds(&of[..n], sk, ck, ok);
+    write_families(sf, cf, &mut of[..n]);
     Answer {
         code: 0,
-        pieces: r.count as u32,
+        pieces: n as u32,
         points: (next - (sc.len() + cc.len()) / 2) as u32,
         doubled: 0,
     }

@@ -1,28 +1,26 @@
 -- `overlay::run` meets its contract. Assumes nothing.
-use mathlib.Core.Path.{sym}
-use mathlib.Core.List.{List}
-use Prim.Native.Nat.{ℕ, _*_}
+use mathlib.Core.Path.{_≡_, refl, sym, ap, _∙_, subst}
+use mathlib.Core.List.{List, _++_}
+use Prim.Native.Nat.{ℕ, _*_, _^_, _≤_, _<_}
 use native.Mathlib.Omega.{arith}
-use lib.ListN.{length}
+use lib.ListN.{length, take, drop}
 use lib.Seq.{length-take-le}
 use lib.Ieee.{Float}
 use Rattle.entry.specs.Mesh.{Mesh, mesh}
 use Rattle.entry.specs.Passed.{Passed}
 use Rattle.entry.proofs.Passed.{passed}
 use Rattle.finding.proofs.Passed.{ready}
-use Rattle.overlay.proofs.Stages.{stops-found, asked, points-fit, next-range, stops-cut, ran, count-fits}
+use Rattle.overlay.proofs.Stages.{stops-found, asked, points-fit, next-range, stops-cut, count-fits, ran}
 use borrow.Author.Needs.{needs}
 use Rattle.overlay.proofs.run.Statement.{statement}
 use Rattle.overlay.proofs.run.Tie as tie
 
 -- places of the code, each counted once
 abbrev start : tie.After-find → tie.Start
-start c = c .before .before .before .before .before .before .before .before .before .before .before .before .before .before .before .before .before
-    .before .before
+start c = c .before .before .before .before .before .before .before .before .before .before .before .before .before .before .before .before .before .before .before
 
 abbrev start-of-find : tie.After-find-arg2 → tie.Start
-start-of-find c = c .before .before .before .before .before .before .before .before .before .before .before .before .before .before .before .before
-    .before .before
+start-of-find c = c .before .before .before .before .before .before .before .before .before .before .before .before .before .before .before .before .before .before
 
 abbrev find-of-plain : tie.After-plain → tie.After-find
 find-of-plain c = c .before .before .before .before .before .before
@@ -30,23 +28,50 @@ find-of-plain c = c .before .before .before .before .before .before
 abbrev find-of-else : tie.Else1 → tie.After-find
 find-of-else c = c .before .before .before .before .before
 
-abbrev else-of-oc : tie.After-g → tie.Else1
-else-of-oc c = c .before
+abbrev else-of-least : tie.After-least → tie.Else1
+else-of-least c = c .before .before
 
-abbrev else-of-slice : tie.After-cut-meshes-arg → tie.Else1
-else-of-slice c = c .before .before
+abbrev least-of-oc : tie.After-cut-meshes-arg → tie.After-least
+least-of-oc c = c .before
 
-abbrev else-of-arg : tie.After-cut-meshes-arg6 → tie.Else1
-else-of-arg c = c .before .before .before .before .before .before .before
+abbrev least-of-oe : tie.After-cut-meshes-arg4 → tie.After-least
+least-of-oe c = c .before .before .before .before
 
-abbrev else-of-cut : tie.After-cut-meshes → tie.Else1
-else-of-cut c = c .before .before .before .before .before .before .before .before
+abbrev least-of-of : tie.After-cut-meshes-arg5 → tie.After-least
+least-of-of c = c .before .before .before .before .before
+
+abbrev least-of-cut : tie.After-cut-meshes → tie.After-least
+least-of-cut c = c .before .before .before .before .before .before
 
 abbrev cut-of-plain : tie.After-plain2 → tie.After-cut-meshes
-cut-of-plain c = c .before .before .before .before .before .before .before .before .before .before
+cut-of-plain c = c .before .before .before .before .before .before .before .before
 
-abbrev cut : tie.After-struct-known → tie.After-cut-meshes
-cut c = c .before .before .before .before .before .before .before .before .before .before
+abbrev then-of-plain : tie.After-plain2 → tie.Then2
+then-of-plain c = c .before
+
+abbrev cut-of-else : tie.Else2 → tie.After-cut-meshes
+cut-of-else c = c .before .before .before .before .before .before .before
+
+abbrev else-of-tags : tie.After-write-kinds-arg → tie.Else2
+else-of-tags c = c .before
+
+abbrev else-of-kinds : tie.After-write-kinds-arg2 → tie.Else2
+else-of-kinds c = c .before .before
+
+abbrev else-of-written : tie.After-slice-known12 → tie.Else2
+else-of-written c = c .before .before .before .before .before
+
+abbrev else-of-families : tie.After-write-families-arg → tie.Else2
+else-of-families c = c .before .before .before .before .before .before
+
+abbrev kinds : tie.After-slice-known13 → tie.After-write-kinds
+kinds c = c .before .before .before .before .before .before
+
+abbrev families : tie.After-slice-known13 → tie.After-write-families
+families c = c .before .before
+
+abbrev else-of-end : tie.After-slice-known13 → tie.Else2
+else-of-end c = c .before .before .before .before .before .before .before .before .before
 
 -- the meshes, which passed the entry
 abbrev subject : tie.Start → Mesh
@@ -67,27 +92,18 @@ w₁ f = f .find .last .1 .1 .1 .1 .1 .1 .1 .1 .1 .0
 
 -- and those that `cut_meshes` leaves
 abbrev on′ : tie.After-cut-meshes → List ℕ
-on′ k = k .cut-meshes .last .1 .1 .1 .1 .1 .1 .1 .1 .1 .1 .0
+on′ k = k .cut-meshes .last .1 .1 .1 .1 .1 .1 .0
 
 abbrev oe′ : tie.After-cut-meshes → List ℕ
-oe′ k = k .cut-meshes .last .1 .1 .1 .1 .1 .1 .1 .1 .1 .1 .1 .0
-
-abbrev ok′ : tie.After-cut-meshes → List ℕ
-ok′ k = k .cut-meshes .last .1 .1 .1 .1 .1 .1 .1 .1 .1 .1 .1 .1 .0
+oe′ k = k .cut-meshes .last .1 .1 .1 .1 .1 .1 .1 .0
 
 abbrev of′ : tie.After-cut-meshes → List ℕ
-of′ k = k .cut-meshes .last .1 .1 .1 .1 .1 .1 .1 .1 .1 .1 .1 .1 .1 .0
+of′ k = k .cut-meshes .last .1 .1 .1 .1 .1 .1 .1 .1 .0
 
 find-requires : tie.Need-find-requires
 find-requires c κs =
     let p = start-of-find c in
     ready (p .args .op) (p .args .m) (subject p) (cutter p) (length (p .args .work .now)) (pa p)
-
-same-length : tie.Need-same-length
-same-length c = find-of-plain c .find .kept .1 .1 .1 .1 .1 .1 .1 .1 .0
-
-same-length-2 : tie.Need-same-length-2
-same-length-2 c = find-of-plain c .find .kept .1 .1 .1 .1 .1 .1 .1 .1 .1 .0
 
 returns : tie.Need-returns
 returns c =
@@ -106,121 +122,141 @@ mul-k c =
     (p .args .of .now) (p .args .work .now) (pa p) (f .find .result) (oc₁ f) (w₁ f) (f .find .ensures) (c .if1 .left) in
     omega (arith, range .1)
 
-slice-reshare-prefix-cut-meshes : tie.Need-slice-reshare-prefix-cut-meshes
-slice-reshare-prefix-cut-meshes c =
-    let e = else-of-oc c in
+points : (e : tie.Else1) → 2 * find-of-else e .find .result .next ≤ length (oc₁ (find-of-else e))
+points e =
     let f = find-of-else e in
     let p = start f in
     points-fit (p .args .op) (p .args .m) (subject p) (cutter p) (p .args .oc .now) (p .args .on .now) (p .args .oe .now) (p .args .ok .now)
     (p .args .of .now) (p .args .work .now) (pa p) (f .find .result) (oc₁ f) (w₁ f) (f .find .ensures) (e .if1 .left)
 
+slice-reshare-prefix-cut-meshes : tie.Need-slice-reshare-prefix-cut-meshes
+slice-reshare-prefix-cut-meshes c = points (else-of-least c)
+
 slice-aggregate-cut-meshes : tie.Need-slice-aggregate-cut-meshes
 slice-aggregate-cut-meshes c =
-    let e = else-of-slice c in
-    let f = find-of-else e in
-    let p = start f in
-    sym (length-take-le (2 * f .find .result .next) (oc₁ f)
-    (points-fit (p .args .op) (p .args .m) (subject p) (cutter p) (p .args .oc .now) (p .args .on .now) (p .args .oe .now) (p .args .ok .now)
-    (p .args .of .now) (p .args .work .now) (pa p) (f .find .result) (oc₁ f) (w₁ f) (f .find .ensures) (e .if1 .left)))
+    let e = else-of-least (least-of-oc c) in
+    sym (length-take-le (2 * find-of-else e .find .result .next) (oc₁ (find-of-else e)) (points e))
+
+-- the room
+abbrev room : tie.After-least → ℕ
+room l = l .least .result
+
+in-ends : (l : tie.After-least) → room l ≤ length (start (find-of-else (else-of-least l)) .args .oe .now)
+in-ends l = omega (arith, l .least .ensures)
+
+in-families : (l : tie.After-least) → room l ≤ length (start (find-of-else (else-of-least l)) .args .of .now)
+in-families l = omega (arith, l .least .ensures)
+
+slice-aggregate-cut-meshes-2 : tie.Need-slice-aggregate-cut-meshes-2
+slice-aggregate-cut-meshes-2 c = let l = least-of-oe c in sym (length-take-le (room l) (start (find-of-else (else-of-least l)) .args .oe .now) (in-ends l))
+
+slice-aggregate-cut-meshes-3 : tie.Need-slice-aggregate-cut-meshes-3
+slice-aggregate-cut-meshes-3 c = let l = least-of-of c in sym (length-take-le (room l) (start (find-of-else (else-of-least l)) .args .of .now) (in-families l))
 
 cut-meshes-requires : tie.Need-cut-meshes-requires
 cut-meshes-requires c κs =
-    let e = else-of-arg c in
+    let l = least-of-of c in
+    let e = else-of-least l in
     let f = find-of-else e in
-    let p = start f in
-    asked (p .args .op) (p .args .m) (subject p) (cutter p) (p .args .oc .now) (p .args .on .now) (p .args .oe .now) (p .args .ok .now)
-    (p .args .of .now) (p .args .work .now) (pa p) (f .find .result) (oc₁ f) (w₁ f) (f .find .ensures) (e .if1 .left)
-
-same-length-3 : tie.Need-same-length-3
-same-length-3 c = find-of-else (else-of-cut (cut-of-plain c)) .find .kept .1 .1 .1 .1 .1 .1 .1 .1 .0
-
-same-length-4 : tie.Need-same-length-4
-same-length-4 c = cut-of-plain c .cut-meshes .kept .1 .1 .1 .1 .1 .1 .1 .1 .1 .1 .0
-
-same-length-5 : tie.Need-same-length-5
-same-length-5 c = cut-of-plain c .cut-meshes .kept .1 .1 .1 .1 .1 .1 .1 .1 .1 .1 .1 .0
-
-same-length-6 : tie.Need-same-length-6
-same-length-6 c = cut-of-plain c .cut-meshes .kept .1 .1 .1 .1 .1 .1 .1 .1 .1 .1 .1 .1 .0
-
-same-length-7 : tie.Need-same-length-7
-same-length-7 c = cut-of-plain c .cut-meshes .kept .1 .1 .1 .1 .1 .1 .1 .1 .1 .1 .1 .1 .1 .0
-
-same-length-8 : tie.Need-same-length-8
-same-length-8 c = find-of-else (else-of-cut (cut-of-plain c)) .find .kept .1 .1 .1 .1 .1 .1 .1 .1 .1 .0
-
-same-length-9 : tie.Need-same-length-9
-same-length-9 c = find-of-else (else-of-cut (cut c)) .find .kept .1 .1 .1 .1 .1 .1 .1 .1 .0
-
-same-length-10 : tie.Need-same-length-10
-same-length-10 c = cut c .cut-meshes .kept .1 .1 .1 .1 .1 .1 .1 .1 .1 .1 .0
-
-same-length-11 : tie.Need-same-length-11
-same-length-11 c = cut c .cut-meshes .kept .1 .1 .1 .1 .1 .1 .1 .1 .1 .1 .1 .0
-
-same-length-12 : tie.Need-same-length-12
-same-length-12 c = cut c .cut-meshes .kept .1 .1 .1 .1 .1 .1 .1 .1 .1 .1 .1 .1 .0
-
-same-length-13 : tie.Need-same-length-13
-same-length-13 c = cut c .cut-meshes .kept .1 .1 .1 .1 .1 .1 .1 .1 .1 .1 .1 .1 .1 .0
-
-same-length-14 : tie.Need-same-length-14
-same-length-14 c = find-of-else (else-of-cut (cut c)) .find .kept .1 .1 .1 .1 .1 .1 .1 .1 .1 .0
+    let p = start f in (
+      asked (p .args .op) (p .args .m) (subject p) (cutter p) (p .args .oc .now) (p .args .on .now) (p .args .oe .now) (p .args .ok .now)
+    (p .args .of .now) (p .args .work .now) (pa p) (f .find .result) (oc₁ f) (w₁ f) (f .find .ensures) (e .if1 .left),
+      omega (arith, length-take-le (room l) (p .args .oe .now) (in-ends l), length-take-le (room l) (p .args .of .now) (in-families l)),
+    )
 
 returns-2 : tie.Need-returns-2
 returns-2 c =
     let k = cut-of-plain c in
-    let f = find-of-else (else-of-cut k) in
+    let l = least-of-cut k in
+    let e = else-of-least l in
+    let f = find-of-else e in
     let p = start f in
     let r = c .plain2 .result in
     stops-cut (p .args .op) (p .args .m) (subject p) (cutter p) (p .args .oc .now) (p .args .on .now) (p .args .oe .now) (p .args .ok .now)
-    (p .args .of .now) (p .args .work .now) (pa p) (f .find .result) (oc₁ f) (w₁ f) (f .find .ensures) (else-of-cut k .if1 .left)
-    (k .cut-meshes .result) (on′ k) (oe′ k) (ok′ k) (of′ k) (k .cut-meshes .ensures) (c .before .if2 .taken)
-    (r .code) (r .pieces) (r .points) (r .doubled) (c .plain2 .ensures .0) (oc₁ f) (on′ k) (oe′ k) (ok′ k) (of′ k)
+    (p .args .of .now) (p .args .work .now) (pa p) (f .find .result) (oc₁ f) (w₁ f) (f .find .ensures) (e .if1 .left)
+    (room l) (l .least .ensures) (k .cut-meshes .result) (on′ k) (oe′ k) (of′ k) (k .cut-meshes .ensures) (then-of-plain c .if2 .taken)
+    (r .code) (r .pieces) (r .points) (r .doubled) (c .plain2 .ensures .0) (oc₁ f) (on′ k) _ (p .args .ok .now) _
 
-cast-t43 : tie.Need-cast-t43
-cast-t43 c =
-    let k = cut c in
-    let f = find-of-else (else-of-cut k) in
+-- how many pieces there are
+abbrev count : tie.Else2 → ℕ
+count t = cut-of-else t .cut-meshes .result .count
+
+-- their tags stand in front of the list of families
+abbrev tagged : tie.Else2 → List ℕ
+tagged t = let k = cut-of-else t in of′ k ++ drop (room (least-of-cut k)) (start (find-of-else (else-of-least (least-of-cut k))) .args .of .now)
+
+fits : (t : tie.Else2) → (count t ≤ room (least-of-cut (cut-of-else t))) × (count t < 2 ^ 32) × (count t ≤ length (tagged t))
+fits t =
+    let k = cut-of-else t in
+    let l = least-of-cut k in
+    let e = else-of-least l in
+    let f = find-of-else e in
     let p = start f in
-    let few = count-fits (p .args .op) (p .args .m) (subject p) (cutter p) (p .args .oc .now) (p .args .on .now) (p .args .oe .now) (p .args .ok .now)
-    (p .args .of .now) (p .args .work .now) (pa p) (f .find .result) (oc₁ f) (w₁ f) (f .find .ensures) (else-of-cut k .if1 .left)
-    (k .cut-meshes .result) (on′ k) (oe′ k) (ok′ k) (of′ k) (k .cut-meshes .ensures) (c .before .if2 .left) in
-    omega (arith, few)
+    let low = count-fits (p .args .op) (p .args .m) (subject p) (cutter p) (p .args .oc .now) (p .args .on .now) (p .args .oe .now) (p .args .ok .now)
+    (p .args .of .now) (p .args .work .now) (pa p) (f .find .result) (oc₁ f) (w₁ f) (f .find .ensures) (e .if1 .left)
+    (room l) (l .least .ensures) (k .cut-meshes .result) (on′ k) (oe′ k) (of′ k) (k .cut-meshes .ensures) (t .if2 .left) in
+    (omega (arith, low .0, l .least .ensures), low .1, low .2)
 
-add-t46 : tie.Need-add-t46
-add-t46 c =
-    let h = pa (start (find-of-else (else-of-cut (cut c)))) in
+slice-reshare-prefix-write-kinds : tie.Need-slice-reshare-prefix-write-kinds
+slice-reshare-prefix-write-kinds c = fits c .2
+
+slice-aggregate-write-kinds : tie.Need-slice-aggregate-write-kinds
+slice-aggregate-write-kinds c = let t = else-of-tags c in sym (length-take-le (count t) (tagged t) (fits t .2))
+
+write-kinds-requires : tie.Need-write-kinds-requires
+write-kinds-requires c κs =
+    let t = else-of-kinds c in
+    omega (arith, length-take-le (count t) (tagged t) (fits t .2), fits t .0, least-of-cut (cut-of-else t) .least .ensures)
+
+slice-relend-prefix-write-families : tie.Need-slice-relend-prefix-write-families
+slice-relend-prefix-write-families c = fits (else-of-written c) .2
+
+slice-aggregate-write-families : tie.Need-slice-aggregate-write-families
+slice-aggregate-write-families c = let t = else-of-families c in sym (length-take-le (count t) (tagged t) (fits t .2))
+
+cast-t53 : tie.Need-cast-t53
+cast-t53 c = omega (arith, fits (else-of-end c) .1)
+
+add-t34 : tie.Need-add-t34
+add-t34 c =
+    let h = pa (start (find-of-else (else-of-least (least-of-cut (cut-of-else (else-of-end c)))))) in
     omega (arith, h .subject .even, h .subject .mostNodes, h .cutter .even, h .cutter .mostNodes)
 
-sub-t48 : tie.Need-sub-t48
-sub-t48 c =
-    let k = cut c in
-    let f = find-of-else (else-of-cut k) in
+sub-t55 : tie.Need-sub-t55
+sub-t55 c =
+    let e = else-of-least (least-of-cut (cut-of-else (else-of-end c))) in
+    let f = find-of-else e in
     let p = start f in
     let range = next-range (p .args .op) (p .args .m) (subject p) (cutter p) (p .args .oc .now) (p .args .on .now) (p .args .oe .now) (p .args .ok .now)
-    (p .args .of .now) (p .args .work .now) (pa p) (f .find .result) (oc₁ f) (w₁ f) (f .find .ensures) (else-of-cut k .if1 .left) in
+    (p .args .of .now) (p .args .work .now) (pa p) (f .find .result) (oc₁ f) (w₁ f) (f .find .ensures) (e .if1 .left) in
     omega (arith, range .0)
 
-cast-t49 : tie.Need-cast-t49
-cast-t49 c =
-    let k = cut c in
-    let f = find-of-else (else-of-cut k) in
+cast-t56 : tie.Need-cast-t56
+cast-t56 c =
+    let e = else-of-least (least-of-cut (cut-of-else (else-of-end c))) in
+    let f = find-of-else e in
     let p = start f in
     let range = next-range (p .args .op) (p .args .m) (subject p) (cutter p) (p .args .oc .now) (p .args .on .now) (p .args .oe .now) (p .args .ok .now)
-    (p .args .of .now) (p .args .work .now) (pa p) (f .find .result) (oc₁ f) (w₁ f) (f .find .ensures) (else-of-cut k .if1 .left) in
+    (p .args .of .now) (p .args .work .now) (pa p) (f .find .result) (oc₁ f) (w₁ f) (f .find .ensures) (e .if1 .left) in
     omega (arith, range .1)
 
 returns-3 : tie.Need-returns-3
 returns-3 c =
-    let k = cut c in
-    let f = find-of-else (else-of-cut k) in
+    let t = else-of-end c in
+    let k = cut-of-else t in
+    let l = least-of-cut k in
+    let e = else-of-least l in
+    let f = find-of-else e in
     let p = start f in
     ran (p .args .op) (p .args .m) (subject p) (cutter p) (p .args .oc .now) (p .args .on .now) (p .args .oe .now) (p .args .ok .now)
-    (p .args .of .now) (p .args .work .now) (pa p) (f .find .result) (oc₁ f) (w₁ f) (f .find .ensures) (else-of-cut k .if1 .left)
-    (k .cut-meshes .result) (on′ k) (oe′ k) (ok′ k) (of′ k) (k .cut-meshes .ensures) (c .before .if2 .left)
+    (p .args .of .now) (p .args .work .now) (pa p) (f .find .result) (oc₁ f) (w₁ f) (f .find .ensures) (e .if1 .left)
+    (room l) (l .least .ensures) (k .cut-meshes .result) (on′ k) (oe′ k) (of′ k) (k .cut-meshes .ensures) (t .if2 .left)
+    (kinds c .write-kinds .last .1 .1 .1 .0) (families c .write-families .last .1 .1 .0) (kinds c .write-kinds .ensures) (families c .write-families .ensures)
 
 pub run-spec : {M : Type 1} → statement M
-run-spec = tie.close (tie.spec find-requires (λ c κs. search needs) same-length same-length-2 returns mul-k slice-reshare-prefix-cut-meshes
-    slice-aggregate-cut-meshes cut-meshes-requires (λ c κs. search needs) same-length-3 same-length-4 same-length-5 same-length-6 same-length-7 same-length-8
-    returns-2 cast-t43 add-t46 sub-t48 cast-t49 same-length-9 same-length-10 same-length-11 same-length-12 same-length-13 same-length-14 returns-3)
+run-spec = tie.close (tie.spec find-requires (λ c κs. search needs) (λ c. search needs) (λ c. search needs) returns mul-k (λ c κs. search needs)
+    slice-reshare-prefix-cut-meshes slice-aggregate-cut-meshes (λ c. search needs) slice-aggregate-cut-meshes-2 (λ c. search needs) slice-aggregate-cut-meshes-3
+    cut-meshes-requires (λ c κs. search needs) (λ c. search needs) (λ c. search needs) (λ c. search needs) (λ c. search needs) (λ c. search needs) returns-2
+    slice-reshare-prefix-write-kinds slice-aggregate-write-kinds write-kinds-requires slice-relend-prefix-write-families slice-aggregate-write-families
+    (λ c κs. search needs) cast-t53 add-t34 sub-t55 cast-t56 (λ c. search needs) (λ c. search needs) (λ c. search needs) (λ c. search needs) (λ c. search needs)
+    (λ c. search needs) returns-3)

@@ -1,0 +1,177 @@
+-- What a cell yields, by the lists, is what the rules say of it in a scene that stands in them. Assumes nothing.
+use mathlib.Core.Path.{_≡_, refl, sym, ap, ap₂, _∙_}
+use mathlib.Core.Bool.{Bool, true, false, cond}
+use mathlib.Core.List.{List, [], _∷_, _++_, map}
+use Prim.Native.Nat.{ℕ, zero, suc, _+_, _*_, _/_}
+use native.Mathlib.Omega.{arith}
+use lib.Dec.{eqb, ltb}
+use lib.ListN.{length, getD, replicate, length-map}
+use lib.Ieee.{Float}
+use borrow.Author.Tests.{ltb-true, ltb-false, eq-eqb, ne-eqb}
+use Rattle.lists.specs.Search.{bit, first}
+use Rattle.lists.specs.Gather.{passing}
+use Rattle.cutting.specs.Edges.{Edge}
+use Rattle.cutting.specs.Outcome.{Outcome, refusal, pieces, cutOutcome, copiedOutcome}
+use Rattle.rules.specs.declared.Bounds.{Bounds}
+use Rattle.rules.specs.Mesh.{Side, other}
+use Rattle.rules.specs.SpatialIndex.{boxOf, candidates}
+use Rattle.rules.specs.Meetings.{Scene, netOf}
+use Rattle.rules.specs.Nodes.{sortedNodes}
+use Rattle.rules.specs.Cell.{cellOf, nearOf, outcomeOf, treatedBy, treated, kindOf}
+use Rattle.rules.specs.Operations.{Piece, outcomePieces, kept}
+use Rattle.rules.specs.Refusals.{Event, ofCell}
+use Rattle.spatial_index.specs.Candidates.{meets}
+use Rattle.regions.specs.declared.MeshRuns.{MeshRuns}
+use Rattle.regions.specs.declared.Regions.{Regions}
+use Rattle.regions.specs.Runs.{runIn, meshEdges}
+use Rattle.edge_nodes.specs.Lent.{nodesOn}
+use Rattle.cells.specs.declared.Near.{Near}
+use Rattle.cells.specs.Cells.{outlineIn, tableIn, nearEdgesIn, candidatesOf}
+use Rattle.cells.proofs.Scene.{cut-is, copied-is, from-first, none-near}
+use Rattle.pieces.specs.Pieces.{runsOf, keepOf, isKept, events, Yield}
+use Rattle.pieces.proofs.Listing.{kept-nodes, kept-kinds, kept-families, events-nodes}
+use Rattle.cutting_cells.specs.Yields as Yields
+use Rattle.cutting_cells.specs.Yields.{outcomeBy, isCut, yieldBy, yieldOf}
+use Rattle.passes.specs.Tags.{kindBy, familyBy}
+
+-- What the cells of the mesh w are cut by: the coordinates, the sorted nodes of edges, and the other mesh's edges and cells.
+pub record SceneIn (sc : Scene) (w : Side) (coords : List Float) (work : List ℕ) (g : Regions) (o : MeshRuns) (ends : List ℕ) : Type 0 where
+  pub points : sc .coords ≡ coords
+  pub nodesAre : (e : Edge) → nodesOn (sc .coords) work g e ≡ sortedNodes sc e
+  pub nearEdges : netOf sc (other w) .edges ≡ meshEdges work o
+  pub nearCells : netOf sc (other w) .cells ≡ runsOf (runIn work (o .entries)) ends
+
+-- what happens at cell i
+abbrev pub cellEvents : ℕ → Scene → Side → ℕ → List Event
+cellEvents op sc w i = ofCell (outcomeOf sc w i) (kept sc w op i)
+
+abbrev pub nodesOf : List Piece → List (List ℕ)
+nodesOf ps = map (λ p. p .nodes) ps
+
+map-replicate : (f : ℕ → ℕ) (n v : ℕ) → map f (replicate n v) ≡ replicate n (f v)
+map-replicate f zero v = refl
+map-replicate f (suc n) v = ap (λ (l : List ℕ). f v ∷ l) (map-replicate f n v)
+
+-- ---- the first candidate decides
+
+module _ (sc : Scene) (w : Side) (i k : ℕ) (at : k ≡ first (meets (sc .coords) (netOf sc (other w) .edges) (boxOf (sc .coords) (cellOf sc w i))) 0
+    (length (netOf sc (other w) .edges))) where
+  abbrev es : List Edge
+  es = netOf sc (other w) .edges
+
+  abbrev box : Bounds
+  box = boxOf (sc .coords) (cellOf sc w i)
+
+  outcome-as : (work : List ℕ) (g : Regions) → ((e : Edge) → nodesOn (sc .coords) work g e ≡ sortedNodes sc e) → (t : Near) → nearEdgesIn work t ≡ es → t .bounds ≡ box
+      → t .first ≡ k → outcomeBy (sc .coords) work g t (cellOf sc w i) ≡ outcomeOf sc w i
+  unfolding outcomeBy
+  outcome-as work g same t near-is box-is first-is = go (ltb (t .first) (length (nearEdgesIn work t))) refl
+    where
+      many : length (nearEdgesIn work t) ≡ length es
+      many = ap length near-is
+
+      go : (b : Bool) → ltb (t .first) (length (nearEdgesIn work t)) ≡ b
+          → cond b (cutOutcome (outlineIn (sc .coords) work g (cellOf sc w i))
+          (tableIn (sc .coords) work g (nearEdgesIn work t) (candidatesOf (sc .coords) work t) (cellOf sc w i))) (copiedOutcome (cellOf sc w i))
+          ≡ outcomeOf sc w i
+      go true h = cut-is sc w i k at work g same (omega (arith, ltb-true (t .first) (length (nearEdgesIn work t)) h, many, first-is)) t near-is box-is first-is
+      go false h = sym (copied-is sc w i k at (omega (arith, ltb-false (t .first) (length (nearEdgesIn work t)) h, many, first-is)))
+
+  kind-as : cond (ltb k (length es)) 11 (getD (netOf sc w .kinds) i 0) ≡ kindOf sc w i
+  unfolding treated nearOf
+  kind-as = go (ltb k (length es)) refl
+    where
+      go : (t : Bool) → ltb k (length es) ≡ t → cond t 11 (getD (netOf sc w .kinds) i 0) ≡ treatedBy sc w i (candidates (sc .coords) es box) .kind
+      go true h = sym (ap (λ (js : List ℕ). treatedBy sc w i js .kind) (from-first (sc .coords) es box k at (ltb-true k (length es) h) .1))
+      go false h = sym (ap (λ (js : List ℕ). treatedBy sc w i js .kind) (none-near (sc .coords) es box k at (ltb-false k (length es) h)))
+
+-- ---- cell i
+
+module _ (op : ℕ) (sc : Scene) (w : Side) (coords : List Float) (work : List ℕ) (g : Regions) (o : MeshRuns) (ends : List ℕ) (scene : SceneIn sc w coords work g o ends)
+    (i number : ℕ) (cell : List ℕ) (this : cellOf sc w i ≡ cell) where
+  abbrev t : Near
+  t = Yields.nearOf coords work g o ends cell
+
+  abbrev y : Yield
+  y = yieldOf coords work g o ends (keepOf op w) number cell
+
+  -- the tag of its pieces
+  abbrev pub tagIn : ℕ
+  tagIn = 2 * number + bit (isCut coords work g o ends cell)
+
+  first-at : t .first ≡ first (meets (sc .coords) (netOf sc (other w) .edges) (boxOf (sc .coords) (cellOf sc w i))) 0 (length (netOf sc (other w) .edges))
+  first-at = sym (λ s. first (meets (scene .points s) (scene .nearEdges s) (boxOf (scene .points s) (this s))) 0 (length (scene .nearEdges s)))
+
+  outcome-is : outcomeBy coords work g t cell ≡ outcomeOf sc w i
+  outcome-is =
+      sym (λ s. outcomeBy (scene .points s) work g t (this s))
+      ∙ outcome-as sc w i (t .first) first-at work g (scene .nodesAre) t (sym (scene .nearEdges)) (sym (λ s. boxOf (scene .points s) (this s))) refl
+
+  abbrev these : List Piece
+  these = kept sc w op i
+
+  -- those of its pieces that pass
+  kept-are : passing (isKept (keepOf op w) coords (runsOf (runIn work (o .entries)) ends)) (outcomePieces (outcomeOf sc w i)) ≡ nodesOf these
+  kept-are =
+      sym (λ s. passing (isKept (keepOf op w) (scene .points s) (scene .nearCells s)) (outcomePieces (outcomeOf sc w i))) ∙ sym (kept-nodes sc op w i)
+
+  by-outcome : y ≡ yieldBy coords work g o ends (keepOf op w) tagIn (outcomeOf sc w i)
+  unfolding yieldOf
+  by-outcome = ap (yieldBy coords work g o ends (keepOf op w) tagIn) outcome-is
+
+  pieces-by : (x : Outcome) → yieldBy coords work g o ends (keepOf op w) tagIn x .pieces ≡ passing (isKept (keepOf op w) coords (runsOf (runIn work (o .entries)) ends)) (outcomePieces x)
+  unfolding passing
+  pieces-by (refusal r) = refl
+  pieces-by (pieces ps) = refl
+
+  pub pieces-are : y .pieces ≡ nodesOf these
+  pieces-are = ap (λ (u : Yield). u .pieces) by-outcome ∙ pieces-by (outcomeOf sc w i) ∙ kept-are
+
+  events-by : (x : Outcome) → x ≡ outcomeOf sc w i → yieldBy coords work g o ends (keepOf op w) tagIn x .events ≡ ofCell x these
+  events-by (refusal r) e = refl
+  events-by (pieces ps) e =
+      ap events (ap (λ (u : Outcome). passing (isKept (keepOf op w) coords (runsOf (runIn work (o .entries)) ends)) (outcomePieces u)) e ∙ kept-are) ∙ sym (events-nodes these)
+
+  pub events-are : y .events ≡ cellEvents op sc w i
+  events-are = ap (λ (u : Yield). u .events) by-outcome ∙ events-by (outcomeOf sc w i) refl
+
+  tags-by : (x : Outcome) → yieldBy coords work g o ends (keepOf op w) tagIn x .tags ≡ replicate (length (yieldBy coords work g o ends (keepOf op w) tagIn x .pieces)) tagIn
+  tags-by (refusal r) = refl
+  tags-by (pieces ps) = refl
+
+  pub tags-are : y .tags ≡ replicate (length these) tagIn
+  tags-are =
+      ap (λ (u : Yield). u .tags) by-outcome ∙ tags-by (outcomeOf sc w i)
+      ∙ ap (λ (n : ℕ). replicate n tagIn) (ap (λ (u : Yield). length (u .pieces)) (sym by-outcome) ∙ ap length pieces-are ∙ length-map these (λ p. p .nodes))
+
+  -- ---- what the tag says
+
+  number-back : tagIn / 2 ≡ number
+  number-back = go (isCut coords work g o ends cell)
+    where
+      go : (b : Bool) → (2 * number + bit b) / 2 ≡ number
+      go true = omega arith
+      go false = omega arith
+
+  module _ (sk ck : List ℕ) (kind : getD (sk ++ ck) number 0 ≡ getD (netOf sc w .kinds) i 0) where
+    pub kind-is : kindBy sk ck tagIn ≡ kindOf sc w i
+    kind-is =
+        go (isCut coords work g o ends cell)
+        ∙ ap₂ (λ (n v : ℕ). cond (ltb (t .first) n) 11 v) (sym (ap length (scene .nearEdges))) kind ∙ kind-as sc w i (t .first) first-at
+      where
+        go : (b : Bool) → kindBy sk ck (2 * number + bit b) ≡ cond b 11 (getD (sk ++ ck) number 0)
+        go true =
+            ap (λ (u : Bool). cond u (getD (sk ++ ck) ((2 * number + 1) / 2) 0) 11) (ne-eqb (2 * ((2 * number + 1) / 2)) (2 * number + 1) (λ z. absurd (omega (arith, z))))
+        go false =
+            let half : (2 * number + 0) / 2 ≡ number = omega arith in
+            ap (λ (u : Bool). cond u (getD (sk ++ ck) ((2 * number + 0) / 2) 0) 11) (eq-eqb (2 * ((2 * number + 0) / 2)) (2 * number + 0) (omega arith))
+            ∙ ap (λ (k : ℕ). getD (sk ++ ck) k 0) half
+
+    pub kinds-are : map (kindBy sk ck) (replicate (length these) tagIn) ≡ map (λ p. p .kind) these
+    kinds-are = map-replicate (kindBy sk ck) (length these) tagIn ∙ ap (replicate (length these)) kind-is ∙ sym (kept-kinds sc op w i)
+
+  module _ (sf cf : List ℕ) (family : getD (sf ++ cf) number 0 ≡ getD (netOf sc w .families) i 0) where
+    pub families-are : map (familyBy sf cf) (replicate (length these) tagIn) ≡ map (λ p. p .family) these
+    families-are =
+        map-replicate (familyBy sf cf) (length these) tagIn ∙ ap (λ (k : ℕ). replicate (length these) (getD (sf ++ cf) k 0)) number-back
+        ∙ ap (replicate (length these)) family ∙ sym (kept-families sc op w i)
