@@ -18,6 +18,7 @@ fit-of lines m ok =
       within = ok .within;
       last = ok .last;
       mostNodes = ok .mostNodes;
+      placed = ok .placed;
       mostEntries = ok .mostEntries;
       number = ok .number;
       two = λ e i h. ok .lineKind i h e .1;

@@ -10,6 +10,7 @@ use Rattle.lists.specs.Regions.{front, put, zeros}
 use Rattle.cutting.specs.Lent.{flatEdges}
 use Rattle.entry.specs.Mesh.{Mesh, mesh, nodeCount, prior, cellSize}
 use Rattle.rules.specs.Snap.{weld}
+use Rattle.snap.specs.Steps.{AllPlaced}
 use Rattle.rules.specs.Neighbours.{subjectNet, cutterNet}
 use Rattle.finding.specs.declared.numbering.NetPlaces.{NetPlaces}
 
@@ -26,6 +27,7 @@ pub record Fit (lines : Bool) (m : Mesh) : Type 0 where
   pub within : (i : ℕ) → i < length (m .ends) → getD (m .ends) i 0 ≤ length (m .nodes)
   pub last : prior (m .ends) (length (m .ends)) ≡ length (m .nodes)
   pub mostNodes : nodeCount m ≤ 16384
+  pub placed : AllPlaced (m .coords)
   pub mostEntries : length (m .nodes) ≤ 65536
   pub number : (i : ℕ) → i < length (m .nodes) → getD (m .nodes) i 0 < nodeCount m
   pub two : lines ≡ true → (i : ℕ) → i < length (m .ends) → cellSize (m .ends) i ≡ 2

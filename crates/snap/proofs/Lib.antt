@@ -1,3 +1,8 @@
+pub mod Differences
+pub mod Squares
+pub mod Halving
+pub mod Precedence
+pub mod Rising
 pub mod Places
 pub mod Marks
 pub mod Orders

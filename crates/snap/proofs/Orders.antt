@@ -1,32 +1,68 @@
 -- The marked nodes in order: the search for a place, and the turns of the sort in the marks' own list. Assumes nothing.
-use mathlib.Core.Path.{_≡_, refl, sym, ap, ap₂, _∙_}
-use mathlib.Core.Bool.{Bool, true, false, not, cond}
+use mathlib.Core.Path.{_≡_, refl, sym, ap, ap₂, _∙_, subst}
+use mathlib.Core.Bool.{Bool, true, false, not, cond, true≢false}
 use mathlib.Core.List.{List, [], _∷_, _++_, append-nil}
-use Prim.Native.Nat.{ℕ, _+_, _≤_, _<_}
+use Prim.Native.Nat.{ℕ, _+_, _*_, _/_, _≤_, _<_}
 use native.Mathlib.Nat.{le-antisymm, add-zero}
 use native.Mathlib.Omega.{arith}
 use lib.Dec.{eqb}
 use lib.ListN.{length, getD, take}
 use lib.Seq.{length-take-le}
-use lib.Ieee.{Float}
+use lib.Ieee.{Float, up, down, level, eq}
 use borrow.Author.Tests.{eq-eqb, ne-eqb}
-use Rattle.lists.specs.Search.{first}
 use Rattle.lists.specs.Gather.{gathered, places}
 use Rattle.lists.specs.Sort.{insert, sortOnto, sorted}
 use Rattle.lists.specs.Regions.{front, putIn, insertAt}
-use Rattle.lists.proofs.Gather.{places-more, places-le}
+use Rattle.lists.proofs.Gather.{places-more, places-le, places-at}
 use Rattle.lists.proofs.Insert.{insertAt-fits}
 use Rattle.lists.proofs.Regions.{take-front-of, front-front, front-behind}
 use Rattle.lists.proofs.Sort.{length-insert, insert-is, length-sorted, sortOnto-snoc}
-use Rattle.plane.specs.Plane.{pointAt}
+use Rattle.plane.specs.Plane.{isNumber, xOf, yOf, pointAt}
 use Rattle.plane.specs.declared.Point.{Point}
+use Rattle.entry.specs.Passed.{Placed}
 use Rattle.rules.specs.Snap.{precedes}
-use Rattle.snap.specs.Steps.{marked, before, indicesInOrder, withNode, counted}
+use Rattle.snap.specs.Steps.{AllPlaced, InOrder, placeOf, marked, before, indicesInOrder, withNode, counted}
+use Rattle.snap.proofs.Halving.{Turns, Between, between-end}
+use Rattle.snap.proofs.Precedence.{precedes-asym, precedes-through}
+use Rattle.snap.proofs.Rising.{All, all-at, all-of, rising-at, sorted-all, sorted-rising}
 
--- what the code of `place` tests
+-- ---- the search for a place
+
+-- the test of the search
+abbrev pub behindAt : List Float → List ℕ → ℕ → ℕ → Bool
+behindAt coords order v i = before coords v (getD order i 0)
+
+-- what the code tests
 pub precedes-is : (coords : List Float) (order : List ℕ) (v i : ℕ) (p q : Point) (t : Bool)
-    → p ≡ pointAt coords v → q ≡ pointAt coords (getD order i 0) → t ≡ precedes p q → before coords v (getD order i 0) ≡ t
+    → p ≡ pointAt coords v → q ≡ pointAt coords (getD order i 0) → t ≡ precedes p q → behindAt coords order v i ≡ t
 precedes-is coords order v i p q t pe qe te = sym (te ∙ ap₂ precedes pe qe)
+
+placed-number : (x : Float) → Placed x → isNumber x ≡ true
+unfolding eq
+placed-number x p = rw (p .finite) (go (p .sign) (p .size * up (p .power) * down (p .power)))
+  where
+    go : (s : Bool) (a : ℕ) → level s a s a ≡ true
+    go true a = rw (eq-eqb a a refl) refl
+    go false a = rw (eq-eqb a a refl) refl
+
+-- what doesn't stand before goes on through a node with a place
+pub before-through : (coords : List Float) (u v w : ℕ) → Placed (xOf coords v) × Placed (yOf coords v) → before coords u v ≡ false → before coords v w ≡ false
+    → before coords u w ≡ false
+unfolding pointAt
+before-through coords u v w p h k =
+    precedes-through (pointAt coords u) (pointAt coords v) (pointAt coords w) (placed-number (xOf coords v) (p .0)) (placed-number (yOf coords v) (p .1)) h k
+
+pub place-turns : (coords : List Float) (order : List ℕ) (v : ℕ) → InOrder coords order → Turns (behindAt coords order v) (length order)
+place-turns coords order v o i j h l e = go (behindAt coords order v j) refl
+  where
+    go : (t : Bool) → behindAt coords order v j ≡ t → behindAt coords order v j ≡ true
+    go true f = f
+    go false f = absurd (true≢false (sym e ∙ before-through coords v (getD order j 0) (getD order i 0) (o .placed j l) f (o .rises i j h l)))
+
+pub place-end : (coords : List Float) (order : List ℕ) (v lo hi : ℕ) → Between (behindAt coords order v) (length order) lo hi → hi ≤ lo
+    → (lo ≡ placeOf coords order v) × (lo ≤ length order)
+unfolding placeOf
+place-end coords order v lo hi b h = between-end (behindAt coords order v) (length order) lo hi b h
 
 -- ---- one node put in
 
@@ -39,9 +75,9 @@ module _ (coords : List Float) (s : List ℕ) (k i : ℕ) where
       (rw off (omega arith), rw off)
 
   pub put-in : (r : ℕ) (t : List ℕ) → (getD s i 0 ≡ 0 → ⊥) → k ≤ i → i < length s
-      → r ≡ first (λ j. before coords i (getD (take k s) j 0)) 0 (length (take k s)) → r ≤ length (take k s) → t ≡ insertAt s k r i
+      → r ≡ placeOf coords (take k s) i → r ≤ length (take k s) → t ≡ insertAt s k r i
       → (k + 1 ≡ counted s k i) × (t ≡ withNode coords s k i)
-  unfolding counted withNode
+  unfolding counted withNode placeOf
   put-in r t ne h l re rl te =
       let on : marked s i ≡ true = ap not (ne-eqb (getD s i 0) 0 ne) in
       let len : length (take k s) ≡ k = length-take-le k s (omega arith) in
@@ -55,6 +91,22 @@ module _ (coords : List Float) (s : List ℕ) (k i : ℕ) where
 abbrev pub orderTo : ℕ → List Float → List ℕ → List ℕ
 orderTo i coords marks = sorted (before coords) (places (marked marks) i)
 
+-- both coordinates of the node v are finite
+abbrev NodePlaced : List Float → ℕ → Type 0
+NodePlaced coords v = Placed (xOf coords v) × Placed (yOf coords v)
+
+-- those of a mesh that the entry lets pass are in order
+pub order-rises : (coords : List Float) (marks : List ℕ) (i : ℕ) → AllPlaced coords → i ≤ length coords / 2 → InOrder coords (orderTo i coords marks)
+order-rises coords marks i placed h =
+    let xs : List ℕ = places (marked marks) i in
+    let good : All (NodePlaced coords) xs =
+    all-of (NodePlaced coords) xs 0 (λ k l. let b = places-at (marked marks) i k l .0 in (placed (2 * getD xs k 0) (omega arith), placed (2 * getD xs k 0 + 1) (omega arith))) in
+    record {
+      placed = λ k l. all-at (NodePlaced coords) (sorted (before coords) xs) (sorted-all (before coords) (NodePlaced coords) xs good) k 0 l;
+      rises = λ k j b l. rising-at (before coords) (sorted (before coords) xs)
+          (sorted-rising (before coords) (NodePlaced coords) (λ u v. precedes-asym (pointAt coords u) (pointAt coords v)) (before-through coords) xs good) k j 0 b l;
+    }
+
 module _ (coords : List Float) (marks : List ℕ) where
   pub length-orderTo : (i : ℕ) → length (orderTo i coords marks) ≤ i
   length-orderTo i = omega (arith, length-sorted (before coords) (places (marked marks) i), places-le (marked marks) i)
@@ -62,6 +114,13 @@ module _ (coords : List Float) (marks : List ℕ) where
   pub order-start : (0 ≡ length (orderTo 0 coords marks)) × (marks ≡ front marks (orderTo 0 coords marks))
   unfolding front sortOnto gathered
   order-start = (refl, refl)
+
+  -- what `put_in_order` asks
+  pub order-ready : (s : List ℕ) (k i : ℕ) → AllPlaced coords → i ≤ length coords / 2 → k ≡ length (orderTo i coords marks) → s ≡ front marks (orderTo i coords marks)
+      → InOrder coords (take k s)
+  order-ready s k i placed h ke se =
+      let xs : List ℕ = orderTo i coords marks in
+      subst (InOrder coords) (sym (ap (take k) se ∙ take-front-of marks xs k (sym ke))) (order-rises coords marks i placed h)
 
   pub order-turn : (s t : List ℕ) (k r i : ℕ) → k ≡ length (orderTo i coords marks) → s ≡ front marks (orderTo i coords marks)
       → r ≡ counted s k i → t ≡ withNode coords s k i

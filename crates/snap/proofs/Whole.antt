@@ -1,5 +1,5 @@
 -- `duplicates_from`: the working list w₀ from call to call, and that `weld` stands at its front in the end. Assumes nothing.
-use mathlib.Core.Path.{_≡_, refl, sym, ap, ap₂, _∙_}
+use mathlib.Core.Path.{_≡_, refl, sym, ap, ap₂, _∙_, subst}
 use mathlib.Core.Bool.{Bool, true, false, cond}
 use mathlib.Core.List.{List, [], _++_, append-assoc}
 use Prim.Native.Nat.{ℕ, _+_, _/_, _≤_, _<_}
@@ -17,10 +17,10 @@ use Rattle.lists.proofs.Regions.{length-front, front-in, front-front, part-back
 use Rattle.plane.specs.Plane.{pointAt}
 use Rattle.entry.specs.Mesh.{mesh}
 use Rattle.rules.specs.Snap.{named, usedNodes, sortedIndicesFor, closestWithin, orShifted, numberOf, weld}
-use Rattle.snap.specs.Steps.{used, marked, before, indicesInOrder, numberBy}
+use Rattle.snap.specs.Steps.{AllPlaced, InOrder, used, marked, before, indicesInOrder, numberBy}
 use Rattle.snap.proofs.Places.{mid, length-part, front-is, put-front, lent-again, mid-mid}
 use Rattle.snap.proofs.Marks.{length-used, getD-used, marked-used}
-use Rattle.snap.proofs.Orders.{length-orderTo}
+use Rattle.snap.proofs.Orders.{length-orderTo, order-rises}
 use Rattle.snap.proofs.Numbers.{numberIn}
 
 -- ---- the numbers: by the marks of the cutter's nodes, and the subject's marked nodes in order
@@ -95,6 +95,12 @@ module _ (sc cc : List Float) (sn cn w₀ : List ℕ) (n k : ℕ) (fits : n + k 
       let parts : front w₀ (a ++ s) ≡ a ++ (os ++ (drop (length os) (used sn k) ++ end)) =
       append-assoc a s end ∙ ap (λ (l : List ℕ). a ++ l) (ap (λ (l : List ℕ). l ++ end) s-is ∙ append-assoc os (drop (length os) (used sn k)) end) in
       ap (λ (w : List ℕ). take r (drop n w)) parts ∙ ap (take r) (drop-at a _ n la) ∙ take-at os _ r (sym r-is)
+
+  pub ordered : AllPlaced sc → k ≡ length sc / 2 → InOrder sc (run (mid n k (mid n k (a ++ drop n w₀) b) s) n r)
+  unfolding indicesInOrder
+  ordered placed ke =
+      subst (InOrder sc) (sym (ap (λ (w : List ℕ). run w n r) third-is ∙ order-in))
+      (order-rises sc (used sn k) (length (used sn k)) placed (omega (arith, length-used sn k)))
 
   mark-in : (j : ℕ) → j < n → getD (front w₀ (a ++ s)) j 0 ≡ bit (named cn j)
   mark-in j h =

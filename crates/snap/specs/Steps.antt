@@ -1,21 +1,28 @@
 -- What the inner functions of module 4 come to, each over the lists lent to it. Assumes nothing.
-use mathlib.Core.Bool.{Bool, cond, not}
+use mathlib.Core.Path.{_≡_}
+use mathlib.Core.Bool.{Bool, false, cond, not}
 use mathlib.Core.List.{List}
 use Prim.Native.Nat.{ℕ, _+_, _/_, _<_}
 use lib.Dec.{eqb}
 use lib.ListN.{length, getD, take}
-use lib.Ieee.{Float, lt}
-use Rattle.lists.specs.Search.{bit}
+use lib.Ieee.{Float, nan, lt}
+use Rattle.lists.specs.Search.{bit, first}
 use Rattle.lists.specs.Gather.{each, places}
 use Rattle.lists.specs.Sort.{insert, sorted}
 use Rattle.lists.specs.Regions.{front}
-use Rattle.plane.specs.Plane.{pointAt}
-use Rattle.rules.specs.Snap.{named, precedes, orShifted, closestWithin}
+use Rattle.plane.specs.Plane.{_⊖_, xOf, yOf, pointAt}
+use Rattle.plane.specs.declared.Point.{Point}
+use Rattle.entry.specs.Passed.{Placed}
+use Rattle.rules.specs.Snap.{weldEps, named, precedes, orShifted, closestWithin}
 use Rattle.snap.specs.declared.Nearest.{Nearest}
 
 -- each node number is below n
 abbrev pub Below : ℕ → List ℕ → Type 0
 Below n nodes = (k : ℕ) → k < length nodes → getD nodes k 0 < n
+
+-- coordinates that the entry lets pass: finite ones
+abbrev pub AllPlaced : List Float → Type 0
+AllPlaced coords = (i : ℕ) → i < length coords → Placed (getD coords i nan)
 
 -- a mark for each of n nodes: 1 where some element names it
 unfoldable pub used : List ℕ → ℕ → List ℕ
@@ -30,6 +37,15 @@ marked marks i = not (eqb (getD marks i 0) 0)
 abbrev pub before : List Float → ℕ → ℕ → Bool
 before coords i j = precedes (pointAt coords i) (pointAt coords j)
 
+-- nodes with a place, of which none stands before an earlier one
+pub record InOrder (coords : List Float) (order : List ℕ) : Type 0 where
+  pub placed : (i : ℕ) → i < length order → Placed (xOf coords (getD order i 0)) × Placed (yOf coords (getD order i 0))
+  pub rises : (i j : ℕ) → i < j → j < length order → before coords (getD order j 0) (getD order i 0) ≡ false
+
+-- where the node v goes among them: before the first that it stands before
+unfoldable pub placeOf : List Float → List ℕ → ℕ → ℕ
+placeOf coords order v = first (λ i. before coords v (getD order i 0)) 0 (length order)
+
 -- the marked nodes in order
 unfoldable pub indicesInOrder : List Float → List ℕ → List ℕ
 indicesInOrder coords marks = sorted (before coords) (places (marked marks) (length marks))
@@ -42,6 +58,14 @@ unfoldable pub counted : List ℕ → ℕ → ℕ → ℕ
 counted s k i = k + bit (marked s i)
 
 -- ---- `closest_within`
+
+-- how far to the left of p the node v lies, rounded once
+abbrev pub ahead : List Float → Point → ℕ → Float
+ahead coords p v = p .x ⊖ pointAt coords v .x
+
+-- the first of the nodes in order that isn't 1e-12 or more to the left of p
+unfoldable pub windowStart : List Float → List ℕ → Point → ℕ
+windowStart coords order p = first (λ i. lt (ahead coords p (getD order i 0)) weldEps) 0 (length order)
 
 unfoldable pub closerNode : Float → ℕ → Nearest → Nearest
 closerNode d v best = cond (lt d (best .dist2)) (record { dist2 = d; node = v }) best

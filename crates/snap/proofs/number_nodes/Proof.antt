@@ -6,7 +6,7 @@ use lib.ListN.{length, length-set}
 use borrow.Author.Needs.{needs}
 use Rattle.lists.specs.Gather.{each}
 use Rattle.lists.specs.Regions.{front}
-use Rattle.snap.proofs.Numbers.{numberIn, number-start, number-turn, number-end}
+use Rattle.snap.proofs.Numbers.{numberIn, number-start, number-ready, number-turn, number-end}
 use Rattle.snap.proofs.number_nodes.Statement.{statement}
 use Rattle.snap.proofs.number_nodes.Tie as tie
 
@@ -23,22 +23,36 @@ entry c = c .before .before .before .before
 abbrev loop-of-in-loop : tie.In-loop Inv-loop μ-loop → tie.At-loop Inv-loop μ-loop
 loop-of-in-loop c = c .before
 
-abbrev in-loop : tie.After-number-of Inv-loop μ-loop → tie.In-loop Inv-loop μ-loop
-in-loop c = c .before .before .before .before
+abbrev in-loop-at-number-of-requires : tie.After-number-of-arg Inv-loop μ-loop → tie.In-loop Inv-loop μ-loop
+in-loop-at-number-of-requires c = c .before .before .before
+
+abbrev in-loop-at-loop-again : tie.After-number-of Inv-loop μ-loop → tie.In-loop Inv-loop μ-loop
+in-loop-at-loop-again c = c .before .before .before .before
 
 loop-holds : tie.Need-loop-holds Inv-loop μ-loop
 loop-holds c = (omega arith, refl, number-start _ _ _ _ _)
 
+number-of-requires : tie.Need-number-of-requires Inv-loop μ-loop
+number-of-requires c κs =
+    let at-loop = loop-of-in-loop (in-loop-at-number-of-requires c) in
+    let at-entry = entry at-loop in
+    let l = at-loop .loop in (
+      omega arith,
+      omega arith,
+      number-ready (at-entry .args .sc .now) (at-entry .args .cc .now) (at-entry .args .w .now) (length (at-entry .args .cc .now) / 2) (at-entry .args .count) (l .w) (l .j)
+          (at-entry .pre .2) (l .inv .0) (l .inv .2) (at-entry .pre .3),
+    )
+
 loop-again : tie.Need-loop-again Inv-loop μ-loop
 loop-again c =
-    let at-loop = loop-of-in-loop (in-loop c) in
+    let at-loop = loop-of-in-loop (in-loop-at-loop-again c) in
     let at-entry = entry at-loop in
     let l = at-loop .loop in
     let n = length (at-entry .args .cc .now) / 2 in (
       omega arith,
       simp length-set (l .inv .1),
       number-turn (at-entry .args .sc .now) (at-entry .args .cc .now) (at-entry .args .w .now) n (at-entry .args .count) (l .w) (c .number-of .result) (l .j)
-          (at-entry .pre .2) (in-loop c .loop-test .taken) (l .inv .2) (c .number-of .ensures),
+          (at-entry .pre .2) (in-loop-at-loop-again c .loop-test .taken) (l .inv .2) (c .number-of .ensures),
     )
 
 returns : tie.Need-returns Inv-loop μ-loop
@@ -48,5 +62,5 @@ returns c =
 
 pub number-nodes-spec : {M : Type 1} → statement M
 number-nodes-spec = tie.close (tie.spec Inv-loop μ-loop (λ c. search needs) loop-holds (λ c. search needs) (λ c. search needs) (λ c. search needs)
-    (λ c. search needs) (λ c. search needs) (λ c. search needs) (λ c κs. search needs) (λ c. search needs) (λ c. search needs) (λ c. search needs)
+    (λ c. search needs) (λ c. search needs) (λ c. search needs) number-of-requires (λ c. search needs) (λ c. search needs) (λ c. search needs)
     (λ c. search needs) loop-again (λ c. search needs) returns)

@@ -5,7 +5,7 @@ use native.Mathlib.Omega.{arith}
 use lib.ListN.{length}
 use borrow.Author.Needs.{needs}
 use Rattle.lists.specs.Regions.{front}
-use Rattle.snap.proofs.Orders.{orderTo, length-orderTo, order-start, order-turn, order-end}
+use Rattle.snap.proofs.Orders.{orderTo, length-orderTo, order-start, order-ready, order-turn, order-end}
 use Rattle.snap.proofs.sorted_indices_for.Statement.{statement}
 use Rattle.snap.proofs.sorted_indices_for.Tie as tie
 
@@ -26,6 +26,9 @@ entry-of-loop c = c .before .before .before
 abbrev loop-at-returns : tie.After-loop Inv-loop μ-loop → tie.At-loop Inv-loop μ-loop
 loop-at-returns c = c .before
 
+abbrev loop-at-put-in-order-requires : tie.After-put-in-order-arg Inv-loop μ-loop → tie.At-loop Inv-loop μ-loop
+loop-at-put-in-order-requires c = c .before .before
+
 abbrev loop-of-put-in-order : tie.After-put-in-order Inv-loop μ-loop → tie.At-loop Inv-loop μ-loop
 loop-of-put-in-order c = c .before .before .before
 
@@ -37,6 +40,17 @@ loop-holds c =
     let at-entry = entry-at-loop-holds c in
     let e = order-start (at-entry .args .coords .now) (at-entry .args .s .now) in
     (omega arith, refl, omega arith, e .0, e .1)
+
+put-in-order-requires : tie.Need-put-in-order-requires Inv-loop μ-loop
+put-in-order-requires c κs =
+    let at-entry = entry-of-loop (loop-at-put-in-order-requires c) in
+    let l = loop-at-put-in-order-requires c .loop in (
+      omega arith,
+      omega arith,
+      omega arith,
+      order-ready (at-entry .args .coords .now) (at-entry .args .s .now) (l .s) (l .k) (l .i) (at-entry .pre .2)
+          (omega arith) (l .inv .3) (l .inv .4),
+    )
 
 loop-again : tie.Need-loop-again Inv-loop μ-loop
 loop-again c =
@@ -55,4 +69,4 @@ returns c =
     order-end (at-entry .args .coords .now) (at-entry .args .s .now) (l .s) (l .k) (l .i) (l .inv .0) (omega arith) (l .inv .3) (l .inv .4)
 
 pub sorted-indices-for-spec : {M : Type 1} → statement M
-sorted-indices-for-spec = tie.close (tie.spec Inv-loop μ-loop loop-holds (λ c κs. search needs) (λ c. search needs) (λ c. search needs) loop-again (λ c. search needs) returns)
+sorted-indices-for-spec = tie.close (tie.spec Inv-loop μ-loop loop-holds put-in-order-requires (λ c. search needs) (λ c. search needs) loop-again (λ c. search needs) returns)
