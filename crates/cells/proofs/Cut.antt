@@ -22,11 +22,10 @@ use Rattle.cutting.proofs.Pairs.{pairs-ends}
 use Rattle.dart_table.proofs.Joins.{cell-length, cut-repeats, cut-over, cut-fits}
 use Rattle.cutting.proofs.Tabled.{slots-length}
 use Rattle.edge_nodes.specs.Lent.{FrontIs}
-use Rattle.cells.specs.declared.Near.{Near}
+use Rattle.regions.specs.declared.Run.{Run}
 use Rattle.regions.specs.declared.Regions.{Regions}
 use Rattle.regions.specs.Runs.{runIn}
-use Rattle.spatial_index.specs.Blocks.{Covered}
-use Rattle.cells.specs.Cells.{outlineIn, nearIn, tableIn, candidatesFrom, nearEdgesIn, candidatesOf, AllFew, Cut, cut, cutAs, cutBy, cutCell, Held}
+use Rattle.cells.specs.Cells.{outlineIn, nearIn, tableIn, edgesIn, Places, AllFew, Cut, cut, cutAs, cutBy, cutCell, Held}
 
 -- ---- refusals 10 and 19
 
@@ -57,24 +56,24 @@ module _ (coords : List Float) (outline : List Edge) (w : List ℕ) (n : ℕ) (f
 
 -- ---- `cut_cell`
 
-module _ (coords : List Float) (work : List ℕ) (g : Regions) (t : Near) (cell on os : List ℕ) where
+module _ (coords : List Float) (work : List ℕ) (g : Regions) (edges : Run) (js cell on os : List ℕ) where
   abbrev own : List Edge
   own = outlineIn coords work g cell
 
   abbrev others : List Laid
-  others = nearIn coords work g (nearEdgesIn work t) (candidatesOf coords work t)
+  others = nearIn coords work g (edgesIn work edges) js
 
   pub cut-as-lent : (w : List ℕ) (n : ℕ) (x : Cut) → n ≤ 1024 → (n ≤ 1024 → take n w ≡ flatEdges own)
-      → x ≡ cutBy (pairs (take n w)) (cellTable coords (pairs (take n w)) others) on os → x ≡ cutCell coords work g t cell on os
+      → x ≡ cutBy (pairs (take n w)) (cellTable coords (pairs (take n w)) others) on os → x ≡ cutCell coords work g edges js cell on os
   unfolding cutCell tableIn
   cut-as-lent w n x few put-in e = as-lent coords own w n few put-in others on os x e
 
   -- too many slots of the own edges are too many in all
-  pub too-many-own : repeats own ≡ false → 1024 < length (cellTable coords own []) → cutAs (refusal 10) on os ≡ cutCell coords work g t cell on os
+  pub too-many-own : repeats own ≡ false → 1024 < length (cellTable coords own []) → cutAs (refusal 10) on os ≡ cutCell coords work g edges js cell on os
   unfolding cutCell tableIn innerWith newTo joined
   too-many-own once many = too-many coords own others on os once (omega (arith, many, cell-length coords own [], cell-length coords own others))
 
-  pub repeated-own : repeats own ≡ true → cutAs (refusal 19) on os ≡ cutCell coords work g t cell on os
+  pub repeated-own : repeats own ≡ true → cutAs (refusal 19) on os ≡ cutCell coords work g edges js cell on os
   unfolding cutCell tableIn
   repeated-own e = repeated coords own others on os e
 
@@ -117,19 +116,16 @@ module _ (o : Outcome) (w : Walked) (on os on′ os′ : List ℕ) (ew : w ≡ a
 
 -- ---- the edges near a cell, where they are lent by themselves
 
-module _ (coords : List Float) (work : List ℕ) (g : Regions) (t : Near) (near : List ℕ) (lent : near ≡ runIn work (t .edges)) where
-  pub near-few : AllFew work g (nearEdgesIn work t) → AllFew work g (pairs near)
+module _ (coords : List Float) (work : List ℕ) (g : Regions) (edges : Run) (js near : List ℕ) (lent : near ≡ runIn work edges) where
+  pub near-few : AllFew work g (edgesIn work edges) → AllFew work g (pairs near)
   near-few h = subst (λ (ns : List ℕ). AllFew work g (pairs ns)) (sym lent) h
 
-  pub near-covered : (boxes : List Float) → Covered coords (nearEdgesIn work t) boxes → Covered coords (pairs near) boxes
-  near-covered boxes h = subst (λ (ns : List ℕ). Covered coords (pairs ns) boxes) (sym lent) h
+  pub near-places : Places js (edgesIn work edges) → Places js (pairs near)
+  near-places h = subst (λ (ns : List ℕ). Places js (pairs ns)) (sym lent) h
 
-  pub near-held : (outline : List Edge) (r : ℕ) (src dst marks : List ℕ)
-      → Held (cellTable coords outline (nearIn coords work g (pairs near) (candidatesFrom coords (pairs near) (t .bounds) (t .first)))) r src dst marks
-      → Held (cellTable coords outline (nearIn coords work g (nearEdgesIn work t) (candidatesOf coords work t))) r src dst marks
-  near-held outline r src dst marks h =
-      subst (λ (ns : List ℕ). Held (cellTable coords outline (nearIn coords work g (pairs ns) (candidatesFrom coords (pairs ns) (t .bounds) (t .first)))) r src dst marks)
-      lent h
+  pub near-held : (outline : List Edge) (r : ℕ) (src dst marks : List ℕ) → Held (cellTable coords outline (nearIn coords work g (pairs near) js)) r src dst marks
+      → Held (cellTable coords outline (nearIn coords work g (edgesIn work edges) js)) r src dst marks
+  near-held outline r src dst marks h = subst (λ (ns : List ℕ). Held (cellTable coords outline (nearIn coords work g (pairs ns) js)) r src dst marks) lent h
 
 -- ---- a list's front
 

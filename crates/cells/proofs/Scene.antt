@@ -1,36 +1,29 @@
 -- For the next stage: a scene's cell, where its edges and meetings stand in lent lists, and the answer read. Assumes nothing.
 use mathlib.Core.Path.{_≡_, refl, sym, ap, ap₂, _∙_, subst}
-use mathlib.Core.Bool.{Bool, true, false}
+use mathlib.Core.Bool.{true}
 use mathlib.Core.List.{List, [], _∷_, map}
 use Prim.Native.Nat.{ℕ, suc, _+_, _≤_, _<_}
 use native.Mathlib.Omega.{arith}
 use lib.ListN.{length, take}
 use lib.Ieee.{Float}
-use borrow.Author.Tests.{ltb-false}
-use Rattle.lists.specs.Search.{first, has}
 use Rattle.lists.specs.Regions.{front}
-use Rattle.lists.proofs.Search.{first-here, first-hit, has-none}
 use Rattle.lists.proofs.Regions.{take-front}
 use Rattle.cutting.specs.Edges.{Edge, edgeAt, sameKey, ring}
 use Rattle.cutting.specs.Cell.{Laid, outlineDarts, Slot, cellTable}
 use Rattle.cutting.specs.Setting.{ours}
 use Rattle.cutting.specs.Outcome as Outcome
 use Rattle.cutting.specs.Outcome.{Outcome, pieces, refusal, cutOutcome, copiedOutcome, flat}
-use Rattle.rules.specs.declared.Bounds.{Bounds}
 use Rattle.rules.specs.Mesh.{Side, other}
 use Rattle.rules.specs.SpatialIndex.{boxOf, candidates}
 use Rattle.rules.specs.Meetings.{Scene, netOf}
 use Rattle.rules.specs.Nodes.{sortedNodes}
 use Rattle.rules.specs.Cell.{laid, dartsOf, nearEdges, treatedBy, treated, cellOf, nearOf, outcomeOf}
-use Rattle.spatial_index.specs.Candidates.{meets}
-use Rattle.spatial_index.proofs.Candidates.{places-next, places-end, candidates-from}
 use Rattle.edge_nodes.specs.Lent.{nodesOn}
 use Rattle.edge_nodes.proofs.Scene.{same-collected}
-use Rattle.cells.specs.declared.Near.{Near}
 use Rattle.cells.proofs.Cut.{front-fits}
 use Rattle.regions.specs.declared.Regions.{Regions}
 use Rattle.regions.specs.Runs.{runIn, meshEdges}
-use Rattle.cells.specs.Cells.{laidIn, outlineIn, nearIn, tableIn, candidatesFrom, candidatesOf, nearEdgesIn, Cut, cutAs, AllFew}
+use Rattle.cells.specs.Cells.{laidIn, outlineIn, nearIn, tableIn, Cut, cutAs, AllFew}
 
 -- ---- refusal 9 passed
 
@@ -42,22 +35,6 @@ same-keys work g es u fs among i h =
     let v = u (k .0) (k .1) in
     let same = same-collected (edgeAt es (k .0)) (edgeAt fs i) (k .2) (meshEdges work (g .subject)) (meshEdges work (g .cutter)) (runIn work (g .met)) in
     record { lies = v .lies; linked = v .linked; few = omega (arith, v .few, ap length same) }
-
--- ---- the candidates from the first on are all
-
-module _ (coords : List Float) (es : List Edge) (b : Bounds) (k : ℕ) (at : k ≡ first (meets coords es b) 0 (length es)) where
-  abbrev p : ℕ → Bool
-  p = meets coords es b
-
-  -- where the search finds one
-  pub from-first : k < length es → (candidatesFrom coords es b k ≡ k ∷ candidatesFrom coords es b (k + 1)) × (candidates coords es b ≡ k ∷ candidatesFrom coords es b (k + 1))
-  from-first h =
-      let hit : p k ≡ true = ap p at ∙ first-hit p 0 (length es) (omega (arith, h, at)) in
-      (places-next p k (length es) k (first-here p k (length es) h hit) h, sym (candidates-from coords es b) ∙ places-next p 0 (length es) k (sym at) h)
-
-  -- where it finds none
-  pub none-near : length es ≤ k → candidates coords es b ≡ []
-  none-near h = sym (candidates-from coords es b) ∙ places-end p 0 (length es) (omega (arith, h, at))
 
 -- ---- outline, table and outcome
 
@@ -74,41 +51,26 @@ module _ (sc : Scene) (work : List ℕ) (g : Regions) (same : (e : Edge) → nod
   unfolding tableIn nearIn
   table-is es cell j js = ap₂ (λ (o : List Edge) (f : Edge → Laid). cellTable (sc .coords) o (map (λ i. f (edgeAt es i)) (j ∷ js))) (outline-is cell) laid-is
 
--- cell i of mesh w; k is the first candidate
-module _ (sc : Scene) (w : Side) (i k : ℕ) (at : k ≡ first (meets (sc .coords) (netOf sc (other w) .edges) (boxOf (sc .coords) (cellOf sc w i))) 0
-    (length (netOf sc (other w) .edges))) where
+-- cell i of mesh w
+module _ (sc : Scene) (w : Side) (i : ℕ) where
   abbrev es : List Edge
   es = netOf sc (other w) .edges
 
-  abbrev box : Bounds
-  box = boxOf (sc .coords) (cellOf sc w i)
-
-  abbrev rest : List ℕ
-  rest = candidatesFrom (sc .coords) es box (k + 1)
-
-  -- a cell with candidates comes to what the rules say of it
-  pub cut-is : (work : List ℕ) (g : Regions) → ((e : Edge) → nodesOn (sc .coords) work g e ≡ sortedNodes sc e) → k < length es → (t : Near) → nearEdgesIn work t ≡ es
-      → t .bounds ≡ box → t .first ≡ k
-      → cutOutcome (outlineIn (sc .coords) work g (cellOf sc w i)) (tableIn (sc .coords) work g (nearEdgesIn work t) (candidatesOf (sc .coords) work t) (cellOf sc w i))
-      ≡ outcomeOf sc w i
+  -- with edges near it it comes to what the rules say of it
+  pub cut-is : (work : List ℕ) (g : Regions) → ((e : Edge) → nodesOn (sc .coords) work g e ≡ sortedNodes sc e) → (fs : List Edge) → fs ≡ netOf sc (other w) .edges
+      → (j : ℕ) (js : List ℕ) → candidates (sc .coords) (netOf sc (other w) .edges) (boxOf (sc .coords) (cellOf sc w i)) ≡ j ∷ js
+      → cutOutcome (outlineIn (sc .coords) work g (cellOf sc w i)) (tableIn (sc .coords) work g fs (j ∷ js) (cellOf sc w i)) ≡ outcomeOf sc w i
   unfolding nearOf treated
-  cut-is work g same h t near-is box-is first-is =
+  cut-is work g same fs edges j js found =
       let cell = cellOf sc w i in
-      let near = from-first (sc .coords) es box k at h in
-      let by : List Edge → Bounds → ℕ → Outcome = λ fs b f.
-      cutOutcome (outlineIn (sc .coords) work g cell) (tableIn (sc .coords) work g fs (candidatesFrom (sc .coords) fs b f) cell) in
-      (λ s. by (near-is s) (box-is s) (first-is s))
-      ∙ ap (λ (js : List ℕ). cutOutcome (outlineIn (sc .coords) work g cell) (tableIn (sc .coords) work g es js cell)) (near .0)
-      ∙ ap₂ (λ (o : List Edge) (u : List Slot). cutOutcome o u) (outline-is sc work g same cell) (table-is sc work g same es cell k rest)
-      ∙ ap (λ (js : List ℕ). treatedBy sc w i js .outcome ours) (sym (near .1))
+      ap (λ (l : List Edge). cutOutcome (outlineIn (sc .coords) work g cell) (tableIn (sc .coords) work g l (j ∷ js) cell)) edges
+      ∙ ap₂ (λ (o : List Edge) (u : List Slot). cutOutcome o u) (outline-is sc work g same cell) (table-is sc work g same es cell j js)
+      ∙ ap (λ (l : List ℕ). treatedBy sc w i l .outcome ours) (sym found)
 
-  -- one without is copied
-  pub copied-is : length es ≤ k → outcomeOf sc w i ≡ copiedOutcome (cellOf sc w i)
+  -- without any it is copied
+  pub copied-is : candidates (sc .coords) (netOf sc (other w) .edges) (boxOf (sc .coords) (cellOf sc w i)) ≡ [] → outcomeOf sc w i ≡ copiedOutcome (cellOf sc w i)
   unfolding nearOf treated
-  copied-is h =
-      let cell = cellOf sc w i in
-      let none = none-near (sc .coords) es box k at h in
-      ap (λ (js : List ℕ). treatedBy sc w i js .outcome ours) none
+  copied-is none = ap (λ (js : List ℕ). treatedBy sc w i js .outcome ours) none
 
 -- ---- the answer read
 

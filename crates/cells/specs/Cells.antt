@@ -3,7 +3,7 @@
 use mathlib.Core.Path.{_≡_}
 use mathlib.Core.List.{List, [], map}
 use Prim.Native.Nat.{ℕ, _*_, _≤_, _<_}
-use lib.ListN.{length, drop}
+use lib.ListN.{length, getD, drop}
 use lib.Ieee.{Float}
 use Rattle.lists.specs.Regions.{front, zeros}
 use Rattle.cutting.specs.Edges.{Edge, edgeAt, ring}
@@ -11,14 +11,11 @@ use Rattle.cutting.specs.Cell.{Laid, outlineDarts, Slot, cellTable}
 use Rattle.cutting.specs.Outcome as Outcome
 use Rattle.cutting.specs.Outcome.{Outcome, pieces, refusal, cutOutcome, flat}
 use Rattle.cutting.specs.Lent.{slotsOf, flatEdges, pairs}
-use Rattle.rules.specs.declared.Bounds.{Bounds}
+use Rattle.regions.specs.declared.Run.{Run}
 use Rattle.regions.specs.declared.Regions.{Regions}
 use Rattle.regions.specs.Runs.{Within, runIn}
-use Rattle.spatial_index.specs.Candidates.{placesFrom, meets}
-use Rattle.spatial_index.specs.Blocks.{Covered}
 use Rattle.edge_nodes.specs.Lent.{nodesOn, Few}
 use Rattle.cells.specs.declared.CutCell.{CutCell}
-use Rattle.cells.specs.declared.Near.{Near}
 
 module _ (coords : List Float) (work : List ℕ) (g : Regions) where
   -- an edge with its sorted nodes
@@ -37,16 +34,13 @@ module _ (coords : List Float) (work : List ℕ) (g : Regions) where
   unfoldable pub tableIn : List Edge → List ℕ → List ℕ → List Slot
   tableIn es js cell = cellTable coords (outlineIn cell) (nearIn es js)
 
--- where those of the edges es stand, from place k on, whose box meets the box b
-abbrev pub candidatesFrom : List Float → List Edge → Bounds → ℕ → List ℕ
-candidatesFrom coords es b k = placesFrom (meets coords es b) k (length es)
+-- the edges that a run of the working list holds
+abbrev pub edgesIn : List ℕ → Run → List Edge
+edgesIn work r = pairs (runIn work r)
 
--- the edges that may cut a cell, and which of them do
-abbrev pub nearEdgesIn : List ℕ → Near → List Edge
-nearEdgesIn work t = pairs (runIn work (t .edges))
-
-abbrev pub candidatesOf : List Float → List ℕ → Near → List ℕ
-candidatesOf coords work t = candidatesFrom coords (nearEdgesIn work t) (t .bounds) (t .first)
+-- js are places of the edges es
+abbrev pub Places : List ℕ → List Edge → Type 0
+Places js es = (k : ℕ) → k < length js → getD js k 0 < length es
 
 -- ---- what a cell comes to: the answer, and the lists of its pieces' corners and of where they end
 
@@ -67,10 +61,9 @@ cutAs (refusal k) on os = cut (record { code = k; pieces = 0; entries = 0 }) (ze
 unfoldable pub cutBy : List Edge → List Slot → List ℕ → List ℕ → Cut
 cutBy outline t on os = cutAs (cutOutcome outline t) on os
 
--- a cell that the edges t cut
-unfoldable pub cutCell : List Float → List ℕ → Regions → Near → List ℕ → List ℕ → List ℕ → Cut
-cutCell coords work g t cell on os =
-    cutBy (outlineIn coords work g cell) (tableIn coords work g (nearEdgesIn work t) (candidatesOf coords work t) cell) on os
+-- a cell that those of the edges cut that stand at the places js
+unfoldable pub cutCell : List Float → List ℕ → Regions → Run → List ℕ → List ℕ → List ℕ → List ℕ → Cut
+cutCell coords work g edges js cell on os = cutBy (outlineIn coords work g cell) (tableIn coords work g (edgesIn work edges) js cell) on os
 
 -- The meetings are chained, and under no key of the edges es over 256 nodes were collected (refusal 9).
 abbrev pub AllFew : List ℕ → Regions → List Edge → Type 0
@@ -93,11 +86,11 @@ pub record Held (t : List Slot) (r : ℕ) (src dst marks : List ℕ) : Type 0 wh
   pub fits : r ≤ 1024 → slotsOf src dst marks r ≡ t
   pub over : 1024 < r → 1024 < length t
 
--- the edges t may cut a cell, and there is room for the nodes of an edge and for pieces
-pub record Ready (coords : List Float) (work : List ℕ) (g : Regions) (boxes : List Float) (t : Near) (nodes on os : List ℕ) : Type 0 where
-  pub within : Within (t .edges) (length work)
-  pub few : AllFew work g (nearEdgesIn work t)
-  pub covered : Covered coords (nearEdgesIn work t) boxes
+-- the edges at the places js may cut a cell, and there is room for the nodes of an edge and for pieces
+pub record Ready (work : List ℕ) (g : Regions) (edges : Run) (js nodes on os : List ℕ) : Type 0 where
+  pub within : Within edges (length work)
+  pub few : AllFew work g (edgesIn work edges)
+  pub places : Places js (edgesIn work edges)
   pub nodesFit : 258 ≤ length nodes
   pub cornersFit : 1024 ≤ length on
   pub stopsFit : 1024 ≤ length os

@@ -13,8 +13,6 @@ use outlines::lay_own_edge;
 use regions::Regions;
 use regions::Run;
 use regions::part;
-use rules::Bounds;
-use spatial_index::in_bounds;
 ghost use mathlib.Core.Path.{_≡_};
 ghost use mathlib.Core.List.{[]};
 ghost use Prim.Native.Nat.{_+_, _≤_, _<_};
@@ -27,22 +25,14 @@ ghost use Rattle.cutting.specs.Lent.{slotsOf, flatEdges, pairs};
 ghost use Rattle.outlines.specs.Meets.{edgesMeet};
 ghost use Rattle.dart_table.specs.Table.{tableIn, withEdges, Added, Outlined};
 ghost use Rattle.regions.specs.Runs.{Within, runIn};
-ghost use Rattle.spatial_index.specs.Blocks.{Covered};
 ghost use Rattle.edge_nodes.specs.Lent.{Few};
-ghost use Rattle.cells.specs.Cells.{laidIn, outlineIn, nearIn, nearEdgesIn, candidatesFrom, candidatesOf, cut, cutAs, cutBy, cutCell, AllFew, outlineFrom, LaidIn, Held, Tables, Ready};
+ghost use Rattle.cells.specs.Cells.{laidIn, outlineIn, nearIn, edgesIn, Places, cut, cutAs, cutBy, cutCell, AllFew, outlineFrom, LaidIn, Held, Tables, Ready};
 
 // What a cell comes to: the refusal or 0, how many pieces there are, and corners in them.
 pub struct CutCell {
     pub code: u32,
     pub pieces: usize,
     pub entries: usize,
-}
-
-// The edges that may cut a cell: a run of them, the box that theirs must meet, and the first of which this is known.
-pub struct Near {
-    pub edges: Run,
-    pub bounds: Bounds,
-    pub first: usize,
 }
 
 // A refusal leaves the lists of corners and stops zero.
@@ -201,15 +191,14 @@ fn add_near(
     add_near_edge(coords, a, b, &nodes[..count], src, dst, marks, n)
 }
 
-// Adds the edges near the cell, those of `near` that t tells, by its finished outline to the table of its own edges. Answers how many slots there are
-// then; over 1,024 it stops.
+// Adds the edges near the cell, those of `near` at the places js, by its finished outline to the table of its own edges. Answers how many slots there
+// are then; over 1,024 it stops.
 fn near_darts(
     coords: &[f64],
     w: &[u32],
     g: Regions,
     near: &[u32],
-    boxes: &[f64],
-    t: Near,
+    js: &[u32],
     outline: &[u32],
     nodes: &mut [u32],
     src: &mut [u32],
@@ -217,24 +206,21 @@ fn near_darts(
     marks: &mut [u32],
     n: usize,
 ) -> usize
-    requires { ⌜ AllFew (now w) g (pairs (now near)) × Covered (now coords) (pairs (now near)) (now boxes) × (258 ≤ length (now nodes)) × (n ≤ 1024)
+    requires { ⌜ AllFew (now w) g (pairs (now near)) × Places (now js) (pairs (now near)) × (258 ≤ length (now nodes)) × (n ≤ 1024)
         × (1024 ≤ length (now src)) × (1024 ≤ length (now dst)) × (1024 ≤ length (now marks))
         × (slotsOf (now src) (now dst) (now marks) n ≡ cellTable (now coords) (pairs (now outline)) []) ⌝ }
     ensures { λ r. ⌜ Held (cellTable (now (coords .entry)) (pairs (now (outline .entry)))
-        (nearIn (now (coords .entry)) (now (w .entry)) g (pairs (now (near .entry)))
-        (candidatesFrom (now (coords .entry)) (pairs (now (near .entry))) (t .bounds) (t .first)))) r (now (src .exit)) (now (dst .exit)) (now (marks .exit)) ⌝ }
+        (nearIn (now (coords .entry)) (now (w .entry)) g (pairs (now (near .entry))) (now (js .entry)))) r (now (src .exit)) (now (dst .exit)) (now (marks .exit)) ⌝ }
 {
-    let count = near.len() / 2;
     let mut m = n;
-    let mut j = in_bounds(coords, near, boxes, t.bounds, t.first);
-    while j < count {
+    for k in 0..js.len() {
+        let j = js[k] as usize;
         let p = near[2 * j];
         let q = near[2 * j + 1];
         m = add_near(coords, w, g, p, q, nodes, src, dst, marks, m);
         if 1024 < m {
             return m;
         }
-        j = in_bounds(coords, near, boxes, t.bounds, j + 1);
     }
     m
 }
@@ -276,8 +262,8 @@ fn cut_outlined(
     coords: &[f64],
     w: &[u32],
     g: Regions,
-    boxes: &[f64],
-    t: Near,
+    edges: Run,
+    js: &[u32],
     outline: &[u32],
     nodes: &mut [u32],
     src: &mut [u32],
@@ -286,24 +272,23 @@ fn cut_outlined(
     runs: &mut [u32],
     stops: &mut [u32],
 ) -> CutCell
-    requires { ⌜ Ready (now coords) (now w) g (now boxes) t (now nodes) (now runs) (now stops) × Tables (now coords) (now outline) (now src) (now dst) (now marks) ⌝ }
+    requires { ⌜ Ready (now w) g edges (now js) (now nodes) (now runs) (now stops) × Tables (now coords) (now outline) (now src) (now dst) (now marks) ⌝ }
     ensures { λ r. ⌜ cut r (now (runs .exit)) (now (stops .exit)) ≡ cutBy (pairs (now (outline .entry)))
         (cellTable (now (coords .entry)) (pairs (now (outline .entry)))
-        (nearIn (now (coords .entry)) (now (w .entry)) g (nearEdgesIn (now (w .entry)) t) (candidatesOf (now (coords .entry)) (now (w .entry)) t)))
+        (nearIn (now (coords .entry)) (now (w .entry)) g (edgesIn (now (w .entry)) edges) (now (js .entry))))
         (now (runs .entry)) (now (stops .entry)) ⌝ }
 {
     if edges_repeat(outline) {
         return refused(19, runs, stops);
     }
     let n = outline.len();
-    let near = part(w, t.edges);
+    let near = part(w, edges);
     let slots = near_darts(
         coords,
         w,
         g,
         near,
-        boxes,
-        t,
+        js,
         outline,
         nodes,
         src,
@@ -317,21 +302,22 @@ fn cut_outlined(
     walk_cell(src, dst, marks, slots, outline, runs, stops)
 }
 
-// Cuts the cell by those edges near it whose box meets its own; `boxes` are those of blocks of them. The corners of the pieces go to the front of
+// Cuts the cell by those of the edges near it that stand at the places js. The corners of the pieces go to the front of
 // `runs`, where each ends among them to that of `stops`.
 pub fn cut_cell(
     coords: &[f64],
     w: &[u32],
     g: Regions,
-    boxes: &[f64],
-    t: Near,
+    edges: Run,
+    js: &[u32],
     cell: &[u32],
     runs: &mut [u32],
     stops: &mut [u32],
 ) -> CutCell
-    requires { ⌜ AllFew (now w) g (ring (now cell)) × Within (t .edges) (length (now w)) × AllFew (now w) g (nearEdgesIn (now w) t)
-        × Covered (now coords) (nearEdgesIn (now w) t) (now boxes) × (1024 ≤ length (now runs)) × (1024 ≤ length (now stops)) ⌝ }
-    ensures { λ r. ⌜ cut r (now (runs .exit)) (now (stops .exit)) ≡ cutCell (now (coords .entry)) (now (w .entry)) g t (now (cell .entry)) (now (runs .entry)) (now (stops .entry)) ⌝ }
+    requires { ⌜ AllFew (now w) g (ring (now cell)) × Within edges (length (now w)) × AllFew (now w) g (edgesIn (now w) edges)
+        × Places (now js) (edgesIn (now w) edges) × (1024 ≤ length (now runs)) × (1024 ≤ length (now stops)) ⌝ }
+    ensures { λ r. ⌜ cut r (now (runs .exit)) (now (stops .exit))
+        ≡ cutCell (now (coords .entry)) (now (w .entry)) g edges (now (js .entry)) (now (cell .entry)) (now (runs .entry)) (now (stops .entry)) ⌝ }
 {
     let mut nodes = [0u32; 258];
     let mut outline = [0u32; 1024];
@@ -359,8 +345,8 @@ pub fn cut_cell(
         coords,
         w,
         g,
-        boxes,
-        t,
+        edges,
+        js,
         &outline[..own],
         &mut nodes,
         &mut src,

@@ -64,7 +64,7 @@ returns c =
     let at-entry = entry (own-darts-of-then1 (then1 (outline-repeats-of-then2 at-then2))) in
     let a = at-entry .args in
     let found = outline-repeats-of-then2 at-then2 .outline-repeats .ensures in
-    refused-at-returns c .refused .ensures ∙ repeated-own (a .coords .now) (a .w .now) (a .g) (a .t) (a .cell .now) (a .runs .now) (a .stops .now)
+    refused-at-returns c .refused .ensures ∙ repeated-own (a .coords .now) (a .w .now) (a .g) (a .edges) (a .js .now) (a .cell .now) (a .runs .now) (a .stops .now)
     (sym found ∙ at-then2 .if2 .taken)
 
 returns-2 : tie.Need-returns-2
@@ -75,7 +75,7 @@ returns-2 c =
     let a = at-entry .args in
     let found = outline-repeats-of-else2 at-else2 .outline-repeats .ensures in
     let own = own-darts-of-then1 at-then1 .own-darts in
-    refused2-at-returns-2 c .refused2 .ensures ∙ too-many-own (a .coords .now) (a .w .now) (a .g) (a .t) (a .cell .now) (a .runs .now) (a .stops .now)
+    refused2-at-returns-2 c .refused2 .ensures ∙ too-many-own (a .coords .now) (a .w .now) (a .g) (a .edges) (a .js .now) (a .cell .now) (a .runs .now) (a .stops .now)
     (sym found ∙ at-else2 .if2 .left) (own .ensures .0 .over (at-then1 .if1 .taken))
 
 slice-aggregate-cut-outlined : tie.Need-slice-aggregate-cut-outlined
@@ -97,7 +97,7 @@ cut-outlined-requires c κs =
       record {
         within = at-entry .pre .1;
         few = at-entry .pre .2;
-        covered = at-entry .pre .3;
+        places = at-entry .pre .3;
         nodesFit = omega (arith, own .kept .1 .1 .1 .1 .0);
         cornersFit = at-entry .pre .4;
         stopsFit = at-entry .pre .5;
@@ -118,7 +118,7 @@ returns-3 c =
     let at-entry = entry (own-darts-of-else1 at-else1) in
     let a = at-entry .args in
     let own = own-darts-of-else1 at-else1 .own-darts in
-    cut-as-lent (a .coords .now) (a .w .now) (a .g) (a .t) (a .cell .now) (a .runs .now) (a .stops .now) (own .last .1 .1 .1 .1 .1 .0) (own .result) _
+    cut-as-lent (a .coords .now) (a .w .now) (a .g) (a .edges) (a .js .now) (a .cell .now) (a .runs .now) (a .stops .now) (own .last .1 .1 .1 .1 .1 .0) (own .result) _
     (at-else1 .if1 .left) (own .ensures .1) (cut-outlined-at-returns-3 c .cut-outlined .ensures)
 
 pub cut-cell-spec : {M : Type 1} → statement M

@@ -1,7 +1,7 @@
 use mathlib.Core.Path.{sym, _∙_}
 use native.Mathlib.Omega.{arith}
 use Rattle.cutting.specs.Lent.{pairs}
-use Rattle.cells.proofs.Cut.{too-many, repeated, as-walked, near-few, near-covered, near-held}
+use Rattle.cells.proofs.Cut.{too-many, repeated, as-walked, near-few, near-places, near-held}
 use borrow.Author.Needs.{needs}
 use Rattle.cells.proofs.cut_outlined.Statement.{statement}
 use Rattle.cells.proofs.cut_outlined.Tie as tie
@@ -74,8 +74,8 @@ near-darts-requires c κs =
     let lent = part-at-near-darts-requires c .part .ensures in
     let ready = at-entry .pre .0 in
     let tables = at-entry .pre .1 in (
-      near-few (a .coords .now) (a .w .now) (a .g) (a .t) _ lent (ready .few),
-      near-covered (a .coords .now) (a .w .now) (a .g) (a .t) _ lent (a .boxes .now) (ready .covered),
+      near-few (a .coords .now) (a .w .now) (a .g) (a .edges) (a .js .now) _ lent (ready .few),
+      near-places (a .coords .now) (a .w .now) (a .g) (a .edges) (a .js .now) _ lent (ready .places),
       ready .nodesFit,
       tables .small,
       tables .srcFit,
@@ -94,7 +94,7 @@ returns-2 c =
     let once = sym found ∙ else1 at-part .if1 .left in
     let lent = at-part .part .ensures in
     let slots = near-darts-of-then2 at-then2 .near-darts in
-    let held = near-held (a .coords .now) (a .w .now) (a .g) (a .t) _ lent (pairs (a .outline .now)) (slots .result) _ _ _ (slots .ensures) in
+    let held = near-held (a .coords .now) (a .w .now) (a .g) (a .edges) (a .js .now) _ lent (pairs (a .outline .now)) (slots .result) _ _ _ (slots .ensures) in
     refused2-at-returns-2 c .refused2 .ensures ∙ too-many (a .coords .now) (pairs (a .outline .now)) _ (a .runs .now) (a .stops .now) once
     (held .over (at-then2 .if2 .taken))
 
@@ -106,9 +106,9 @@ walk-cell-requires c κs =
     let few = else2-at-walk-cell-requires c .if2 .left in
     let tables = at-entry .pre .1 in (
       few,
-      omega (arith, few, slots .kept .1 .1 .1 .1 .1 .1 .1 .1 .0, tables .srcFit),
-      omega (arith, few, slots .kept .1 .1 .1 .1 .1 .1 .1 .1 .1 .0, tables .dstFit),
-      omega (arith, few, slots .kept .1 .1 .1 .1 .1 .1 .1 .1 .1 .1 .0, tables .marksFit),
+      omega (arith, few, slots .kept .1 .1 .1 .1 .1 .1 .1 .0, tables .srcFit),
+      omega (arith, few, slots .kept .1 .1 .1 .1 .1 .1 .1 .1 .0, tables .dstFit),
+      omega (arith, few, slots .kept .1 .1 .1 .1 .1 .1 .1 .1 .1 .0, tables .marksFit),
       omega (arith, tables .small),
       at-entry .pre .0 .cornersFit,
       at-entry .pre .0 .stopsFit,
@@ -124,7 +124,7 @@ returns-3 c =
     let once = sym found ∙ else1 at-part .if1 .left in
     let lent = at-part .part .ensures in
     let slots = near-darts-of-else2 at-else2 .near-darts in
-    let held = near-held (a .coords .now) (a .w .now) (a .g) (a .t) _ lent (pairs (a .outline .now)) (slots .result) _ _ _ (slots .ensures) in
+    let held = near-held (a .coords .now) (a .w .now) (a .g) (a .edges) (a .js .now) _ lent (pairs (a .outline .now)) (slots .result) _ _ _ (slots .ensures) in
     as-walked (a .coords .now) (pairs (a .outline .now)) _ (slots .result) _ _ _ (a .runs .now) (a .stops .now) _ once (at-else2 .if2 .left) held
     (walk-cell-at-returns-3 c .walk-cell .ensures)
 
