@@ -1,0 +1,6 @@
+pub mod PairsOrRuns
+pub mod Strips
+pub mod Spans
+pub mod Sizes
+pub mod Samples
+pub mod Linking

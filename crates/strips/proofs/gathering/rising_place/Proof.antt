@@ -1,0 +1,58 @@
+use borrow.Author.Needs.{needs}
+use Rattle.strips.proofs.gathering.rising_place.Statement.{statement}
+use Rattle.strips.proofs.gathering.rising_place.Tie as tie
+use Rattle.strips.proofs.gathering.rising_place.Reads as reads
+use Rattle.strips.proofs.gathering.rising_place.Lts as lts
+
+abbrev Inv-loop : tie.InvT-loop
+Inv-loop found v i₀ i = ?
+
+abbrev μ-loop : tie.MeasureT-loop
+μ-loop found v i₀ i = ?
+
+-- src/gathering.rt:29:5
+loop-holds : tie.Need-loop-holds Inv-loop μ-loop
+loop-holds c = ?
+
+-- src/gathering.rt:30:17
+mul-if1 : tie.Need-mul-if1 Inv-loop μ-loop
+mul-if1 c = ?
+
+-- src/gathering.rt:30:17
+shared-slice-read-if1 : tie.Need-shared-slice-read-if1 Inv-loop μ-loop
+shared-slice-read-if1 c = search needs
+
+-- src/gathering.rt:31:13
+returns : tie.Need-returns Inv-loop μ-loop
+returns c = ?
+
+-- src/gathering.rt:33:9
+add-i : tie.Need-add-i Inv-loop μ-loop
+add-i c = search needs
+
+-- src/gathering.rt:29:5
+loop-less : tie.Need-loop-less Inv-loop μ-loop
+loop-less c = ?
+
+-- src/gathering.rt:29:5
+loop-again : tie.Need-loop-again Inv-loop μ-loop
+loop-again c = ?
+
+-- src/gathering.rt:25:1
+returns-2 : tie.Need-returns-2 Inv-loop μ-loop
+returns-2 c = ?
+
+pub rising-place-spec : {M : Type 1} → statement M
+rising-place-spec =
+    tie.close
+    (tie.spec
+    Inv-loop
+    μ-loop
+    loop-holds
+    mul-if1
+    shared-slice-read-if1
+    returns
+    add-i
+    loop-less
+    loop-again
+    returns-2)
