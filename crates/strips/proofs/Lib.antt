@@ -4,3 +4,4 @@ pub mod Spans
 pub mod Sizes
 pub mod Samples
 pub mod Linking
+pub mod OnChains

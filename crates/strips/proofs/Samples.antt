@@ -93,7 +93,7 @@ module _ (before : ℕ → ℕ → Bool) (w : List ℕ) (to i v p : ℕ) (fits :
 
 -- ---- samples put in order one by one
 
-module _ (coords : List Float) (nodes ends : List ℕ) (axis k to : ℕ) (w₀ : List ℕ) (fits : to + k ≤ length w₀) where
+module _ (coords : List Float) (nodes ends : List ℕ) (axis k to : ℕ) (w₀ : List ℕ) where
   abbrev firsts : ℕ → List ℕ
   firsts i = sorted (isBefore coords axis) (each i (sampleNode nodes ends k))
 
@@ -106,36 +106,37 @@ module _ (coords : List Float) (nodes ends : List ℕ) (axis k to : ℕ) (w₀ :
     pub long : length w ≡ length w₀
     pub held : w ≡ put w₀ to (sorted (isBefore coords axis) (each i (sampleNode nodes ends k)))
 
-  pub sorting-start : Sorting 0 w₀
-  unfolding gathered sortOnto
-  sorting-start = record { low = omega arith; long = refl; held = sym (put-none w₀ to) }
+  module _ (fits : to + k ≤ length w₀) where
+    pub sorting-start : Sorting 0 w₀
+    unfolding gathered sortOnto
+    sorting-start = record { low = omega arith; long = refl; held = sym (put-none w₀ to) }
 
-  pub sorting-turn : (i v : ℕ) (w w′ : List ℕ) → Sorting i w → i < k → v ≡ sampleNode nodes ends k i → w′ ≡ put w to (insert (isBefore coords axis) v (run w to i)) → Sorting (i + 1) w′
-  sorting-turn i v w w′ inv h v-is w-is =
-      let B = isBefore coords axis in
-      let n : length (firsts i) ≡ i = length-firsts i in
-      let there : run w to i ≡ firsts i = ap (λ (u : List ℕ). run u to i) (inv .held) ∙ run-put w₀ to (omega arith) (firsts i) i n in
-      let next : insert B v (firsts i) ≡ firsts (i + 1) =
-          ap (λ (x : ℕ). insert B x (firsts i)) v-is ∙ sym (sorted-snoc B (each i (sampleNode nodes ends k)) (sampleNode nodes ends k i))
-          ∙ ap (sorted B) (sym (each-more i (sampleNode nodes ends k))) in
-      let made : w′ ≡ put w₀ to (firsts (i + 1)) =
-          w-is ∙ ap₂ (λ (u xs : List ℕ). put u to (insert B v xs)) (inv .held) there ∙ put-put w₀ to (omega arith) (firsts i) (insert B v (firsts i)) (omega (arith, length-insert B v (firsts i)))
-          ∙ ap (put w₀ to) next in
-      record { low = omega arith; long = ap length made ∙ length-put w₀ to (omega arith) (firsts (i + 1)) (omega (arith, length-firsts (i + 1))); held = made }
+    pub sorting-turn : (i v : ℕ) (w w′ : List ℕ) → Sorting i w → i < k → v ≡ sampleNode nodes ends k i → w′ ≡ put w to (insert (isBefore coords axis) v (run w to i)) → Sorting (i + 1) w′
+    sorting-turn i v w w′ inv h v-is w-is =
+        let B = isBefore coords axis in
+        let n : length (firsts i) ≡ i = length-firsts i in
+        let there : run w to i ≡ firsts i = ap (λ (u : List ℕ). run u to i) (inv .held) ∙ run-put w₀ to (omega arith) (firsts i) i n in
+        let next : insert B v (firsts i) ≡ firsts (i + 1) =
+            ap (λ (x : ℕ). insert B x (firsts i)) v-is ∙ sym (sorted-snoc B (each i (sampleNode nodes ends k)) (sampleNode nodes ends k i))
+            ∙ ap (sorted B) (sym (each-more i (sampleNode nodes ends k))) in
+        let made : w′ ≡ put w₀ to (firsts (i + 1)) =
+            w-is ∙ ap₂ (λ (u xs : List ℕ). put u to (insert B v xs)) (inv .held) there ∙ put-put w₀ to (omega arith) (firsts i) (insert B v (firsts i)) (omega (arith, length-insert B v (firsts i)))
+            ∙ ap (put w₀ to) next in
+        record { low = omega arith; long = ap length made ∙ length-put w₀ to (omega arith) (firsts (i + 1)) (omega (arith, length-firsts (i + 1))); held = made }
 
-  pub sorting-end : (i : ℕ) (w : List ℕ) → Sorting i w → k ≤ i → w ≡ put w₀ to (samplesOf coords nodes ends axis k)
-  unfolding samplesOf
-  sorting-end i w inv h =
-      let z : i ≡ k = le-antisymm (inv .low) h in
-      inv .held ∙ ap (λ (m : ℕ). put w₀ to (firsts m)) z
+    pub sorting-end : (i : ℕ) (w : List ℕ) → Sorting i w → k ≤ i → w ≡ put w₀ to (samplesOf coords nodes ends axis k)
+    unfolding samplesOf
+    sorting-end i w inv h =
+        let z : i ≡ k = le-antisymm (inv .low) h in
+        inv .held ∙ ap (λ (m : ℕ). put w₀ to (firsts m)) z
 
-  -- what stands before them is as it was
-  pub sorting-before : (i from n : ℕ) (w : List ℕ) → Sorting i w → from + n ≤ to → run w from n ≡ run w₀ from n
-  sorting-before i from n w inv h = ap (λ (u : List ℕ). run u from n) (inv .held) ∙ run-before w₀ to (omega arith) (firsts i) from n h
+    -- what stands before them is as it was
+    pub sorting-before : (i from n : ℕ) (w : List ℕ) → Sorting i w → from + n ≤ to → run w from n ≡ run w₀ from n
+    sorting-before i from n w inv h = ap (λ (u : List ℕ). run u from n) (inv .held) ∙ run-before w₀ to (omega arith) (firsts i) from n h
 
 -- ---- evenly spread ones picked
 
-module _ (w₀ : List ℕ) (scratch k to side : ℕ) (apart : to + side ≤ scratch) (fits : scratch + k ≤ length w₀) where
+module _ (w₀ : List ℕ) (scratch k to side : ℕ) where
   abbrev one : ℕ → ℕ
   one t = getD (run w₀ scratch k) (t * k / side) 0
 
@@ -144,28 +145,29 @@ module _ (w₀ : List ℕ) (scratch k to side : ℕ) (apart : to + side ≤ scra
     pub long : length w ≡ length w₀
     pub held : w ≡ put w₀ to (each t (λ i. getD (run w₀ scratch k) (i * k / side) 0))
 
-  pub picking-start : Picking 0 w₀
-  unfolding gathered
-  picking-start = record { low = omega arith; long = refl; held = sym (put-none w₀ to) }
+  module _ (apart : to + side ≤ scratch) (fits : scratch + k ≤ length w₀) where
+    pub picking-start : Picking 0 w₀
+    unfolding gathered
+    picking-start = record { low = omega arith; long = refl; held = sym (put-none w₀ to) }
 
-  pub picking-turn : (t v : ℕ) (w : List ℕ) → Picking t w → t < side → v ≡ getD (take (scratch + k - scratch) (drop scratch w)) (t * k / side) 0 → Picking (t + 1) (set w (to + t) v)
-  picking-turn t v w inv h v-is =
-      let n : length (each t one) ≡ t = length-each t one in
-      let same : take (scratch + k - scratch) (drop scratch w) ≡ run w₀ scratch k =
-          part-of w scratch k ∙ ap (λ (u : List ℕ). run u scratch k) (inv .held) ∙ run-behind w₀ to (omega arith) (each t one) scratch k (omega (arith, n)) in
-      let is : v ≡ one t = v-is ∙ ap (λ (u : List ℕ). getD u (t * k / side) 0) same in
-      record {
-        low = omega arith;
-        long = length-set w (to + t) v ∙ inv .long;
-        held = ap (set w (to + t)) is ∙ ap₂ (λ (u : List ℕ) (j : ℕ). set u (to + j) (one t)) (inv .held) (sym n)
-            ∙ put-store w₀ to (omega arith) (each t one) (one t) 0 (omega (arith, n)) ∙ ap (put w₀ to) (sym (each-more t one));
-      }
+    pub picking-turn : (t v : ℕ) (w : List ℕ) → Picking t w → t < side → v ≡ getD (take (scratch + k - scratch) (drop scratch w)) (t * k / side) 0 → Picking (t + 1) (set w (to + t) v)
+    picking-turn t v w inv h v-is =
+        let n : length (each t one) ≡ t = length-each t one in
+        let same : take (scratch + k - scratch) (drop scratch w) ≡ run w₀ scratch k =
+            part-of w scratch k ∙ ap (λ (u : List ℕ). run u scratch k) (inv .held) ∙ run-behind w₀ to (omega arith) (each t one) scratch k (omega (arith, n)) in
+        let is : v ≡ one t = v-is ∙ ap (λ (u : List ℕ). getD u (t * k / side) 0) same in
+        record {
+          low = omega arith;
+          long = length-set w (to + t) v ∙ inv .long;
+          held = ap (set w (to + t)) is ∙ ap₂ (λ (u : List ℕ) (j : ℕ). set u (to + j) (one t)) (inv .held) (sym n)
+              ∙ put-store w₀ to (omega arith) (each t one) (one t) 0 (omega (arith, n)) ∙ ap (put w₀ to) (sym (each-more t one));
+        }
 
-  pub picking-end : (t : ℕ) (w : List ℕ) → Picking t w → side ≤ t → w ≡ put w₀ to (picked side k (run w₀ scratch k))
-  unfolding picked
-  picking-end t w inv h =
-      let z : t ≡ side = le-antisymm (inv .low) h in
-      inv .held ∙ ap (λ (m : ℕ). put w₀ to (each m one)) z
+    pub picking-end : (t : ℕ) (w : List ℕ) → Picking t w → side ≤ t → w ≡ put w₀ to (picked side k (run w₀ scratch k))
+    unfolding picked
+    picking-end t w inv h =
+        let z : t ≡ side = le-antisymm (inv .low) h in
+        inv .held ∙ ap (λ (m : ℕ). put w₀ to (each m one)) z
 
 -- ---- the nodes at which the strips of one axis begin
 

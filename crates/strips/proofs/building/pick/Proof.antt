@@ -10,10 +10,10 @@ use Rattle.strips.proofs.building.pick.Lts as lts
 use Rattle.strips.proofs.things.number_at.Reads as number-at-reads
 
 abbrev Inv-loop : tie.InvT-loop
-Inv-loop w₀ scratch k to side e t₀ w t = ?
+Inv-loop w₀ scratch k to side e t₀ w t = Picking w₀ scratch k to side t w
 
 abbrev μ-loop : tie.MeasureT-loop
-μ-loop w₀ scratch k to side e t₀ w t = ?
+μ-loop w₀ scratch k to side e t₀ w t = side - t
 
 -- src/building.rt:135:13
 add-e : tie.Need-add-e Inv-loop μ-loop
@@ -21,11 +21,11 @@ add-e c = search needs
 
 -- src/building.rt:137:5
 loop-holds : tie.Need-loop-holds Inv-loop μ-loop
-loop-holds c = ?
+loop-holds c = picking-start (c .before .args .w .now) (c .before .args .scratch) (c .before .args .k) (c .before .args .to) (c .before .args .side) (c .before .pre .0) (c .before .pre .1)
 
 -- src/building.rt:138:17
 mul-i : tie.Need-mul-i Inv-loop μ-loop
-mul-i c = search needs
+mul-i c = omega (arith, product-small (c .before .loop .t) (c .before .before .before .args .k) 256 1024 (omega (arith, c .loop-test .taken, c .before .before .before .pre .2)) (c .before .before .before .pre .3))
 
 -- src/building.rt:138:17
 div-i : tie.Need-div-i Inv-loop μ-loop
@@ -61,7 +61,7 @@ mul-w c = search needs
 
 -- src/building.rt:140:9
 slice-write-w : tie.Need-slice-write-w Inv-loop μ-loop
-slice-write-w c = ?
+slice-write-w c = search needs
 
 -- src/building.rt:141:9
 add-t : tie.Need-add-t Inv-loop μ-loop
@@ -69,19 +69,19 @@ add-t c = search needs
 
 -- src/building.rt:137:5
 loop-less : tie.Need-loop-less Inv-loop μ-loop
-loop-less c = ?
+loop-less c = search needs
 
 -- src/building.rt:137:5
 loop-again : tie.Need-loop-again Inv-loop μ-loop
-loop-again c = ?
+loop-again c = picking-turn (c .before .before .before .before .before .before .args .w .now) (c .before .before .before .before .before .before .args .scratch) (c .before .before .before .before .before .before .args .k) (c .before .before .before .before .before .before .args .to) (c .before .before .before .before .before .before .args .side) (c .before .before .before .before .before .before .pre .0) (c .before .before .before .before .before .before .pre .1) (c .before .before .before .before .loop .t) (c .number-at .result) (c .before .before .before .before .loop .w) (c .before .before .before .before .loop .inv) (c .before .before .before .loop-test .taken) (c .number-at .ensures)
 
 -- src/building.rt:131:1
 same-length : tie.Need-same-length Inv-loop μ-loop
-same-length c = ?
+same-length c = c .before .loop .inv .long
 
 -- src/building.rt:131:1
 returns : tie.Need-returns Inv-loop μ-loop
-returns c = ?
+returns c = picking-end (c .before .before .before .args .w .now) (c .before .before .before .args .scratch) (c .before .before .before .args .k) (c .before .before .before .args .to) (c .before .before .before .args .side) (c .before .before .before .pre .0) (c .before .before .before .pre .1) (c .before .loop .t) (c .before .loop .w) (c .before .loop .inv) (c .loop-test .left)
 
 pub pick-spec : {M : Type 1} → statement M
 pick-spec =

@@ -1,3 +1,6 @@
+use mathlib.Core.Path.{refl}
+use Rattle.strips.specs.Index.{isBefore}
+use Rattle.strips.proofs.Samples.{inserted}
 use borrow.Author.Needs.{needs}
 use Rattle.strips.proofs.building.put_in_order.Statement.{statement}
 use Rattle.strips.proofs.building.put_in_order.Tie as tie
@@ -56,7 +59,8 @@ same-length c = search needs
 
 -- src/building.rt:98:1
 returns : tie.Need-returns
-returns c = ?
+returns c = let a = c .before .before .before .before .before .before .before .before .before .args in
+    inserted (isBefore (a .coords .now) (a .axis)) (a .w .now) (a .to) (a .i) (a .v) (c .before .before .before .before .place .result) (c .before .before .before .before .before .before .before .before .before .pre .1) _ (c .before .before .before .before .place .ensures .0) _ (c .before .before .insert-at-u32 .ensures .1) refl
 
 pub put-in-order-spec : {M : Type 1} → statement M
 put-in-order-spec =
