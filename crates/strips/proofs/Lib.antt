@@ -5,3 +5,5 @@ pub mod Sizes
 pub mod Samples
 pub mod Linking
 pub mod OnChains
+pub mod IndexAt
+pub mod Making

@@ -12,8 +12,8 @@ use Rattle.lists.specs.Search.{first}
 use Rattle.lists.specs.Gather.{gathered, each}
 use Rattle.lists.specs.Regions.{put}
 use Rattle.lists.proofs.Search.{first-on, first-here, first-end}
-use Rattle.lists.proofs.Gather.{each-more, length-each, getD-each}
-use Rattle.lists.proofs.Regions.{put-none, put-store, length-put, put-before, put-in, put-behind}
+use Rattle.lists.proofs.Gather.{each-more, length-each}
+use Rattle.lists.proofs.Regions.{put-none, put-store}
 use Rattle.strips.specs.Index.{onChain, nextAt, above}
 use Rattle.strips.specs.Made.{headed, Chained}
 
@@ -45,19 +45,15 @@ module _ (w₀ : List ℕ) (b n v : ℕ) (fits : b + n ≤ length w₀) where
 -- ---- chains by f
 
 module _ (f : ℕ → ℕ) (h n heads nexts : ℕ) (w₀ : List ℕ) (apart : heads + h ≤ nexts) (fits : nexts + n ≤ length w₀) where
-  -- the heads were filled, and no thing is on a chain yet
-  pub link-start : (w : List ℕ) → w ≡ put w₀ heads (each h (λ _. n)) → Chained f h n heads nexts n w₀ w
-  link-start w e =
-      let none : List ℕ = each h (λ _. n) in
-      let l : length none ≡ h = length-each h (λ _. n) in
-      let at : (i : ℕ) → getD w i 0 ≡ getD (put w₀ heads none) i 0 = λ i. ap (λ (u : List ℕ). getD u i 0) e in
+  -- no thing is on a chain yet
+  pub link-start : ((c : ℕ) → c < h → getD w₀ (heads + c) 0 ≡ n) → Chained f h n heads nexts n w₀ w₀
+  link-start none =
       record {
-        long = ap length e ∙ length-put w₀ heads (omega arith) none (omega (arith, l));
-        head = λ c b. at (heads + c) ∙ put-in w₀ heads (omega arith) none c 0 (omega (arith, l)) ∙ getD-each h (λ _. n) c 0 b
-            ∙ sym (first-end (onChain f n c) n n (omega arith));
+        long = refl;
+        head = λ c b. none c b ∙ sym (first-end (onChain f n c) n n (omega arith));
         next = λ p a b. absurd (omega arith);
-        before = λ i b. at i ∙ put-before w₀ heads (omega arith) none i 0 b;
-        behind = λ i b. at i ∙ put-behind w₀ heads (omega arith) none i 0 (omega (arith, l));
+        before = λ i b. refl;
+        behind = λ i b. refl;
       }
 
   -- thing q goes before those on its chain

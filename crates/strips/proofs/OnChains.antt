@@ -12,7 +12,8 @@ use lib.Ieee.{Float}
 use borrow.Author.Tests.{ltb-true}
 use Rattle.lists.specs.Gather.{each}
 use Rattle.lists.specs.Regions.{run, put}
-use Rattle.lists.proofs.Regions.{length-run, getD-run}
+use Rattle.lists.proofs.Gather.{length-each, getD-each}
+use Rattle.lists.proofs.Regions.{length-run, getD-run, length-put, put-before, put-in, put-behind}
 use Rattle.rules.specs.declared.Bounds.{Bounds}
 use Rattle.strips.specs.declared.squares.Span.{Span}
 use Rattle.strips.specs.Things.{thingCount, thingBox}
@@ -73,79 +74,117 @@ module _ (coords : List Float) (ends : List ℕ) (from end bounds side n : ℕ) 
 
   -- ---- all of them
 
-  -- those from j on are on chains
-  pub record OnChains (w₀ : List ℕ) (j : ℕ) (w : List ℕ) (levels : ℕ) : Type 0 where
+  -- w₁ has become w: the things from j on are on chains
+  pub record OnChains (w₁ : List ℕ) (j : ℕ) (w : List ℕ) (levels : ℕ) : Type 0 where
+    pub room : Room w₁ ends from end bounds side n
     pub low : j ≤ n
-    pub chained : Chained (chainBy coords (run w₀ bounds side) (run w₀ (bounds + side) side) (run w₀ from (end - from)) ends) (chainCount n) n (bounds + 2 * side)
-        (bounds + 2 * side + chainCount n) j w₀ w
-    pub highest : levels ≡ above (λ i. spanBy coords (run w₀ bounds side) (run w₀ (bounds + side) side) (run w₀ from (end - from)) ends i .level) j (n - j)
+    pub chained : Chained (chainIn w₁) (chainCount n) n (bounds + 2 * side) (bounds + 2 * side + chainCount n) j w₁ w
+    pub highest : levels ≡ above (λ i. spanIn w₁ i .level) j (n - j)
     pub few : levels ≤ 513
 
-  module _ (w₀ : List ℕ) (room : Room w₀ ends from end bounds side n) where
-    pub chains-start : (w : List ℕ) → w ≡ put w₀ (bounds + 2 * side) (each (chainCount n) (λ _. n)) → OnChains w₀ n w 0
+  -- what stands before the heads is the same in w
+  module _ (w₀ w : List ℕ) (room : Room w₀ ends from end bounds side n) (long : length w ≡ length w₀)
+      (before : (i : ℕ) → i < bounds + 2 * side → getD w i 0 ≡ getD w₀ i 0) where
+    same : (c m : ℕ) → c + m ≤ bounds + 2 * side → run w c m ≡ run w₀ c m
+    same c m h = same-run w₀ w (bounds + 2 * side) c m long before h (omega (arith, room .fits))
+
+    nodes-same : run w from (end - from) ≡ run w₀ from (end - from)
+    nodes-same = same from (end - from) (omega (arith, room .apart, room .rises))
+
+    pub room-kept : Room w ends from end bounds side n
+    room-kept =
+        record {
+          rises = room .rises;
+          apart = room .apart;
+          fits = omega (arith, room .fits, long);
+          some = room .some;
+          narrow = room .narrow;
+          count = room .count ∙ ap (λ (l : List ℕ). thingCount l ends) (sym nodes-same);
+          few = room .few;
+          rising = room .rising;
+        }
+
+    pub spans-same : spanIn w ≡ spanIn w₀
+    spans-same = rw (same bounds side (omega arith), same (bounds + side) side (omega arith), nodes-same)
+
+    pub chains-same : chainIn w ≡ chainIn w₀
+    chains-same = rw (same bounds side (omega arith), same (bounds + side) side (omega arith), nodes-same)
+
+  -- the heads are filled first
+  module _ (w₀ w₁ : List ℕ) (room : Room w₀ ends from end bounds side n) (filled : w₁ ≡ put w₀ (bounds + 2 * side) (each (chainCount n) (λ _. n))) where
+    abbrev none : List ℕ
+    none = each (chainCount n) (λ _. n)
+
+    length-none : length none ≡ chainCount n
+    length-none = length-each (chainCount n) (λ _. n)
+
+    at : (i : ℕ) → getD w₁ i 0 ≡ getD (put w₀ (bounds + 2 * side) none) i 0
+    at i = ap (λ (u : List ℕ). getD u i 0) filled
+
+    long-filled : length w₁ ≡ length w₀
+    long-filled = ap length filled ∙ length-put w₀ (bounds + 2 * side) (omega (arith, room .fits)) none (omega (arith, room .fits, length-none))
+
+    before-filled : (i : ℕ) → i < bounds + 2 * side → getD w₁ i 0 ≡ getD w₀ i 0
+    before-filled i b = at i ∙ put-before w₀ (bounds + 2 * side) (omega (arith, room .fits)) none i 0 b
+
+    behind-filled : (i : ℕ) → bounds + 2 * side + chainCount n + n ≤ i → getD w₁ i 0 ≡ getD w₀ i 0
+    behind-filled i b = at i ∙ put-behind w₀ (bounds + 2 * side) (omega (arith, room .fits)) none i 0 (omega (arith, length-none))
+
+    pub chains-start : OnChains w₁ n w₁ 0
     unfolding above
-    chains-start w e =
+    chains-start =
         let z : n - n ≡ 0 = omega arith in
         record {
+          room = room-kept w₀ w₁ room long-filled before-filled;
           low = omega arith;
-          chained = link-start (chainIn w₀) (chainCount n) n (bounds + 2 * side) (bounds + 2 * side + chainCount n) w₀ (omega arith) (room .fits) w e;
-          highest = ap (above (λ i. spanIn w₀ i .level) n) (sym z);
+          chained = link-start (chainIn w₁) (chainCount n) n (bounds + 2 * side) (bounds + 2 * side + chainCount n) w₁ (omega arith) (omega (arith, room .fits, long-filled))
+              (λ c b. at (bounds + 2 * side + c) ∙ put-in w₀ (bounds + 2 * side) (omega (arith, room .fits)) none c 0 (omega (arith, length-none)) ∙ getD-each (chainCount n) (λ _. n) c 0 b);
+          highest = ap (above (λ i. spanIn w₁ i .level) n) (sym z);
           few = omega arith;
         }
 
-    module _ (j : ℕ) (w : List ℕ) (levels : ℕ) (inv : OnChains w₀ j w levels) where
-      same : (c m : ℕ) → c + m ≤ bounds + 2 * side → run w c m ≡ run w₀ c m
-      same c m h = same-run w₀ w (bounds + 2 * side) c m (inv .chained .long) (inv .chained .before) h (omega (arith, room .fits))
-
-      nodes-same : run w from (end - from) ≡ run w₀ from (end - from)
-      nodes-same = same from (end - from) (omega (arith, room .apart, room .rises))
-
-      pub room-kept : Room w ends from end bounds side n
-      room-kept =
-          record {
-            rises = room .rises;
-            apart = room .apart;
-            fits = omega (arith, room .fits, inv .chained .long);
-            some = room .some;
-            narrow = room .narrow;
-            count = room .count ∙ ap (λ (l : List ℕ). thingCount l ends) (sym nodes-same);
-            few = room .few;
-            rising = room .rising;
-          }
-
-      spans-same : (i : ℕ) → spanIn w i ≡ spanIn w₀ i
-      spans-same i = rw (same bounds side (omega arith), same (bounds + side) side (omega arith), nodes-same)
-
-      chain-same : (i : ℕ) → chainIn w i ≡ chainIn w₀ i
-      chain-same i = rw (same bounds side (omega arith), same (bounds + side) side (omega arith), nodes-same)
-
-      pub chains-turn : 0 < j → (w′ : List ℕ) (l r : ℕ) → w′ ≡ headed w (bounds + 2 * side) (bounds + 2 * side + chainCount n) (chainIn w (j - 1)) (j - 1)
-          → l ≡ spanIn w (j - 1) .level → l ≤ 512 → r ≡ max (l + 1) levels → OnChains w₀ (j - 1) w′ r
-      unfolding chainBy
-      chains-turn more w′ l r w-is l-is low r-is =
-          let q : ℕ = j - 1 in
-          let back : q + 1 ≡ j = omega arith in
-          let was : Chained (chainIn w₀) (chainCount n) n (bounds + 2 * side) (bounds + 2 * side + chainCount n) (q + 1) w₀ w = rw back (inv .chained) in
-          let so-far : levels ≡ above (λ i. spanIn w₀ i .level) (q + 1) (n - (q + 1)) = rw back (inv .highest) in
-          let all : ℕ = thingCount (run w₀ from (end - from)) ends in
-          let chain-fits : chainIn w₀ q < chainCount n =
-              omega (arith, room .count, chain-low (chainCount all) (spanIn w₀ q) (spanIn w₀ q .x0) (spanIn w₀ q .y0) (omega arith)) in
-          let level : l ≡ spanIn w₀ q .level = l-is ∙ ap (λ (s : Span). s .level) (spans-same q) in
-          record {
-            low = omega (arith, inv .low);
-            chained = link-turn (chainIn w₀) (chainCount n) n (bounds + 2 * side) (bounds + 2 * side + chainCount n) w₀ (omega arith) (room .fits) q w
-                chain-fits
-                (omega (arith, inv .low)) was w′ (w-is ∙ ap (λ (c : ℕ). headed w (bounds + 2 * side) (bounds + 2 * side + chainCount n) c q) (chain-same q));
-            highest = above-more (λ i. spanIn w₀ i .level) q n r levels (omega (arith, inv .low)) so-far (r-is ∙ ap (λ (k : ℕ). max (k + 1) levels) level);
-            few = omega (arith, r-is, max-le {a = l + 1} {b = levels} {k = 513} (omega arith) (inv .few));
-          }
-
-    pub chains-end : (j : ℕ) (w : List ℕ) (levels : ℕ) → OnChains w₀ j w levels → j ≤ 0
-        → Chained (chainBy coords (run w₀ bounds side) (run w₀ (bounds + side) side) (run w₀ from (end - from)) ends) (chainCount n) n (bounds + 2 * side)
-        (bounds + 2 * side + chainCount n) 0 w₀ w
-        × (levels ≡ above (λ i. spanBy coords (run w₀ bounds side) (run w₀ (bounds + side) side) (run w₀ from (end - from)) ends i .level) 0 n) × (levels ≤ 513)
+    pub chains-end : (j : ℕ) (w : List ℕ) (levels : ℕ) → OnChains w₁ j w levels → j ≤ 0
+        → Chained (chainIn w₀) (chainCount n) n (bounds + 2 * side) (bounds + 2 * side + chainCount n) 0 w₀ w
+        × (levels ≡ above (λ i. spanIn w₀ i .level) 0 n) × (levels ≤ 513)
     chains-end j w levels inv h =
         let z : 0 ≡ j = omega arith in
-        let none : n - j ≡ n = omega arith in
-        let all : levels ≡ above (λ i. spanIn w₀ i .level) 0 (n - j) = rw z (inv .highest) in
-        (rw z (inv .chained), all ∙ ap (above (λ i. spanIn w₀ i .level) 0) none, inv .few)
+        let none-left : n - j ≡ n = omega arith in
+        let k : Chained (chainIn w₁) (chainCount n) n (bounds + 2 * side) (bounds + 2 * side + chainCount n) 0 w₁ w = rw z (inv .chained) in
+        let r : Chained (chainIn w₀) (chainCount n) n (bounds + 2 * side) (bounds + 2 * side + chainCount n) 0 w₁ w = rw (sym (chains-same w₀ w₁ room long-filled before-filled)) k in
+        let all : levels ≡ above (λ i. spanIn w₁ i .level) 0 (n - j) = rw z (inv .highest) in (
+          record {
+            long = r .long ∙ long-filled;
+            head = r .head;
+            next = r .next;
+            before = λ i b. r .before i b ∙ before-filled i b;
+            behind = λ i b. r .behind i b ∙ behind-filled i b;
+          },
+          all ∙ ap (above (λ i. spanIn w₁ i .level) 0) none-left ∙ ap (λ (g : ℕ → Span). above (λ i. g i .level) 0 n) (spans-same w₀ w₁ room long-filled before-filled),
+          inv .few,
+        )
+
+  module _ (w₁ : List ℕ) (j : ℕ) (w : List ℕ) (levels : ℕ) (inv : OnChains w₁ j w levels) where
+    pub room-still : Room w ends from end bounds side n
+    room-still = room-kept w₁ w (inv .room) (inv .chained .long) (inv .chained .before)
+
+    pub chains-turn : 0 < j → (w′ : List ℕ) (l r : ℕ) → w′ ≡ headed w (bounds + 2 * side) (bounds + 2 * side + chainCount n) (chainIn w (j - 1)) (j - 1)
+        → l ≡ spanIn w (j - 1) .level → l ≤ 512 → r ≡ max (l + 1) levels → OnChains w₁ (j - 1) w′ r
+    unfolding chainBy
+    chains-turn more w′ l r w-is l-is low r-is =
+        let q : ℕ = j - 1 in
+        let back : q + 1 ≡ j = omega arith in
+        let was : Chained (chainIn w₁) (chainCount n) n (bounds + 2 * side) (bounds + 2 * side + chainCount n) (q + 1) w₁ w = rw back (inv .chained) in
+        let so-far : levels ≡ above (λ i. spanIn w₁ i .level) (q + 1) (n - (q + 1)) = rw back (inv .highest) in
+        let all : ℕ = thingCount (run w₁ from (end - from)) ends in
+        let chain-fits : chainIn w₁ q < chainCount n =
+            omega (arith, inv .room .count, chain-low (chainCount all) (spanIn w₁ q) (spanIn w₁ q .x0) (spanIn w₁ q .y0) (omega arith)) in
+        let level : l ≡ spanIn w₁ q .level = l-is ∙ ap (λ (g : ℕ → Span). g q .level) (spans-same w₁ w (inv .room) (inv .chained .long) (inv .chained .before)) in
+        let chain : chainIn w q ≡ chainIn w₁ q = ap (λ (g : ℕ → ℕ). g q) (chains-same w₁ w (inv .room) (inv .chained .long) (inv .chained .before)) in
+        record {
+          room = inv .room;
+          low = omega (arith, inv .low);
+          chained = link-turn (chainIn w₁) (chainCount n) n (bounds + 2 * side) (bounds + 2 * side + chainCount n) w₁ (omega arith) (inv .room .fits) q w
+              chain-fits (omega (arith, inv .low)) was w′ (w-is ∙ ap (λ (c : ℕ). headed w (bounds + 2 * side) (bounds + 2 * side + chainCount n) c q) chain);
+          highest = above-more (λ i. spanIn w₁ i .level) q n r levels (omega (arith, inv .low)) so-far (r-is ∙ ap (λ (k : ℕ). max (k + 1) levels) level);
+          few = omega (arith, r-is, max-le {a = l + 1} {b = levels} {k = 513} (omega arith) (inv .few));
+        }
