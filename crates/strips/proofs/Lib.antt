@@ -7,3 +7,5 @@ pub mod Linking
 pub mod OnChains
 pub mod IndexAt
 pub mod Making
+pub mod Rising
+pub mod Gathered

@@ -29,6 +29,10 @@ pub record FrontIs (xs out : List ℕ) (r : ℕ) (out′ : List ℕ) : Type 0 wh
 
 -- ---- one after the other: what only inner functions' contracts cite
 
+-- each is below those behind it
+abbrev pub Rises : List ℕ → Type 0
+Rises xs = (i k : ℕ) → i < k → k < length xs → getD xs i 0 < getD xs k 0
+
 -- v put among numbers that rise, unless it is there
 unfoldable pub putRising : ℕ → List ℕ → List ℕ
 putRising v [] = v ∷ []

@@ -12,39 +12,49 @@ use spatial_index::bounds_meet;
 ghost use mathlib.Core.Path.{_≡_};
 ghost use mathlib.Core.List.{[]};
 ghost use Prim.Native.Nat.{_-_, _≤_, _<_};
-ghost use lib.Dec.{leb};
+ghost use mathlib.Core.Bool.{_&&_};
+ghost use lib.Dec.{ltb, leb, eqb};
 ghost use lib.ListN.{length, getD, take};
 ghost use Rattle.lists.specs.Search.{first};
 ghost use Rattle.entry.specs.Mesh.{Rising};
 ghost use Rattle.strips.specs.Things.{thingCount};
 ghost use Rattle.strips.specs.Squares.{Small};
 ghost use Rattle.strips.specs.Index.{chainAt, Indexed};
-ghost use Rattle.strips.specs.Gathering.{thingsMeeting, FrontIs, putRising, withThing, withThings, isWanted, onChains, inRow, inLevel, inLevels, Chains};
+ghost use Rattle.strips.specs.Gathering.{thingsMeeting, FrontIs, Rises, putRising, withThing, withThings, isWanted, onChains, inRow, inLevel, inLevels, Chains};
 
 // Where v goes among numbers that rise.
 fn rising_place(found: &[u32], v: u32) -> usize
+    requires { ⌜ Rises (now found) ⌝ }
     ensures { λ r. ⌜ (r ≡ first (λ i. leb v (getD (now (found .entry)) i 0)) 0 (length (now (found .entry)))) × (r ≤ length (now (found .entry))) ⌝ }
 {
-    let mut i: usize = 0;
-    while i < found.len() {
-        if v <= found[i] {
+    let mut i = found.len();
+    while 0 < i {
+        if found[i - 1] < v {
             return i;
         }
-        i += 1;
+        i -= 1;
     }
     i
 }
 
+// Whether v stands at p.
+fn stands_at(found: &[u32], p: usize, v: u32) -> bool
+    ensures { λ r. ⌜ r ≡ (ltb p (length (now (found .entry))) && eqb (getD (now (found .entry)) p 0) v) ⌝ }
+{
+    if p < found.len() {
+        return found[p] == v;
+    }
+    false
+}
+
 // Puts v among the first k, which rise, unless it is there. Answers how many there are then; in a full list the last one goes.
 fn put_rising(found: &mut [u32], k: usize, v: u32) -> usize
-    requires { ⌜ k ≤ length (now found) ⌝ }
+    requires { ⌜ (k ≤ length (now found)) × Rises (take k (now found)) ⌝ }
     ensures { λ r. ⌜ FrontIs (take (length (now (found .entry))) (putRising v (take k (now (found .entry))))) (now (found .entry)) r (now (found .exit)) ⌝ }
 {
     let p = rising_place(&found[..k], v);
-    if p < k {
-        if found[p] == v {
-            return k;
-        }
+    if stands_at(&found[..k], p, v) {
+        return k;
     }
     if k < found.len() {
         insert_at_u32(found, k, p, v);
@@ -52,6 +62,7 @@ fn put_rising(found: &mut [u32], k: usize, v: u32) -> usize
     }
     if p < k {
         insert_at_u32(found, k - 1, p, v);
+        return k;
     }
     k
 }
@@ -67,7 +78,7 @@ fn gather_thing(
     found: &mut [u32],
     k: usize,
 ) -> usize
-    requires { ⌜ (Rising (now ends) (length (now nodes))) × (j < thingCount (now nodes) (now ends)) × (thingCount (now nodes) (now ends) ≤ 65536) × (k ≤ length (now found)) ⌝ }
+    requires { ⌜ (Rising (now ends) (length (now nodes))) × (j < thingCount (now nodes) (now ends)) × (thingCount (now nodes) (now ends) ≤ 65536) × (k ≤ length (now found)) × Rises (take k (now found)) ⌝ }
     ensures { λ r. ⌜ FrontIs (withThing (length (now (found .entry))) (isWanted (now (coords .entry)) (now (nodes .entry)) (now (ends .entry)) b from) (take k (now (found .entry))) j)
         (now (found .entry)) r (now (found .exit)) ⌝ }
 {
@@ -94,7 +105,7 @@ fn gather_chain(
     found: &mut [u32],
     k: usize,
 ) -> usize
-    requires { ⌜ Chains (now coords) (now nodes) (now ends) (now links) h × (c < h) × (k ≤ length (now found)) ⌝ }
+    requires { ⌜ Chains (now coords) (now nodes) (now ends) (now links) h × (c < h) × (k ≤ length (now found)) × Rises (take k (now found)) ⌝ }
     ensures { λ r. ⌜ FrontIs (withThings (length (now (found .entry))) (isWanted (now (coords .entry)) (now (nodes .entry)) (now (ends .entry)) b from) (take k (now (found .entry))) (onChains (chainAt (now (coords .entry)) (now (nodes .entry)) (now (ends .entry))) (thingCount (now (nodes .entry)) (now (ends .entry))) h c))
         (now (found .entry)) r (now (found .exit)) ⌝ }
 {
@@ -132,7 +143,7 @@ fn gather_row(
     found: &mut [u32],
     k: usize,
 ) -> usize
-    requires { ⌜ Chains (now coords) (now nodes) (now ends) (now links) h × (0 < h) × Small s × (y ≤ 256) × (k ≤ length (now found)) ⌝ }
+    requires { ⌜ Chains (now coords) (now nodes) (now ends) (now links) h × (0 < h) × Small s × (y ≤ 256) × (k ≤ length (now found)) × Rises (take k (now found)) ⌝ }
     ensures { λ r. ⌜ FrontIs (withThings (length (now (found .entry))) (isWanted (now (coords .entry)) (now (nodes .entry)) (now (ends .entry)) b from) (take k (now (found .entry))) (inRow (chainAt (now (coords .entry)) (now (nodes .entry)) (now (ends .entry))) (thingCount (now (nodes .entry)) (now (ends .entry))) h s y))
         (now (found .entry)) r (now (found .exit)) ⌝ }
 {
@@ -159,7 +170,7 @@ fn gather_level(
     found: &mut [u32],
     k: usize,
 ) -> usize
-    requires { ⌜ Chains (now coords) (now nodes) (now ends) (now links) h × (0 < h) × Small s × (k ≤ length (now found)) ⌝ }
+    requires { ⌜ Chains (now coords) (now nodes) (now ends) (now links) h × (0 < h) × Small s × (k ≤ length (now found)) × Rises (take k (now found)) ⌝ }
     ensures { λ r. ⌜ FrontIs (withThings (length (now (found .entry))) (isWanted (now (coords .entry)) (now (nodes .entry)) (now (ends .entry)) b from) (take k (now (found .entry))) (inLevel (chainAt (now (coords .entry)) (now (nodes .entry)) (now (ends .entry))) (thingCount (now (nodes .entry)) (now (ends .entry))) h s))
         (now (found .entry)) r (now (found .exit)) ⌝ }
 {

@@ -13,39 +13,39 @@ Inv-loop coords nodes ends links h b from s y found₀ k r₀ x₀ found r x = ?
 abbrev μ-loop : tie.MeasureT-loop
 μ-loop coords nodes ends links h b from s y found₀ k r₀ x₀ found r x = ?
 
--- src/gathering.rt:140:9
+-- src/gathering.rt:151:9
 before-requires : tie.Need-before-requires Inv-loop μ-loop
 before-requires c κs = search needs
 
--- src/gathering.rt:141:5
+-- src/gathering.rt:152:5
 loop-holds : tie.Need-loop-holds Inv-loop μ-loop
 loop-holds c = ?
 
--- src/gathering.rt:142:13
+-- src/gathering.rt:153:13
 square-chain-requires : tie.Need-square-chain-requires Inv-loop μ-loop
 square-chain-requires c κs = search needs
 
--- src/gathering.rt:143:9
+-- src/gathering.rt:154:9
 gather-chain-requires : tie.Need-gather-chain-requires Inv-loop μ-loop
 gather-chain-requires c κs = search needs
 
--- src/gathering.rt:144:9
+-- src/gathering.rt:155:9
 add-x : tie.Need-add-x Inv-loop μ-loop
 add-x c = search needs
 
--- src/gathering.rt:141:5
+-- src/gathering.rt:152:5
 loop-less : tie.Need-loop-less Inv-loop μ-loop
 loop-less c = search needs
 
--- src/gathering.rt:141:5
+-- src/gathering.rt:152:5
 loop-again : tie.Need-loop-again Inv-loop μ-loop
 loop-again c = ?
 
--- src/gathering.rt:122:1
+-- src/gathering.rt:133:1
 same-length : tie.Need-same-length Inv-loop μ-loop
 same-length c = search needs
 
--- src/gathering.rt:122:1
+-- src/gathering.rt:133:1
 returns : tie.Need-returns Inv-loop μ-loop
 returns c = ?
 

@@ -7,35 +7,35 @@ use Rattle.spatial_index.proofs.bounds_meet.Reads as bounds-meet-reads
 use Rattle.strips.proofs.gathering.put_rising.Reads as put-rising-reads
 use Rattle.strips.proofs.things.thing_bounds.Reads as thing-bounds-reads
 
--- src/gathering.rt:75:9
+-- src/gathering.rt:86:9
 returns : tie.Need-returns
 returns c = ?
 
--- src/gathering.rt:77:9
+-- src/gathering.rt:88:9
 thing-bounds-requires : tie.Need-thing-bounds-requires
 thing-bounds-requires c κs = search needs
 
--- src/gathering.rt:78:8
+-- src/gathering.rt:89:8
 bounds-meet-requires : tie.Need-bounds-meet-requires
 bounds-meet-requires c κs = search needs
 
--- src/gathering.rt:79:37
+-- src/gathering.rt:90:37
 cast-put-rising : tie.Need-cast-put-rising
 cast-put-rising c = search needs
 
--- src/gathering.rt:79:9
+-- src/gathering.rt:90:9
 put-rising-requires : tie.Need-put-rising-requires
 put-rising-requires c κs = search needs
 
--- src/gathering.rt:79:9
+-- src/gathering.rt:90:9
 same-length : tie.Need-same-length
 same-length c = search needs
 
--- src/gathering.rt:79:9
+-- src/gathering.rt:90:9
 returns-2 : tie.Need-returns-2
 returns-2 c = ?
 
--- src/gathering.rt:60:1
+-- src/gathering.rt:71:1
 returns-3 : tie.Need-returns-3
 returns-3 c = ?
 

@@ -5,72 +5,77 @@ use Rattle.strips.proofs.gathering.put_rising.Reads as reads
 use Rattle.strips.proofs.gathering.put_rising.Lts as lts
 use Rattle.lists.proofs.insert_at_u32.Reads as insert-at-u32-reads
 use Rattle.strips.proofs.gathering.rising_place.Reads as rising-place-reads
+use Rattle.strips.proofs.gathering.stands_at.Reads as stands-at-reads
 
--- src/gathering.rt:43:26
+-- src/gathering.rt:55:26
 slice-reshare-prefix-rising-place : tie.Need-slice-reshare-prefix-rising-place
 slice-reshare-prefix-rising-place c = search needs
 
--- src/gathering.rt:43:26
+-- src/gathering.rt:55:26
 slice-aggregate-rising-place : tie.Need-slice-aggregate-rising-place
 slice-aggregate-rising-place c = ?
 
--- src/gathering.rt:43:9
+-- src/gathering.rt:55:9
 rising-place-requires : tie.Need-rising-place-requires
 rising-place-requires c κs = search needs
 
--- src/gathering.rt:45:12
-mul-if2 : tie.Need-mul-if2
-mul-if2 c = search needs
+-- src/gathering.rt:56:18
+slice-reshare-prefix-stands-at : tie.Need-slice-reshare-prefix-stands-at
+slice-reshare-prefix-stands-at c = search needs
 
--- src/gathering.rt:45:12
-slice-read-if2 : tie.Need-slice-read-if2
-slice-read-if2 c = search needs
+-- src/gathering.rt:56:18
+slice-aggregate-stands-at : tie.Need-slice-aggregate-stands-at
+slice-aggregate-stands-at c = ?
 
--- src/gathering.rt:46:13
+-- src/gathering.rt:56:8
+stands-at-requires : tie.Need-stands-at-requires
+stands-at-requires c κs = search needs
+
+-- src/gathering.rt:57:9
 same-length : tie.Need-same-length
 same-length c = search needs
 
--- src/gathering.rt:46:13
+-- src/gathering.rt:57:9
 returns : tie.Need-returns
 returns c = ?
 
--- src/gathering.rt:50:9
+-- src/gathering.rt:60:9
 insert-at-u32-requires : tie.Need-insert-at-u32-requires
 insert-at-u32-requires c κs = search needs
 
--- src/gathering.rt:51:16
+-- src/gathering.rt:61:16
 add-result : tie.Need-add-result
 add-result c = search needs
 
--- src/gathering.rt:51:9
+-- src/gathering.rt:61:9
 same-length-2 : tie.Need-same-length-2
 same-length-2 c = search needs
 
--- src/gathering.rt:51:9
+-- src/gathering.rt:61:9
 returns-2 : tie.Need-returns-2
 returns-2 c = ?
 
--- src/gathering.rt:54:30
+-- src/gathering.rt:64:30
 sub-insert-at-u32 : tie.Need-sub-insert-at-u32
 sub-insert-at-u32 c = search needs
 
--- src/gathering.rt:54:9
+-- src/gathering.rt:64:9
 insert-at-u32-requires-2 : tie.Need-insert-at-u32-requires-2
 insert-at-u32-requires-2 c κs = search needs
 
--- src/gathering.rt:39:1
+-- src/gathering.rt:65:9
 same-length-3 : tie.Need-same-length-3
 same-length-3 c = search needs
 
--- src/gathering.rt:39:1
+-- src/gathering.rt:65:9
 returns-3 : tie.Need-returns-3
 returns-3 c = ?
 
--- src/gathering.rt:39:1
+-- src/gathering.rt:51:1
 same-length-4 : tie.Need-same-length-4
 same-length-4 c = search needs
 
--- src/gathering.rt:39:1
+-- src/gathering.rt:51:1
 returns-4 : tie.Need-returns-4
 returns-4 c = ?
 
@@ -81,8 +86,9 @@ put-rising-spec =
     slice-reshare-prefix-rising-place
     slice-aggregate-rising-place
     rising-place-requires
-    mul-if2
-    slice-read-if2
+    slice-reshare-prefix-stands-at
+    slice-aggregate-stands-at
+    stands-at-requires
     same-length
     returns
     insert-at-u32-requires

@@ -10,35 +10,39 @@ Inv-loop found v i₀ i = ?
 abbrev μ-loop : tie.MeasureT-loop
 μ-loop found v i₀ i = ?
 
--- src/gathering.rt:29:5
+-- src/gathering.rt:31:5
 loop-holds : tie.Need-loop-holds Inv-loop μ-loop
 loop-holds c = ?
 
--- src/gathering.rt:30:17
-mul-if1 : tie.Need-mul-if1 Inv-loop μ-loop
-mul-if1 c = ?
+-- src/gathering.rt:32:18
+sub-if1 : tie.Need-sub-if1 Inv-loop μ-loop
+sub-if1 c = search needs
 
--- src/gathering.rt:30:17
+-- src/gathering.rt:32:12
+mul-if1 : tie.Need-mul-if1 Inv-loop μ-loop
+mul-if1 c = search needs
+
+-- src/gathering.rt:32:12
 shared-slice-read-if1 : tie.Need-shared-slice-read-if1 Inv-loop μ-loop
 shared-slice-read-if1 c = search needs
 
--- src/gathering.rt:31:13
+-- src/gathering.rt:33:13
 returns : tie.Need-returns Inv-loop μ-loop
 returns c = ?
 
--- src/gathering.rt:33:9
-add-i : tie.Need-add-i Inv-loop μ-loop
-add-i c = search needs
+-- src/gathering.rt:35:9
+sub-i : tie.Need-sub-i Inv-loop μ-loop
+sub-i c = search needs
 
--- src/gathering.rt:29:5
+-- src/gathering.rt:31:5
 loop-less : tie.Need-loop-less Inv-loop μ-loop
-loop-less c = ?
+loop-less c = search needs
 
--- src/gathering.rt:29:5
+-- src/gathering.rt:31:5
 loop-again : tie.Need-loop-again Inv-loop μ-loop
 loop-again c = ?
 
--- src/gathering.rt:25:1
+-- src/gathering.rt:26:1
 returns-2 : tie.Need-returns-2 Inv-loop μ-loop
 returns-2 c = ?
 
@@ -49,10 +53,11 @@ rising-place-spec =
     Inv-loop
     μ-loop
     loop-holds
+    sub-if1
     mul-if1
     shared-slice-read-if1
     returns
-    add-i
+    sub-i
     loop-less
     loop-again
     returns-2)

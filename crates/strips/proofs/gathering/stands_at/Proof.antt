@@ -1,0 +1,24 @@
+use borrow.Author.Needs.{needs}
+use Rattle.strips.proofs.gathering.stands_at.Statement.{statement}
+use Rattle.strips.proofs.gathering.stands_at.Tie as tie
+use Rattle.strips.proofs.gathering.stands_at.Reads as reads
+use Rattle.strips.proofs.gathering.stands_at.Lts as lts
+
+-- src/gathering.rt:45:16
+mul-result : tie.Need-mul-result
+mul-result c = search needs
+
+-- src/gathering.rt:45:16
+shared-slice-read-result : tie.Need-shared-slice-read-result
+shared-slice-read-result c = search needs
+
+-- src/gathering.rt:45:9
+returns : tie.Need-returns
+returns c = ?
+
+-- src/gathering.rt:41:1
+returns-2 : tie.Need-returns-2
+returns-2 c = ?
+
+pub stands-at-spec : {M : Type 1} → statement M
+stands-at-spec = tie.close (tie.spec mul-result shared-slice-read-result returns returns-2)
