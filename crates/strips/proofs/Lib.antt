@@ -9,3 +9,6 @@ pub mod IndexAt
 pub mod Making
 pub mod Rising
 pub mod Gathered
+pub mod Walk
+pub mod Reached
+pub mod Complete

@@ -76,11 +76,11 @@ way-start s h l =
     let z : 512 - s .level ≡ 512 = omega (arith, l) in
     record { small = h; low = omega (arith, l); left = omega (arith, l, h .x1-small, h .y1-small); same = ap (λ (f : ℕ). narrowed f s) z }
 
-narrowed-wide : (f : ℕ) (r : Span) → isWide r ≡ true → narrowed (suc f) r ≡ narrowed f (halved r)
+pub narrowed-wide : (f : ℕ) (r : Span) → isWide r ≡ true → narrowed (suc f) r ≡ narrowed f (halved r)
 unfolding narrowed
 narrowed-wide f r w = ap (λ (t : Bool). let u : Span = elim t [ true ↦ narrowed f (halved r) | false ↦ r ] in u) w
 
-narrowed-here : (f : ℕ) (r : Span) → isWide r ≡ false → narrowed f r ≡ r
+pub narrowed-here : (f : ℕ) (r : Span) → isWide r ≡ false → narrowed f r ≡ r
 unfolding narrowed
 narrowed-here zero r w = refl
 narrowed-here (suc f) r w = ap (λ (t : Bool). let u : Span = elim t [ true ↦ narrowed f (halved r) | false ↦ r ] in u) w
