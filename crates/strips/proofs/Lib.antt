@@ -10,5 +10,6 @@ pub mod Making
 pub mod Rising
 pub mod Gathered
 pub mod Walk
+pub mod Rows
 pub mod Reached
 pub mod Complete

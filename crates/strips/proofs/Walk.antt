@@ -13,8 +13,8 @@ use Rattle.lists.specs.Gather.{gathered, places}
 use Rattle.lists.proofs.Search.{first-hit, first-none, first-le, first-from}
 use Rattle.lists.proofs.Gather.{gathered-more, places-more}
 use Rattle.strips.specs.Index.{onChain, nextAt}
-use Rattle.strips.specs.Gathering.{FrontIs, Rises, withThings, Links}
-use Rattle.strips.proofs.Gathered.{Holds, holds-none, holds-more, holds-long, holds-rises}
+use Rattle.strips.specs.Gathering.{FrontIs, withThing, withThings}
+use Rattle.strips.proofs.Gathered.{Holds, holds-none, holds-more, one-thing}
 
 -- numbers that fail add nothing
 none-more : (p : ℕ → Bool) (j k : ℕ) → ((i : ℕ) → k ≤ i → i < j + k → p i ≡ false) → places p (j + k) ≡ places p k
@@ -59,17 +59,18 @@ module _ (f : ℕ → ℕ) (n c : ℕ) where
         }
 
     pub walk-turn : (j r q next : ℕ) (found found′ : List ℕ) → Walking p k found₀ j r found → j < n → next ≡ nextAt f n j
-        → FrontIs (withThings (length found) p (take r found) (j ∷ [])) found q found′ → (j < next) × Walking p k found₀ next q found′
+        → FrontIs (withThing (length found) p (take r found) j) found q found′ → (j < next) × Walking p k found₀ next q found′
     walk-turn j r q next found found′ inv h e put =
         let z : next ≡ first on (j + 1) n = e ∙ ap (λ (d : ℕ). first (onChain f n d) (j + 1) n) (inv .here h) in
         let at = found-at (j + 1) (omega arith) in
+        let one : FrontIs (withThings (length found) p (take r found) (j ∷ [])) found q found′ = rw (sym (one-thing (length found) p (take r found) j)) put in
         let more : places on next ≡ places on j ++ j ∷ [] =
             ap (places on) z ∙ skipped on (j + 1) n (omega arith) ∙ places-more j on ∙ ap (λ (t : Bool). places on j ++ cond t (j ∷ []) []) (eq-eqb (f j) c (inv .here h)) in (
           omega (arith, z, first-from on (j + 1) n),
           record {
             low = omega (arith, z, at .0);
             here = λ l. ap f z ∙ at .1 (omega (arith, z));
-            holds = rw more (holds-more p (take k found₀) (places on j) found₀ found r (inv .holds) (j ∷ []) found′ q short put);
+            holds = rw more (holds-more p (take k found₀) (places on j) found₀ found r (inv .holds) (j ∷ []) found′ q short one);
           },
         )
       where
@@ -97,13 +98,15 @@ module _ (p : ℕ → Bool) (g : ℕ → List ℕ) (start end k : ℕ) (found₀
         let z : start - start ≡ 0 = omega arith in
         record { from = omega arith; upto = omega arith; holds = rw z (holds-none p found₀ k fits) }
 
-    pub going-turn : (x r q : ℕ) (found found′ : List ℕ) → Going x r found → x ≤ end → FrontIs (withThings (length found) p (take r found) (g (x - start))) found q found′ → Going (x + 1) q found′
-    going-turn x r q found found′ inv l next =
+    pub going-turn : (x r q : ℕ) (ks found found′ : List ℕ) → Going x r found → x ≤ end → ks ≡ g (x - start)
+        → FrontIs (withThings (length found) p (take r found) ks) found q found′ → Going (x + 1) q found′
+    going-turn x r q ks found found′ inv l e next =
+        let here : FrontIs (withThings (length found) p (take r found) (g (x - start))) found q found′ = rw (sym e) next in
         let z : x + 1 - start ≡ x - start + 1 = omega (arith, inv .from) in
         record {
           from = omega (arith, inv .from);
           upto = omega (arith, inv .from);
-          holds = rw (z, gathered-more (x - start) g) (holds-more p (take k found₀) (gathered (x - start) g) found₀ found r (inv .holds) (g (x - start)) found′ q short next);
+          holds = rw (z, gathered-more (x - start) g) (holds-more p (take k found₀) (gathered (x - start) g) found₀ found r (inv .holds) (g (x - start)) found′ q short here);
         }
       where
         short : length (take k found₀) ≤ length found₀

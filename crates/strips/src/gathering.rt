@@ -120,7 +120,7 @@ fn gather_chain(
 }
 
 // The strip before.
-fn before(x: usize) -> usize
+fn strip_before(x: usize) -> usize
     ensures { λ r. ⌜ r ≡ x - 1 ⌝ }
 {
     if x == 0 {
@@ -148,7 +148,7 @@ fn gather_row(
         (now (found .entry)) r (now (found .exit)) ⌝ }
 {
     let mut r = k;
-    let mut x = before(s.x0);
+    let mut x = strip_before(s.x0);
     while x <= s.x1 {
         let c = square_chain(h, s, x, y);
         r = gather_chain(coords, nodes, ends, links, h, b, from, c, found, r);
@@ -175,7 +175,7 @@ fn gather_level(
         (now (found .entry)) r (now (found .exit)) ⌝ }
 {
     let mut r = k;
-    let mut y = before(s.y0);
+    let mut y = strip_before(s.y0);
     while y <= s.y1 {
         r = gather_row(coords, nodes, ends, links, h, b, from, s, y, found, r);
         y += 1;
