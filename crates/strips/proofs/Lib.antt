@@ -13,3 +13,4 @@ pub mod Walk
 pub mod Rows
 pub mod Reached
 pub mod Complete
+pub mod Searching
