@@ -44,7 +44,7 @@ not-lt-le x y n m h = go (lt x y) (eq x y) refl (trichotomy x y n m h)
     go false true e f = refl
     go false false e f = f e
 
-le-trans : (x y z : Float) → le x y ≡ true → le y z ≡ true → le x z ≡ true
+pub le-trans : (x y z : Float) → le x y ≡ true → le y z ≡ true → le x z ≡ true
 le-trans x y z h k = not-lt-le x z (le-left x y h) (le-right y z k) (not-lt-trans z y x (le-left y z k) (le-not-lt y z k) (le-not-lt x y h))
 
 -- ---- a bound that takes in p keeps what it had, and has p too if it was a number

@@ -76,7 +76,7 @@ pub fn edge_bounds(coords: &[f64], a: u32, b: u32) -> Bounds
 }
 
 // Closed boxes meet where they only touch.
-fn bounds_meet(a: Bounds, b: Bounds) -> bool
+pub fn bounds_meet(a: Bounds, b: Bounds) -> bool
     ensures { λ r. ⌜ r ≡ boxesMeet a b ⌝ }
 {
     (a.left <= b.right) & (b.left <= a.right) & (a.low <= b.high) & (b.low <= a.high)

@@ -1,0 +1,16 @@
+pub mod PairsOrRuns
+pub mod Strips
+pub mod Spans
+pub mod Sizes
+pub mod Samples
+pub mod Linking
+pub mod OnChains
+pub mod IndexAt
+pub mod Making
+pub mod Rising
+pub mod Gathered
+pub mod Walk
+pub mod Rows
+pub mod Reached
+pub mod Complete
+pub mod Searching

@@ -1,0 +1,5 @@
+pub mod Things
+pub mod Squares
+pub mod Index
+pub mod Made
+pub mod Gathering
