@@ -4,10 +4,10 @@ use mathlib.Core.Path.{_≡_, refl, sym, ap, ap₂, _∙_, subst}
 use mathlib.Core.Bool.{Bool, true, false, not, cond}
 use mathlib.Core.List.{List, [], _∷_, _++_, append-nil}
 use Prim.Native.Nat.{ℕ, _+_, _-_, _/_, _≤_, _<_}
-use native.Mathlib.Nat.{le-antisymm, le-of-eq, add-zero}
+use native.Mathlib.Nat.{add-zero}
 use native.Mathlib.Omega.{arith}
 use lib.Dec.{eqb, ltb}
-use lib.ListN.{length, getD, take, drop, length-append, length-take, length-drop, take-append-drop, drop-of-length-le}
+use lib.ListN.{length, getD, take, drop, length-append, take-append-drop, drop-of-length-le}
 use lib.Seq.{length-take-le, take-all, take-append-le, drop-append-le}
 use lib.Ieee.{Float}
 use borrow.Author.Tests.{eq-eqb, ne-eqb, lt-ltb, le-ltb, ltb-true, ltb-false}
@@ -21,7 +21,7 @@ use Rattle.lists.proofs.Sort.{length-insert, insert-is, length-sorted, sorted-s
 use Rattle.snap.specs.Steps.{AllPlaced, NodePlaced, InOrder, placeOf, marked, before, indicesInOrder, withNode, counted, merged, mergedFull, countedFull}
 use Rattle.snap.proofs.Rising.{All, all-take, all-drop}
 use Rattle.snap.proofs.Merging.{sorted-both}
-use Rattle.snap.proofs.Orders.{orderTo, before-asym, before-through, marked-placed, sorted-in-order, order-end}
+use Rattle.snap.proofs.Orders.{before-asym, before-through, marked-placed, sorted-in-order, order-end}
 
 -- ---- one node put in
 
@@ -90,15 +90,14 @@ module _ (coords : List Float) (marks : List ℕ) where
     first-is = ap (take k) (h .front-is) ∙ take-front-of marks (sorted (before coords) (take k xs)) k length-first
 
     module _ (good : All (NodePlaced coords) xs) where
-      -- what `put_in_order` and `merge` ask
-      pub blocks-first : InOrder coords (take k s)
+      blocks-first : InOrder coords (take k s)
       blocks-first = subst (InOrder coords) (sym first-is) (sorted-in-order coords (take k xs) (all-take (NodePlaced coords) k xs good))
 
-      pub blocks-last : InOrder coords (take b block)
+      blocks-last : InOrder coords (take b block)
       blocks-last = subst (InOrder coords) (sym (h .block-is)) (sorted-in-order coords (drop k xs) (all-drop (NodePlaced coords) k xs good))
 
       -- all in order at the front
-      pub blocks-merged : (t : List ℕ) → t ≡ merged coords s k (take b block) → t ≡ front marks (sorted (before coords) xs)
+      blocks-merged : (t : List ℕ) → t ≡ merged coords s k (take b block) → t ≡ front marks (sorted (before coords) xs)
       unfolding merged
       blocks-merged t e =
           let both : sortOnto (before coords) (take k s) (take b block) ≡ sorted (before coords) xs =
@@ -140,10 +139,10 @@ module _ (coords : List Float) (marks : List ℕ) where
         }
 
     -- a full block put in
-    pub blocks-full : All (NodePlaced coords) xs → (t : List ℕ) (r : ℕ) → 0 < length block → r ≡ countedFull block b → t ≡ mergedFull coords s k block b
+    blocks-turn : All (NodePlaced coords) xs → (t : List ℕ) (r : ℕ) → 0 < length block → r ≡ countedFull block b → t ≡ mergedFull coords s k block b
         → Blocks coords marks t block xs (k + r) (b - r) × (b - r < length block)
     unfolding countedFull mergedFull
-    blocks-full good t r some re te = go (ltb b (length block)) refl
+    blocks-turn good t r some re te = go (ltb b (length block)) refl
       where
         go : (f : Bool) → ltb b (length block) ≡ f → Blocks coords marks t block xs (k + r) (b - r) × (b - r < length block)
         go true e =
@@ -194,11 +193,24 @@ module _ (coords : List Float) (marks : List ℕ) where
           subst (λ (n : ℕ). Blocks coords marks s t (xs ++ i ∷ []) k n) (sym one)
           (subst (λ (u : List ℕ). Blocks coords marks s u (xs ++ i ∷ []) k (b + 1)) (sym put) (blocks-put s block xs k b h i l (omega (arith, places-le (marked marks) i))))
 
-  -- the rest put in
-  pub blocks-end : AllPlaced coords → length marks ≤ length coords / 2 → (s block : List ℕ) (k b i : ℕ) → Blocks coords marks s block (places (marked marks) i) k b
-      → i ≤ length marks → length marks ≤ i → (t : List ℕ) → t ≡ merged coords s k (take b block)
-      → (k + b ≡ length (indicesInOrder coords marks)) × (t ≡ front marks (indicesInOrder coords marks))
-  blocks-end placed m s block k b i h le ge t e =
-      let good = marked-placed coords marks i placed (omega arith) in
-      order-end coords marks t (k + b) i le ge (h .count ∙ sym (length-sorted (before coords) (places (marked marks) i)))
-      (blocks-merged s block (places (marked marks) i) k b h good t e)
+  module _ (placed : AllPlaced coords) (most : length marks ≤ length coords / 2) (s block : List ℕ) (k b i : ℕ) (h : Blocks coords marks s block (places (marked marks) i) k b)
+      (le : i ≤ length marks) where
+    good : All (NodePlaced coords) (places (marked marks) i)
+    good = marked-placed coords marks i placed (omega arith)
+
+    -- what `put_in_order` and `merge_full` ask
+    pub blocks-ready : (k + b ≤ length s) × (b ≤ length block) × InOrder coords (take k s) × InOrder coords (take b block)
+    blocks-ready =
+        let xs : List ℕ = places (marked marks) i in
+        (omega (arith, h .count, h .few, h .size), h .within, blocks-first s block xs k b h good, blocks-last s block xs k b h good)
+
+    pub blocks-full : (t : List ℕ) (r : ℕ) → 0 < length block → r ≡ countedFull block b → t ≡ mergedFull coords s k block b
+        → Blocks coords marks t block (places (marked marks) i) (k + r) (b - r) × (b - r < length block)
+    blocks-full = blocks-turn s block (places (marked marks) i) k b h good
+
+    -- the rest put in
+    pub blocks-end : length marks ≤ i → (t : List ℕ) → t ≡ merged coords s k (take b block)
+        → (k + b ≡ length (indicesInOrder coords marks)) × (t ≡ front marks (indicesInOrder coords marks))
+    blocks-end ge t e =
+        order-end coords marks t (k + b) i le ge (h .count ∙ sym (length-sorted (before coords) (places (marked marks) i)))
+        (blocks-merged s block (places (marked marks) i) k b h good t e)

@@ -2,7 +2,7 @@
 -- `Rising`. Assumes nothing.
 use mathlib.Core.Path.{_≡_, refl, sym, ap, _∙_}
 use mathlib.Core.Bool.{Bool, true, false, true≢false}
-use mathlib.Core.List.{List, [], _∷_, _++_, append-assoc}
+use mathlib.Core.List.{List, [], _∷_, _++_}
 use lib.Dec.{T}
 use Rattle.lists.specs.Sort.{insert, sortOnto, sorted}
 use Rattle.lists.proofs.Sort.{sortOnto-append, sortOnto-snoc}

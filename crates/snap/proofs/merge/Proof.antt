@@ -39,8 +39,8 @@ place-at-move-up-requires c = c .before
 abbrev place-of-move-up : tie.After-move-up Inv-loop μ-loop → tie.After-place Inv-loop μ-loop
 place-of-move-up c = c .before .before
 
-abbrev move-up-at-add-s : tie.After-slice-known2 Inv-loop μ-loop → tie.After-move-up Inv-loop μ-loop
-move-up-at-add-s c = c .before .before
+abbrev move-up-at-slice-write-s : tie.After-slice-known2 Inv-loop μ-loop → tie.After-move-up Inv-loop μ-loop
+move-up-at-slice-write-s c = c .before .before
 
 loop-holds : tie.Need-loop-holds Inv-loop μ-loop
 loop-holds c = merge-start _ _ _ _ (omega arith)
@@ -71,61 +71,33 @@ move-up-requires c κs =
     let l = at-loop .loop in
     (omega (arith, c .before .place .ensures .1, length-take (l .end) (l .s)), omega (arith, l .inv .under, l .inv .left, l .inv .size, entry at-loop .pre .0))
 
-add-s : tie.Need-add-s Inv-loop μ-loop
-add-s c =
-    let at-place = place-of-move-up (move-up-at-add-s c) in
-    let at-loop = loop-of-in-loop (in-loop-of-place at-place) in
-    let at-entry = entry at-loop in
-    let l = at-loop .loop in
-    let t = in-loop-of-place at-place .loop-test .taken in
-    let p = at-place .place in
-    let m = move-up-at-add-s c .move-up in
-    record {
-      fits = omega (
-        arith,
-        merge-room (at-entry .args .coords .now) (at-entry .args .s .now) (at-entry .args .k) (at-entry .args .order .now)
-            (at-entry .pre .0) (l .s) (l .end) (l .j) (l .inv) (p .result) (m .last .0) t (at-entry .pre .2) (p .ensures .0) (p .ensures .1) (m .ensures),
-      );
-    }
-
-mul-s : tie.Need-mul-s Inv-loop μ-loop
-mul-s c =
-    let at-place = place-of-move-up (move-up-at-add-s c) in
-    let at-loop = loop-of-in-loop (in-loop-of-place at-place) in
-    let at-entry = entry at-loop in
-    let l = at-loop .loop in
-    let t = in-loop-of-place at-place .loop-test .taken in
-    let p = at-place .place in
-    let m = move-up-at-add-s c .move-up in
-    record {
-      fits = omega (
-        arith,
-        merge-room (at-entry .args .coords .now) (at-entry .args .s .now) (at-entry .args .k) (at-entry .args .order .now)
-            (at-entry .pre .0) (l .s) (l .end) (l .j) (l .inv) (p .result) (m .last .0) t (at-entry .pre .2) (p .ensures .0) (p .ensures .1) (m .ensures),
-      );
-    }
-
 slice-write-s : tie.Need-slice-write-s Inv-loop μ-loop
 slice-write-s c =
-    let at-place = place-of-move-up (move-up-at-add-s c) in
+    let at-place = place-of-move-up (move-up-at-slice-write-s c) in
     let at-loop = loop-of-in-loop (in-loop-of-place at-place) in
     let at-entry = entry at-loop in
     let l = at-loop .loop in
     let t = in-loop-of-place at-place .loop-test .taken in
     let p = at-place .place in
-    let m = move-up-at-add-s c .move-up in
+    let m = move-up-at-slice-write-s c .move-up in
     merge-room (at-entry .args .coords .now) (at-entry .args .s .now) (at-entry .args .k) (at-entry .args .order .now) (at-entry .pre .0) (l .s) (l .end)
     (l .j) (l .inv) (p .result) (m .last .0) t (at-entry .pre .2) (p .ensures .0) (p .ensures .1) (m .ensures)
 
+add-s : tie.Need-add-s Inv-loop μ-loop
+add-s c = record { fits = omega (arith, slice-write-s c) }
+
+mul-s : tie.Need-mul-s Inv-loop μ-loop
+mul-s c = record { fits = omega (arith, slice-write-s c) }
+
 loop-again : tie.Need-loop-again Inv-loop μ-loop
 loop-again c =
-    let at-place = place-of-move-up (move-up-at-add-s c) in
+    let at-place = place-of-move-up (move-up-at-slice-write-s c) in
     let at-loop = loop-of-in-loop (in-loop-of-place at-place) in
     let at-entry = entry at-loop in
     let l = at-loop .loop in
     let t = in-loop-of-place at-place .loop-test .taken in
     let p = at-place .place in
-    let m = move-up-at-add-s c .move-up in
+    let m = move-up-at-slice-write-s c .move-up in
     merge-turn (at-entry .args .coords .now) (at-entry .args .s .now) (at-entry .args .k) (at-entry .args .order .now) (at-entry .pre .0) (l .s) (l .end)
     (l .j) (l .inv) (p .result) (m .last .0) t (at-entry .pre .2) (p .ensures .0) (p .ensures .1) (m .ensures)
 
