@@ -1,13 +1,13 @@
 -- A difference, rounded, never rises with what is taken away. Assumes nothing.
 use mathlib.Core.Path.{_≡_, refl, sym, ap, ap₂, _∙_}
 use mathlib.Core.Logic.{_⊎_, inl, inr}
-use mathlib.Core.Bool.{Bool, true, false, not, cond, _&&_, _||_, Bool·beq, true≢false}
+use mathlib.Core.Bool.{Bool, true, false, cond, _||_, true≢false}
 use Prim.Native.Nat.{ℕ, zero, suc, _+_, _-_, _*_, _^_, _≤_, _<_}
-use native.Mathlib.Nat.{le-antisymm, le-of-lt, eq-zero-or-pos, add-comm, mul-comm, mul-assoc, mul-left-comm, mul-pos, zero-mul, mul-le-mul-right, add-mul}
+use native.Mathlib.Nat.{eq-zero-or-pos, add-comm, mul-pos, mul-le-mul-right, add-mul}
 use native.Mathlib.Omega.{arith}
 use lib.Dec.{ltb}
 use lib.IntN.{ℤ}
-use lib.Ieee.{Float, nan, inf, fin, Format, binary64, prec, emax, low, up, down, below, odd, units, round, sum, add, sub, neg, lt, eq, le}
+use lib.Ieee.{Float, nan, inf, fin, binary64, prec, emax, low, up, down, below, odd, units, round, sum, sub, neg, lt, eq, le}
 use lib.Ieee.Bits.{is-true}
 use lib.Ieee.Fits.{down-pos, round-is}
 use lib.Ieee.Order.{drop, kept, round-mono}
@@ -27,20 +27,24 @@ le-not-lt x y h = one-of (lt x y) (eq x y) (lt-asym x y) (λ e. eq-not-lt y x (e
 
 -- ---- signs
 
-units-neg : (q k : ℕ) → units binary64 true q k ≡ neg (units binary64 false q k)
-unfolding units odd neg
-units-neg zero k = go (ltb (zero * 2 ^ k) (2 ^ (low binary64 + suc (emax binary64))))
+-- negative, or -0
+abbrev pub minus : Float → Bool
+minus nan = false
+minus (inf s) = s
+minus (fin s m e) = s
+
+odd-signs : (d q k l : ℕ) → (odd d true q k l ≡ neg (odd d false q k l)) × (minus (odd d false q k l) ≡ false)
+unfolding odd neg
+odd-signs d zero k l = (refl, refl)
+odd-signs d (suc q) k l = (refl, refl)
+
+units-signs : (q k : ℕ) → (units binary64 true q k ≡ neg (units binary64 false q k)) × (minus (units binary64 false q k) ≡ false)
+unfolding units neg
+units-signs q k = go (ltb (q * 2 ^ k) (2 ^ (low binary64 + suc (emax binary64))))
   where
-    go : (b : Bool) → (let x : Float = cond b (odd (suc (prec binary64)) true zero k (low binary64)) (inf true) in x ≡ neg
-        (cond b (odd (suc (prec binary64)) false zero k (low binary64)) (inf false)))
-    go true = refl
-    go false = refl
-units-neg (suc q) k = go (ltb (suc q * 2 ^ k) (2 ^ (low binary64 + suc (emax binary64))))
-  where
-    go : (b : Bool) → (let x : Float = cond b (odd (suc (prec binary64)) true (suc q) k (low binary64)) (inf true) in x ≡ neg
-        (cond b (odd (suc (prec binary64)) false (suc q) k (low binary64)) (inf false)))
-    go true = refl
-    go false = refl
+    go : (b : Bool) → let x : Bool → Float = λ s. cond b (odd (suc (prec binary64)) s q k (low binary64)) (inf s) in (x true ≡ neg (x false)) × (minus (x false) ≡ false)
+    go true = odd-signs (suc (prec binary64)) q k (low binary64)
+    go false = (refl, refl)
 
 -- a / c, rounded, is so many of the smallest numbers, each 2 ^ `dropped` times
 abbrev keptOf : ℕ → ℕ → ℕ
@@ -50,7 +54,7 @@ abbrev droppedOf : ℕ → ℕ → ℕ
 droppedOf a c = drop 53 (a * 2 ^ low binary64) c
 
 round-neg : (a c : ℕ) → round binary64 true a c ≡ neg (round binary64 false a c)
-round-neg a c = round-is binary64 true a c ∙ units-neg (keptOf a c) (droppedOf a c) ∙ ap neg (sym (round-is binary64 false a c))
+round-neg a c = round-is binary64 true a c ∙ units-signs (keptOf a c) (droppedOf a c) .0 ∙ ap neg (sym (round-is binary64 false a c))
 
 neg-lt : (x y : Float) → lt (neg x) (neg y) ≡ lt y x
 unfolding neg lt
@@ -72,28 +76,10 @@ neg-lt (fin false m e) (fin false n d) = refl
 neg-lt (fin true m e) (fin false n d) = refl
 neg-lt (fin false m e) (fin true n d) = ap (ltb 0) (add-comm (m * up e * down d) (n * up d * down e))
 
--- negative, or -0
-abbrev pub minus : Float → Bool
-minus nan = false
-minus (inf s) = s
-minus (fin s m e) = s
-
-units-minus : (q k : ℕ) → minus (units binary64 false q k) ≡ false
-unfolding units odd
-units-minus zero k = go (ltb (zero * 2 ^ k) (2 ^ (low binary64 + suc (emax binary64))))
-  where
-    go : (b : Bool) → minus (cond b (odd (suc (prec binary64)) false zero k (low binary64)) (inf false)) ≡ false
-    go true = refl
-    go false = refl
-units-minus (suc q) k = go (ltb (suc q * 2 ^ k) (2 ^ (low binary64 + suc (emax binary64))))
-  where
-    go : (b : Bool) → minus (cond b (odd (suc (prec binary64)) false (suc q) k (low binary64)) (inf false)) ≡ false
-    go true = refl
-    go false = refl
-
 pub round-minus : (a c : ℕ) → minus (round binary64 false a c) ≡ false
-round-minus a c = ap minus (round-is binary64 false a c) ∙ units-minus (keptOf a c) (droppedOf a c)
+round-minus a c = ap minus (round-is binary64 false a c) ∙ units-signs (keptOf a c) (droppedOf a c) .1
 
+-- what isn't negative isn't below what isn't positive
 signs-apart : (x y : Float) → minus x ≡ false → minus y ≡ false → lt x (neg y) ≡ false
 unfolding lt neg
 signs-apart nan y h k = refl
@@ -228,12 +214,6 @@ sub-anti s t u m n k e d g h =
     rounds-mono (fin s m e ⊖ fin u k g) (fin s m e ⊖ fin t n d) _ _ (down e * down g) _ _ (down e * down d)
     (mul-pos (down-pos e) (down-pos g)) (mul-pos (down-pos e) (down-pos d)) (sub-rounds s u m k e g) (sub-rounds s t m n e d)
     (taken s t u (m * up e) (n * up d) (k * up g) (down e) (down d) (down g) h)
-
-lt-nan : (z : Float) → lt z nan ≡ false
-unfolding lt
-lt-nan nan = refl
-lt-nan (inf s) = refl
-lt-nan (fin s m e) = refl
 
 fall-finite : (x z : Float) (t u : Bool) (n k : ℕ) (d g : ℤ) → lt (fin u k g) (fin t n d) ≡ false
     → (lt (x ⊖ fin u k g) z ≡ false → lt (x ⊖ fin t n d) z ≡ false) × (lt z (x ⊖ fin t n d) ≡ false → lt z (x ⊖ fin u k g) ≡ false)

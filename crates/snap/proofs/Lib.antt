@@ -3,6 +3,9 @@ pub mod Squares
 pub mod Halving
 pub mod Precedence
 pub mod Rising
+pub mod Merging
+pub mod Moves
+pub mod Blocks
 pub mod Places
 pub mod Marks
 pub mod Orders

@@ -1,5 +1,5 @@
 -- `precedes` is an order: asymmetric, and what doesn't precede goes on through a point of numbers. Assumes nothing.
-use mathlib.Core.Path.{_≡_, refl, sym, ap, ap₂, _∙_}
+use mathlib.Core.Path.{_≡_, refl, sym, ap₂, _∙_}
 use mathlib.Core.Bool.{Bool, true, false, _&&_, _||_, and-false, true≢false}
 use lib.Ieee.{Float, lt, eq}
 use Rattle.plane.specs.Plane.{isNumber}

@@ -6,7 +6,7 @@ use mathlib.Core.List.{List, [], _∷_}
 use Prim.Native.Nat.{ℕ, zero, suc, _<_}
 use native.Mathlib.Omega.{arith}
 use lib.Dec.{T}
-use lib.ListN.{length, getD}
+use lib.ListN.{length, getD, take, drop}
 use Rattle.lists.specs.Sort.{insert, sortOnto, sorted}
 
 -- each element has P
@@ -24,9 +24,23 @@ module _ {A : Type 0} where
   all-of P [] d h = tt
   all-of P (x ∷ xs) d h = (h 0 (omega arith), all-of P xs d (λ i l. h (suc i) (omega arith)))
 
+  pub all-take : (P : A → Type 0) (n : ℕ) (xs : List A) → All P xs → All P (take n xs)
+  all-take P zero xs h = tt
+  all-take P (suc n) [] h = tt
+  all-take P (suc n) (x ∷ xs) h = (h .0, all-take P n xs (h .1))
+
+  pub all-drop : (P : A → Type 0) (n : ℕ) (xs : List A) → All P xs → All P (drop n xs)
+  all-drop P zero xs h = h
+  all-drop P (suc n) [] h = tt
+  all-drop P (suc n) (x ∷ xs) h = all-drop P n xs (h .1)
+
   all-map : (P Q : A → Type 0) → ((x : A) → P x → Q x) → (xs : List A) → All P xs → All Q xs
   all-map P Q f [] h = tt
   all-map P Q f (x ∷ xs) h = (f x (h .0), all-map P Q f xs (h .1))
+
+  pub all-map₂ : (P Q R : A → Type 0) → ((x : A) → P x → Q x → R x) → (xs : List A) → All P xs → All Q xs → All R xs
+  all-map₂ P Q R f [] h k = tt
+  all-map₂ P Q R f (x ∷ xs) h k = (f x (h .0) (k .0), all-map₂ P Q R f xs (h .1) (k .1))
 
 module _ {A : Type 0} (before : A → A → Bool) where
   abbrev pub Rising : List A → Type 0
@@ -39,7 +53,7 @@ module _ {A : Type 0} (before : A → A → Bool) where
   rising-at (x ∷ xs) h zero (suc j) d l m = all-at (λ (y : A). before y x ≡ false) xs (h .0) j d (omega arith)
   rising-at (x ∷ xs) h (suc i) (suc j) d l m = rising-at xs (h .1) i j d (omega arith) (omega arith)
 
-  insert-all : (P : A → Type 0) (x : A) (xs : List A) → P x → All P xs → All P (insert before x xs)
+  pub insert-all : (P : A → Type 0) (x : A) (xs : List A) → P x → All P xs → All P (insert before x xs)
   unfolding insert
   insert-all P x [] p h = (p, tt)
   insert-all P x (y ∷ ys) p h = go (before x y) (insert-all P x ys p (h .1))
@@ -48,7 +62,7 @@ module _ {A : Type 0} (before : A → A → Bool) where
       go true ih = (p, h)
       go false ih = (h .0, ih)
 
-  onto-all : (P : A → Type 0) (done xs : List A) → All P done → All P xs → All P (sortOnto before done xs)
+  pub onto-all : (P : A → Type 0) (done xs : List A) → All P done → All P xs → All P (sortOnto before done xs)
   unfolding sortOnto
   onto-all P done [] d h = d
   onto-all P done (x ∷ xs) d h = onto-all P (insert before x done) xs (insert-all P x done (h .0) d) (h .1)
@@ -58,7 +72,7 @@ module _ {A : Type 0} (before : A → A → Bool) where
 
   module _ (Good : A → Type 0) (asym : (x y : A) → before x y ≡ true → before y x ≡ false)
       (through : (x y z : A) → Good y → before x y ≡ false → before y z ≡ false → before x z ≡ false) where
-    insert-rising : (x : A) (xs : List A) → All Good xs → Rising xs → Rising (insert before x xs)
+    pub insert-rising : (x : A) (xs : List A) → All Good xs → Rising xs → Rising (insert before x xs)
     unfolding insert
     insert-rising x [] g r = (tt, tt)
     insert-rising x (y ∷ ys) g r = go (before x y) refl (insert-rising x ys (g .1) (r .1))

@@ -3,12 +3,12 @@ use mathlib.Core.Path.{_≡_}
 use mathlib.Core.Bool.{Bool, false, cond, not}
 use mathlib.Core.List.{List}
 use Prim.Native.Nat.{ℕ, _+_, _/_, _<_}
-use lib.Dec.{eqb}
+use lib.Dec.{eqb, ltb}
 use lib.ListN.{length, getD, take}
 use lib.Ieee.{Float, nan, lt}
 use Rattle.lists.specs.Search.{bit, first}
 use Rattle.lists.specs.Gather.{each, places}
-use Rattle.lists.specs.Sort.{insert, sorted}
+use Rattle.lists.specs.Sort.{insert, sortOnto, sorted}
 use Rattle.lists.specs.Regions.{front}
 use Rattle.plane.specs.Plane.{_⊖_, xOf, yOf, pointAt}
 use Rattle.plane.specs.declared.Point.{Point}
@@ -37,9 +37,13 @@ marked marks i = not (eqb (getD marks i 0) 0)
 abbrev pub before : List Float → ℕ → ℕ → Bool
 before coords i j = precedes (pointAt coords i) (pointAt coords j)
 
--- nodes with a place, of which none stands before an earlier one
+-- both coordinates of the node v are finite
+abbrev pub NodePlaced : List Float → ℕ → Type 0
+NodePlaced coords v = Placed (xOf coords v) × Placed (yOf coords v)
+
+-- nodes of which none stands before an earlier one
 pub record InOrder (coords : List Float) (order : List ℕ) : Type 0 where
-  pub placed : (i : ℕ) → i < length order → Placed (xOf coords (getD order i 0)) × Placed (yOf coords (getD order i 0))
+  pub placed : (i : ℕ) → i < length order → NodePlaced coords (getD order i 0)
   pub rises : (i j : ℕ) → i < j → j < length order → before coords (getD order j 0) (getD order i 0) ≡ false
 
 -- where the node v goes among them: before the first that it stands before
@@ -50,12 +54,23 @@ placeOf coords order v = first (λ i. before coords v (getD order i 0)) 0 (lengt
 unfoldable pub indicesInOrder : List Float → List ℕ → List ℕ
 indicesInOrder coords marks = sorted (before coords) (places (marked marks) (length marks))
 
--- the first k entries of s are nodes in order: with node i, where s has a mark for it; and how many they are then
-unfoldable pub withNode : List Float → List ℕ → ℕ → ℕ → List ℕ
-withNode coords s k i = cond (marked s i) (front s (insert (before coords) i (take k s))) s
+-- the first k entries of `block` are nodes in order: with node i, where it is marked; and how many they are then
+unfoldable pub withNode : List Float → List ℕ → List ℕ → ℕ → ℕ → List ℕ
+withNode coords marks block k i = cond (marked marks i) (front block (insert (before coords) i (take k block))) block
 
 unfoldable pub counted : List ℕ → ℕ → ℕ → ℕ
-counted s k i = k + bit (marked s i)
+counted marks k i = k + bit (marked marks i)
+
+-- the first k entries of s are nodes in order: with those of `order` put in among them
+unfoldable pub merged : List Float → List ℕ → ℕ → List ℕ → List ℕ
+merged coords s k order = front s (sortOnto (before coords) (take k s) order)
+
+-- the same where a block with b nodes is full; and how many were put in
+unfoldable pub mergedFull : List Float → List ℕ → ℕ → List ℕ → ℕ → List ℕ
+mergedFull coords s k block b = cond (ltb b (length block)) s (merged coords s k block)
+
+unfoldable pub countedFull : List ℕ → ℕ → ℕ
+countedFull block b = cond (ltb b (length block)) 0 (length block)
 
 -- ---- `closest_within`
 

@@ -1,13 +1,13 @@
 // Near nodes of the two meshes share a number (document 01, module 4).
 ghost use mathlib.Core.Path.{_≡_};
 ghost use mathlib.Core.List.{[], _++_};
-ghost use Prim.Native.Nat.{_+_, _/_, _≤_, _<_};
+ghost use Prim.Native.Nat.{_+_, _-_, _/_, _≤_, _<_};
 ghost use lib.ListN.{length, getD, take};
 ghost use Rattle.lists.specs.Gather.{each};
-ghost use Rattle.lists.specs.Regions.{run, front, zeros};
+ghost use Rattle.lists.specs.Regions.{run, front, put, zeros};
 ghost use Rattle.entry.specs.Mesh.{mesh};
 ghost use Rattle.rules.specs.Snap.{precedes, distance2, orShifted, closestWithin, weld};
-ghost use Rattle.snap.specs.Steps.{Below, AllPlaced, InOrder, used, placeOf, indicesInOrder, withNode, counted, windowStart, closerNode, numberBy};
+ghost use Rattle.snap.specs.Steps.{Below, AllPlaced, InOrder, used, placeOf, indicesInOrder, withNode, counted, merged, mergedFull, countedFull, windowStart, closerNode, numberBy};
 use lists::insert_at_u32;
 use lists::zero_u32;
 use plane::Point;
@@ -61,32 +61,82 @@ fn place(coords: &[f64], order: &[u32], v: u32) -> usize
     lo
 }
 
-// Node i is put in among the first k entries of s, which are in order, if its mark there isn't 0. Answers how many they are then.
-fn put_in_order(coords: &[f64], s: &mut [u32], k: usize, i: usize) -> usize
-    requires { ⌜ (k ≤ i) × (i < length (now s)) × (length (now s) ≤ 16384) × InOrder (now coords) (take k (now s)) ⌝ }
-    ensures { λ r. ⌜ (r ≡ counted (now (s .entry)) k i) × (now (s .exit) ≡ withNode (now (coords .entry)) (now (s .entry)) k i) ⌝ }
+// Node i is put in among the first k entries of the block, which are in order, if its mark isn't 0. Answers how many they are then.
+fn put_in_order(coords: &[f64], marks: &[u32], block: &mut [u32], k: usize, i: usize) -> usize
+    requires { ⌜ (k < length (now block)) × (i < length (now marks)) × (length (now marks) ≤ 16384) × InOrder (now coords) (take k (now block)) ⌝ }
+    ensures { λ r. ⌜ (r ≡ counted (now (marks .entry)) k i) × (now (block .exit) ≡ withNode (now (coords .entry)) (now (marks .entry)) (now (block .entry)) k i) ⌝ }
 {
-    if s[i] == 0 {
+    if marks[i] == 0 {
         return k;
     }
     let v = i as u32;
-    let p = place(coords, &s[..k], v);
-    insert_at_u32(s, k, p, v);
+    let p = place(coords, &block[..k], v);
+    insert_at_u32(block, k, p, v);
     k + 1
 }
 
-// s has a mark for each node. The marked ones are put at its front, by x, then y; equal ones stay rising. Answers how many they are.
+// The entries from `from` to `end` move up by so many places.
+fn move_up(s: &mut [u32], from: usize, end: usize, by: usize)
+    requires { ⌜ (from ≤ end) × (end + by ≤ length (now s)) ⌝ }
+    ensures { λ _. ⌜ now (s .exit) ≡ put (now (s .entry)) (from + by) (run (now (s .entry)) from (end - from)) ⌝ }
+{
+    let mut i = end;
+    while from < i {
+        i -= 1;
+        let v = s[i];
+        s[i + by] = v;
+    }
+}
+
+// The nodes of `order` are put in among the first k of s, from the last down: each goes to its place, and what stands behind that moves up by as many places
+// as nodes are left. All are in order.
+fn merge(coords: &[f64], s: &mut [u32], k: usize, order: &[u32])
+    requires { ⌜ (k + length (now order) ≤ length (now s)) × InOrder (now coords) (take k (now s)) × InOrder (now coords) (now order) ⌝ }
+    ensures { λ _. ⌜ now (s .exit) ≡ merged (now (coords .entry)) (now (s .entry)) k (now (order .entry)) ⌝ }
+{
+    let mut end = k;
+    let mut j = order.len();
+    while 0 < j {
+        let v = order[j - 1];
+        let p = place(coords, &s[..end], v);
+        move_up(s, p, end, j);
+        s[p + j - 1] = v;
+        end = p;
+        j -= 1;
+    }
+}
+
+// A block of b nodes in order is put in among the first k of s if it is full. Answers how many nodes were put in.
+fn merge_full(coords: &[f64], s: &mut [u32], k: usize, block: &[u32], b: usize) -> usize
+    requires { ⌜ (k + b ≤ length (now s)) × (b ≤ length (now block)) × InOrder (now coords) (take k (now s)) × InOrder (now coords) (take b (now block)) ⌝ }
+    ensures { λ r. ⌜ (r ≡ countedFull (now (block .entry)) b) × (now (s .exit) ≡ mergedFull (now (coords .entry)) (now (s .entry)) k (now (block .entry)) b) ⌝ }
+{
+    if b < block.len() {
+        return 0;
+    }
+    merge(coords, s, k, block);
+    block.len()
+}
+
+// s has a mark for each node. The marked ones are put at its front, by x, then y; equal ones stay rising. Answers how many they are. They are sorted in blocks
+// of 128, each put in among those before it, so that a node is moved some √n times, not n.
 fn sorted_indices_for(coords: &[f64], s: &mut [u32]) -> usize
     requires { ⌜ (length (now s) ≤ 16384) × (length (now s) ≤ length (now coords) / 2) × AllPlaced (now coords) ⌝ }
     ensures { λ r. ⌜ (r ≡ length (indicesInOrder (now (coords .entry)) (now (s .entry)))) × (now (s .exit) ≡ front (now (s .entry)) (indicesInOrder (now (coords .entry)) (now (s .entry)))) ⌝ }
 {
+    let mut block = [0u32; 128];
     let mut k: usize = 0;
+    let mut b: usize = 0;
     let mut i: usize = 0;
     while i < s.len() {
-        k = put_in_order(coords, s, k, i);
+        b = put_in_order(coords, s, &mut block, b, i);
+        let full = merge_full(coords, s, k, &block, b);
+        k += full;
+        b -= full;
         i += 1;
     }
-    k
+    merge(coords, s, k, &block[..b]);
+    k + b
 }
 
 // ---- The nearest of them
