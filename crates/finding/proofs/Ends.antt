@@ -52,7 +52,8 @@ use Rattle.finding.specs.Found.{
   LinkRoom,
   linkedBy,
 }
-use Rattle.finding.proofs.Whole.{length-held, subjects-held, cutters-held, subjects-before, cutters-before}
+use Rattle.finding.proofs.Whole.{subjects-before, cutters-before}
+use Rattle.finding.proofs.Netted.{length-held, subjects-held, cutters-held, index-fits, cutters-indexed}
 use Rattle.finding.proofs.Held.{Holds, holds-linked, with, subjects-found, cutters-found, met-found, length-worked, worked-holds}
 use Rattle.finding.proofs.Events.{few-met, no-place, met-refused, met-all}
 use Rattle.finding.proofs.Settled.{leaves, all-left, zeros-left}

@@ -23,7 +23,8 @@ use Rattle.meetings.specs.Booked.{booked}
 use Rattle.meetings.proofs.Reading.{length-booked}
 use Rattle.finding.specs.Nets.{Fit, NetRoom, cutterEntries, copiedAt, subjectAt, cutterAt, metAt, netsOf, netted}
 use Rattle.finding.specs.Found.{chains, between, regionsBy, foundAs, linksIn, worked, LinkedIn}
-use Rattle.finding.proofs.Whole.{length-held, entries-held, copied-held, subjects-held, cutters-held, subjects-before, cutters-before}
+use Rattle.finding.proofs.Whole.{subjects-before, cutters-before}
+use Rattle.finding.proofs.Netted.{length-held, entries-held, copied-held, subjects-held, cutters-held}
 
 -- ---- two lists in one region
 
@@ -105,11 +106,11 @@ module _ (op : ℕ) (sc cc : List Float) (sn se cn ce : List ℕ) (fs : Fit fals
 
     pub subjects-found : run (with zs) (subjectAt s c) (2 * length (subjectNet s .edges)) ≡ flatEdges (subjectNet s .edges)
     subjects-found =
-        before (subjectAt s c) (2 * length (subjectNet s .edges)) (subjects-before lines sc cc sn se cn ce fs fc w₀ room .0) ∙ subjects-held lines sc cc sn se cn ce fs fc w₀ room
+        before (subjectAt s c) (2 * length (subjectNet s .edges)) (omega (arith, subjects-before lines sc cc sn se cn ce fs fc w₀ room .0)) ∙ subjects-held lines sc cc sn se cn ce fs fc w₀ room
 
     pub cutters-found : run (with zs) (cond lines (nodeCount c) (cutterAt s c)) (2 * length (cutterNet lines s c .edges)) ≡ flatEdges (cutterNet lines s c .edges)
     cutters-found =
-        before (cond lines (nodeCount c) (cutterAt s c)) (2 * length (cutterNet lines s c .edges)) (cutters-before lines sc cc sn se cn ce fs fc w₀ room .0)
+        before (cond lines (nodeCount c) (cutterAt s c)) (2 * length (cutterNet lines s c .edges)) (omega (arith, cutters-before lines sc cc sn se cn ce fs fc w₀ room .0))
         ∙ cutters-held lines sc cc sn se cn ce fs fc w₀ room
 
     pub met-found : run (with zs) (metAt s c) (5 * length met) ≡ booked met

@@ -3,6 +3,7 @@ pub mod Cells
 pub mod Layers
 pub mod Welded
 pub mod Whole
+pub mod Netted
 pub mod Held
 pub mod Events
 pub mod Scenes

@@ -1,4 +1,4 @@
--- `nets`: the working list from call to call, and what its regions hold in the end. Assumes nothing.
+-- `edges`: the working list from call to call, and what its regions hold in the end. Assumes nothing.
 use mathlib.Core.Path.{_≡_, refl, sym, ap, ap₂, _∙_}
 use mathlib.Core.Bool.{Bool, true, false, cond}
 use mathlib.Core.List.{List, [], _++_, map}
@@ -19,13 +19,13 @@ use Rattle.snap.proofs.Welds.{weld-lists, length-weld}
 use Rattle.neighbours.proofs.Edges.{ends-pairs}
 use Rattle.neighbours.proofs.Threads.{put-swap}
 use Rattle.finding.specs.declared.numbering.NetPlaces.{NetPlaces}
-use Rattle.finding.specs.Nets.{Fit, NetRoom, cutterEntries, copiedAt, subjectAt, cutterAt, metAt, chainRoom, netsOf, netted}
+use Rattle.finding.specs.Nets.{Fit, NetRoom, cutterEntries, copiedAt, subjectAt, cutterAt, indexAt, metAt, chainRoom, netsOf, edged}
 use Rattle.finding.proofs.Cells.{cellsIn, cells-lists, cells-renumbered, few-edges, prior-two, line-pairs}
 use Rattle.finding.proofs.Layers as layers
 use Rattle.finding.proofs.Welded.{numbers-read}
 
-abbrev placesWith : ℕ → ℕ → ℕ → ℕ → ℕ → ℕ → ℕ → NetPlaces
-placesWith e t f s a c b = record { entries = e; copied = t; from = f; subject = s; at = a; cutter = c; base = b }
+abbrev placesWith : ℕ → ℕ → ℕ → ℕ → ℕ → ℕ → ℕ → ℕ → NetPlaces
+placesWith e t f s a c i b = record { entries = e; copied = t; from = f; subject = s; at = a; cutter = c; index = i; base = b }
 
 -- ends of a mesh that fits
 pub rising : (lines : Bool) (m : Mesh) → Fit lines m → Rising (m .ends) (length (m .nodes))
@@ -178,11 +178,11 @@ module _ (lines : Bool) (sc cc : List Float) (sn se cn ce : List ℕ) where
         four-is = d₄ .1 ∙ ap₂ (λ (w : List ℕ) (es : List Edge). put (put w (subjectAt s c) (flatEdges es)) (metAt s c) clear) three-is found-are
 
         places-are : (a l : ℕ) → a ≡ cond lines (nodeCount c) (cutterAt s c) → l ≡ length cutters
-            → placesWith (nodeCount c) (copiedAt s c) (subjectAt s c) k a l (metAt s c) ≡ netsOf lines s c
+            → placesWith (nodeCount c) (copiedAt s c) (subjectAt s c) k a l (indexAt s c) (metAt s c) ≡ netsOf lines s c
         unfolding netsOf
         places-are a l p q =
-            ap (λ (i : ℕ). placesWith (nodeCount c) (copiedAt s c) (subjectAt s c) i a l (metAt s c)) k-is
-            ∙ ap₂ (λ (i j : ℕ). placesWith (nodeCount c) (copiedAt s c) (subjectAt s c) (length subjects) i j (metAt s c)) p q
+            ap (λ (i : ℕ). placesWith (nodeCount c) (copiedAt s c) (subjectAt s c) i a l (indexAt s c) (metAt s c)) k-is
+            ∙ ap₂ (λ (i j : ℕ). placesWith (nodeCount c) (copiedAt s c) (subjectAt s c) (length subjects) i j (indexAt s c) (metAt s c)) p q
 
         -- the zeros again
         again : put (put (put three (metAt s c) clear) (cutterAt s c) (flatEdges cutters)) (metAt s c) clear ≡ put (put three (cutterAt s c) (flatEdges cutters)) (metAt s c) clear
@@ -195,8 +195,8 @@ module _ (lines : Bool) (sc cc : List Float) (sn se cn ce : List ℕ) where
 
         -- of lines
         pub lines-end : lines ≡ true
-            → (placesWith (nodeCount c) (copiedAt s c) (subjectAt s c) k (nodeCount c) (length cn / 2) (metAt s c) ≡ netsOf lines s c) × (w₄ ≡ netted lines s c w₀)
-        unfolding netted
+            → (placesWith (nodeCount c) (copiedAt s c) (subjectAt s c) k (nodeCount c) (length cn / 2) (indexAt s c) (metAt s c) ≡ netsOf lines s c) × (w₄ ≡ edged lines s c w₀)
+        unfolding edged
         lines-end e = (
           places-are (nodeCount c) (length cn / 2) (sym (ap (λ (t : Bool). cond t (nodeCount c) (cutterAt s c)) e))
               (omega (arith, ap length (cutters-lines e), pairs-length entries, length-entries)),
@@ -208,8 +208,8 @@ module _ (lines : Bool) (sc cc : List Float) (sn se cn ce : List ℕ) where
         pub cells-end : lines ≡ false → (w₅ : List ℕ) (l : ℕ)
             → (l ≡ length (computeDescending (cellsOf (mesh [] (run w₄ (nodeCount c) (length cn)) ce [] []))))
             × (w₅ ≡ put (put w₄ (cutterAt s c) (flatEdges (computeDescending (cellsOf (mesh [] (run w₄ (nodeCount c) (length cn)) ce [] []))))) (metAt s c) (zeros (chainRoom s c)))
-            → (placesWith (nodeCount c) (copiedAt s c) (subjectAt s c) k (cutterAt s c) l (metAt s c) ≡ netsOf lines s c) × (w₅ ≡ netted lines s c w₀)
-        unfolding netted
+            → (placesWith (nodeCount c) (copiedAt s c) (subjectAt s c) k (cutterAt s c) l (indexAt s c) (metAt s c) ≡ netsOf lines s c) × (w₅ ≡ edged lines s c w₀)
+        unfolding edged
         cells-end e w₅ l d₅ =
             let read : run w₄ (nodeCount c) (length cn) ≡ entries =
             ap₂ (λ (w : List ℕ) (n : ℕ). run w (nodeCount c) n) four-is (sym length-entries)
@@ -226,7 +226,7 @@ module _ (lines : Bool) (sc cc : List Float) (sn se cn ce : List ℕ) where
       -- ---- what the regions hold
 
       abbrev held : List ℕ
-      held = netted lines s c w₀
+      held = edged lines s c w₀
 
       -- without the zeros
       abbrev four : List ℕ
@@ -236,27 +236,27 @@ module _ (lines : Bool) (sc cc : List Float) (sn se cn ce : List ℕ) where
       length-four = layers.length-four numbers entries sn (flatEdges subjects) behind (nodeCount c) (copiedAt s c) (subjectAt s c) (cutterAt s c) h₁ (omega arith)
           h₃ (h₄ behind few-behind) ∙ length-numbers
 
-      pub length-held : length held ≡ length w₀
-      unfolding netted
-      length-held = length-put four (metAt s c) (omega (arith, room, length-four)) clear (omega (arith, room, length-four, length-clear)) ∙ length-four
+      pub length-edged : length held ≡ length w₀
+      unfolding edged
+      length-edged = length-put four (metAt s c) (omega (arith, room, length-four)) clear (omega (arith, room, length-four, length-clear)) ∙ length-four
 
       before : (a n : ℕ) → a + n ≤ metAt s c → run held a n ≡ run four a n
-      unfolding netted
+      unfolding edged
       before a n h = run-before four (metAt s c) (omega (arith, room, length-four)) clear a n h
 
       entries-whole : run held (nodeCount c) (length entries) ≡ entries
       entries-whole = before (nodeCount c) (length entries) (omega (arith, length-entries)) ∙ layers.first-four numbers entries sn (flatEdges subjects) behind
           (nodeCount c) (copiedAt s c) (subjectAt s c) (cutterAt s c) h₁ (omega arith) h₃ (h₄ behind few-behind)
 
-      pub entries-held : run held (nodeCount c) (length cn) ≡ entries
-      entries-held = ap (run held (nodeCount c)) (sym length-entries) ∙ entries-whole
+      pub entries-edged : run held (nodeCount c) (length cn) ≡ entries
+      entries-edged = ap (run held (nodeCount c)) (sym length-entries) ∙ entries-whole
 
-      pub copied-held : run held (copiedAt s c) (length sn) ≡ sn
-      copied-held = before (copiedAt s c) (length sn) (omega arith) ∙ layers.second-four numbers entries sn (flatEdges subjects) behind
+      pub copied-edged : run held (copiedAt s c) (length sn) ≡ sn
+      copied-edged = before (copiedAt s c) (length sn) (omega arith) ∙ layers.second-four numbers entries sn (flatEdges subjects) behind
           (nodeCount c) (copiedAt s c) (subjectAt s c) (cutterAt s c) h₁ (omega arith) h₃ (h₄ behind few-behind)
 
-      pub subjects-held : run held (subjectAt s c) (2 * length subjects) ≡ flatEdges subjects
-      subjects-held =
+      pub subjects-edged : run held (subjectAt s c) (2 * length subjects) ≡ flatEdges subjects
+      subjects-edged =
           ap (run held (subjectAt s c)) (sym (ends-length subjects)) ∙ before (subjectAt s c) (length (flatEdges subjects)) (omega (arith, ends-length subjects, few-subjects))
           ∙ layers.third-four numbers entries sn (flatEdges subjects) behind (nodeCount c) (copiedAt s c) (subjectAt s c) (cutterAt s c) h₁ (omega arith) h₃ (h₄ behind few-behind)
 
@@ -264,8 +264,8 @@ module _ (lines : Bool) (sc cc : List Float) (sn se cn ce : List ℕ) where
       behind-held = before (cutterAt s c) (length behind) (omega (arith, few-behind)) ∙ layers.fourth-four numbers entries sn (flatEdges subjects) behind
           (nodeCount c) (copiedAt s c) (subjectAt s c) (cutterAt s c) h₁ (omega arith) h₃ (h₄ behind few-behind)
 
-      pub cutters-held : run held (cond lines (nodeCount c) (cutterAt s c)) (2 * length cutters) ≡ flatEdges cutters
-      cutters-held = go lines refl
+      pub cutters-edged : run held (cond lines (nodeCount c) (cutterAt s c)) (2 * length cutters) ≡ flatEdges cutters
+      cutters-edged = go lines refl
         where
           go : (t : Bool) → lines ≡ t → run held (cond t (nodeCount c) (cutterAt s c)) (2 * length cutters) ≡ flatEdges cutters
           go true e =
@@ -277,12 +277,12 @@ module _ (lines : Bool) (sc cc : List Float) (sn se cn ce : List ℕ) where
               let n : 2 * length cutters ≡ length behind = omega (arith, ends-length cutters, ap length is) in
               ap (run held (cutterAt s c)) n ∙ behind-held ∙ is
 
-      pub subjects-before : (subjectAt s c + 2 * length subjects ≤ metAt s c) × (length subjects ≤ 65536)
+      pub subjects-before : (subjectAt s c + 2 * length subjects ≤ indexAt s c) × (length subjects ≤ 65536)
       subjects-before = (omega (arith, few-subjects), omega (arith, few-subjects, fs .mostEntries))
 
-      pub cutters-before : (cond lines (nodeCount c) (cutterAt s c) + 2 * length cutters ≤ metAt s c) × (length cutters ≤ 65536)
-      cutters-before = (go lines, omega (arith, few-cutters, fc .mostEntries))
+      pub cutters-before : (cond lines (nodeCount c) (cutterAt s c) + 2 * length cutters ≤ indexAt s c) × (length cutters ≤ 65536) × (length cutters ≤ length cn)
+      cutters-before = (go lines, omega (arith, few-cutters, fc .mostEntries), few-cutters)
         where
-          go : (t : Bool) → cond t (nodeCount c) (cutterAt s c) + 2 * length cutters ≤ metAt s c
+          go : (t : Bool) → cond t (nodeCount c) (cutterAt s c) + 2 * length cutters ≤ indexAt s c
           go true = omega (arith, few-cutters)
           go false = omega (arith, few-cutters)

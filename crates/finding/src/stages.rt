@@ -146,15 +146,17 @@ pub fn find(
     if !place_coords(sc, cc, oc) {
         return refused(oc, w, 12);
     }
-    let n = nets(op == 5, sc, sn, se, cc, cn, ce, w);
+    let placed = sc.len() + cc.len();
+    let n = nets(op == 5, &oc[..placed], sc, sn, se, cc, cn, ce, w);
     let f = compute_intersections(
         oc,
         w,
-        sc.len() + cc.len(),
+        placed,
         n.from,
         n.subject,
         n.at,
         n.cutter,
+        //TMP n.index,
         n.base,
         m as usize,
     );
@@ -162,7 +164,7 @@ pub fn find(
     if code != 0 {
         return refused(oc, w, code);
     }
-    let g = link(w, n, f.met, (sc.len() + cc.len()) / 2 + 1);
+    let g = link(w, n, f.met, placed / 2 + 1);
     if crowded(w, g) {
         return refused(oc, w, 9);
     }

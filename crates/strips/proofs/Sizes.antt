@@ -56,7 +56,23 @@ module _ (n : ℕ) where
           let not : ltb n ((s + 1) * (s + 1)) ≡ false = first-none (below n) 1 256 s (omega (arith, h)) (omega (arith, side-range .1, h)) (omega (arith, h)) in
           omega (arith, e, ltb-false n ((s + 1) * (s + 1)) not, le-mul-of-pos-right {m = s + 1} (s + 1) (omega arith))
 
+  -- twice as many
+  pub sides-low : 2 * sideOf n ≤ n + 2
+  unfolding sideOf
+  sides-low = go (decLe (sideOf n) 1)
+    where
+      go : Dec (sideOf n ≤ 1) → 2 * sideOf n ≤ n + 2
+      go (yes h) = omega arith
+      go (no h) =
+          let s : ℕ = sideOf n - 1 in
+          let e : s + 1 ≡ sideOf n = omega (arith, h) in
+          let not : ltb n ((s + 1) * (s + 1)) ≡ false = first-none (below n) 1 256 s (omega (arith, h)) (omega (arith, side-range .1, h)) (omega (arith, h)) in
+          omega (arith, e, ltb-false n ((s + 1) * (s + 1)) not, mul-le-mul {n₁ = 2} {m₁ = s + 1} {n₂ = s + 1} {m₂ = s + 1} (omega (arith, h)) (omega arith))
+
   -- what the working list has to hold
+  pub size-low : indexSize n ≤ 4 * n + 12
+  size-low = omega (arith, sides-low)
+
   pub size-bound : indexSize n ≤ 6 * n + 64
   size-bound = omega (arith, side-low)
 

@@ -1,9 +1,9 @@
--- `finding::numbering::nets` meets its contract. Assumes nothing.
+-- `finding::numbering::edges` meets its contract. Assumes nothing.
 use native.Mathlib.Omega.{arith}
 use Rattle.finding.proofs.Whole.{rising, lines-end, cells-end}
 use borrow.Author.Needs.{needs}
-use Rattle.finding.proofs.numbering.nets.Statement.{statement}
-use Rattle.finding.proofs.numbering.nets.Tie as tie
+use Rattle.finding.proofs.numbering.edges.Statement.{statement}
+use Rattle.finding.proofs.numbering.edges.Tie as tie
 
 -- places of the code, each counted once
 abbrev entry : tie.After-duplicates-from → tie.Start
@@ -107,7 +107,7 @@ returns-2 c =
     (at-compute-descending .compute-descending .ensures) (else1-of-compute-descending2 at-compute-descending2 .if1 .left)
     w-last-by-compute-descending2 (at-compute-descending2 .compute-descending2 .result) (at-compute-descending2 .compute-descending2 .ensures)
 
-pub nets-spec : {M : Type 1} → statement M
-nets-spec = tie.close (tie.spec (λ c. search needs) (λ c. search needs) (λ c. search needs) (λ c. search needs) (λ c. search needs) (λ c. search needs)
+pub edges-spec : {M : Type 1} → statement M
+edges-spec = tie.close (tie.spec (λ c. search needs) (λ c. search needs) (λ c. search needs) (λ c. search needs) (λ c. search needs) (λ c. search needs)
     (λ c. search needs) (λ c. search needs) (λ c. search needs) (λ c κs. search needs) (λ c κs. search needs) (λ c κs. search needs)
     compute-descending-requires (λ c. search needs) returns compute-descending-requires-2 (λ c. search needs) returns-2)
