@@ -54,7 +54,7 @@ module _ (coords : List Float) (s : List ℕ) (k : ℕ) (block : List ℕ) (b : 
   unfolding countedFull mergedFull
   full t h e = let off : ltb b (length block) ≡ false = le-ltb b (length block) h in (rw off, rw off e)
 
-pub full-le : (block : List ℕ) (b : ℕ) → countedFull block b ≤ b
+full-le : (block : List ℕ) (b : ℕ) → countedFull block b ≤ b
 unfolding countedFull
 full-le block b = go (ltb b (length block)) refl
   where
@@ -166,7 +166,7 @@ module _ (coords : List Float) (marks : List ℕ) where
             (subst (λ (n : ℕ). Blocks coords marks t block xs (k + r) n) br (subst (λ (n : ℕ). Blocks coords marks t block xs n 0) kr w), omega arith)
 
   -- the next node
-  pub blocks-next : (s block : List ℕ) (k b i : ℕ) → Blocks coords marks s block (places (marked marks) i) k b → b < length block → i < length marks
+  blocks-next : (s block : List ℕ) (k b i : ℕ) → Blocks coords marks s block (places (marked marks) i) k b → b < length block → i < length marks
       → (r : ℕ) (t : List ℕ) → r ≡ counted s b i → t ≡ withNode coords s block b i → Blocks coords marks s t (places (marked marks) (i + 1)) k r
   unfolding counted withNode
   blocks-next s block k b i h l m r t re te = subst (λ (ys : List ℕ). Blocks coords marks s t ys k r) (sym (places-more i (marked marks))) (go (marked marks i) refl)
@@ -198,15 +198,11 @@ module _ (coords : List Float) (marks : List ℕ) where
     good : All (NodePlaced coords) (places (marked marks) i)
     good = marked-placed coords marks i placed (omega arith)
 
-    -- what `put_in_order` and `merge_full` ask
+    -- what `put_in_order` and `merge` ask
     pub blocks-ready : (k + b ≤ length s) × (b ≤ length block) × InOrder coords (take k s) × InOrder coords (take b block)
     blocks-ready =
         let xs : List ℕ = places (marked marks) i in
         (omega (arith, h .count, h .few, h .size), h .within, blocks-first s block xs k b h good, blocks-last s block xs k b h good)
-
-    pub blocks-full : (t : List ℕ) (r : ℕ) → 0 < length block → r ≡ countedFull block b → t ≡ mergedFull coords s k block b
-        → Blocks coords marks t block (places (marked marks) i) (k + r) (b - r) × (b - r < length block)
-    blocks-full = blocks-turn s block (places (marked marks) i) k b h good
 
     -- the rest put in
     pub blocks-end : length marks ≤ i → (t : List ℕ) → t ≡ merged coords s k (take b block)
@@ -214,3 +210,26 @@ module _ (coords : List Float) (marks : List ℕ) where
     blocks-end ge t e =
         order-end coords marks t (k + b) i le ge (h .count ∙ sym (length-sorted (before coords) (places (marked marks) i)))
         (blocks-merged s block (places (marked marks) i) k b h good t e)
+
+  -- the next node put in
+  module _ (placed : AllPlaced coords) (most : length marks ≤ length coords / 2) (s block : List ℕ) (k b i : ℕ) (h : Blocks coords marks s block (places (marked marks) i) k b)
+      (free : b < length block) (here : i < length s) (c : ℕ) (next : List ℕ) (ce : c ≡ counted s b i) (ne : next ≡ withNode coords s block b i) where
+    le : i + 1 ≤ length marks
+    le = omega (arith, here, h .size)
+
+    after : Blocks coords marks s next (places (marked marks) (i + 1)) k c
+    after = blocks-next s block k b i h free (omega (arith, le)) c next ce ne
+
+    -- what `merge_full` asks
+    pub next-ready : (k + c ≤ length s) × (c ≤ length next) × InOrder coords (take k s) × InOrder coords (take c next)
+    next-ready = blocks-ready placed most s next k c (i + 1) after le
+
+    -- what it answers
+    pub next-fits : (r : ℕ) → r ≡ countedFull next c → (r ≤ c) × (k + r ≤ length marks)
+    next-fits r e = let l = full-le next c in (omega (arith, l, e), omega (arith, l, e, after .count, after .few))
+
+    pub next-full : (t : List ℕ) (r : ℕ) → 0 < length next → r ≡ countedFull next c → t ≡ mergedFull coords s k next c
+        → (i + 1 ≤ length marks) × (c - r < length next) × Blocks coords marks t next (places (marked marks) (i + 1)) (k + r) (c - r)
+    next-full t r some re te =
+        let turned = blocks-turn s next (places (marked marks) (i + 1)) k c after (marked-placed coords marks (i + 1) placed (omega (arith, le))) t r some re te in
+        (le, turned .1, turned .0)
