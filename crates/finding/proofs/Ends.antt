@@ -1,5 +1,5 @@
 -- How `place_coords`, `crowded` and `find` end, over plain variables. Assumes nothing.
-use mathlib.Core.Path.{_≡_, refl, sym, ap, ap₂, _∙_}
+use mathlib.Core.Path.{_≡_, refl, sym, ap, ap₂, _∙_, subst}
 use mathlib.Core.Bool.{Bool, true, false, cond, not, _||_, true≢false}
 use mathlib.Core.List.{List, [], _++_, append-nil}
 use Prim.Native.Nat.{ℕ, _+_, _*_, _-_, _/_, _≤_}
@@ -35,7 +35,7 @@ use Rattle.edge_nodes.specs.Lent.{crowdedAt}
 use Rattle.edge_nodes.specs.Stored.{noMet, Stored}
 use Rattle.edge_nodes.proofs.Scene.{numbers-stored, overfull-is}
 use Rattle.finding.specs.declared.numbering.NetPlaces.{NetPlaces}
-use Rattle.finding.specs.Nets.{Fit, NetRoom, FindAsks, subjectAt, cutterAt, metAt, netsOf, netted}
+use Rattle.finding.specs.Nets.{Fit, NetRoom, FindAsks, subjectAt, cutterAt, indexAt, metAt, netsOf, netted}
 use Rattle.finding.specs.Found.{
   foundEvents,
   foundAs,
@@ -52,6 +52,7 @@ use Rattle.finding.specs.Found.{
   LinkRoom,
   linkedBy,
 }
+use Rattle.strips.specs.Index.{indexSize, Indexed}
 use Rattle.finding.proofs.Whole.{subjects-before, cutters-before}
 use Rattle.finding.proofs.Netted.{length-held, subjects-held, cutters-held, index-fits, cutters-indexed}
 use Rattle.finding.proofs.Held.{Holds, holds-linked, with, subjects-found, cutters-found, met-found, length-worked, worked-holds}
@@ -182,6 +183,13 @@ module _ (op m : ℕ) (sc cc : List Float) (sn se cn ce : List ℕ) (w₀ : List
       (omega (arith, leb-false placed (length oc) (sym e ∙ not-true b t), len, fs .even, fc .even)) 0 0)
       oc′ w₀ lo refl x is
 
+  -- the coordinates that are lent to `nets`
+  pub coords-lent : (b₀ : Bool) (oc₁ : List Float) → (b₀ ≡ leb placed (length oc)) × (b₀ ≡ true → oc₁ ≡ front oc (sc ++ cc)) → not b₀ ≡ false → (length oc₁ ≡ length oc)
+      → (placed ≤ length oc₁) × (take placed oc₁ ≡ sc ++ cc)
+  coords-lent b₀ oc₁ pe left same =
+      let fits = leb-true placed (length oc) (sym (pe .0) ∙ not-false b₀ left) in
+      (omega (arith, fits, same), ap (take placed) (pe .1 (not-false b₀ left)) ∙ take-front-of oc (sc ++ cc) placed len)
+
   -- the coordinates are placed, and the nets stand in the working list
   module _ (b₀ : Bool) (oc₁ : List Float) (pe : (b₀ ≡ leb placed (length oc)) × (b₀ ≡ true → oc₁ ≡ front oc (sc ++ cc))) (left : not b₀ ≡ false) (r : NetPlaces) (w₁ : List ℕ)
       (ne : (r ≡ netsOf lines s c) × (w₁ ≡ netted lines s c w₀)) where
@@ -213,9 +221,9 @@ module _ (op m : ℕ) (sc cc : List Float) (sn se cn ce : List ℕ) (w₀ : List
           placedFits = omega (arith, fits, length-placed);
           placedEven = omega (arith, fs .even, fc .even);
           placedMost = omega (arith, fs .even, fc .even, fs .mostNodes, fc .mostNodes);
-          subjectFits = a .0;
+          subjectFits = omega (arith, a .0);
           subjectMost = a .1;
-          cutterFits = b .0;
+          cutterFits = omega (arith, b .0);
           cutterMost = b .1;
           metFits = omega (arith, ok .room, length-work);
           metMost = ok .most;
@@ -224,6 +232,22 @@ module _ (op m : ℕ) (sc cc : List Float) (sn se cn ce : List ℕ) (w₀ : List
     -- what `compute_intersections` asks
     pub asked : MeetingsRoom (length oc₁) (length w₁) placed (r .from) (r .subject) (r .at) (r .cutter) (r .base) m
     asked = rw re asked-of
+
+    -- the index of the cutter's edges
+    indexed-of : (netsOf lines s c .index + indexSize (netsOf lines s c .cutter) ≤ netsOf lines s c .base)
+        × Indexed (take placed oc₁) (run w₁ (netsOf lines s c .at) (2 * netsOf lines s c .cutter)) [] (run w₁ (netsOf lines s c .index) (indexSize (netsOf lines s c .cutter)))
+    unfolding netsOf
+    indexed-of = (
+      index-fits lines sc cc sn se cn ce fs fc w₀ room₀,
+      subst (λ (l : List Float). Indexed l (run w₁ (cond lines (length cc / 2) (cutterAt s c)) (2 * length cutters)) [] (run w₁ (indexAt s c) (indexSize (length cutters))))
+          (sym (ap (take placed) oe ∙ take-front-of oc (sc ++ cc) placed len))
+          (subst (λ (w : List ℕ). Indexed (sc ++ cc) (run w (cond lines (length cc / 2) (cutterAt s c)) (2 * length cutters)) [] (run w (indexAt s c) (indexSize (length cutters))))
+          (sym we) (cutters-indexed lines sc cc sn se cn ce fs fc w₀ room₀)),
+    )
+
+    pub indexed : (r .index + indexSize (r .cutter) ≤ r .base)
+        × Indexed (take placed oc₁) (run w₁ (r .at) (2 * r .cutter)) [] (run w₁ (r .index) (indexSize (r .cutter)))
+    indexed = rw re indexed-of
 
     abbrev found : List Met
     found = meetingsAt oc₁ w₁ placed (r .from) (r .subject) (r .at) (r .cutter)
@@ -287,8 +311,8 @@ module _ (op m : ℕ) (sc cc : List Float) (sn se cn ce : List ℕ) (w₀ : List
         unfolding netsOf
         link-asked-of h e =
             record {
-              subjectFits = subjects-before lines sc cc sn se cn ce fs fc w₀ room₀ .0;
-              cutterFits = cutters-before lines sc cc sn se cn ce fs fc w₀ room₀ .0;
+              subjectFits = omega (arith, subjects-before lines sc cc sn se cn ce fs fc w₀ room₀ .0);
+              cutterFits = omega (arith, cutters-before lines sc cc sn se cn ce fs fc w₀ room₀ .0);
               linksFit = omega (arith, e, ok .room, few, fs .even, fc .even);
               some = omega (arith, e);
               few = omega (arith, few, ok .most);

@@ -1,6 +1,6 @@
 -- The nets with the index of the cutter's edges: what the regions hold. Assumes nothing.
 use mathlib.Core.Path.{_≡_, refl, sym, ap, ap₂, _∙_}
-use mathlib.Core.Bool.{Bool, cond}
+use mathlib.Core.Bool.{Bool, false, cond}
 use mathlib.Core.List.{List, [], _++_}
 use Prim.Native.Nat.{ℕ, _+_, _*_, _-_, _/_, _≤_}
 use native.Mathlib.Omega.{arith}
@@ -109,6 +109,10 @@ module _ (lines : Bool) (sc cc : List Float) (sn se cn ce : List ℕ) (fs : Fit 
     edges-read : run w₁ (r .at) (2 * length cutters) ≡ flatEdges cutters
     edges-read =
         ap₂ (λ (w : List ℕ) (a : ℕ). run w a (2 * length cutters)) (got .1) from-is ∙ cutters-edged lines sc cc sn se cn ce fs fc w₀ room
+
+    -- no number of them is large
+    pub places-low : r .at + 2 * r .cutter ≤ length w₀
+    places-low = omega (arith, from-is, count-is, room, cutters-before lines sc cc sn se cn ce fs fc w₀ room .0)
 
     module _ (end : ℕ) (end-is : end ≡ r .at + 2 * r .cutter) where
       span : end - r .at ≡ 2 * length cutters

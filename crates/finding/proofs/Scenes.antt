@@ -26,7 +26,7 @@ use Rattle.meetings.proofs.Reading.{by-edges}
 use Rattle.edge_nodes.specs.Links.{linksOf}
 use Rattle.finding.specs.declared.numbering.NetPlaces.{NetPlaces}
 use Rattle.finding.specs.declared.stages.Found.{Found}
-use Rattle.finding.specs.Nets.{copiedAt, subjectAt, cutterAt, metAt, netsOf, netted}
+use Rattle.finding.specs.Nets.{copiedAt, subjectAt, cutterAt, indexAt, metAt, netsOf, edged, netted}
 use Rattle.finding.specs.Found.{foundEvents, chains, regionsBy, foundAs, linksIn, worked}
 use Rattle.finding.proofs.Passed.{bare}
 use Rattle.finding.proofs.Held.{Holds}
@@ -63,12 +63,13 @@ module _ (lines : Bool) (s c : Mesh) where
         subject = length es;
         at = cond lines (nodeCount c) (cutterAt s c);
         cutter = length fs;
+        index = indexAt s c;
         base = metAt s c;
       })
       subjects-bare cutters-bare
 
   netted-bare : (w : List ℕ) → netted lines (bare s) (bare c) w ≡ netted lines s c w
-  unfolding netted weld usedNodes sortedIndicesFor subjectNet cutterNet cellsOf cellAt
+  unfolding netted edged weld usedNodes sortedIndicesFor subjectNet cutterNet cellsOf cellAt
   netted-bare w = refl
 
 abbrev foundWith : Regions → ℕ → Found

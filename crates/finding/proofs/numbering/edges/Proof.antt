@@ -109,5 +109,5 @@ returns-2 c =
 
 pub edges-spec : {M : Type 1} → statement M
 edges-spec = tie.close (tie.spec (λ c. search needs) (λ c. search needs) (λ c. search needs) (λ c. search needs) (λ c. search needs) (λ c. search needs)
-    (λ c. search needs) (λ c. search needs) (λ c. search needs) (λ c κs. search needs) (λ c κs. search needs) (λ c κs. search needs)
-    compute-descending-requires (λ c. search needs) returns compute-descending-requires-2 (λ c. search needs) returns-2)
+    (λ c. search needs) (λ c. search needs) (λ c. search needs) (λ c. search needs) (λ c. search needs) (λ c. search needs) (λ c κs. search needs)
+    (λ c κs. search needs) (λ c κs. search needs) compute-descending-requires (λ c. search needs) returns compute-descending-requires-2 (λ c. search needs) returns-2)

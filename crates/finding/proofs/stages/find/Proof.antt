@@ -1,7 +1,11 @@
 -- `finding::stages::find` meets its contract. Assumes nothing.
-use mathlib.Core.Path.{refl, _∙_}
+use mathlib.Core.Path.{_≡_, refl, sym, _∙_}
+use mathlib.Core.List.{_++_}
+use Prim.Native.Nat.{_+_, _≤_}
 use native.Mathlib.Omega.{arith}
-use Rattle.finding.proofs.Ends.{twelve, asked, met-stop, link-asked, crowded-asks, nine-stop, all-found}
+use lib.ListN.{length, take}
+use lib.Seq.{length-take-le}
+use Rattle.finding.proofs.Ends.{twelve, coords-lent, asked, indexed, met-stop, link-asked, crowded-asks, nine-stop, all-found}
 use borrow.Author.Needs.{needs}
 use Rattle.finding.proofs.stages.find.Statement.{statement}
 use Rattle.finding.proofs.stages.find.Tie as tie
@@ -17,7 +21,10 @@ abbrev place-coords-of-then1 : tie.Then1 → tie.After-place-coords
 place-coords-of-then1 c = c .before .before .before
 
 abbrev else1 : tie.After-nets → tie.Else1
-else1 c = c .before .before
+else1 c = c .before .before .before
+
+abbrev else-of-nets : tie.After-nets-arg2 → tie.Else1
+else-of-nets c = c .before .before
 
 abbrev then1 : tie.After-refused → tie.Then1
 then1 c = c .before .before .before
@@ -78,13 +85,39 @@ returns c =
     (at-place-coords .place-coords .result) (at-place-coords .place-coords .ensures .0) (at-then1 .if1 .taken) oc-last
     oc-kept _ (refused-at-returns c .refused .ensures)
 
+add-placed : tie.Need-add-placed
+add-placed c =
+    let p = entry (place-coords-of-else1 c) in
+    omega (arith, p .pre .subject .even, p .pre .subject .mostNodes, p .pre .cutter .even, p .pre .cutter .mostNodes)
+
+-- the coordinates that are lent to `nets`
+lent : (e : tie.Else1) → let p = place-coords-of-else1 e in let a = entry p .args in
+    (length (a .sc .now) + length (a .cc .now) ≤ length (p .place-coords .last .1 .1 .0))
+    × (take (length (a .sc .now) + length (a .cc .now)) (p .place-coords .last .1 .1 .0) ≡ a .sc .now ++ a .cc .now)
+lent e =
+    let p = place-coords-of-else1 e in
+    coords-lent _ _ _ _ _ _ _ _ (entry p .args .w .now) (entry p .pre) (entry p .args .oc .now) (p .place-coords .result) (p .place-coords .last .1 .1 .0)
+    (p .place-coords .ensures) (e .if1 .left) (p .place-coords .kept .1 .1 .0)
+
+slice-reshare-prefix-nets : tie.Need-slice-reshare-prefix-nets
+slice-reshare-prefix-nets c = lent c .0
+
+slice-aggregate-nets : tie.Need-slice-aggregate-nets
+slice-aggregate-nets c = sym (length-take-le _ _ (lent (c .before) .0))
+
+nets-requires : tie.Need-nets-requires
+nets-requires c κs =
+    let e = else-of-nets c in
+    let ok = entry (place-coords-of-else1 e) .pre in
+    (ok .subject, ok .cutter, omega (arith, ok .room), lent e .1)
+
 compute-intersections-requires : tie.Need-compute-intersections-requires
 compute-intersections-requires c κs =
     let at-nets = nets-at-compute-intersections-requires c in
     let at-place-coords = place-coords-of-else1 (else1 at-nets) in
     let at-entry = entry at-place-coords in
     let oc-last = at-place-coords .place-coords .last .1 .1 .0 in
-    let w-last = at-nets .nets .last .1 .1 .1 .1 .1 .1 .1 .0 in
+    let w-last = at-nets .nets .last .1 .1 .1 .1 .1 .1 .1 .1 .0 in
     asked _ _ _ _ _ _ _ _ (at-entry .args .w .now) (at-entry .pre) (at-entry .args .oc .now)
     (at-place-coords .place-coords .result) oc-last (at-place-coords .place-coords .ensures) (else1 at-nets .if1 .left)
     (at-nets .nets .result) w-last (at-nets .nets .ensures)
@@ -105,7 +138,7 @@ returns-2 c =
     let at-place-coords = place-coords-of-else1 (else1 at-nets) in
     let at-entry = entry at-place-coords in
     let oc-last = at-place-coords .place-coords .last .1 .1 .0 in
-    let w-last = at-nets .nets .last .1 .1 .1 .1 .1 .1 .1 .0 in
+    let w-last = at-nets .nets .last .1 .1 .1 .1 .1 .1 .1 .1 .0 in
     let met = compute-intersections-of-then2 at-then2 .compute-intersections in
     met-stop _ _ _ _ _ _ _ _ (at-entry .args .w .now) (at-entry .pre) (at-entry .args .oc .now)
     (at-place-coords .place-coords .result) oc-last (at-place-coords .place-coords .ensures) (else1 at-nets .if1 .left)
@@ -118,11 +151,6 @@ add-link c =
     let at-entry = entry (place-coords-of-else1 (else1 (nets-of-compute-intersections (compute-intersections-of-else2 (else2-at-add-link c))))) in
     omega (arith, at-entry .pre .subject .even, at-entry .pre .subject .mostNodes, at-entry .pre .cutter .even, at-entry .pre .cutter .mostNodes)
 
-add-link-2 : tie.Need-add-link-2
-add-link-2 c =
-    let at-entry = entry (place-coords-of-else1 (else1 (nets-of-compute-intersections (compute-intersections-of-else2 (else2-at-add-link c))))) in
-    omega (arith, at-entry .pre .subject .even, at-entry .pre .subject .mostNodes, at-entry .pre .cutter .even, at-entry .pre .cutter .mostNodes)
-
 link-requires : tie.Need-link-requires
 link-requires c κs =
     let at-compute-intersections = compute-intersections-of-else2 (else2-at-add-link c) in
@@ -130,7 +158,7 @@ link-requires c κs =
     let at-place-coords = place-coords-of-else1 (else1 at-nets) in
     let at-entry = entry at-place-coords in
     let oc-last = at-place-coords .place-coords .last .1 .1 .0 in
-    let w-last = at-nets .nets .last .1 .1 .1 .1 .1 .1 .1 .0 in
+    let w-last = at-nets .nets .last .1 .1 .1 .1 .1 .1 .1 .1 .0 in
     let met = at-compute-intersections .compute-intersections in
     link-asked _ _ _ _ _ _ _ _ (at-entry .args .w .now) (at-entry .pre) (at-entry .args .oc .now)
     (at-place-coords .place-coords .result) oc-last (at-place-coords .place-coords .ensures) (else1 at-nets .if1 .left)
@@ -146,7 +174,7 @@ crowded-requires c κs =
     let at-place-coords = place-coords-of-else1 (else1 at-nets) in
     let at-entry = entry at-place-coords in
     let oc-last = at-place-coords .place-coords .last .1 .1 .0 in
-    let w-last-by-nets = at-nets .nets .last .1 .1 .1 .1 .1 .1 .1 .0 in
+    let w-last-by-nets = at-nets .nets .last .1 .1 .1 .1 .1 .1 .1 .1 .0 in
     let w-last-by-link = at-link .link .last .0 in
     let met = at-compute-intersections .compute-intersections in
     crowded-asks _ _ _ _ _ _ _ _ (at-entry .args .w .now) (at-entry .pre) (at-entry .args .oc .now)
@@ -170,7 +198,7 @@ same-length-6 c =
     let at-compute-intersections = compute-intersections-of-else2 (else2-of-link at-link) in
     let w-kept-by-refused3 = refused3-at-same-length-5 c .refused3 .kept .1 .0 in
     let w-kept-by-link = at-link .link .kept .0 in
-    let w-kept-by-nets = nets-of-compute-intersections at-compute-intersections .nets .kept .1 .1 .1 .1 .1 .1 .1 .0 in
+    let w-kept-by-nets = nets-of-compute-intersections at-compute-intersections .nets .kept .1 .1 .1 .1 .1 .1 .1 .1 .0 in
     let met = at-compute-intersections .compute-intersections in
     w-kept-by-refused3 ∙ w-kept-by-link ∙ met .kept .1 .0 ∙ w-kept-by-nets
 
@@ -184,7 +212,7 @@ returns-3 c =
     let at-place-coords = place-coords-of-else1 (else1 at-nets) in
     let at-entry = entry at-place-coords in
     let oc-last = at-place-coords .place-coords .last .1 .1 .0 in
-    let w-last-by-nets = at-nets .nets .last .1 .1 .1 .1 .1 .1 .1 .0 in
+    let w-last-by-nets = at-nets .nets .last .1 .1 .1 .1 .1 .1 .1 .1 .0 in
     let w-last-by-link = at-link .link .last .0 in
     let met = at-compute-intersections .compute-intersections in
     nine-stop _ _ _ _ _ _ _ _ (at-entry .args .w .now) (at-entry .pre) (at-entry .args .oc .now)
@@ -207,7 +235,7 @@ same-length-8 c =
     let at-link = link-of-crowded (crowded-at-same-length-7 c) in
     let at-compute-intersections = compute-intersections-of-else2 (else2-of-link at-link) in
     let w-kept-by-link = at-link .link .kept .0 in
-    let w-kept-by-nets = nets-of-compute-intersections at-compute-intersections .nets .kept .1 .1 .1 .1 .1 .1 .1 .0 in
+    let w-kept-by-nets = nets-of-compute-intersections at-compute-intersections .nets .kept .1 .1 .1 .1 .1 .1 .1 .1 .0 in
     let met = at-compute-intersections .compute-intersections in
     w-kept-by-link ∙ met .kept .1 .0 ∙ w-kept-by-nets
 
@@ -219,7 +247,7 @@ returns-4 c =
     let at-place-coords = place-coords-of-else1 (else1 at-nets) in
     let at-entry = entry at-place-coords in
     let oc-last = at-place-coords .place-coords .last .1 .1 .0 in
-    let w-last-by-nets = at-nets .nets .last .1 .1 .1 .1 .1 .1 .1 .0 in
+    let w-last-by-nets = at-nets .nets .last .1 .1 .1 .1 .1 .1 .1 .1 .0 in
     let w-last-by-link = at-link .link .last .0 in
     let met = at-compute-intersections .compute-intersections in
     all-found _ _ _ _ _ _ _ _ (at-entry .args .w .now) (at-entry .pre) (at-entry .args .oc .now)
@@ -230,6 +258,6 @@ returns-4 c =
     (c .before .crowded .result) (c .before .crowded .ensures) (c .if3 .left)
 
 pub find-spec : {M : Type 1} → statement M
-find-spec = tie.close (tie.spec (λ c κs. search needs) (λ c κs. search needs) (λ c. search needs) (λ c. search needs) returns (λ c κs. search needs)
-    (λ c. search needs) compute-intersections-requires (λ c κs. search needs) same-length-3 (λ c. search needs) returns-2 add-link add-link-2 link-requires
-    crowded-requires (λ c κs. search needs) same-length-5 same-length-6 returns-3 same-length-7 same-length-8 returns-4)
+find-spec = tie.close (tie.spec (λ c κs. search needs) (λ c κs. search needs) (λ c. search needs) (λ c. search needs) returns add-placed
+    slice-reshare-prefix-nets slice-aggregate-nets nets-requires compute-intersections-requires (λ c κs. search needs) same-length-3 (λ c. search needs) returns-2
+    add-link link-requires crowded-requires (λ c κs. search needs) same-length-5 same-length-6 returns-3 same-length-7 same-length-8 returns-4)
