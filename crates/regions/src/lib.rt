@@ -23,6 +23,17 @@ pub struct Regions {
     pub links: Run,
 }
 
+// The indexes of one mesh, of its edges and of its cells.
+pub struct MeshIndex {
+    pub edges: Run,
+    pub cells: Run,
+}
+
+pub struct Indexes {
+    pub subject: MeshIndex,
+    pub cutter: MeshIndex,
+}
+
 // The part of w that a run names.
 pub fn part(w: &[u32], r: Run) -> &[u32]
     requires { ⌜ Within r (length (now w)) ⌝ }

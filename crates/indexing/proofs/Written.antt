@@ -1,0 +1,169 @@
+-- Indexes one behind the other, behind the regions that they are of. Assumes nothing.
+use mathlib.Core.Path.{_≡_, refl, sym, ap, ap₂, _∙_, subst}
+use mathlib.Core.List.{List, [], _++_, append-assoc}
+use Prim.Native.Nat.{ℕ, _+_, _-_, _≤_, _<_}
+use native.Mathlib.Nat.{add-assoc}
+use native.Mathlib.Omega.{arith}
+use lib.ListN.{length, length-append}
+use lib.Ieee.{Float}
+use Rattle.lists.specs.Regions.{run, put}
+use Rattle.lists.proofs.Regions.{length-run, length-put, run-before, run-put, put-append}
+use Rattle.entry.specs.Mesh.{Rising}
+use Rattle.regions.specs.declared.Run.{Run}
+use Rattle.regions.specs.declared.MeshRuns.{MeshRuns}
+use Rattle.regions.specs.declared.Regions.{Regions}
+use Rattle.regions.specs.declared.MeshIndex.{MeshIndex}
+use Rattle.regions.specs.declared.Indexes.{Indexes}
+use Rattle.regions.specs.Runs.{Within, runIn}
+use Rattle.strips.specs.Things.{thingCount}
+use Rattle.strips.specs.Index.{indexSize, indexOf, Indexed}
+use Rattle.strips.proofs.IndexAt.{length-index}
+use Rattle.indexing.specs.Indexes.{edgeIndex, cellIndex, meshIndex, meshIndexAt, indexes, indexesAt, MeshIndexed, ThingsAsk, meshSize, MeshAsks, Asks}
+
+-- ---- regions before what is written
+
+-- a run that ends before b
+pub run-kept : (w xs : List ℕ) (b : ℕ) → b ≤ length w → (r : Run) → Within r b → runIn (put w b xs) r ≡ runIn w r
+unfolding runIn
+run-kept w xs b h r i = run-before w b h xs (r .from) (r .end - r .from) (omega (arith, i .rises, i .fits))
+
+pub run-long : (w : List ℕ) (r : Run) → Within r (length w) → length (runIn w r) ≡ r .end - r .from
+unfolding runIn
+run-long w r i = length-run w (r .from) (r .end - r .from) (omega (arith, i .rises, i .fits))
+
+-- ---- `index_things`
+
+module _ (coords : List Float) (w : List ℕ) (r : Run) (ends : List ℕ) (at : ℕ) (ok : ThingsAsk w r ends at) where
+  pub build-asked : (r .from ≤ r .end) × (r .end ≤ at) × (at + indexSize (thingCount (run w (r .from) (r .end - r .from)) ends) ≤ length w)
+      × (thingCount (run w (r .from) (r .end - r .from)) ends ≤ 65536) × Rising ends (r .end - r .from)
+  unfolding runIn
+  build-asked = (
+    ok .lies .rises,
+    ok .lies .fits,
+    ok .room,
+    ok .few,
+    λ i h. (ok .rising i h .0,
+        omega (arith, ok .rising i h .1, run-long w r (record { rises = ok .lies .rises; fits = omega (arith, ok .lies .fits, ok .room) }))),
+  )
+
+  pub things-end : (n size : ℕ) (w′ : List ℕ) → n ≡ thingCount (runIn w r) ends → size ≡ indexSize n
+      → w′ ≡ put w at (indexOf coords (run w (r .from) (r .end - r .from)) ends)
+      → (at + size ≡ at + length (indexOf coords (runIn w r) ends)) × (w′ ≡ put w at (indexOf coords (runIn w r) ends))
+  unfolding runIn
+  things-end n size w′ en es ew = (
+    ap (λ (k : ℕ). at + k) (es ∙ ap indexSize en ∙ sym (length-index coords (runIn w r) ends)),
+    ew,
+  )
+
+-- ---- `index_mesh`
+
+module _ (coords : List Float) (w : List ℕ) (m : MeshRuns) (ends : List ℕ) (at : ℕ) (ok : MeshAsks w m ends at) where
+  abbrev ix : List ℕ
+  ix = edgeIndex coords w m ends
+
+  edges-size : length ix ≡ indexSize (thingCount (runIn w (m .edges)) [])
+  edges-size = length-index coords (runIn w (m .edges)) []
+
+  cells-size : length (cellIndex coords w m ends) ≡ indexSize (thingCount (runIn w (m .entries)) ends)
+  cells-size = length-index coords (runIn w (m .entries)) ends
+
+  at-low : at ≤ length w
+  at-low = omega (arith, ok .room)
+
+  pub edges-asked : ThingsAsk w (m .edges) [] at
+  edges-asked =
+      record {
+        lies = ok .edges;
+        rising = λ i h. absurd (omega (arith, h));
+        few = ok .fewEdges;
+        room = omega (arith, ok .room);
+      }
+
+  module _ (e : ℕ) (w₁ : List ℕ) (one : (e ≡ at + length (indexOf coords (runIn w (m .edges)) [])) × (w₁ ≡ put w at (indexOf coords (runIn w (m .edges)) []))) where
+    kept : runIn w₁ (m .entries) ≡ runIn w (m .entries)
+    kept = ap (λ (v : List ℕ). runIn v (m .entries)) (one .1) ∙ run-kept w ix at at-low (m .entries) (ok .entries)
+
+    long : length w₁ ≡ length w
+    long = ap length (one .1) ∙ length-put w at at-low ix (omega (arith, ok .room, edges-size))
+
+    pub cells-asked : ThingsAsk w₁ (m .entries) ends e
+    cells-asked =
+        record {
+          lies = record { rises = ok .entries .rises; fits = omega (arith, ok .entries .fits, one .0) };
+          rising = subst (λ (l : List ℕ). Rising ends (length l)) (sym kept) (ok .rising);
+          few = subst (λ (l : List ℕ). thingCount l ends ≤ 65536) (sym kept) (ok .fewCells);
+          room = subst (λ (l : List ℕ). e + indexSize (thingCount l ends) ≤ length w₁) (sym kept) (omega (arith, one .0, edges-size, ok .room, long));
+        }
+
+    pub mesh-end : (c : ℕ) (w₂ : List ℕ)
+        → (c ≡ e + length (indexOf coords (runIn w₁ (m .entries)) ends)) × (w₂ ≡ put w₁ e (indexOf coords (runIn w₁ (m .entries)) ends))
+        → (record { edges = record { from = at; end = e }; cells = record { from = e; end = c } } ≡ meshIndexAt coords w m ends at)
+        × (w₂ ≡ put w at (meshIndex coords w m ends))
+    mesh-end c w₂ two = (
+      (λ i. record { edges = record { from = at; end = one .0 i }; cells = record { from = one .0 i; end = end-is i } }),
+      two .1 ∙ (λ i. put (one .1 i) (one .0 i) (indexOf coords (kept i) ends))
+          ∙ put-append w at at-low ix (cellIndex coords w m ends) (omega (arith, ok .room, edges-size)),
+    )
+      where
+        end-is : c ≡ at + length ix + length (cellIndex coords w m ends)
+        end-is = two .0 ∙ (λ i. one .0 i + length (indexOf coords (kept i) ends))
+
+-- ---- `index_meshes`
+
+module _ (coords : List Float) (w : List ℕ) (g : Regions) (se ce : List ℕ) (ok : Asks w g se ce) where
+  abbrev at₀ : ℕ
+  at₀ = g .links .end
+
+  abbrev ixs : List ℕ
+  ixs = meshIndex coords w (g .subject) se
+
+  subject-long : length ixs ≡ meshSize w (g .subject) se
+  subject-long =
+      length-append (edgeIndex coords w (g .subject) se) (cellIndex coords w (g .subject) se)
+      ∙ ap₂ (λ (a b : ℕ). a + b) (edges-size coords w (g .subject) se at₀ (ok .subject)) (cells-size coords w (g .subject) se at₀ (ok .subject))
+
+  low : at₀ ≤ length w
+  low = omega (arith, ok .room)
+
+  module _ (x : MeshIndex) (w₁ : List ℕ) (one : (x ≡ meshIndexAt coords w (g .subject) se at₀) × (w₁ ≡ put w at₀ (meshIndex coords w (g .subject) se))) where
+    end₁ : x .cells .end ≡ at₀ + length ixs
+    end₁ =
+        ap (λ (y : MeshIndex). y .cells .end) (one .0)
+        ∙ add-assoc at₀ (length (edgeIndex coords w (g .subject) se)) (length (cellIndex coords w (g .subject) se))
+        ∙ ap (λ (k : ℕ). at₀ + k) (sym (length-append (edgeIndex coords w (g .subject) se) (cellIndex coords w (g .subject) se)))
+
+    edges-kept : runIn w₁ (g .cutter .edges) ≡ runIn w (g .cutter .edges)
+    edges-kept = ap (λ (v : List ℕ). runIn v (g .cutter .edges)) (one .1) ∙ run-kept w ixs at₀ low (g .cutter .edges) (ok .cutter .edges)
+
+    entries-kept : runIn w₁ (g .cutter .entries) ≡ runIn w (g .cutter .entries)
+    entries-kept = ap (λ (v : List ℕ). runIn v (g .cutter .entries)) (one .1) ∙ run-kept w ixs at₀ low (g .cutter .entries) (ok .cutter .entries)
+
+    long₁ : length w₁ ≡ length w
+    long₁ = ap length (one .1) ∙ length-put w at₀ low ixs (omega (arith, ok .room, subject-long))
+
+    pub cutter-asked : MeshAsks w₁ (g .cutter) ce (x .cells .end)
+    cutter-asked =
+        record {
+          edges = record { rises = ok .cutter .edges .rises; fits = omega (arith, ok .cutter .edges .fits, end₁) };
+          entries = record { rises = ok .cutter .entries .rises; fits = omega (arith, ok .cutter .entries .fits, end₁) };
+          rising = subst (λ (l : List ℕ). Rising ce (length l)) (sym entries-kept) (ok .cutter .rising);
+          fewEdges = subst (λ (l : List ℕ). thingCount l [] ≤ 65536) (sym edges-kept) (ok .cutter .fewEdges);
+          fewCells = subst (λ (l : List ℕ). thingCount l ce ≤ 65536) (sym entries-kept) (ok .cutter .fewCells);
+          room = subst (λ (l : List ℕ). x .cells .end + (indexSize (thingCount (runIn w₁ (g .cutter .edges)) []) + indexSize (thingCount l ce)) ≤ length w₁) (sym entries-kept)
+              (subst (λ (l : List ℕ). x .cells .end + (indexSize (thingCount l []) + indexSize (thingCount (runIn w (g .cutter .entries)) ce)) ≤ length w₁) (sym edges-kept)
+              (omega (arith, end₁, subject-long, ok .room, long₁)));
+        }
+
+    pub meshes-end : (y : MeshIndex) (w₂ : List ℕ)
+        → (y ≡ meshIndexAt coords w₁ (g .cutter) ce (x .cells .end)) × (w₂ ≡ put w₁ (x .cells .end) (meshIndex coords w₁ (g .cutter) ce))
+        → (record { subject = x; cutter = y } ≡ indexesAt coords w g se ce) × (w₂ ≡ put w at₀ (indexes coords w g se ce))
+    unfolding indexesAt
+    meshes-end y w₂ two =
+        let here : y ≡ meshIndexAt coords w (g .cutter) ce (meshIndexAt coords w (g .subject) se at₀ .cells .end) =
+        two .0 ∙ (λ i. let e : List ℕ = indexOf coords (edges-kept i) [] in
+            let middle : ℕ = one .0 i .cells .end + length e in
+            record { edges = record { from = one .0 i .cells .end; end = middle }; cells = record { from = middle; end = middle + length (indexOf coords (entries-kept i) ce) } }) in (
+          (λ i. record { subject = one .0 i; cutter = here i }),
+          two .1 ∙ (λ i. put (one .1 i) (end₁ i) (indexOf coords (edges-kept i) [] ++ indexOf coords (entries-kept i) ce))
+              ∙ put-append w at₀ low ixs (meshIndex coords w (g .cutter) ce) (omega (arith, ok .room, subject-long)),
+        )
