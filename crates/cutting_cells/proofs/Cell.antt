@@ -1,34 +1,39 @@
 -- One cell: what it comes to is read from its lists, and what it yields is placed. Assumes nothing.
 use mathlib.Core.Path.{_≡_, refl, sym, ap, ap₂, _∙_, subst}
-use mathlib.Core.Bool.{Bool, true, false, cond}
-use mathlib.Core.List.{List}
-use Prim.Native.Nat.{ℕ, _+_, _*_, _/_, _≤_, _<_}
+use mathlib.Core.Bool.{Bool, true}
+use mathlib.Core.List.{List, [], _∷_}
+use Prim.Native.Nat.{ℕ, _+_, _*_, _≤_, _<_}
 use native.Mathlib.Omega.{arith}
 use lib.Dec.{ltb}
-use lib.ListN.{length, take, length-take, length-replicate}
+use lib.ListN.{length, getD, take, length-take}
+use lib.Seq.{take-all}
 use lib.Ieee.{Float}
-use Rattle.lists.specs.Search.{bit, first}
+use Rattle.lists.specs.Search.{bit}
 use Rattle.lists.specs.Gather.{passing}
-use Rattle.lists.proofs.Gather.{length-passing, tally-le}
+use Rattle.lists.proofs.Gather.{length-passing, tally-le, places-le, places-at}
+use Rattle.lists.proofs.Regions.{length-front, take-front-of}
+use Rattle.cutting.specs.Edges.{Edge}
 use Rattle.cutting.specs.Setting.{ours}
-use Rattle.cutting.specs.Cell.{Slot}
 use Rattle.cutting.specs.Outcome as Outcome
-use Rattle.cutting.specs.Outcome.{Outcome, refusal, pieces, flat, cutOutcome, copiedOutcome}
+use Rattle.cutting.specs.Outcome.{Outcome, refusal, pieces}
 use Rattle.cutting.specs.Lent.{pairs}
 use Rattle.cutting.proofs.Pairs.{pairs-length}
 use Rattle.entry.specs.Mesh.{Rising}
 use Rattle.rules.specs.declared.Bounds.{Bounds}
-use Rattle.rules.specs.SpatialIndex.{boxOf}
+use Rattle.rules.specs.SpatialIndex.{boxOf, candidates}
 use Rattle.rules.specs.Refusals.{firstRefusal}
 use Rattle.rules.proofs.Accepts.{Sound, sound-cut, sound-copy}
-use Rattle.spatial_index.specs.Candidates.{meets}
-use Rattle.spatial_index.specs.Blocks.{Covered}
+use Rattle.spatial_index.specs.Candidates.{placesFrom, meets}
+use Rattle.spatial_index.proofs.Candidates.{candidates-from}
+use Rattle.strips.specs.Things.{thingCount, thingBox}
+use Rattle.strips.specs.Index.{Indexed}
+use Rattle.strips.specs.Gathering.{thingsMeeting, FrontIs}
+use Rattle.regions.specs.declared.Run.{Run}
 use Rattle.regions.specs.declared.MeshRuns.{MeshRuns}
+use Rattle.regions.specs.declared.MeshIndex.{MeshIndex}
 use Rattle.regions.specs.declared.Regions.{Regions}
 use Rattle.regions.specs.Runs.{runIn, meshEdges}
-use Rattle.cells.specs.declared.CutCell.{CutCell}
-use Rattle.cells.specs.declared.Near.{Near}
-use Rattle.cells.specs.Cells.{outlineIn, tableIn, nearEdgesIn, candidatesOf, Cut, cutAs}
+use Rattle.cells.specs.Cells.{outlineIn, tableIn, edgesIn, Places, Cut, cutAs}
 use Rattle.cells.proofs.Scene.{Read, read-pieces, read-refusal}
 use Rattle.pieces.specs.declared.Keep.{Keep}
 use Rattle.pieces.specs.declared.Listed.{Listed}
@@ -39,16 +44,10 @@ use Rattle.cutting_cells.specs.Yields.{outcomeBy, nearOf, isCut, yieldBy
 
 -- ---- a refusal isn't 0
 
-pub outcome-sound : (coords : List Float) (work : List ℕ) (g : Regions) (t : Near) (cell : List ℕ) → Sound (outcomeBy coords work g t cell)
+pub outcome-sound : (coords : List Float) (work : List ℕ) (g : Regions) (edges : Run) (js cell : List ℕ) → Sound (outcomeBy coords work g edges js cell)
 unfolding outcomeBy
-outcome-sound coords work g t cell = go (ltb (t .first) (length (nearEdgesIn work t)))
-  where
-    table : List Slot
-    table = tableIn coords work g (nearEdgesIn work t) (candidatesOf coords work t) cell
-
-    go : (b : Bool) → Sound (cond b (cutOutcome (outlineIn coords work g cell) table) (copiedOutcome cell))
-    go true = sound-cut ours (outlineIn coords work g cell) table
-    go false = sound-copy true cell
+outcome-sound coords work g edges [] cell = sound-copy true cell
+outcome-sound coords work g edges (j ∷ js) cell = sound-cut ours (outlineIn coords work g cell) (tableIn coords work g (edgesIn work edges) (j ∷ js) cell)
 
 module _ (coords : List Float) (work : List ℕ) (g : Regions) (o : MeshRuns) (ends : List ℕ) (k : Keep) where
   steady-by : (t : ℕ) (x : Outcome) → Sound x → Steady (yieldBy coords work g o ends k t x)
@@ -59,8 +58,8 @@ module _ (coords : List Float) (work : List ℕ) (g : Regions) (o : MeshRuns) (e
   pub yield-steady : (i : ℕ) (cell : List ℕ) → Steady (yieldOf coords work g o ends k i cell)
   unfolding yieldOf
   yield-steady i cell =
-      steady-by (2 * i + bit (isCut coords work g o ends cell)) (outcomeBy coords work g (nearOf coords work g o ends cell) cell)
-      (outcome-sound coords work g (nearOf coords work g o ends cell) cell)
+      steady-by (2 * i + bit (isCut coords work g o ends cell)) (outcomeBy coords work g (o .edges) (nearOf coords work g o ends cell) cell)
+      (outcome-sound coords work g (o .edges) (nearOf coords work g o ends cell) cell)
 
 -- ---- what the answer is read by
 
@@ -81,42 +80,70 @@ ready (pieces ps) on os x e =
     }
 ready (refusal c) on os x e = subst Ready (sym e) (record { corners = omega arith; pieces = omega arith; rise = λ i h. absurd (omega (arith, h)) })
 
--- ---- what is read from the working list
+-- ---- the edges near a cell
 
-pub first-lent : (coords : List Float) (work : List ℕ) (o : MeshRuns) (near : List ℕ) → near ≡ runIn work (o .edges) → (b : Bounds) (k : ℕ)
-    → k ≡ first (meets coords (pairs near) b) 0 (length (pairs near)) → k ≡ first (meets coords (meshEdges work o) b) 0 (length (meshEdges work o))
-first-lent coords work o near lent b k e = e ∙ ap (λ (ns : List ℕ). first (meets coords (pairs ns) b) 0 (length (pairs ns))) lent
+-- the index of the edges, as both are lent
+pub index-lent : (coords : List Float) (work : List ℕ) (o : MeshRuns) (x : MeshIndex) (near ix : List ℕ) → near ≡ runIn work (o .edges) → ix ≡ runIn work (x .edges)
+    → Indexed coords (runIn work (o .edges)) [] (runIn work (x .edges)) → Indexed coords near [] ix
+index-lent coords work o x near ix en ei h =
+    subst (λ (l : List ℕ). Indexed coords l [] ix) (sym en) (subst (λ (l : List ℕ). Indexed coords (runIn work (o .edges)) [] l) (sym ei) h)
 
-pub covered-lent : (coords : List Float) (work : List ℕ) (o : MeshRuns) (near : List ℕ) → near ≡ runIn work (o .edges) → (boxes : List Float)
-    → Covered coords (meshEdges work o) boxes → Covered coords (pairs near) boxes
-covered-lent coords work o near lent boxes h = subst (λ (ns : List ℕ). Covered coords (pairs ns) boxes) (sym lent) h
+-- that of the cells
+pub cells-lent : (coords : List Float) (work : List ℕ) (o : MeshRuns) (x : MeshIndex) (ends nodes ix : List ℕ) → nodes ≡ runIn work (o .entries) → ix ≡ runIn work (x .cells)
+    → Indexed coords (runIn work (o .entries)) ends (runIn work (x .cells)) → Indexed coords nodes ends ix
+cells-lent coords work o x ends nodes ix en ei h =
+    subst (λ (l : List ℕ). Indexed coords l ends ix) (sym en) (subst (λ (l : List ℕ). Indexed coords (runIn work (o .entries)) ends l) (sym ei) h)
 
-pub covered-held : (coords : List Float) (work : List ℕ) (o : MeshRuns) (near : List ℕ) → near ≡ runIn work (o .edges) → (boxes : List Float)
-    → Covered coords (pairs near) boxes → Covered coords (meshEdges work o) boxes
-covered-held coords work o near lent boxes h = subst (λ (ns : List ℕ). Covered coords (pairs ns) boxes) lent h
+module _ (coords : List Float) (work : List ℕ) (o : MeshRuns) (near : List ℕ) (lent : near ≡ runIn work (o .edges)) (few : thingCount near [] ≤ 65536)
+    (found found′ : List ℕ) (room : 65536 ≤ length found) (b : Bounds) (n : ℕ) (got : FrontIs (take (length found) (thingsMeeting coords near [] b 0)) found n found′) where
+  abbrev es : List Edge
+  es = meshEdges work o
 
-pub rise-lent : (work : List ℕ) (o : MeshRuns) (nodes ends : List ℕ) → nodes ≡ runIn work (o .entries) → Rising ends (length (runIn work (o .entries)))
-    → Rising ends (length nodes)
-rise-lent work o nodes ends lent h = subst (λ (ns : List ℕ). Rising ends (length ns)) (sym lent) h
+  all : thingsMeeting coords near [] b 0 ≡ candidates coords es b
+  unfolding thingCount thingBox
+  all =
+      ap (placesFrom (meets coords (pairs near) b) 0) (sym (pairs-length near)) ∙ candidates-from coords (pairs near) b
+      ∙ ap (λ (l : List ℕ). candidates coords (pairs l) b) lent
+
+  fits : length (candidates coords es b) ≤ length found
+  unfolding candidates thingCount
+  fits =
+      omega (arith, room, few, places-le (meets coords es b) (length es), ap (λ (l : List ℕ). length (pairs l)) lent, pairs-length near)
+
+  found-all : take (length found) (thingsMeeting coords near [] b 0) ≡ candidates coords es b
+  found-all = ap (take (length found)) all ∙ take-all (length found) (candidates coords es b) fits
+
+  -- all of them are found
+  pub near-read : take n found′ ≡ candidates coords (meshEdges work o) b
+  near-read = ap (take n) (got .held) ∙ take-front-of found (take (length found) (thingsMeeting coords near [] b 0)) n (sym (got .count)) ∙ found-all
+
+  pub near-fits : n ≤ length found′
+  near-fits = omega (arith, got .fits, ap length (got .held), length-front found (take (length found) (thingsMeeting coords near [] b 0)) (omega (arith, got .count, got .fits)))
+
+  below : (k : ℕ) → k < length (candidates coords es b) → getD (candidates coords es b) k 0 < length es
+  unfolding candidates
+  below k h = places-at (meets coords es b) (length es) k h .0
+
+  pub near-places : Places (take n found′) (edgesIn work (o .edges))
+  near-places k h =
+      subst (λ (l : List ℕ). getD l k 0 < length es) (sym near-read) (below k (subst (λ (l : List ℕ). k < length l) near-read h))
 
 -- ---- `overlay_cell`
 
 module _ (coords : List Float) (work : List ℕ) (g : Regions) (o : MeshRuns) (ends on oe ot : List ℕ) (p : Listed) (cell : List ℕ) (k : Keep) (number : ℕ)
-    (b : Bounds) (eb : b ≡ boxOf coords cell) (f : ℕ) (at : f ≡ first (meets coords (meshEdges work o) b) 0 (length (meshEdges work o)))
-    (runs₀ stops₀ : List ℕ) (x : Cut) (er : x ≡ cutAs (outcomeBy coords work g (record { edges = o .edges; bounds = b; first = f }) cell) runs₀ stops₀) where
-  abbrev t : Near
-  t = nearOf coords work g o ends cell
+    (b : Bounds) (eb : b ≡ boxOf coords cell) (js : List ℕ) (at : js ≡ candidates coords (meshEdges work o) b)
+    (runs₀ stops₀ : List ℕ) (x : Cut) (er : x ≡ cutAs (outcomeBy coords work g (o .edges) js cell) runs₀ stops₀) where
+  abbrev near : List ℕ
+  near = nearOf coords work g o ends cell
 
-  near-is : record { edges = o .edges; bounds = b; first = f } ≡ t
-  near-is =
-      let f-is = at ∙ ap (λ (y : Bounds). first (meets coords (meshEdges work o) y) 0 (length (meshEdges work o))) eb in
-      λ s. record { edges = o .edges; bounds = eb s; first = f-is s }
+  near-is : js ≡ near
+  near-is = at ∙ ap (candidates coords (meshEdges work o)) eb
 
   abbrev made : Outcome
-  made = outcomeBy coords work g t cell
+  made = outcomeBy coords work g (o .edges) near cell
 
   read : x ≡ cutAs made runs₀ stops₀
-  read = er ∙ ap (λ (n : Near). cutAs (outcomeBy coords work g n cell) runs₀ stops₀) near-is
+  read = er ∙ ap (λ (l : List ℕ). cutAs (outcomeBy coords work g (o .edges) l cell) runs₀ stops₀) near-is
 
   abbrev y : Yield
   y = yieldOf coords work g o ends k number cell
@@ -143,22 +170,19 @@ module _ (coords : List Float) (work : List ℕ) (g : Regions) (o : MeshRuns) (e
       go (pieces ps) e = absurd (n (read-pieces ps runs₀ stops₀ x e .code))
 
   -- its pieces are those that are lent
-  module _ (z : x .answer .code ≡ 0) (near nodes : List ℕ) (near-lent : near ≡ runIn work (o .edges)) (nodes-lent : nodes ≡ runIn work (o .entries))
-      (cut : Bool) (cut-is : cut ≡ ltb f (length near / 2)) (tag : ℕ) (tag-is : tag ≡ 2 * number + bit cut) where
+  module _ (z : x .answer .code ≡ 0) (nodes : List ℕ) (nodes-lent : nodes ≡ runIn work (o .entries))
+      (n : ℕ) (count-is : n ≡ length js) (tag : ℕ) (tag-is : tag ≡ 2 * number + bit (ltb 0 n)) where
     abbrev runs : List (List ℕ)
     runs = runsOf (take (x .answer .entries) (x .corners)) (take (x .answer .pieces) (x .stops))
 
     tag-same : tag ≡ 2 * number + bit (isCut coords work g o ends cell)
-    tag-same =
-        tag-is ∙ ap (λ (u : Bool). 2 * number + bit u) (cut-is
-        ∙ ap (λ (n : ℕ). ltb f n) (sym (pairs-length near) ∙ ap (λ (l : List ℕ). length (pairs l)) near-lent)
-        ∙ ap (λ (n : Near). ltb (n .first) (length (meshEdges work o))) near-is)
+    tag-same = tag-is ∙ ap (λ (i : ℕ). 2 * number + bit (ltb 0 i)) (count-is ∙ ap length near-is)
 
     lent-is : tagged tag (passing (isKept k coords (runsOf nodes ends)) runs) ≡ y
     unfolding yieldOf
     lent-is =
         (λ s. tagged (tag-same s) (passing (isKept k coords (runsOf (nodes-lent s) ends)) runs))
-        ∙ go made read (outcome-sound coords work g t cell)
+        ∙ go made read (outcome-sound coords work g (o .edges) near cell)
       where
         go : (u : Outcome) → x ≡ cutAs u runs₀ stops₀ → Sound u
             → tagged (2 * number + bit (isCut coords work g o ends cell)) (passing (isKept k coords (runsOf (runIn work (o .entries)) ends)) runs)

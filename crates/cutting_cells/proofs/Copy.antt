@@ -8,7 +8,6 @@ use native.Mathlib.Omega.{arith}
 use lib.Dec.{ltb}
 use lib.ListN.{length, getD, set, take, replicate, length-append, length-set, length-replicate}
 use lib.Ieee.{Float}
-use borrow.Author.Tests.{lt-ltb, le-ltb}
 use Rattle.lists.specs.Gather.{joined}
 use Rattle.lists.specs.Regions.{front, copied}
 use Rattle.lists.proofs.Regions.{front-store, copied-fits, front-put, put-none}
@@ -20,10 +19,9 @@ use Rattle.cutting.specs.Lent.{flatEdges, pairs}
 use Rattle.cutting.proofs.Runs.{take-push}
 use Rattle.cutting.proofs.Pairs.{ends-append, pairs-ends, pairs-length}
 use Rattle.regions.specs.declared.Regions.{Regions}
-use Rattle.regions.specs.Runs.{runIn}
-use Rattle.cells.specs.declared.Near.{Near}
+use Rattle.regions.specs.declared.Run.{Run}
 use Rattle.corners.specs.Corners.{nextCorner}
-use Rattle.cells.specs.Cells.{nearEdgesIn, Cut, cut, cutAs, cutBy, cutCell}
+use Rattle.cells.specs.Cells.{Cut, cut, cutAs, cutBy, cutCell}
 use Rattle.cells.proofs.Own.{sidesFrom, sides-all, sides-next, sides-end}
 use Rattle.cutting_cells.specs.Yields.{outcomeBy}
 
@@ -100,16 +98,15 @@ module _ (cell on os : List ℕ) (t : Bool) (et : t ≡ repeats (ring cell)) whe
   pub copied-refused : t ≡ true → cutAs (refusal 19) on os ≡ cutAs (copiedOutcome cell) on os
   copied-refused f = ap (λ (o : Outcome). cutAs o on os) (outcome-is true f)
 
--- ---- the smaller functions' returns
+-- ---- cut or copied
 
-module _ (coords : List Float) (work : List ℕ) (g : Regions) (t : Near) (cell on os near : List ℕ) (lent : near ≡ runIn work (t .edges)) (x : Cut) where
-  near-length : length (nearEdgesIn work t) ≡ length near / 2
-  near-length = ap (λ (l : List ℕ). length (pairs l)) (sym lent) ∙ pairs-length near
-
-  pub out-copied : length near / 2 ≤ t .first → x ≡ cutAs (copiedOutcome cell) on os → x ≡ cutAs (outcomeBy coords work g t cell) on os
+module _ (coords : List Float) (work : List ℕ) (g : Regions) (edges : Run) (cell on os : List ℕ) (x : Cut) where
+  pub out-copied : (js : List ℕ) → length js ≡ 0 → x ≡ cutAs (copiedOutcome cell) on os → x ≡ cutAs (outcomeBy coords work g edges js cell) on os
   unfolding outcomeBy
-  out-copied h e = rw (le-ltb (t .first) (length (nearEdgesIn work t)) (omega (arith, h, near-length))) e
+  out-copied [] h e = e
+  out-copied (j ∷ js) h e = absurd (omega (arith, h))
 
-  pub out-cut : t .first < length near / 2 → x ≡ cutCell coords work g t cell on os → x ≡ cutAs (outcomeBy coords work g t cell) on os
+  pub out-cut : (js : List ℕ) → (length js ≡ 0 → ⊥) → x ≡ cutCell coords work g edges js cell on os → x ≡ cutAs (outcomeBy coords work g edges js cell) on os
   unfolding outcomeBy cutCell cutBy
-  out-cut h e = rw (lt-ltb (t .first) (length (nearEdgesIn work t)) (omega (arith, h, near-length))) e
+  out-cut [] h e = absurd (h refl)
+  out-cut (j ∷ js) h e = e

@@ -7,45 +7,44 @@ use Prim.Native.Nat.{ℕ, _+_, _*_, _≤_, _<_}
 use lib.Dec.{ltb}
 use lib.ListN.{length, getD}
 use lib.Ieee.{Float}
-use Rattle.lists.specs.Search.{bit, first}
+use Rattle.lists.specs.Search.{bit}
 use Rattle.lists.specs.Gather.{passing}
 use Rattle.cutting.specs.Edges.{ring}
 use Rattle.cutting.specs.Outcome.{Outcome, refusal, pieces, cutOutcome, copiedOutcome}
 use Rattle.entry.specs.Mesh.{cellSize, Rising}
 use Rattle.rules.specs.Mesh.{Side, theSubject, theCutter, other}
-use Rattle.rules.specs.SpatialIndex.{boxOf}
+use Rattle.rules.specs.SpatialIndex.{boxOf, candidates}
 use Rattle.rules.specs.Operations.{cuts}
 use Rattle.rules.specs.Refusals.{stop}
-use Rattle.spatial_index.specs.Candidates.{meets}
+use Rattle.regions.specs.declared.Run.{Run}
 use Rattle.regions.specs.declared.MeshRuns.{MeshRuns}
 use Rattle.regions.specs.declared.Regions.{Regions}
+use Rattle.regions.specs.declared.MeshIndex.{MeshIndex}
+use Rattle.regions.specs.declared.Indexes.{Indexes}
 use Rattle.regions.specs.Runs.{Within, runIn, meshEdges}
-use Rattle.cells.specs.declared.Near.{Near}
-use Rattle.cells.specs.Cells.{outlineIn, tableIn, nearEdgesIn, candidatesOf, AllFew}
+use Rattle.indexing.specs.Indexes.{MeshIndexed}
+use Rattle.cells.specs.Cells.{outlineIn, tableIn, edgesIn, AllFew}
+use Rattle.cutting_cells.specs.declared.Treatment.{Treatment}
 use Rattle.pieces.specs.declared.Keep.{Keep}
 use Rattle.pieces.specs.declared.Listed.{Listed}
 use Rattle.pieces.specs.Pieces.{runsOf, keepOf, isKept, Yield, tagged, nothing, both, allOf, Space}
 
 -- ---- one cell
 
--- what it comes to: cut by the edges t, or copied where there is none
-unfoldable pub outcomeBy : List Float → List ℕ → Regions → Near → List ℕ → Outcome
-outcomeBy coords work g t cell =
-    cond (ltb (t .first) (length (nearEdgesIn work t)))
-    (cutOutcome (outlineIn coords work g cell) (tableIn coords work g (nearEdgesIn work t) (candidatesOf coords work t) cell))
-    (copiedOutcome cell)
+-- what it comes to: cut by those of the edges that stand at the places js, or copied where there is none
+unfoldable pub outcomeBy : List Float → List ℕ → Regions → Run → List ℕ → List ℕ → Outcome
+outcomeBy coords work g edges [] cell = copiedOutcome cell
+outcomeBy coords work g edges (j ∷ js) cell = cutOutcome (outlineIn coords work g cell) (tableIn coords work g (edgesIn work edges) (j ∷ js) cell)
 
 -- by the other mesh, whose cells end at `ends`
 module _ (coords : List Float) (work : List ℕ) (g : Regions) (o : MeshRuns) (ends : List ℕ) where
-  -- the edges near a cell
-  abbrev pub nearOf : List ℕ → Near
-  nearOf cell =
-      let box = boxOf coords cell in
-      record { edges = o .edges; bounds = box; first = first (meets coords (meshEdges work o) box) 0 (length (meshEdges work o)) }
+  -- where the edges near a cell stand
+  abbrev pub nearOf : List ℕ → List ℕ
+  nearOf cell = candidates coords (meshEdges work o) (boxOf coords cell)
 
   -- a cell is cut where there is one
   abbrev pub isCut : List ℕ → Bool
-  isCut cell = ltb (nearOf cell .first) (length (meshEdges work o))
+  isCut cell = ltb 0 (length (nearOf cell))
 
   -- the pieces that are kept, all with one tag
   abbrev pub yieldBy : Keep → ℕ → Outcome → Yield
@@ -54,13 +53,21 @@ module _ (coords : List Float) (work : List ℕ) (g : Regions) (o : MeshRuns) (e
 
   -- The cell with the number i among those of both meshes. The tag of a piece is twice that number, and one more where the cell is cut.
   unfoldable pub yieldOf : Keep → ℕ → List ℕ → Yield
-  yieldOf k i cell = yieldBy k (2 * i + bit (isCut cell)) (outcomeBy coords work g (nearOf cell) cell)
+  yieldOf k i cell = yieldBy k (2 * i + bit (isCut cell)) (outcomeBy coords work g (o .edges) (nearOf cell) cell)
 
 -- ---- all cells
 
 abbrev pub runsOn : Regions → Side → MeshRuns
 runsOn g theSubject = g .subject
 runsOn g theCutter = g .cutter
+
+abbrev pub indexOn : Indexes → Side → MeshIndex
+indexOn x theSubject = x .subject
+indexOn x theCutter = x .cutter
+
+-- how the cells of the mesh w are treated
+abbrev pub treatmentOf : ℕ → Regions → Indexes → Side → Treatment
+treatmentOf op g x w = record { keep = keepOf op w; other = runsOn g (other w); index = indexOn x (other w) }
 
 -- the subject's cells are numbered first; n is the number of the other mesh's
 abbrev pub numberedFrom : Side → ℕ → ℕ
@@ -89,20 +96,20 @@ pub record Few (n : ℕ) (p r : Listed) : Type 0 where
 
 -- ---- what is asked of the lists
 
--- the other mesh stands in the working list, and no key of its edges has too many nodes
-pub record OtherReady (work : List ℕ) (g : Regions) (o : MeshRuns) (ends : List ℕ) : Type 0 where
+-- the other mesh stands in the working list with its indexes, and no key of its edges has too many nodes
+pub record OtherReady (coords : List Float) (work : List ℕ) (g : Regions) (o : MeshRuns) (ends : List ℕ) (x : MeshIndex) : Type 0 where
   pub edges : Within (o .edges) (length work)
   pub entries : Within (o .entries) (length work)
   pub few : AllFew work g (meshEdges work o)
-  pub rise : Rising ends (length (runIn work (o .entries)))
+  pub indexed : MeshIndexed coords work o ends x
 
 -- no key of the edges of a mesh's cells has too many nodes, and no cell too many corners
 abbrev pub CellsReady : List ℕ → Regions → List ℕ → List ℕ → Type 0
 CellsReady work g own stops = (i : ℕ) → i < length stops → AllFew work g (ring (getD (runsOf own stops) i [])) × (cellSize stops i ≤ 256)
 
 -- for the cells of the mesh w, behind what p counts
-pub record CellsAsk (work : List ℕ) (g : Regions) (w : Side) (ends stops : List ℕ) (p : Listed) (on oe ot : List ℕ) : Type 0 where
-  pub others : OtherReady work g (runsOn g (other w)) ends
+pub record CellsAsk (coords : List Float) (work : List ℕ) (g : Regions) (x : Indexes) (w : Side) (ends stops : List ℕ) (p : Listed) (on oe ot : List ℕ) : Type 0 where
+  pub others : OtherReady coords work g (runsOn g (other w)) ends (indexOn x (other w))
   pub within : Within (runsOn g w .entries) (length work)
   pub cells : CellsReady work g (runIn work (runsOn g w .entries)) stops
   pub rise : Rising stops (length (runIn work (runsOn g w .entries)))
@@ -111,9 +118,9 @@ pub record CellsAsk (work : List ℕ) (g : Regions) (w : Side) (ends stops : Lis
   pub space : Space p (1024 * length stops) on oe ot
 
 -- for both
-pub record MeshesReady (op : ℕ) (work : List ℕ) (g : Regions) (se ce : List ℕ) : Type 0 where
-  pub subject : OtherReady work g (g .subject) se
-  pub cutter : OtherReady work g (g .cutter) ce
+pub record MeshesReady (op : ℕ) (coords : List Float) (work : List ℕ) (g : Regions) (x : Indexes) (se ce : List ℕ) : Type 0 where
+  pub subject : OtherReady coords work g (g .subject) se (x .subject)
+  pub cutter : OtherReady coords work g (g .cutter) ce (x .cutter)
   pub subjectCells : CellsReady work g (runIn work (g .subject .entries)) se
   pub cutterCells : cuts op theCutter ≡ true → CellsReady work g (runIn work (g .cutter .entries)) ce
   pub mostSubject : length se ≤ 16384

@@ -1,6 +1,5 @@
 // The cells of one mesh (document 01, module 7): each is copied or cut, and those of its pieces that the operation keeps are placed behind the others.
 use cells::CutCell;
-use cells::Near;
 use cells::cut_cell;
 use corners::next_corner;
 use lists::copy_u32;
@@ -10,13 +9,14 @@ use pieces::Listed;
 use pieces::keep_of;
 use pieces::place_pieces;
 use pieces::refuse;
+use regions::Indexes;
+use regions::MeshIndex;
 use regions::MeshRuns;
 use regions::Regions;
+use regions::Run;
 use regions::part;
-use rules::Bounds;
-use spatial_index::block_bounds;
 use spatial_index::bounds2;
-use spatial_index::in_bounds;
+use strips::gather;
 ghost use mathlib.Core.Path.{_≡_};
 ghost use Prim.Native.Nat.{_+_, _*_, _^_, _≤_, _<_};
 ghost use lib.ListN.{length};
@@ -24,11 +24,10 @@ ghost use Rattle.lists.specs.Search.{bit};
 ghost use Rattle.cutting.specs.Edges.{ring};
 ghost use Rattle.cutting.specs.Cell.{repeats};
 ghost use Rattle.cutting.specs.Outcome.{copiedOutcome};
-ghost use Rattle.spatial_index.specs.Blocks.{Covered};
-ghost use Rattle.regions.specs.Runs.{Within, meshEdges};
-ghost use Rattle.cells.specs.Cells.{cut, cutAs, nearEdgesIn, AllFew};
+ghost use Rattle.regions.specs.Runs.{Within};
+ghost use Rattle.cells.specs.Cells.{cut, cutAs, edgesIn, Places, AllFew};
 ghost use Rattle.pieces.specs.Pieces.{sideOf, Space, placing, placedBehind};
-ghost use Rattle.cutting_cells.specs.Yields.{outcomeBy, yieldOf, runsOn, numberedFrom, cellsYield, meshesYield, noneYet, Few, OtherReady, CellsAsk, MeshesReady};
+ghost use Rattle.cutting_cells.specs.Yields.{outcomeBy, yieldOf, treatmentOf, runsOn, numberedFrom, cellsYield, meshesYield, noneYet, Few, OtherReady, CellsAsk, MeshesReady};
 
 // ---- A cell that is copied
 
@@ -69,26 +68,26 @@ fn copy_cell(cell: &[u32], runs: &mut [u32], stops: &mut [u32]) -> CutCell
 
 // ---- Any cell
 
-// What the cell comes to by the edges t. A cell near which there is none is copied.
+// What the cell comes to by those of the edges that stand at the places js. A cell near which there is none is copied.
 fn outcome_of(
     coords: &[f64],
     w: &[u32],
     g: Regions,
-    boxes: &[f64],
-    t: Near,
+    edges: Run,
+    js: &[u32],
     cell: &[u32],
     runs: &mut [u32],
     stops: &mut [u32],
 ) -> CutCell
-    requires { ⌜ AllFew (now w) g (ring (now cell)) × Within (t .edges) (length (now w)) × AllFew (now w) g (nearEdgesIn (now w) t) × Covered (now coords) (nearEdgesIn (now w) t) (now boxes)
+    requires { ⌜ AllFew (now w) g (ring (now cell)) × Within edges (length (now w)) × AllFew (now w) g (edgesIn (now w) edges) × Places (now js) (edgesIn (now w) edges)
         × (length (now cell) ≤ 256) × (1024 ≤ length (now runs)) × (1024 ≤ length (now stops)) ⌝ }
     ensures { λ r. ⌜ cut r (now (runs .exit)) (now (stops .exit))
-        ≡ cutAs (outcomeBy (now (coords .entry)) (now (w .entry)) g t (now (cell .entry))) (now (runs .entry)) (now (stops .entry)) ⌝ }
+        ≡ cutAs (outcomeBy (now (coords .entry)) (now (w .entry)) g edges (now (js .entry)) (now (cell .entry))) (now (runs .entry)) (now (stops .entry)) ⌝ }
 {
-    if part(w, t.edges).len() / 2 <= t.first {
+    if js.len() == 0 {
         return copy_cell(cell, runs, stops);
     }
-    cut_cell(coords, w, g, boxes, t, cell, runs, stops)
+    cut_cell(coords, w, g, edges, js, cell, runs, stops)
 }
 
 // The tag of the pieces of the cell with that number.
@@ -102,14 +101,20 @@ fn tag_of(number: usize, cut: bool) -> u32
     (2 * number) as u32
 }
 
-// Places the kept pieces of one cell behind what p counts; `other` is the other mesh, `ends` where its cells end, `boxes` those of blocks of its edges.
+// How the cells of a mesh are treated: which pieces are kept, what they are cut by, and its indexes.
+struct Treatment {
+    keep: Keep,
+    other: MeshRuns,
+    index: MeshIndex,
+}
+
+// Places the kept pieces of one cell behind what p counts; the other mesh's cells end at `ends`, and `found` is room for the places of its edges.
 fn overlay_cell(
-    k: Keep,
+    t: Treatment,
     coords: &[f64],
     w: &[u32],
     g: Regions,
-    other: MeshRuns,
-    boxes: &[f64],
+    found: &mut [u32],
     ends: &[u32],
     on: &mut [u32],
     oe: &mut [u32],
@@ -118,36 +123,33 @@ fn overlay_cell(
     cell: &[u32],
     number: usize,
 ) -> Listed
-    requires { ⌜ OtherReady (now w) g other (now ends) × Covered (now coords) (meshEdges (now w) other) (now boxes) × AllFew (now w) g (ring (now cell)) × (length (now cell) ≤ 256)
+    requires { ⌜ OtherReady (now coords) (now w) g (t .other) (now ends) (t .index) × (65536 ≤ length (now found)) × AllFew (now w) g (ring (now cell)) × (length (now cell) ≤ 256)
         × Space p 1024 (now on) (now oe) (now ot) × (number < 2 ^ 31) ⌝ }
     ensures { λ r. ⌜ (placing r (now (on .exit)) (now (oe .exit)) (now (ot .exit))
-        ≡ placedBehind p (yieldOf (now (coords .entry)) (now (w .entry)) g other (now (ends .entry)) k number (now (cell .entry))) (now (on .entry)) (now (oe .entry)) (now (ot .entry)))
+        ≡ placedBehind p (yieldOf (now (coords .entry)) (now (w .entry)) g (t .other) (now (ends .entry)) (t .keep) number (now (cell .entry)))
+        (now (on .entry)) (now (oe .entry)) (now (ot .entry)))
         × Few 1 p r ⌝ }
 {
-    let edges = other.edges;
+    let edges = t.other.edges;
     let near = part(w, edges);
     let bounds = bounds2(coords, cell);
-    let first = in_bounds(coords, near, boxes, bounds, 0);
-    let t = Near {
-        edges,
-        bounds,
-        first,
-    };
+    let n = gather(coords, near, &ends[..0], part(w, t.index.edges), bounds, 0, found);
     let mut runs = [0u32; 1024];
     let mut stops = [0u32; 1024];
-    let r = outcome_of(coords, w, g, boxes, t, cell, &mut runs, &mut stops);
+    let r = outcome_of(coords, w, g, edges, &found[..n], cell, &mut runs, &mut stops);
     let code = r.code;
     if code != 0 {
         return refuse(code, on, oe, ot);
     }
     let m = r.entries;
     let c = r.pieces;
-    let tag = tag_of(number, first < near.len() / 2);
+    let tag = tag_of(number, 0 < n);
     place_pieces(
-        k,
+        t.keep,
         coords,
-        part(w, other.entries),
+        part(w, t.other.entries),
         ends,
+        part(w, t.index.cells),
         on,
         oe,
         ot,
@@ -169,6 +171,25 @@ fn runs_of(g: Regions, cutter: bool) -> MeshRuns
     g.subject
 }
 
+// How the cells of a mesh are treated.
+fn treatment_of(op: u32, cutter: bool, g: Regions, x: Indexes) -> Treatment
+    ensures { λ r. ⌜ r ≡ treatmentOf op g x (sideOf cutter) ⌝ }
+{
+    let keep = keep_of(op, cutter);
+    if cutter {
+        return Treatment {
+            keep,
+            other: g.subject,
+            index: x.subject,
+        };
+    }
+    Treatment {
+        keep,
+        other: g.cutter,
+        index: x.cutter,
+    }
+}
+
 // The number of a mesh's first cell, where the other has n.
 fn numbered_from(cutter: bool, n: usize) -> usize
     ensures { λ r. ⌜ r ≡ numberedFrom (sideOf cutter) n ⌝ }
@@ -179,14 +200,14 @@ fn numbered_from(cutter: bool, n: usize) -> usize
     0
 }
 
-// Cuts all cells of one mesh, which end at `stops`, and places their kept pieces behind what p counts. The searches for the edges near a cell share the
-// boxes of blocks of the other mesh's edges.
+// Cuts all cells of one mesh, which end at `stops`, and places their kept pieces behind what p counts.
 fn cut_cells(
     op: u32,
     cutter: bool,
     coords: &[f64],
     w: &[u32],
     g: Regions,
+    x: Indexes,
     ends: &[u32],
     stops: &[u32],
     on: &mut [u32],
@@ -194,29 +215,26 @@ fn cut_cells(
     ot: &mut [u32],
     p: Listed,
 ) -> Listed
-    requires { ⌜ CellsAsk (now w) g (sideOf cutter) (now ends) (now stops) p (now on) (now oe) (now ot) ⌝ }
+    requires { ⌜ CellsAsk (now coords) (now w) g x (sideOf cutter) (now ends) (now stops) p (now on) (now oe) (now ot) ⌝ }
     ensures { λ r. ⌜ (placing r (now (on .exit)) (now (oe .exit)) (now (ot .exit))
         ≡ placedBehind p (cellsYield op (now (coords .entry)) (now (w .entry)) g (sideOf cutter) (now (ends .entry)) (now (stops .entry)))
         (now (on .entry)) (now (oe .entry)) (now (ot .entry)))
         × Few (length (now (stops .entry))) p r ⌝ }
 {
-    let other = runs_of(g, !cutter);
-    let k = keep_of(op, cutter);
+    let t = treatment_of(op, cutter, g, x);
     let number = numbered_from(cutter, ends.len());
     let own = part(w, runs_of(g, cutter).entries);
-    let mut boxes = [0.0; 4096];
-    block_bounds(coords, part(w, other.edges), &mut boxes);
+    let mut found = [0u32; 65536];
     let mut q = p;
     let mut start: usize = 0;
     for i in 0..stops.len() {
         let e = stops[i] as usize;
         q = overlay_cell(
-            k,
+            t,
             coords,
             w,
             g,
-            other,
-            &boxes,
+            &mut found,
             ends,
             on,
             oe,
@@ -239,13 +257,14 @@ pub fn cut_meshes(
     coords: &[f64],
     w: &[u32],
     g: Regions,
+    x: Indexes,
     se: &[u32],
     ce: &[u32],
     on: &mut [u32],
     oe: &mut [u32],
     ot: &mut [u32],
 ) -> Listed
-    requires { ⌜ MeshesReady op (now w) g (now se) (now ce) × (length (now oe) ≤ length (now ot)) ⌝ }
+    requires { ⌜ MeshesReady op (now coords) (now w) g x (now se) (now ce) × (length (now oe) ≤ length (now ot)) ⌝ }
     ensures { λ r. ⌜ (placing r (now (on .exit)) (now (oe .exit)) (now (ot .exit))
         ≡ placedBehind noneYet (meshesYield op (now (coords .entry)) (now (w .entry)) g (now (se .entry)) (now (ce .entry))) (now (on .entry)) (now (oe .entry)) (now (ot .entry)))
         × Few (length (now (se .entry)) + length (now (ce .entry))) noneYet r ⌝ }
@@ -255,13 +274,13 @@ pub fn cut_meshes(
         count: 0,
         entries: 0,
     };
-    let p = cut_cells(op, false, coords, w, g, ce, se, on, oe, ot, none);
+    let p = cut_cells(op, false, coords, w, g, x, ce, se, on, oe, ot, none);
     let code = p.code;
     if code != 0 {
         return p;
     }
     if (op == 1) | (op == 4) {
-        return cut_cells(op, true, coords, w, g, se, ce, on, oe, ot, p);
+        return cut_cells(op, true, coords, w, g, x, se, ce, on, oe, ot, p);
     }
     p
 }

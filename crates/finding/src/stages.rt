@@ -156,7 +156,7 @@ pub fn find(
         n.subject,
         n.at,
         n.cutter,
-        //TMP n.index,
+        n.index,
         n.base,
         m as usize,
     );

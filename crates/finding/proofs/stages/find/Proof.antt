@@ -118,9 +118,14 @@ compute-intersections-requires c κs =
     let at-entry = entry at-place-coords in
     let oc-last = at-place-coords .place-coords .last .1 .1 .0 in
     let w-last = at-nets .nets .last .1 .1 .1 .1 .1 .1 .1 .1 .0 in
-    asked _ _ _ _ _ _ _ _ (at-entry .args .w .now) (at-entry .pre) (at-entry .args .oc .now)
+    let ix = indexed _ _ _ _ _ _ _ _ (at-entry .args .w .now) (at-entry .pre) (at-entry .args .oc .now)
     (at-place-coords .place-coords .result) oc-last (at-place-coords .place-coords .ensures) (else1 at-nets .if1 .left)
-    (at-nets .nets .result) w-last (at-nets .nets .ensures)
+    (at-nets .nets .result) w-last (at-nets .nets .ensures) in (
+      asked _ _ _ _ _ _ _ _ (at-entry .args .w .now) (at-entry .pre) (at-entry .args .oc .now)
+          (at-place-coords .place-coords .result) oc-last (at-place-coords .place-coords .ensures) (else1 at-nets .if1 .left)
+          (at-nets .nets .result) w-last (at-nets .nets .ensures),
+      record { indexFits = ix .0; indexed = ix .1 },
+    )
 
 same-length-3 : tie.Need-same-length-3
 same-length-3 c =
