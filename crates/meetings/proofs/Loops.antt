@@ -1,39 +1,35 @@
 -- The turns of the two loops, over plain values. Assumes nothing.
 use mathlib.Core.Path.{_≡_, refl, sym, ap, ap₂, _∙_}
 use mathlib.Core.List.{List, [], _∷_, _++_, append-nil, append-assoc}
-use Prim.Native.Nat.{ℕ, _+_, _*_, _-_, _/_, _≤_, _<_}
+use Prim.Native.Nat.{ℕ, suc, _+_, _*_, _-_, _/_, _≤_, _<_}
 use native.Mathlib.Decide.{ℕ-discrete}
 use native.Mathlib.Numerals.{add-one}
 use native.Mathlib.Omega.{arith}
-use lib.ListN.{length, getD, take, drop}
-use lib.Seq.{length-take-le}
+use lib.ListN.{length, getD, take, drop, drop-of-length-le}
+use lib.Seq.{length-take-le, drop-cons}
 use lib.Ieee.{Float}
-use Rattle.lists.specs.Search.{first}
 use Rattle.lists.specs.Gather.{joined}
-use Rattle.lists.specs.Regions.{run, front, put, zeros, fzeros}
-use Rattle.lists.proofs.Search.{first-from}
-use Rattle.lists.proofs.Regions.{put-before, run-before, length-run, getD-run}
+use Rattle.lists.specs.Regions.{run, put, zeros, fzeros}
+use Rattle.lists.proofs.Regions.{put-before, run-before, length-run, getD-run, take-front-of}
 use Rattle.segments.specs.Meet.{meeting}
 use Rattle.segments.specs.declared.Meeting.{Meeting}
 use Rattle.segments.specs.declared.Meeting.the-variants.{Apart, Existing, New, Overlap}
 use Rattle.cutting.specs.Edges.{Edge, edgeAt}
 use Rattle.cutting.specs.Lent.{pairs}
 use Rattle.cutting.proofs.Pairs.{pairs-length, pairs-at}
-use Rattle.rules.specs.declared.Bounds.{Bounds}
-use Rattle.rules.specs.SpatialIndex.{edgeBox, boxesMeet, candidates}
+use Rattle.rules.specs.SpatialIndex.{edgeBox, candidates}
 use Rattle.rules.specs.Neighbours.{Net}
 use Rattle.rules.specs.Meetings.{Met, segmentOf, recorded, addedBy, metPair, metAll, meetingsTo, meetings}
 use Rattle.rules.specs.Refusals.{Event, ofMeeting, firstRefusal}
 use Rattle.rules.proofs.Course.{edges-behind}
-use Rattle.spatial_index.specs.Candidates.{placesFrom, meets}
-use Rattle.spatial_index.specs.Blocks.{blockBoxes, Covered}
-use Rattle.spatial_index.proofs.Covered.{covered}
-use Rattle.spatial_index.proofs.Candidates.{places-next, places-end, candidates-from}
+use Rattle.strips.specs.Index.{indexSize, Indexed}
+use Rattle.strips.specs.Gathering.{FrontIs}
 use Rattle.meetings.specs.declared.Found.{Found}
 use Rattle.meetings.specs.Booked.{booked, netOn, edgesIn, meetingsAt}
-use Rattle.meetings.specs.MeetingsFound.{MeetingsRoom, meetingsFound}
-use Rattle.meetings.specs.Steps.{edgeIn, metOf, metFrom, metWith, Ready, Grown, Answered}
+use Rattle.meetings.specs.MeetingsFound.{MeetingsRoom, CutterIndexed, meetingsFound}
+use Rattle.meetings.specs.Steps.{edgeIn, metOf, metWith, StandBefore, Ready, Grown, Answered}
 use Rattle.meetings.proofs.Settled.{leaves, foundWith, all-left, zeros-left}
+use Rattle.meetings.proofs.Near.{candidate-below}
 use Rattle.meetings.proofs.Adding.{length-added, grown-none, grown-then, answered-then, answered-stop, answered, onto, length-points, length-numbers}
 
 -- ---- the meetings of an edge, behind those found
@@ -47,8 +43,8 @@ even i j next e f (Overlap p q) = refl
 
 module _ (coords : List Float) (s c : Net) where
   pub all-from : (i : ℕ) (js : List ℕ) (ms : List Met)
-      → metAll coords s c i js ms ≡ ms ++ metFrom coords i (edgeAt (s .edges) i) (c .edges) ((length coords + length (addedBy ms)) / 2) js
-  unfolding metAll metPair metFrom
+      → metAll coords s c i js ms ≡ ms ++ metWith coords i (edgeAt (s .edges) i) (edgeAt (c .edges)) ((length coords + length (addedBy ms)) / 2) js
+  unfolding metAll metPair metWith
   all-from i [] ms = sym (append-nil ms)
   all-from i (j ∷ js) ms =
       let e : Edge = edgeAt (s .edges) i in
@@ -56,11 +52,22 @@ module _ (coords : List Float) (s c : Net) where
       let x : List Met = metOf coords i j next e (edgeAt (c .edges) j) in
       let on : (length coords + length (addedBy (ms ++ x))) / 2 ≡ next + length (addedBy x) / 2 =
       omega (arith, length-added ms x, even i j next e (edgeAt (c .edges) j) (meeting (segmentOf coords e) (segmentOf coords (edgeAt (c .edges) j)))) in
-      all-from i js (ms ++ x) ∙ append-assoc ms x _ ∙ ap (λ (k : ℕ). ms ++ (x ++ metFrom coords i e (c .edges) k js)) on
+      all-from i js (ms ++ x) ∙ append-assoc ms x _ ∙ ap (λ (k : ℕ). ms ++ (x ++ metWith coords i e (edgeAt (c .edges)) k js)) on
 
   more-edges : (i : ℕ) → meetingsTo coords s c (i + 1) ≡ metAll coords s c i (candidates coords (c .edges) (edgeBox coords (edgeAt (s .edges) i))) (meetingsTo coords s c i)
   unfolding meetingsTo
   more-edges i = ap (λ (k : ℕ). meetingsTo coords s c k) (add-one i)
+
+-- only the edges js matter
+with-same : (coords : List Float) (i : ℕ) (e : Edge) (f g : ℕ → Edge) (n : ℕ) (js : List ℕ) → ((k : ℕ) → k < length js → f (getD js k 0) ≡ g (getD js k 0))
+    → metWith coords i e f n js ≡ metWith coords i e g n js
+unfolding metWith
+with-same coords i e f g n [] same = refl
+with-same coords i e f g n (j ∷ js) same =
+    let rest : ℕ → List Met = λ k. metWith coords i e g k js in
+    let x : Edge → List Met = λ y. metOf coords i j n e y in
+    ap (λ (l : List Met). x (f j) ++ l) (with-same coords i e f g (n + length (addedBy (x (f j))) / 2) js (λ k l. same (suc k) (omega arith)))
+    ∙ ap (λ (y : Edge). x y ++ rest (n + length (addedBy (x y)) / 2)) (same 0 (omega arith))
 
 -- ---- what is read through the lists while meetings are added
 
@@ -111,146 +118,101 @@ module _ (oc : List Float) (w : List ℕ) (placed base m met next : ℕ) (ready 
         ∙ ap₂ (λ (a b : ℕ). (a, b)) (put-before w (base + 5 * met) there (booked ms) (at + 2 * k) 0 (omega arith))
         (put-before w (base + 5 * met) there (booked ms) (at + 2 * k + 1) 0 (omega arith))
 
-    pub edges-kept : (at n : ℕ) → at + 2 * n ≤ base → edgesIn w′ at n ≡ edgesIn w at n
-    edges-kept at n h =
-        ap (λ (l : List ℕ). edgesIn l at n) (gr .numbers) ∙ ap pairs (run-before w (base + 5 * met) (omega (arith, ready .2, ready .4)) (booked ms) at (2 * n) (omega arith))
+    pub run-kept : (at n : ℕ) → at + n ≤ base → run w′ at n ≡ run w at n
+    run-kept at n h = ap (λ (l : List ℕ). run l at n) (gr .numbers) ∙ run-before w (base + 5 * met) (omega (arith, ready .2, ready .4)) (booked ms) at n (omega arith)
 
 -- ---- `of_edge`
 
-module _ (oc : List Float) (w : List ℕ) (placed se ce cn base m i met next : ℕ) where
+-- the meetings `done` are added, and those with the edges js from place k on are left
+pub record Walked (oc : List Float) (w js : List ℕ) (placed se ce base m i met next : ℕ) (oc′ : List Float) (w′ : List ℕ) (g : Found) (k : ℕ) : Type 0 where
+  pub done : List Met
+  pub grown : Grown m base oc w met next done oc′ w′ g
+  pub left : metWith (take placed oc) i (edgeIn w se i) (edgeIn w ce) next js ≡ done ++ metWith (take placed oc) i (edgeIn w se i) (edgeIn w ce) (g .next) (drop k js)
+  pub ready : Ready oc′ w′ placed base m (g .met) (g .next)
+  pub same-oc : length oc′ ≡ length oc
+  pub same-w : length w′ ≡ length w
+
+module _ (oc : List Float) (w js : List ℕ) (placed se ce base m i met next : ℕ) where
   abbrev e₀ : Edge
   e₀ = edgeIn w se i
 
-  abbrev fs₀ : List Edge
-  fs₀ = edgesIn w ce cn
-
-  abbrev box₀ : Bounds
-  box₀ = edgeBox (take placed oc) e₀
-
-  abbrev near : ℕ → ℕ
-  near k = first (meets (take placed oc) fs₀ box₀) k (length fs₀)
-
-  -- the meetings with the candidates from k on
+  -- the meetings with the edges js from place k on
   abbrev from : ℕ → ℕ → List Met
-  from n k = metFrom (take placed oc) i e₀ fs₀ n (placesFrom (meets (take placed oc) fs₀ box₀) k (length fs₀))
+  from n k = metWith (take placed oc) i e₀ (edgeIn w ce) n (drop k js)
 
   abbrev whole : List Met
-  whole = metWith (take placed oc) i e₀ fs₀ next
+  whole = metWith (take placed oc) i e₀ (edgeIn w ce) next js
 
-  -- the meetings `done` are added, and those with the candidates from k on are left; j is the first of them
-  abbrev pub Walked : List Float → List ℕ → Found → ℕ → Type 0
-  Walked oc′ w′ g j =
-      (k : ℕ) × (done : List Met) × (j ≡ near k) × Grown m base oc w met next done oc′ w′ g × (whole ≡ done ++ from (g .next) k)
-      × Ready oc′ w′ placed base m (g .met) (g .next) × (length oc′ ≡ length oc) × (length w′ ≡ length w)
+  abbrev Walked₀ : List Float → List ℕ → Found → ℕ → Type 0
+  Walked₀ = Walked oc w js placed se ce base m i met next
 
-  -- the search as the code asks for it
-  abbrev pub Sought : List Float → List ℕ → Bounds → ℕ → ℕ → Type 0
-  Sought oc′ w′ b k j =
-      j ≡ first (λ n. boxesMeet (edgeBox (take placed oc′) (edgeAt (pairs (take (ce + 2 * cn - ce) (drop ce w′))) n)) b) k (length (pairs (take (ce + 2 * cn - ce) (drop ce w′))))
+  module _ (ready : Ready oc w placed base m met next) (hs : se + 2 * i + 2 ≤ base) (before : StandBefore base ce js) where
+    walked : (done : List Met) (oc′ : List Float) (w′ : List ℕ) (g : Found) (k : ℕ) → Grown m base oc w met next done oc′ w′ g → whole ≡ done ++ from (g .next) k → Walked₀ oc′ w′ g k
+    walked done oc′ w′ g k gr left = record {
+      done = done;
+      grown = gr;
+      left = left;
+      ready = ready-on oc w placed base m met next ready done oc′ w′ g gr;
+      same-oc = oc-same oc w placed base m met next ready done oc′ w′ g gr;
+      same-w = w-same oc w placed base m met next ready done oc′ w′ g gr;
+    }
 
-  pub sought-from : (oc′ : List Float) (w′ : List ℕ) (b : Bounds) (k j : ℕ) → Sought oc′ w′ b k j → k ≤ j
-  sought-from oc′ w′ b k j s =
-      let es : List Edge = pairs (take (ce + 2 * cn - ce) (drop ce w′)) in
-      omega (arith, s, first-from (meets (take placed oc′) es b) k (length es))
+    pub walk-start : (g : Found) → g .code ≡ 0 → g .met ≡ met → g .next ≡ next → Walked₀ oc w g 0
+    walk-start g c a n = walked [] oc w g 0 (grown-none m base oc w met next g c a n (ready .4) (ready .6)) (ap (λ (x : ℕ). from x 0) (sym n))
 
-  module _ (ready : Ready oc w placed base m met next) (hs : se + 2 * i + 2 ≤ base) (hc : ce + 2 * cn ≤ base) where
-    sought : (oc′ : List Float) (w′ : List ℕ) (b : Bounds) (k j : ℕ) → take placed oc′ ≡ take placed oc → edgesIn w′ ce cn ≡ fs₀ → b ≡ box₀ → Sought oc′ w′ b k j → j ≡ near k
-    unfolding run
-    sought oc′ w′ b k j kc kf kb s =
-        let n : ce + 2 * cn - ce ≡ 2 * cn = omega arith in
-        let all : pairs (take (ce + 2 * cn - ce) (drop ce w′)) ≡ fs₀ = ap (λ (x : ℕ). pairs (take x (drop ce w′))) n ∙ kf in
-        s ∙ ap₂ (λ (cs : List Float) (es : List Edge). first (meets cs es b) k (length es)) kc all ∙ ap (λ (x : Bounds). first (meets (take placed oc) fs₀ x) k (length fs₀)) kb
-
-    cover : (boxes oc′ : List Float) (w′ : List ℕ) → take placed oc′ ≡ take placed oc → edgesIn w′ ce cn ≡ fs₀ → Covered (take placed oc) fs₀ boxes
-        → Covered (take placed oc′) (pairs (take (ce + 2 * cn - ce) (drop ce w′))) boxes
-    unfolding run
-    cover boxes oc′ w′ kc kf c =
-        let n : ce + 2 * cn - ce ≡ 2 * cn = omega arith in
-        let all : pairs (take (ce + 2 * cn - ce) (drop ce w′)) ≡ fs₀ = ap (λ (x : ℕ). pairs (take x (drop ce w′))) n ∙ kf in
-        rw (kc, all) c
-
-    -- the boxes cover the cutter's edges as the search reads them
-    pub cover-start : (boxes : List Float) → Covered (take placed oc) fs₀ boxes → Covered (take placed oc) (pairs (take (ce + 2 * cn - ce) (drop ce w))) boxes
-    cover-start boxes c = cover boxes oc w refl refl c
-
-    pub walk-start : (g : Found) (b : Bounds) (j : ℕ) → g .code ≡ 0 → g .met ≡ met → g .next ≡ next → b ≡ box₀ → Sought oc w b 0 j → Walked oc w g j
-    walk-start g b j c a n kb s = (
-      0,
-      [],
-      sought oc w b 0 j refl refl kb s,
-      grown-none m base oc w met next g c a n (ready .4) (ready .6),
-      ap (metFrom (take placed oc) i e₀ fs₀ next) (sym (candidates-from (take placed oc) fs₀ box₀)) ∙ ap (λ (x : ℕ). from x 0) (sym n),
-      ready-on oc w placed base m met next ready [] oc w g (grown-none m base oc w met next g c a n (ready .4) (ready .6)),
-      refl,
-      refl,
-    )
-
-    -- edge j of the cutter is the next candidate
-    module _ (oc₁ : List Float) (w₁ : List ℕ) (g : Found) (j : ℕ) (inv : Walked oc₁ w₁ g j) (l : j < cn) (oc₂ : List Float) (w₂ : List ℕ) (h : Found)
-        (ans : Answered m base oc₁ w₁ (g .met) (g .next) (metOf (take placed oc₁) i j (g .next) (edgeIn w₁ se i) (edgeIn w₁ ce j)) oc₂ w₂ h) where
-      abbrev done : List Met
-      done = inv .1
+    -- edge j is the next of js
+    module _ (oc₁ : List Float) (w₁ : List ℕ) (g : Found) (k : ℕ) (v : Walked₀ oc₁ w₁ g k) (l : k < length js) (oc₂ : List Float) (w₂ : List ℕ) (h : Found) where
+      abbrev j : ℕ
+      j = getD js k 0
 
       abbrev one : List Met
-      one = metOf (take placed oc) i j (g .next) e₀ (edgeAt fs₀ j)
+      one = metOf (take placed oc) i j (g .next) e₀ (edgeIn w ce j)
 
-      there : ce + 2 * cn ≤ length w
-      there = omega (arith, ready .2)
+      module _ (ans : Answered m base oc₁ w₁ (g .met) (g .next) (metOf (take placed oc₁) i j (g .next) (edgeIn w₁ se i) (edgeIn w₁ ce j)) oc₂ w₂ h) where
+        found : Answered m base oc₁ w₁ (g .met) (g .next) one oc₂ w₂ h
+        found =
+            let kept = edge-kept oc w placed base m met next ready (v .done) oc₁ w₁ g (v .grown) in
+            onto m base oc₁ w₁ (g .met) (g .next) one _ oc₂ w₂ h
+            (ap (λ (cs : List Float). metOf cs i j (g .next) e₀ (edgeIn w ce j)) (sym (coords-kept oc w placed base m met next ready (v .done) oc₁ w₁ g (v .grown)))
+            ∙ ap₂ (λ (a b : Edge). metOf (take placed oc₁) i j (g .next) a b) (sym (kept se i hs)) (sym (kept ce j (before k l .1)))) ans
 
-      found : Answered m base oc₁ w₁ (g .met) (g .next) one oc₂ w₂ h
-      found =
-          let ec : e₀ ≡ edgeIn w₁ se i = sym (edge-kept oc w placed base m met next ready done oc₁ w₁ g (inv .3) se i hs) in
-          let fc : edgeAt fs₀ j ≡ edgeIn w₁ ce j = edge-at w ce cn j there l ∙ sym (edge-kept oc w placed base m met next ready done oc₁ w₁ g (inv .3) ce j (omega arith)) in
-          onto m base oc₁ w₁ (g .met) (g .next) one _ oc₂ w₂ h
-          (ap (λ (cs : List Float). metOf cs i j (g .next) e₀ (edgeAt fs₀ j)) (sym (coords-kept oc w placed base m met next ready done oc₁ w₁ g (inv .3)))
-          ∙ ap₂ (λ (a b : Edge). metOf (take placed oc₁) i j (g .next) a b) ec fc) ans
+        left : whole ≡ (v .done ++ one) ++ from (g .next + length (addedBy one) / 2) (k + 1)
+        unfolding metWith
+        left =
+            v .left ∙ ap (λ (xs : List ℕ). v .done ++ metWith (take placed oc) i e₀ (edgeIn w ce) (g .next) xs)
+            (drop-cons js k 0 l ∙ ap (λ (n : ℕ). j ∷ drop n js) (sym (add-one k)))
+            ∙ sym (append-assoc (v .done) one _)
 
-      left : whole ≡ (done ++ one) ++ from (g .next + length (addedBy one) / 2) (j + 1)
-      unfolding metFrom
-      left =
-          let below : j < length fs₀ = omega (arith, count-in w ce cn there) in
-          inv .4 ∙ ap (λ (js : List ℕ). done ++ metFrom (take placed oc) i e₀ fs₀ (g .next) js)
-          (places-next (meets (take placed oc) fs₀ box₀) (inv .0) (length fs₀) j (sym (inv .2)) below)
-          ∙ sym (append-assoc done one _)
+        pub walk-stop : (h .code ≡ 0 → ⊥) → Answered m base oc w met next whole oc₂ w₂ h
+        walk-stop z =
+            onto m base oc w met next whole _ oc₂ w₂ h left
+            (answered-stop m base oc w met next (v .done ++ one) (from (g .next + length (addedBy one) / 2) (k + 1)) oc₂ w₂ h oc₂ w₂
+            (answered-then m base oc w met next (enough oc w placed base m met next ready) (v .done) oc₁ w₁ g (v .grown) one oc₂ w₂ h found) z)
 
-      pub walk-stop : (h .code ≡ 0 → ⊥) → Answered m base oc w met next whole oc₂ w₂ h
-      walk-stop z =
-          onto m base oc w met next whole _ oc₂ w₂ h left
-          (answered-stop m base oc w met next (done ++ one) (from (g .next + length (addedBy one) / 2) (j + 1)) oc₂ w₂ h oc₂ w₂
-          (answered-then m base oc w met next (enough oc w placed base m met next ready) done oc₁ w₁ g (inv .3) one oc₂ w₂ h found) z)
+        pub walk-turn : h .code ≡ 0 → Walked₀ oc₂ w₂ h (k + 1)
+        walk-turn z =
+            let step = found .grown z in
+            let on : g .next + length (addedBy one) / 2 ≡ h .next = omega (arith, step .next-is) in
+            walked (v .done ++ one) oc₂ w₂ h (k + 1)
+            (grown-then m base oc w met next (enough oc w placed base m met next ready) (v .done) oc₁ w₁ g (v .grown) one oc₂ w₂ h step)
+            (left ∙ ap (λ (n : ℕ). (v .done ++ one) ++ from n (k + 1)) on)
 
-      pub cover-turn : h .code ≡ 0 → (boxes : List Float) → Covered (take placed oc) fs₀ boxes → Covered (take placed oc₂) (pairs (take (ce + 2 * cn - ce) (drop ce w₂))) boxes
-      cover-turn z boxes c =
-          let both = grown-then m base oc w met next (enough oc w placed base m met next ready) done oc₁ w₁ g (inv .3) one oc₂ w₂ h (found .grown z) in
-          cover boxes oc₂ w₂ (coords-kept oc w placed base m met next ready (done ++ one) oc₂ w₂ h both)
-          (edges-kept oc w placed base m met next ready (done ++ one) oc₂ w₂ h both ce cn hc) c
+    pub walk-end : (oc₁ : List Float) (w₁ : List ℕ) (g : Found) (k : ℕ) → Walked₀ oc₁ w₁ g k → length js ≤ k → Answered m base oc w met next whole oc₁ w₁ g
+    unfolding metWith
+    walk-end oc₁ w₁ g k v l =
+        let all : whole ≡ v .done =
+        v .left ∙ ap (λ (xs : List ℕ). v .done ++ metWith (take placed oc) i e₀ (edgeIn w ce) (g .next) xs) (drop-of-length-le js {i = k} l) ∙ append-nil (v .done) in
+        onto m base oc w met next whole (v .done) oc₁ w₁ g all (answered m base oc w met next (v .done) oc₁ w₁ g (v .grown))
 
-      pub walk-turn : h .code ≡ 0 → (b : Bounds) (j′ : ℕ) → b ≡ box₀ → Sought oc₂ w₂ b (j + 1) j′ → Walked oc₂ w₂ h j′
-      walk-turn z b j′ kb s =
-          let step = found .grown z in
-          let both = grown-then m base oc w met next (enough oc w placed base m met next ready) done oc₁ w₁ g (inv .3) one oc₂ w₂ h step in
-          let on : g .next + length (addedBy one) / 2 ≡ h .next = omega (arith, step .next-is) in (
-            j + 1,
-            done ++ one,
-            sought oc₂ w₂ b (j + 1) j′ (coords-kept oc w placed base m met next ready (done ++ one) oc₂ w₂ h both)
-                (edges-kept oc w placed base m met next ready (done ++ one) oc₂ w₂ h both ce cn hc) kb s,
-            both,
-            left ∙ ap (λ (n : ℕ). (done ++ one) ++ from n (j + 1)) on,
-            ready-on oc w placed base m met next ready (done ++ one) oc₂ w₂ h both,
-            oc-same oc w placed base m met next ready (done ++ one) oc₂ w₂ h both,
-            w-same oc w placed base m met next ready (done ++ one) oc₂ w₂ h both,
-          )
+-- ---- `of_edges` and `compute_intersections`
 
-    pub walk-end : (oc₁ : List Float) (w₁ : List ℕ) (g : Found) (j : ℕ) → Walked oc₁ w₁ g j → cn ≤ j → Answered m base oc w met next whole oc₁ w₁ g
-    unfolding metFrom
-    walk-end oc₁ w₁ g j inv l =
-        let past : length fs₀ ≤ near (inv .0) = omega (arith, inv .2, count-in w ce cn (omega (arith, ready .2))) in
-        let all : whole ≡ inv .1 =
-        inv .4 ∙ ap (λ (js : List ℕ). inv .1 ++ metFrom (take placed oc) i e₀ fs₀ (g .next) js)
-        (places-end (meets (take placed oc) fs₀ box₀) (inv .0) (length fs₀) past) ∙ append-nil (inv .1) in
-        onto m base oc w met next whole (inv .1) oc₁ w₁ g all (answered m base oc w met next (inv .1) oc₁ w₁ g (inv .3))
-
--- ---- `compute_intersections`
+-- the meetings of the first i edges of the subject are added
+pub record Through (oc : List Float) (w : List ℕ) (placed se sn ce cn base m : ℕ) (oc′ : List Float) (w′ : List ℕ) (f : Found) (i : ℕ) : Type 0 where
+  pub within : i ≤ sn
+  pub grown : Grown m base oc w 0 (placed / 2) (meetingsTo (take placed oc) (netOn (edgesIn w se sn)) (netOn (edgesIn w ce cn)) i) oc′ w′ f
+  pub ready : Ready oc′ w′ placed base m (f .met) (f .next)
+  pub same-oc : length oc′ ≡ length oc
+  pub same-w : length w′ ≡ length w
 
 module _ (oc : List Float) (w : List ℕ) (placed se sn ce cn base m : ℕ) where
   abbrev subject : Net
@@ -265,9 +227,8 @@ module _ (oc : List Float) (w : List ℕ) (placed se sn ce cn base m : ℕ) wher
   abbrev pub allMet : List Met
   allMet = meetingsAt oc w placed se sn ce cn
 
-  abbrev pub Through : List Float → List ℕ → Found → ℕ → Type 0
-  Through oc′ w′ f i =
-      (i ≤ sn) × Grown m base oc w 0 (placed / 2) (metTo i) oc′ w′ f × Ready oc′ w′ placed base m (f .met) (f .next) × (length oc′ ≡ length oc) × (length w′ ≡ length w)
+  abbrev Through₀ : List Float → List ℕ → Found → ℕ → Type 0
+  Through₀ = Through oc w placed se sn ce cn base m
 
   module _ (pre : MeetingsRoom (length oc) (length w) placed se sn ce cn base m) where
     ready₀ : Ready oc w placed base m 0 (placed / 2)
@@ -281,6 +242,15 @@ module _ (oc : List Float) (w : List ℕ) (placed se sn ce cn base m : ℕ) wher
       omega (arith, pre .placedFits, pre .placedEven),
       omega (arith, pre .placedEven),
     )
+
+    through : (oc′ : List Float) (w′ : List ℕ) (f : Found) (i : ℕ) → i ≤ sn → Grown m base oc w 0 (placed / 2) (metTo i) oc′ w′ f → Through₀ oc′ w′ f i
+    through oc′ w′ f i h g = record {
+      within = h;
+      grown = g;
+      ready = ready-on oc w placed base m 0 (placed / 2) ready₀ (metTo i) oc′ w′ f g;
+      same-oc = oc-same oc w placed base m 0 (placed / 2) ready₀ (metTo i) oc′ w′ f g;
+      same-w = w-same oc w placed base m 0 (placed / 2) ready₀ (metTo i) oc′ w′ f g;
+    }
 
     -- ---- what the contract says
 
@@ -322,84 +292,100 @@ module _ (oc : List Float) (w : List ℕ) (placed se sn ce cn base m : ℕ) wher
           ∙ ap (λ (k : ℕ). leaves (foundWith k 0 0) (fzeros (length oc)) (zeros (length w))) code-is
           ∙ sym (zeros-left m placed se sn ce cn base oc w (λ y. z (code-is ∙ y)))
 
-    -- the boxes that `block_bounds` makes
-    pub covered-by : (w₀ boxes : List Float) → boxes ≡ front w₀ (blockBoxes (take placed oc) (take (ce + 2 * cn - ce) (drop ce w)) (length w₀ / 4))
-        → Covered (take placed oc) (edgesIn w ce cn) boxes
-    unfolding run
-    covered-by w₀ boxes e =
-        let n : ce + 2 * cn - ce ≡ 2 * cn = omega arith in
-        covered (take placed oc) (run w ce (2 * cn)) w₀ boxes (e ∙ ap (λ (x : ℕ). front w₀ (blockBoxes (take placed oc) (take x (drop ce w)) (length w₀ / 4))) n)
-
-    pub begin : (f : Found) → f .code ≡ 0 → f .met ≡ 0 → f .next ≡ placed / 2 → Through oc w f 0
+    pub begin : (f : Found) → f .code ≡ 0 → f .met ≡ 0 → f .next ≡ placed / 2 → Through₀ oc w f 0
     unfolding meetingsTo
     begin f c a b =
-        let none = grown-none m base oc w 0 (placed / 2) f c a b (omega arith) (omega (arith, pre .placedFits, pre .placedEven)) in
-        (omega arith, none, ready-on oc w placed base m 0 (placed / 2) ready₀ [] oc w f none, refl, refl)
+        through oc w f 0 (omega arith) (grown-none m base oc w 0 (placed / 2) f c a b (omega arith) (omega (arith, pre .placedFits, pre .placedEven)))
 
-    -- the boxes made at the start still cover
-    pub covers : (oc₁ : List Float) (w₁ : List ℕ) (f : Found) (i : ℕ) (boxes : List Float) → Through oc₁ w₁ f i → Covered (take placed oc) (edgesIn w ce cn) boxes
-        → Covered (take placed oc₁) (edgesIn w₁ ce cn) boxes
-    covers oc₁ w₁ f i boxes inv c =
-        rw (
-          coords-kept oc w placed base m 0 (placed / 2) ready₀ (metTo i) oc₁ w₁ f (inv .1),
-          edges-kept oc w placed base m 0 (placed / 2) ready₀ (metTo i) oc₁ w₁ f (inv .1) ce cn (pre .cutterFits),
-        ) c
+    module _ (oc₁ : List Float) (w₁ : List ℕ) (f : Found) (i : ℕ) (inv : Through₀ oc₁ w₁ f i) where
+      now-coords : take placed oc₁ ≡ take placed oc
+      now-coords = coords-kept oc w placed base m 0 (placed / 2) ready₀ (metTo i) oc₁ w₁ f (inv .grown)
 
-    module _ (oc₁ : List Float) (w₁ : List ℕ) (f : Found) (i : ℕ) (inv : Through oc₁ w₁ f i) (l : i < sn) (oc₂ : List Float) (w₂ : List ℕ) (h : Found)
-        (ans : Answered m base oc₁ w₁ (f .met) (f .next) (metWith (take placed oc₁) i (edgeIn w₁ se i) (edgesIn w₁ ce cn) (f .next)) oc₂ w₂ h) where
-      -- those of the subject's edge i
-      abbrev here : List Met
-      here =
-          metWith (take placed oc) i (edgeAt (subject .edges) i) (cutter .edges) ((length (take placed oc) + length (addedBy (metTo i))) / 2)
+      now-run : (at n : ℕ) → at + n ≤ base → run w₁ at n ≡ run w at n
+      now-run = run-kept oc w placed base m 0 (placed / 2) ready₀ (metTo i) oc₁ w₁ f (inv .grown)
 
-      next-is : f .next ≡ (length (take placed oc) + length (addedBy (metTo i))) / 2
-      next-is = omega (arith, inv .1 .next-is, length-take-le placed oc (pre .placedFits), pre .placedEven)
+      -- the index is still that of the cutter's edges
+      pub still-indexed : (ix r : ℕ) → CutterIndexed (take placed oc) w ce cn ix base → r ≡ indexSize cn
+          → Indexed (take placed oc₁) (run w₁ ce (2 * cn)) [] (run w₁ ix (ix + r - ix))
+      still-indexed ix r c e =
+          let n : ix + r - ix ≡ indexSize cn = omega (arith, e) in
+          rw (n, now-coords, now-run ce (2 * cn) (pre .cutterFits), now-run ix (indexSize cn) (c .indexFits)) (c .indexed)
 
-      here-is : here ≡ metWith (take placed oc₁) i (edgeIn w₁ se i) (edgesIn w₁ ce cn) (f .next)
-      here-is =
-          let kc = coords-kept oc w placed base m 0 (placed / 2) ready₀ (metTo i) oc₁ w₁ f (inv .1) in
-          let kf = edges-kept oc w placed base m 0 (placed / 2) ready₀ (metTo i) oc₁ w₁ f (inv .1) ce cn (pre .cutterFits) in
-          let ke : edgeAt (subject .edges) i ≡ edgeIn w₁ se i =
-          edge-at w se sn i (omega (arith, pre .subjectFits, pre .metFits)) l ∙ sym
-          (edge-kept oc w placed base m 0 (placed / 2) ready₀ (metTo i) oc₁ w₁ f (inv .1) se i (omega (arith, pre .subjectFits))) in
-          ap₂ (λ (cs : List Float) (n : ℕ). metWith cs i (edgeAt (subject .edges) i) (cutter .edges) n) (sym kc) (sym next-is)
-          ∙ ap₂ (λ (e : Edge) (fs : List Edge). metWith (take placed oc₁) i e fs (f .next)) ke (sym kf)
+      -- `gather_near` finds the candidates of the subject's edge i
+      module _ (l : i < sn) (out : List ℕ) (r : ℕ) (out′ : List ℕ)
+          (near : FrontIs (candidates (take placed oc₁) (edgesIn w₁ ce cn) (edgeBox (take placed oc₁) (edgeIn w₁ se i))) out r out′) where
+        abbrev e₁ : Edge
+        e₁ = edgeAt (subject .edges) i
 
-      found-here : Answered m base oc₁ w₁ (f .met) (f .next) here oc₂ w₂ h
-      found-here = onto m base oc₁ w₁ (f .met) (f .next) here _ oc₂ w₂ h here-is ans
+        abbrev js₁ : List ℕ
+        js₁ = candidates (take placed oc) (cutter .edges) (edgeBox (take placed oc) e₁)
 
-      behind : metTo (i + 1) ≡ metTo i ++ here
-      behind = more-edges (take placed oc) subject cutter i ∙ all-from (take placed oc) subject cutter i _ (metTo i)
+        now-edge : edgeIn w₁ se i ≡ e₁
+        now-edge =
+            edge-kept oc w placed base m 0 (placed / 2) ready₀ (metTo i) oc₁ w₁ f (inv .grown) se i (omega (arith, pre .subjectFits))
+            ∙ sym (edge-at w se sn i (omega (arith, pre .subjectFits, pre .metFits)) l)
 
-      so-far : Answered m base oc w 0 (placed / 2) (metTo (i + 1)) oc₂ w₂ h
-      so-far =
-          onto m base oc w 0 (placed / 2) (metTo (i + 1)) _ oc₂ w₂ h behind
-          (answered-then m base oc w 0 (placed / 2) (enough oc w placed base m 0 (placed / 2) ready₀) (metTo i) oc₁ w₁ f (inv .1) here oc₂ w₂ h found-here)
+        near-is : take r out′ ≡ js₁
+        near-is =
+            ap (take r) (near .held) ∙ take-front-of out _ r (sym (near .count))
+            ∙ ap₂ (λ (cs : List Float) (es : List Edge). candidates cs es (edgeBox cs (edgeIn w₁ se i))) now-coords (ap pairs (now-run ce (2 * cn) (pre .cutterFits)))
+            ∙ ap (λ (e : Edge). candidates (take placed oc) (cutter .edges) (edgeBox (take placed oc) e)) now-edge
 
-      pub go-on : h .code ≡ 0 → Through oc₂ w₂ h (i + 1)
-      go-on z =
-          let g = so-far .grown z in (
-            omega arith,
-            g,
-            ready-on oc w placed base m 0 (placed / 2) ready₀ (metTo (i + 1)) oc₂ w₂ h g,
-            oc-same oc w placed base m 0 (placed / 2) ready₀ (metTo (i + 1)) oc₂ w₂ h g,
-            w-same oc w placed base m 0 (placed / 2) ready₀ (metTo (i + 1)) oc₂ w₂ h g,
-          )
+        near-below : (k : ℕ) → k < length js₁ → getD js₁ k 0 < cn
+        near-below k h =
+            omega (arith, candidate-below (take placed oc) (cutter .edges) (edgeBox (take placed oc) e₁) k h, count-in w ce cn (omega (arith, pre .cutterFits, pre .metFits)))
 
-      count : length (subject .edges) ≡ sn
-      count = count-in w se sn (omega (arith, pre .subjectFits, pre .metFits))
+        pub near-before : StandBefore base ce (take r out′)
+        near-before = rw near-is (λ k h. (omega (arith, near-below k h, pre .cutterMost), omega (arith, near-below k h, pre .cutterFits)))
 
-      pub stop : (h .code ≡ 0 → ⊥) → Answered m base oc w 0 (placed / 2) allMet oc₂ w₂ h
-      unfolding meetings
-      stop z =
-          let rest = edges-behind (take placed oc) subject cutter (i + 1) (sn - (i + 1)) in
-          let all : sn - (i + 1) + (i + 1) ≡ length (subject .edges) = omega (arith, count) in
-          let whole : allMet ≡ metTo (i + 1) ++ rest .0 = ap (λ (k : ℕ). metTo k) (sym all) ∙ rest .1 in
-          onto m base oc w 0 (placed / 2) _ _ oc₂ w₂ h whole (answered-stop m base oc w 0 (placed / 2) (metTo (i + 1)) (rest .0) oc₂ w₂ h oc₂ w₂ so-far z)
+        module _ (oc₂ : List Float) (w₂ : List ℕ) (h : Found)
+            (ans : Answered m base oc₁ w₁ (f .met) (f .next) (metWith (take placed oc₁) i (edgeIn w₁ se i) (edgeIn w₁ ce) (f .next) (take r out′)) oc₂ w₂ h) where
+          -- those of the subject's edge i
+          abbrev here : List Met
+          here = metWith (take placed oc) i e₁ (edgeAt (cutter .edges)) ((length (take placed oc) + length (addedBy (metTo i))) / 2) js₁
 
-    pub finish : (oc₁ : List Float) (w₁ : List ℕ) (f : Found) (i : ℕ) → Through oc₁ w₁ f i → sn ≤ i → Answered m base oc w 0 (placed / 2) allMet oc₁ w₁ f
+          next-is : f .next ≡ (length (take placed oc) + length (addedBy (metTo i))) / 2
+          next-is = omega (arith, inv .grown .next-is, length-take-le placed oc (pre .placedFits), pre .placedEven)
+
+          cutter-edge : (k : ℕ) → k < length js₁ → edgeAt (cutter .edges) (getD js₁ k 0) ≡ edgeIn w₁ ce (getD js₁ k 0)
+          cutter-edge k l =
+              edge-at w ce cn (getD js₁ k 0) (omega (arith, pre .cutterFits, pre .metFits)) (near-below k l)
+              ∙ sym (edge-kept oc w placed base m 0 (placed / 2) ready₀ (metTo i) oc₁ w₁ f (inv .grown) ce (getD js₁ k 0) (omega (arith, near-below k l, pre .cutterFits)))
+
+          here-is : here ≡ metWith (take placed oc₁) i (edgeIn w₁ se i) (edgeIn w₁ ce) (f .next) (take r out′)
+          here-is =
+              with-same (take placed oc) i e₁ (edgeAt (cutter .edges)) (edgeIn w₁ ce) _ js₁ cutter-edge
+              ∙ ap₂ (λ (cs : List Float) (n : ℕ). metWith cs i e₁ (edgeIn w₁ ce) n js₁) (sym now-coords) (sym next-is)
+              ∙ ap₂ (λ (e : Edge) (js : List ℕ). metWith (take placed oc₁) i e (edgeIn w₁ ce) (f .next) js) (sym now-edge) (sym near-is)
+
+          found-here : Answered m base oc₁ w₁ (f .met) (f .next) here oc₂ w₂ h
+          found-here = onto m base oc₁ w₁ (f .met) (f .next) here _ oc₂ w₂ h here-is ans
+
+          behind : metTo (i + 1) ≡ metTo i ++ here
+          behind = more-edges (take placed oc) subject cutter i ∙ all-from (take placed oc) subject cutter i _ (metTo i)
+
+          so-far : Answered m base oc w 0 (placed / 2) (metTo (i + 1)) oc₂ w₂ h
+          so-far =
+              onto m base oc w 0 (placed / 2) (metTo (i + 1)) _ oc₂ w₂ h behind
+              (answered-then m base oc w 0 (placed / 2) (enough oc w placed base m 0 (placed / 2) ready₀) (metTo i) oc₁ w₁ f (inv .grown) here oc₂ w₂ h found-here)
+
+          pub go-on : h .code ≡ 0 → Through₀ oc₂ w₂ h (i + 1)
+          go-on z = through oc₂ w₂ h (i + 1) (omega arith) (so-far .grown z)
+
+          count : length (subject .edges) ≡ sn
+          count = count-in w se sn (omega (arith, pre .subjectFits, pre .metFits))
+
+          pub stop : (h .code ≡ 0 → ⊥) → Answered m base oc w 0 (placed / 2) allMet oc₂ w₂ h
+          unfolding meetings
+          stop z =
+              let rest = edges-behind (take placed oc) subject cutter (i + 1) (sn - (i + 1)) in
+              let all : sn - (i + 1) + (i + 1) ≡ length (subject .edges) = omega (arith, count) in
+              let whole : allMet ≡ metTo (i + 1) ++ rest .0 = ap (λ (k : ℕ). metTo k) (sym all) ∙ rest .1 in
+              onto m base oc w 0 (placed / 2) _ _ oc₂ w₂ h whole (answered-stop m base oc w 0 (placed / 2) (metTo (i + 1)) (rest .0) oc₂ w₂ h oc₂ w₂ so-far z)
+
+    pub finish : (oc₁ : List Float) (w₁ : List ℕ) (f : Found) (i : ℕ) → Through₀ oc₁ w₁ f i → sn ≤ i → Answered m base oc w 0 (placed / 2) allMet oc₁ w₁ f
     unfolding meetings
     finish oc₁ w₁ f i inv l =
-        let all : length (subject .edges) ≡ i = omega (arith, inv .0, count-in w se sn (omega (arith, pre .subjectFits, pre .metFits))) in
+        let all : length (subject .edges) ≡ i = omega (arith, inv .within, count-in w se sn (omega (arith, pre .subjectFits, pre .metFits))) in
         let whole : allMet ≡ metTo i = ap (λ (k : ℕ). metTo k) all in
-        onto m base oc w 0 (placed / 2) _ _ oc₁ w₁ f whole (answered m base oc w 0 (placed / 2) (metTo i) oc₁ w₁ f (inv .1))
+        onto m base oc w 0 (placed / 2) _ _ oc₁ w₁ f whole (answered m base oc w 0 (placed / 2) (metTo i) oc₁ w₁ f (inv .grown))

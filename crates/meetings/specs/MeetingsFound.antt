@@ -1,15 +1,16 @@
 -- What finding the meetings asks, and what it leaves. Assumes nothing.
 use mathlib.Core.Path.{_≡_}
 use mathlib.Core.Bool.{cond}
-use mathlib.Core.List.{List}
+use mathlib.Core.List.{List, []}
 use Prim.Native.Nat.{ℕ, _+_, _*_, _-_, _/_, _≤_}
 use lib.Dec.{eqb}
 use lib.ListN.{length}
 use lib.Ieee.{Float}
 use Rattle.lists.specs.Gather.{joined}
-use Rattle.lists.specs.Regions.{put, zeros, fzeros}
+use Rattle.lists.specs.Regions.{run, put, zeros, fzeros}
 use Rattle.rules.specs.Meetings.{addedBy}
 use Rattle.rules.specs.Refusals.{ofMeeting, firstRefusal}
+use Rattle.strips.specs.Index.{indexSize, Indexed}
 use Rattle.meetings.specs.declared.Found.{Found}
 use Rattle.meetings.specs.Booked.{booked, meetingsAt}
 
@@ -24,6 +25,11 @@ pub record MeetingsRoom (coords work placed se sn ce cn base m : ℕ) : Type 0 w
   pub cutterMost : cn ≤ 65536
   pub metFits : base + 5 * m ≤ work
   pub metMost : m ≤ 65536
+
+-- from ix on, before base, stands the index of the cn edges of the cutter at ce
+pub record CutterIndexed (coords : List Float) (work : List ℕ) (ce cn ix base : ℕ) : Type 0 where
+  pub indexFits : ix + indexSize cn ≤ base
+  pub indexed : Indexed coords (run work ce (2 * cn)) [] (run work ix (indexSize cn))
 
 -- what finding the meetings leaves: the answer, the coordinates and the working list
 pub record MeetingsFound : Type 0 where

@@ -1,14 +1,13 @@
 -- What only the contracts of inner functions cite: how meetings are added to those found so far. Assumes nothing.
 use mathlib.Core.Path.{_≡_}
 use mathlib.Core.List.{List, [], _∷_, _++_}
-use Prim.Native.Nat.{ℕ, _+_, _*_, _-_, _/_, _≤_}
+use Prim.Native.Nat.{ℕ, _+_, _*_, _-_, _/_, _≤_, _<_}
 use lib.ListN.{length, getD}
 use lib.Ieee.{Float}
 use Rattle.lists.specs.Gather.{joined}
 use Rattle.lists.specs.Regions.{put}
 use Rattle.segments.specs.Meet.{meeting}
-use Rattle.cutting.specs.Edges.{Edge, edgeAt}
-use Rattle.rules.specs.SpatialIndex.{edgeBox, candidates}
+use Rattle.cutting.specs.Edges.{Edge}
 use Rattle.rules.specs.Meetings.{Met, segmentOf, recorded, addedBy}
 use Rattle.rules.specs.Refusals.{Event, ofMeeting, firstRefusal}
 use Rattle.meetings.specs.declared.Found.{Found}
@@ -22,16 +21,16 @@ edgeIn w at i = (getD w (at + 2 * i) 0, getD w (at + 2 * i + 1) 0)
 abbrev pub metOf : List Float → ℕ → ℕ → ℕ → Edge → Edge → List Met
 metOf coords i j next e f = recorded i j next e f (meeting (segmentOf coords e) (segmentOf coords f))
 
--- those of the edge e, number i, with the edges js of fs, where `next` is the number of the next new point
-unfoldable pub metFrom : List Float → ℕ → Edge → List Edge → ℕ → List ℕ → List Met
-metFrom coords i e fs next [] = []
-metFrom coords i e fs next (j ∷ js) =
-    let x = metOf coords i j next e (edgeAt fs j) in
-    x ++ metFrom coords i e fs (next + length (addedBy x) / 2) js
+-- those of the edge e, number i, with the edges js, where edge j is f j and `next` is the number of the next new point
+unfoldable pub metWith : List Float → ℕ → Edge → (ℕ → Edge) → ℕ → List ℕ → List Met
+metWith coords i e f next [] = []
+metWith coords i e f next (j ∷ js) =
+    let x = metOf coords i j next e (f j) in
+    x ++ metWith coords i e f (next + length (addedBy x) / 2) js
 
--- those of the edge e, number i, with its candidates among fs
-abbrev pub metWith : List Float → ℕ → Edge → List Edge → ℕ → List Met
-metWith coords i e fs next = metFrom coords i e fs next (candidates coords fs (edgeBox coords e))
+-- each of the edges js of those from `at` on stands before base
+abbrev pub StandBefore : ℕ → ℕ → List ℕ → Type 0
+StandBefore base at js = (k : ℕ) → k < length js → (getD js k 0 < 65536) × (at + 2 * getD js k 0 + 2 ≤ base)
 
 -- What stands where `met` meetings are found and `next` is the number of the next new point: both lists have their places.
 abbrev pub Ready : List Float → List ℕ → (placed base m met next : ℕ) → Type 0

@@ -2,24 +2,26 @@
 // working list.
 ghost use mathlib.Core.Path.{_≡_};
 ghost use mathlib.Core.List.{[], _∷_};
-ghost use Prim.Native.Nat.{_+_, _*_, _/_, _≤_, _<_};
+ghost use Prim.Native.Nat.{_+_, _*_, _-_, _/_, _≤_, _<_};
 ghost use lib.ListN.{length, take};
-ghost use Rattle.lists.specs.Regions.{put};
+ghost use Rattle.lists.specs.Regions.{run, put};
 ghost use Rattle.segments.specs.Meet.{meeting};
 ghost use Rattle.rules.specs.Meetings.{nodeOf, segmentOf};
-ghost use Rattle.spatial_index.specs.Blocks.{Covered};
+ghost use Rattle.rules.specs.SpatialIndex.{edgeBox, candidates};
+ghost use Rattle.strips.specs.Index.{Indexed};
+ghost use Rattle.strips.specs.Gathering.{FrontIs};
 ghost use Rattle.meetings.specs.Booked.{edgesIn, meetingsAt};
-ghost use Rattle.meetings.specs.MeetingsFound.{MeetingsRoom, meetingsFound};
-ghost use Rattle.meetings.specs.Steps.{edgeIn, metOf, metWith, Ready, Answered};
+ghost use Rattle.meetings.specs.MeetingsFound.{MeetingsRoom, CutterIndexed, meetingsFound};
+ghost use Rattle.meetings.specs.Steps.{edgeIn, metOf, metWith, StandBefore, Ready, Answered};
 use lists::zero_f64;
 use lists::zero_u32;
 use plane::point_at;
 use segments::Meeting;
 use segments::PointId;
 use segments::Segment;
-use spatial_index::block_bounds;
 use spatial_index::edge_bounds;
-use spatial_index::in_bounds;
+use strips::gather;
+use strips::index_size;
 
 // The refusal or 0, how many meetings there are, and the number of the next new point.
 pub struct Found {
@@ -184,78 +186,100 @@ fn add_intersection(
     }
 }
 
-// Adds those of the subject's edge i with its candidates among the cutter's edges.
+// Adds those of the subject's edge i with the cutter's edges js.
 fn of_edge(
     oc: &mut [f64],
     w: &mut [u32],
-    boxes: &[f64],
+    js: &[u32],
     placed: usize,
     se: usize,
     ce: usize,
-    cn: usize,
     base: usize,
     m: usize,
     i: usize,
     met: usize,
     next: usize,
 ) -> Found
-    requires { ⌜ (Ready (now oc) (now w) placed base m met next) × (se + 2 * i + 2 ≤ base) × (ce + 2 * cn ≤ base) × (i < 65536) × (cn ≤ 65536)
-        × (Covered (take placed (now oc)) (edgesIn (now w) ce cn) (now boxes)) ⌝ }
+    requires { ⌜ (Ready (now oc) (now w) placed base m met next) × (se + 2 * i + 2 ≤ base) × (i < 65536) × (StandBefore base ce (now js)) ⌝ }
     ensures { λ r. ⌜ Answered m base (now (oc .entry)) (now (w .entry)) met next
-        (metWith (take placed (now (oc .entry))) i (edgeIn (now (w .entry)) se i) (edgesIn (now (w .entry)) ce cn) next)
+        (metWith (take placed (now (oc .entry))) i (edgeIn (now (w .entry)) se i) (edgeIn (now (w .entry)) ce) next (now (js .entry)))
         (now (oc .exit)) (now (w .exit)) r ⌝ }
 {
-    let a = w[se + 2 * i];
-    let b = w[se + 2 * i + 1];
-    let bounds = edge_bounds(&oc[..placed], a, b);
     let mut g = Found { code: 0, met, next };
-    let mut j = in_bounds(&oc[..placed], &w[ce..ce + 2 * cn], boxes, bounds, 0);
-    while j < cn {
+    for k in 0..js.len() {
+        let j = js[k] as usize;
         g = add_intersection(oc, w, placed, se, ce, base, m, i, j, g.met, g.next);
         if g.code != 0 {
             return g;
         }
-        j = in_bounds(&oc[..placed], &w[ce..ce + 2 * cn], boxes, bounds, j + 1);
     }
     g
 }
 
-// Those of all the subject's edges, with the boxes of blocks of the cutter's.
+// Writes the candidates of the subject's edge i among the cutter's cn edges to the front of `found`, rising. Answers how many they are. The edges' index
+// stands from `ix` up to `end`.
+fn gather_near(
+    coords: &[f64],
+    w: &[u32],
+    found: &mut [u32],
+    se: usize,
+    ce: usize,
+    cn: usize,
+    ix: usize,
+    end: usize,
+    i: usize,
+) -> usize
+    requires { ⌜ (se + 2 * i + 2 ≤ length (now w)) × (ce + 2 * cn ≤ length (now w)) × (ix ≤ end) × (end ≤ length (now w)) × (i < 65536) × (cn ≤ 65536)
+        × (cn ≤ length (now found)) × (Indexed (now coords) (run (now w) ce (2 * cn)) [] (run (now w) ix (end - ix))) ⌝ }
+    ensures { λ r. ⌜ FrontIs (candidates (now (coords .entry)) (edgesIn (now (w .entry)) ce cn) (edgeBox (now (coords .entry)) (edgeIn (now (w .entry)) se i)))
+        (now (found .entry)) r (now (found .exit)) ⌝ }
+{
+    let a = w[se + 2 * i];
+    let b = w[se + 2 * i + 1];
+    let bounds = edge_bounds(coords, a, b);
+    let edges = &w[ce..ce + 2 * cn];
+    gather(coords, edges, &w[..0], &w[ix..end], bounds, 0, found)
+}
+
+// Those of all the subject's edges.
 fn of_edges(
     oc: &mut [f64],
     w: &mut [u32],
-    boxes: &[f64],
+    found: &mut [u32],
     placed: usize,
     se: usize,
     sn: usize,
     ce: usize,
     cn: usize,
+    ix: usize,
     base: usize,
     m: usize,
 ) -> Found
-    requires { ⌜ MeetingsRoom (length (now oc)) (length (now w)) placed se sn ce cn base m × Covered (take placed (now oc)) (edgesIn (now w) ce cn) (now boxes) ⌝ }
+    requires { ⌜ MeetingsRoom (length (now oc)) (length (now w)) placed se sn ce cn base m × CutterIndexed (take placed (now oc)) (now w) ce cn ix base
+        × (cn ≤ length (now found)) ⌝ }
     ensures { λ r. ⌜ Answered m base (now (oc .entry)) (now (w .entry)) 0 (placed / 2) (meetingsAt (now (oc .entry)) (now (w .entry)) placed se sn ce cn)
         (now (oc .exit)) (now (w .exit)) r ⌝ }
 {
+    let end = ix + index_size(cn);
     let mut f = Found {
         code: 0,
         met: 0,
         next: placed / 2,
     };
-    let mut i: usize = 0;
-    while i < sn {
-        f = of_edge(oc, w, boxes, placed, se, ce, cn, base, m, i, f.met, f.next);
+    for i in 0..sn {
+        let k = gather_near(&oc[..placed], w, found, se, ce, cn, ix, end, i);
+        let js = &found[..k];
+        f = of_edge(oc, w, js, placed, se, ce, base, m, i, f.met, f.next);
         if f.code != 0 {
             return f;
         }
-        i += 1;
     }
     f
 }
 
 // The meetings by subject edge, then candidate in rising index; new points are numbered as found. The first `placed` numbers of oc are the coordinates
-// of both meshes. The sn edges of the subject stand at se, the cn edges of the cutter at ce; the meetings go to base, five numbers each. A refusal leaves
-// zeros.
+// of both meshes. The sn edges of the subject stand at se, the cn edges of the cutter at ce, their index at ix; the meetings go to base, five numbers
+// each. A refusal leaves zeros.
 pub fn compute_intersections(
     oc: &mut [f64],
     w: &mut [u32],
@@ -264,16 +288,16 @@ pub fn compute_intersections(
     sn: usize,
     ce: usize,
     cn: usize,
+    ix: usize,
     base: usize,
     m: usize,
 ) -> Found
-    requires { ⌜ MeetingsRoom (length (now oc)) (length (now w)) placed se sn ce cn base m ⌝ }
+    requires { ⌜ MeetingsRoom (length (now oc)) (length (now w)) placed se sn ce cn base m × CutterIndexed (take placed (now oc)) (now w) ce cn ix base ⌝ }
     ensures { λ r. ⌜ record { answer = r; coords = now (oc .exit); work = now (w .exit) }
         ≡ meetingsFound m placed se sn ce cn base (now (oc .entry)) (now (w .entry)) ⌝ }
 {
-    let mut boxes = [0.0; 4096];
-    block_bounds(&oc[..placed], &w[ce..ce + 2 * cn], &mut boxes);
-    let f = of_edges(oc, w, &boxes, placed, se, sn, ce, cn, base, m);
+    let mut found = [0u32; 65536];
+    let f = of_edges(oc, w, &mut found, placed, se, sn, ce, cn, ix, base, m);
     let code = f.code;
     if code != 0 {
         zero_f64(oc);

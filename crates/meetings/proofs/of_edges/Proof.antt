@@ -1,122 +1,182 @@
 -- `meetings::of_edges` meets its contract. The loop's invariant: the meetings of the first i edges of the subject are added. Assumes nothing.
-use mathlib.Core.Path.{refl, _∙_}
+use mathlib.Core.Path.{_≡_, refl, sym, _∙_}
 use Prim.Native.Nat.{_-_}
 use native.Mathlib.Omega.{arith}
-use Rattle.meetings.proofs.Loops.{Through, begin, covers, go-on, stop, finish}
-use borrow.Author.Needs.{needs}
+use lib.ListN.{length}
+use lib.Seq.{length-take-le}
+use Rattle.meetings.proofs.Loops.{Through, begin, still-indexed, near-before, go-on, stop, finish}
 use Rattle.meetings.proofs.of_edges.Statement.{statement}
 use Rattle.meetings.proofs.of_edges.Tie as tie
 
 abbrev Inv-loop : tie.InvT-loop
-Inv-loop oc₀ w₀ boxes placed se sn ce cn base m f₀ i₀ oc w f i = Through oc₀ w₀ placed se sn ce cn base m oc w f i
+Inv-loop oc₀ w₀ found₀ placed se sn ce cn ix base m end f₀ i₀ oc w found f i = Through oc₀ w₀ placed se sn ce cn base m oc w f i × (length found ≡ length found₀)
 
 abbrev μ-loop : tie.MeasureT-loop
-μ-loop oc₀ w₀ boxes placed se sn ce cn base m f₀ i₀ oc w f i = sn - i
+μ-loop oc₀ w₀ found₀ placed se sn ce cn ix base m end f₀ i₀ oc w found f i = sn - i
 
 -- places of the code, each counted once
-abbrev entry-at-loop-holds : tie.After-shared-slice-known Inv-loop μ-loop → tie.Start Inv-loop μ-loop
-entry-at-loop-holds c = c .before .before .before
+abbrev entry : tie.After-index-size Inv-loop μ-loop → tie.Start Inv-loop μ-loop
+entry c = c .before .before .before .before
 
-abbrev entry-of-loop : tie.At-loop Inv-loop μ-loop → tie.Start Inv-loop μ-loop
-entry-of-loop c = c .before .before .before .before
+abbrev entry-of-size : tie.After-slice-known3 Inv-loop μ-loop → tie.Start Inv-loop μ-loop
+entry-of-size c = c .before .before .before
 
-abbrev loop-at-returns-2 : tie.After-loop Inv-loop μ-loop → tie.At-loop Inv-loop μ-loop
-loop-at-returns-2 c = c .before
+abbrev size : tie.At-loop Inv-loop μ-loop → tie.After-index-size Inv-loop μ-loop
+size c = c .before
 
-abbrev loop-of-in-loop : tie.In-loop Inv-loop μ-loop → tie.At-loop Inv-loop μ-loop
-loop-of-in-loop c = c .before
+abbrev loop : tie.In-loop Inv-loop μ-loop → tie.At-loop Inv-loop μ-loop
+loop c = c .before
 
-abbrev in-loop-at-of-edge-requires : tie.After-of-edge-arg2 Inv-loop μ-loop → tie.In-loop Inv-loop μ-loop
-in-loop-at-of-edge-requires c = c .before .before
+abbrev loop-of-end : tie.After-loop Inv-loop μ-loop → tie.At-loop Inv-loop μ-loop
+loop-of-end c = c .before
 
-abbrev in-loop-of-of-edge : tie.After-of-edge Inv-loop μ-loop → tie.In-loop Inv-loop μ-loop
-in-loop-of-of-edge c = c .before .before .before
+abbrev turn-of-part : tie.After-gather-near-arg Inv-loop μ-loop → tie.In-loop Inv-loop μ-loop
+turn-of-part c = c .before
 
-abbrev of-edge-at-add-i : tie.Else1 Inv-loop μ-loop → tie.After-of-edge Inv-loop μ-loop
-of-edge-at-add-i c = c .before .before .before .before .before .before
+abbrev turn-of-arg : tie.After-gather-near-arg3 Inv-loop μ-loop → tie.In-loop Inv-loop μ-loop
+turn-of-arg c = c .before .before .before
 
-abbrev of-edge-at-same-length : tie.Then1 Inv-loop μ-loop → tie.After-of-edge Inv-loop μ-loop
-of-edge-at-same-length c = c .before .before .before .before .before .before
+abbrev turn : tie.After-gather-near Inv-loop μ-loop → tie.In-loop Inv-loop μ-loop
+turn c = c .before .before .before .before
+
+abbrev near-of-places : tie.After-slice-known4 Inv-loop μ-loop → tie.After-gather-near Inv-loop μ-loop
+near-of-places c = c .before .before
+
+abbrev near-of-part : tie.After-js Inv-loop μ-loop → tie.After-gather-near Inv-loop μ-loop
+near-of-part c = c .before .before .before
+
+abbrev near-of-arg : tie.After-of-edge-arg2 Inv-loop μ-loop → tie.After-gather-near Inv-loop μ-loop
+near-of-arg c = c .before .before .before .before .before
+
+abbrev near : tie.After-of-edge Inv-loop μ-loop → tie.After-gather-near Inv-loop μ-loop
+near c = c .before .before .before .before .before .before
+
+abbrev added-of-then : tie.Then1 Inv-loop μ-loop → tie.After-of-edge Inv-loop μ-loop
+added-of-then c = c .before .before .before .before .before .before
+
+abbrev added-of-else : tie.Else1 Inv-loop μ-loop → tie.After-of-edge Inv-loop μ-loop
+added-of-else c = c .before .before .before .before .before .before
+
+index-size-requires : tie.Need-index-size-requires Inv-loop μ-loop
+index-size-requires c κs = entry-of-size c .pre .0 .cutterMost
+
+add-end : tie.Need-add-end Inv-loop μ-loop
+add-end c = let p = entry c in omega (arith, c .index-size .ensures, p .pre .1 .indexFits, p .pre .0 .metFits, p .good)
 
 loop-holds : tie.Need-loop-holds Inv-loop μ-loop
 loop-holds c =
-    let at-entry = entry-at-loop-holds c in
-    let a = at-entry .args in
-    begin (a .oc .now) (a .w .now) (a .placed) (a .se) (a .sn) (a .ce) (a .cn) (a .base) (a .m) (at-entry .pre .0) _ refl refl refl
+    let p = entry c in
+    let a = p .args in (
+      begin (a .oc .now) (a .w .now) (a .placed) (a .se) (a .sn) (a .ce) (a .cn) (a .base) (a .m) (p .pre .0) _ refl refl refl,
+      refl,
+    )
+
+slice-reshare-prefix-gather-near : tie.Need-slice-reshare-prefix-gather-near Inv-loop μ-loop
+slice-reshare-prefix-gather-near c = loop c .loop .inv .0 .ready .0
+
+slice-aggregate-gather-near : tie.Need-slice-aggregate-gather-near Inv-loop μ-loop
+slice-aggregate-gather-near c = sym (length-take-le _ _ (loop (turn-of-part c) .loop .inv .0 .ready .0))
+
+gather-near-requires : tie.Need-gather-near-requires Inv-loop μ-loop
+gather-near-requires c κs =
+    let t = turn-of-arg c in
+    let s = size (loop t) in
+    let p = entry s in
+    let a = p .args in
+    let l = loop t .loop in
+    let test = t .loop-test .taken in
+    let long = l .inv .0 .ready .2 in (
+      omega (arith, test, p .pre .0 .subjectFits, long),
+      omega (arith, p .pre .0 .cutterFits, long),
+      omega arith,
+      omega (arith, s .index-size .ensures, p .pre .1 .indexFits, long),
+      omega (arith, test, p .pre .0 .subjectMost),
+      p .pre .0 .cutterMost,
+      omega (arith, p .pre .2, l .inv .1),
+      still-indexed (a .oc .now) (a .w .now) (a .placed) (a .se) (a .sn) (a .ce) (a .cn) (a .base) (a .m) (p .pre .0) (l .oc) (l .w) (l .f) (l .i) (l .inv .0)
+          (a .ix) (s .index-size .result) (p .pre .1) (s .index-size .ensures),
+    )
+
+slice-reshare-prefix-js : tie.Need-slice-reshare-prefix-js Inv-loop μ-loop
+slice-reshare-prefix-js c = let x = near-of-places c .gather-near in omega (arith, x .ensures .fits, x .kept .1 .1 .0)
+
+slice-aggregate-js : tie.Need-slice-aggregate-js Inv-loop μ-loop
+slice-aggregate-js c = let x = near-of-part c .gather-near in sym (length-take-le _ _ (omega (arith, x .ensures .fits, x .kept .1 .1 .0)))
 
 of-edge-requires : tie.Need-of-edge-requires Inv-loop μ-loop
 of-edge-requires c κs =
-    let at-loop = loop-of-in-loop (in-loop-at-of-edge-requires c) in
-    let at-entry = entry-of-loop at-loop in
-    let a = at-entry .args in
-    let l = at-loop .loop in
-    let test = in-loop-at-of-edge-requires c .loop-test .taken in (
-      l .inv .2,
-      omega (arith, test, at-entry .pre .0 .subjectFits),
-      at-entry .pre .0 .cutterFits,
-      omega (arith, test, at-entry .pre .0 .subjectMost),
-      at-entry .pre .0 .cutterMost,
-      covers (a .oc .now) (a .w .now) (a .placed) (a .se) (a .sn) (a .ce) (a .cn) (a .base) (a .m) (at-entry .pre .0) (l .oc) (l .w) (l .f) (l .i)
-          (a .boxes .now) (l .inv) (at-entry .pre .1),
+    let x = near-of-arg c .gather-near in
+    let t = turn (near-of-arg c) in
+    let p = entry (size (loop t)) in
+    let a = p .args in
+    let l = loop t .loop in
+    let test = t .loop-test .taken in (
+      l .inv .0 .ready,
+      omega (arith, test, p .pre .0 .subjectFits),
+      omega (arith, test, p .pre .0 .subjectMost),
+      near-before (a .oc .now) (a .w .now) (a .placed) (a .se) (a .sn) (a .ce) (a .cn) (a .base) (a .m) (p .pre .0) (l .oc) (l .w) (l .f) (l .i) (l .inv .0)
+          test (l .found) (x .result) (x .last .1 .1 .0) (x .ensures),
     )
 
 same-length : tie.Need-same-length Inv-loop μ-loop
-same-length c =
-    let at-loop = loop-of-in-loop (in-loop-of-of-edge (of-edge-at-same-length c)) in
-    let oc-kept = of-edge-at-same-length c .of-edge .kept .0 in
-    oc-kept ∙ at-loop .loop .inv .3
+same-length c = let k = added-of-then c in k .of-edge .kept .0 ∙ loop (turn (near k)) .loop .inv .0 .same-oc
 
 same-length-2 : tie.Need-same-length-2 Inv-loop μ-loop
-same-length-2 c =
-    let at-loop = loop-of-in-loop (in-loop-of-of-edge (of-edge-at-same-length c)) in
-    let w-kept = of-edge-at-same-length c .of-edge .kept .1 .0 in
-    w-kept ∙ at-loop .loop .inv .4
+same-length-2 c = let k = added-of-then c in k .of-edge .kept .1 .0 ∙ loop (turn (near k)) .loop .inv .0 .same-w
+
+same-length-3 : tie.Need-same-length-3 Inv-loop μ-loop
+same-length-3 c = let n = near (added-of-then c) in n .gather-near .kept .1 .1 .0 ∙ loop (turn n) .loop .inv .1
 
 returns : tie.Need-returns Inv-loop μ-loop
 returns c =
-    let at-of-edge = of-edge-at-same-length c in
-    let at-loop = loop-of-in-loop (in-loop-of-of-edge at-of-edge) in
-    let at-entry = entry-of-loop at-loop in
-    let oc-last = at-of-edge .of-edge .last .0 in
-    let w-last = at-of-edge .of-edge .last .1 .0 in
-    let a = at-entry .args in
-    let l = at-loop .loop in
-    stop (a .oc .now) (a .w .now) (a .placed) (a .se) (a .sn) (a .ce) (a .cn) (a .base) (a .m) (at-entry .pre .0) (l .oc) (l .w) (l .f) (l .i) (l .inv)
-    (in-loop-of-of-edge at-of-edge .loop-test .taken)
-    oc-last w-last (at-of-edge .of-edge .result) (at-of-edge .of-edge .ensures) (c .if1 .taken)
+    let k = added-of-then c in
+    let x = k .of-edge in
+    let g = near k .gather-near in
+    let t = turn (near k) in
+    let p = entry (size (loop t)) in
+    let a = p .args in
+    let l = loop t .loop in
+    stop (a .oc .now) (a .w .now) (a .placed) (a .se) (a .sn) (a .ce) (a .cn) (a .base) (a .m) (p .pre .0) (l .oc) (l .w) (l .f) (l .i) (l .inv .0)
+    (t .loop-test .taken) (l .found) (g .result) (g .last .1 .1 .0) (g .ensures) (x .last .0) (x .last .1 .0) (x .result) (x .ensures) (c .if1 .taken)
 
 add-i : tie.Need-add-i Inv-loop μ-loop
-add-i c =
-    let at-in-loop = in-loop-of-of-edge (of-edge-at-add-i c) in
-    let at-entry = entry-of-loop (loop-of-in-loop at-in-loop) in
-    omega (arith, at-in-loop .loop-test .taken, at-entry .pre .0 .subjectMost)
+add-i c = let t = turn (near (added-of-else c)) in omega (arith, t .loop-test .taken, entry (size (loop t)) .pre .0 .subjectMost)
+
+loop-less : tie.Need-loop-less Inv-loop μ-loop
+loop-less c = omega (arith, turn (near (added-of-else c)) .loop-test .taken)
 
 loop-again : tie.Need-loop-again Inv-loop μ-loop
 loop-again c =
-    let at-of-edge = of-edge-at-add-i c in
-    let at-loop = loop-of-in-loop (in-loop-of-of-edge at-of-edge) in
-    let at-entry = entry-of-loop at-loop in
-    let oc-last = at-of-edge .of-edge .last .0 in
-    let w-last = at-of-edge .of-edge .last .1 .0 in
-    let a = at-entry .args in
-    let l = at-loop .loop in
-    go-on (a .oc .now) (a .w .now) (a .placed) (a .se) (a .sn) (a .ce) (a .cn) (a .base) (a .m) (at-entry .pre .0) (l .oc) (l .w) (l .f) (l .i) (l .inv)
-    (in-loop-of-of-edge at-of-edge .loop-test .taken)
-    oc-last w-last (at-of-edge .of-edge .result) (at-of-edge .of-edge .ensures) (c .if1 .left)
-
-same-length-3 : tie.Need-same-length-3 Inv-loop μ-loop
-same-length-3 c = c .before .loop .inv .3
+    let k = added-of-else c in
+    let x = k .of-edge in
+    let g = near k .gather-near in
+    let t = turn (near k) in
+    let p = entry (size (loop t)) in
+    let a = p .args in
+    let l = loop t .loop in (
+      go-on (a .oc .now) (a .w .now) (a .placed) (a .se) (a .sn) (a .ce) (a .cn) (a .base) (a .m) (p .pre .0) (l .oc) (l .w) (l .f) (l .i) (l .inv .0)
+          (t .loop-test .taken) (l .found) (g .result) (g .last .1 .1 .0) (g .ensures) (x .last .0) (x .last .1 .0) (x .result) (x .ensures) (c .if1 .left),
+      g .kept .1 .1 .0 ∙ l .inv .1,
+    )
 
 same-length-4 : tie.Need-same-length-4 Inv-loop μ-loop
-same-length-4 c = c .before .loop .inv .4
+same-length-4 c = loop-of-end c .loop .inv .0 .same-oc
+
+same-length-5 : tie.Need-same-length-5 Inv-loop μ-loop
+same-length-5 c = loop-of-end c .loop .inv .0 .same-w
+
+same-length-6 : tie.Need-same-length-6 Inv-loop μ-loop
+same-length-6 c = loop-of-end c .loop .inv .1
 
 returns-2 : tie.Need-returns-2 Inv-loop μ-loop
 returns-2 c =
-    let at-entry = entry-of-loop (loop-at-returns-2 c) in
-    let a = at-entry .args in
-    let l = c .before .loop in
-    finish (a .oc .now) (a .w .now) (a .placed) (a .se) (a .sn) (a .ce) (a .cn) (a .base) (a .m) (at-entry .pre .0) (l .oc) (l .w) (l .f) (l .i) (l .inv) (c .loop-test .left)
+    let p = entry (size (loop-of-end c)) in
+    let a = p .args in
+    let l = loop-of-end c .loop in
+    finish (a .oc .now) (a .w .now) (a .placed) (a .se) (a .sn) (a .ce) (a .cn) (a .base) (a .m) (p .pre .0) (l .oc) (l .w) (l .f) (l .i) (l .inv .0)
+    (c .loop-test .left)
 
 pub of-edges-spec : {M : Type 1} → statement M
-of-edges-spec = tie.close (tie.spec Inv-loop μ-loop loop-holds of-edge-requires same-length same-length-2 returns add-i (λ c. search needs) loop-again
-    same-length-3 same-length-4 returns-2)
+of-edges-spec = tie.close (tie.spec Inv-loop μ-loop index-size-requires add-end loop-holds slice-reshare-prefix-gather-near slice-aggregate-gather-near
+    gather-near-requires slice-reshare-prefix-js slice-aggregate-js of-edge-requires same-length same-length-2 same-length-3 returns add-i loop-less
+    loop-again same-length-4 same-length-5 same-length-6 returns-2)
