@@ -59,7 +59,7 @@ module _ (coords : List Float) (s c : Net) where
   more-edges i = ap (λ (k : ℕ). meetingsTo coords s c k) (add-one i)
 
 -- only the edges js matter
-pub with-same : (coords : List Float) (i : ℕ) (e : Edge) (f g : ℕ → Edge) (n : ℕ) (js : List ℕ) → ((k : ℕ) → k < length js → f (getD js k 0) ≡ g (getD js k 0))
+with-same : (coords : List Float) (i : ℕ) (e : Edge) (f g : ℕ → Edge) (n : ℕ) (js : List ℕ) → ((k : ℕ) → k < length js → f (getD js k 0) ≡ g (getD js k 0))
     → metWith coords i e f n js ≡ metWith coords i e g n js
 unfolding metWith
 with-same coords i e f g n [] same = refl

@@ -216,8 +216,8 @@ fn of_edge(
     g
 }
 
-// Writes the candidates of the subject's edge i, of the cutter's cn edges, to the front of `found`, and answers how many they are. The index of the cutter's
-// edges stands from `ix` up to `end`.
+// Writes the candidates of the subject's edge i among the cutter's cn edges to the front of `found`, rising. Answers how many they are. The edges' index
+// stands from `ix` up to `end`.
 fn gather_near(
     coords: &[f64],
     w: &[u32],
@@ -237,7 +237,8 @@ fn gather_near(
     let a = w[se + 2 * i];
     let b = w[se + 2 * i + 1];
     let bounds = edge_bounds(coords, a, b);
-    gather(coords, &w[ce..ce + 2 * cn], &w[..0], &w[ix..end], bounds, 0, found)
+    let edges = &w[ce..ce + 2 * cn];
+    gather(coords, edges, &w[..0], &w[ix..end], bounds, 0, found)
 }
 
 // Those of all the subject's edges.
@@ -267,7 +268,8 @@ fn of_edges(
     };
     for i in 0..sn {
         let k = gather_near(&oc[..placed], w, found, se, ce, cn, ix, end, i);
-        f = of_edge(oc, w, &found[..k], placed, se, ce, base, m, i, f.met, f.next);
+        let js = &found[..k];
+        f = of_edge(oc, w, js, placed, se, ce, base, m, i, f.met, f.next);
         if f.code != 0 {
             return f;
         }

@@ -8,7 +8,7 @@ use Rattle.meetings.proofs.gather_near.Tie as tie
 abbrev entry : tie.After-edge-bounds → tie.Start
 entry c = c .before .before .before .before .before .before
 
-abbrev edge-bounds-of-lent : tie.After-gather-arg4 → tie.After-edge-bounds
+abbrev edge-bounds-of-lent : tie.After-gather-arg3 → tie.After-edge-bounds
 edge-bounds-of-lent c = c .before .before .before .before
 
 abbrev edge-bounds : tie.After-gather → tie.After-edge-bounds

@@ -5,7 +5,6 @@ use native.Mathlib.Omega.{arith}
 use lib.ListN.{length}
 use lib.Seq.{length-take-le}
 use Rattle.meetings.proofs.Loops.{Through, begin, still-indexed, near-before, go-on, stop, finish}
-use borrow.Author.Needs.{needs}
 use Rattle.meetings.proofs.of_edges.Statement.{statement}
 use Rattle.meetings.proofs.of_edges.Tie as tie
 
@@ -40,10 +39,13 @@ turn-of-arg c = c .before .before .before
 abbrev turn : tie.After-gather-near Inv-loop μ-loop → tie.In-loop Inv-loop μ-loop
 turn c = c .before .before .before .before
 
-abbrev near-of-part : tie.After-of-edge-arg2 Inv-loop μ-loop → tie.After-gather-near Inv-loop μ-loop
-near-of-part c = c .before .before .before .before
+abbrev near-of-places : tie.After-slice-known4 Inv-loop μ-loop → tie.After-gather-near Inv-loop μ-loop
+near-of-places c = c .before .before
 
-abbrev near-of-arg : tie.After-of-edge-arg3 Inv-loop μ-loop → tie.After-gather-near Inv-loop μ-loop
+abbrev near-of-part : tie.After-js Inv-loop μ-loop → tie.After-gather-near Inv-loop μ-loop
+near-of-part c = c .before .before .before
+
+abbrev near-of-arg : tie.After-of-edge-arg2 Inv-loop μ-loop → tie.After-gather-near Inv-loop μ-loop
 near-of-arg c = c .before .before .before .before .before
 
 abbrev near : tie.After-of-edge Inv-loop μ-loop → tie.After-gather-near Inv-loop μ-loop
@@ -95,11 +97,11 @@ gather-near-requires c κs =
           (a .ix) (s .index-size .result) (p .pre .1) (s .index-size .ensures),
     )
 
-slice-reshare-prefix-of-edge : tie.Need-slice-reshare-prefix-of-edge Inv-loop μ-loop
-slice-reshare-prefix-of-edge c = let x = near-of-part c .gather-near in omega (arith, x .ensures .fits, x .kept .1 .1 .0)
+slice-reshare-prefix-js : tie.Need-slice-reshare-prefix-js Inv-loop μ-loop
+slice-reshare-prefix-js c = let x = near-of-places c .gather-near in omega (arith, x .ensures .fits, x .kept .1 .1 .0)
 
-slice-aggregate-of-edge : tie.Need-slice-aggregate-of-edge Inv-loop μ-loop
-slice-aggregate-of-edge c = let x = near-of-arg c .gather-near in sym (length-take-le _ _ (omega (arith, x .ensures .fits, x .kept .1 .1 .0)))
+slice-aggregate-js : tie.Need-slice-aggregate-js Inv-loop μ-loop
+slice-aggregate-js c = let x = near-of-part c .gather-near in sym (length-take-le _ _ (omega (arith, x .ensures .fits, x .kept .1 .1 .0)))
 
 of-edge-requires : tie.Need-of-edge-requires Inv-loop μ-loop
 of-edge-requires c κs =
@@ -176,5 +178,5 @@ returns-2 c =
 
 pub of-edges-spec : {M : Type 1} → statement M
 of-edges-spec = tie.close (tie.spec Inv-loop μ-loop index-size-requires add-end loop-holds slice-reshare-prefix-gather-near slice-aggregate-gather-near
-    gather-near-requires slice-reshare-prefix-of-edge slice-aggregate-of-edge of-edge-requires same-length same-length-2 same-length-3 returns add-i loop-less
+    gather-near-requires slice-reshare-prefix-js slice-aggregate-js of-edge-requires same-length same-length-2 same-length-3 returns add-i loop-less
     loop-again same-length-4 same-length-5 same-length-6 returns-2)
