@@ -4,15 +4,19 @@ use mathlib.Core.Bool.{Bool, true, false, cond}
 use mathlib.Core.List.{List, [], _++_, map}
 use Prim.Native.Nat.{ℕ, zero, suc, _+_, _-_, _^_, _≤_, _<_}
 use lib.Dec.{eqb}
-use lib.ListN.{length, replicate}
+use lib.ListN.{length, getD, replicate}
 use lib.Ieee.{Float}
+use Rattle.lists.specs.Search.{has}
 use Rattle.lists.specs.Regions.{put, zeros}
+use Rattle.plane.specs.declared.Point.{Point}
+use Rattle.insides.specs.Inside.{inside}
 use Rattle.cutting.specs.Outcome.{flat, stops}
 use Rattle.entry.specs.Mesh.{mesh, Rising}
 use Rattle.rules.specs.Mesh.{cellsOf, Side, theSubject, theCutter}
 use Rattle.rules.specs.Inside.{pointInside}
 use Rattle.rules.specs.Operations.{keeps}
 use Rattle.rules.specs.Refusals.{Event, piece, firstRefusal}
+use Rattle.strips.specs.Index.{Indexed}
 use Rattle.pieces.specs.declared.Keep.{Keep}
 use Rattle.pieces.specs.declared.Listed.{Listed}
 
@@ -70,9 +74,9 @@ pub record Space (p : Listed) (n : ℕ) (on oe ot : List ℕ) : Type 0 where
   pub corners : p .entries ≤ length on
   pub short : p .entries + n < 2 ^ 32
 
--- The other mesh's cells and the pieces are runs by their ends, and there is space behind p.
-pub record Placeable (p : Listed) (nodes ends runs stops on oe ot : List ℕ) : Type 0 where
-  pub cells : Rising ends (length nodes)
+-- The list `ix` is the index of the other mesh's cells, the pieces are runs by their ends, and there is space behind p.
+pub record Placeable (p : Listed) (coords : List Float) (nodes ends ix runs stops on oe ot : List ℕ) : Type 0 where
+  pub cells : Indexed coords nodes ends ix
   pub pieces : Rising stops (length runs)
   pub space : Space p (length runs) on oe ot
 
@@ -105,3 +109,17 @@ placedBehind p y on oe ot =
 pub record BeforeZeroing (g : Placing) (r : Listed) (on oe ot : List ℕ) : Type 0 where
   pub answer : r ≡ g .answer
   pub lists : r .code ≡ 0 → placing r on oe ot ≡ g
+
+-- ---- cells of the other mesh by their places: what only inner functions' contracts cite
+
+-- cell j contains p
+abbrev pub cellContains : List Float → List (List ℕ) → Point → ℕ → Bool
+cellContains coords cells p j = inside coords (getD cells j []) p
+
+-- these are places of cells
+abbrev pub CellPlaces : List ℕ → List ℕ → Type 0
+CellPlaces js ends = (k : ℕ) → k < length js → getD js k 0 < length ends
+
+-- one of the cells at these places contains p
+abbrev pub oneContains : List Float → List (List ℕ) → Point → List ℕ → Bool
+oneContains coords cells p js = has (λ k. cellContains coords cells p (getD js k 0)) (length js)

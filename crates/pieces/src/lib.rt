@@ -7,21 +7,20 @@ ghost use lib.Dec.{leb, ltb};
 ghost use lib.ListN.{length};
 ghost use Rattle.lists.specs.Gather.{passing};
 ghost use Rattle.lists.specs.Regions.{put};
-ghost use Rattle.insides.specs.Inside.{inside};
 ghost use Rattle.polygons.specs.declared.Inner.the-variants.{Inside};
-ghost use Rattle.entry.specs.Mesh.{Rising};
-ghost use Rattle.rules.specs.SpatialIndex.{boxOf, boxHolds};
+ghost use Rattle.entry.specs.Mesh.{prior, Rising};
 ghost use Rattle.rules.specs.Inside.{someHolds, pointInside};
 ghost use Rattle.rules.specs.Operations.{keeps};
-ghost use Rattle.pieces.specs.Pieces.{sideOf, runsOf, keepOf, isKept, tagged, Space, Placeable, placing, refusedBy, placedBehind, BeforeZeroing};
+ghost use Rattle.strips.specs.Index.{Indexed};
+ghost use Rattle.pieces.specs.Pieces.{sideOf, runsOf, cellContains, CellPlaces, oneContains, keepOf, isKept, tagged, Space, Placeable, placing, refusedBy, placedBehind, BeforeZeroing};
 use insides::inside;
 use lists::copy_u32;
 use lists::zero_u32;
 use plane::Point;
 use polygons::Inner;
 use polygons::strict_interior_point;
-use spatial_index::bounds_hold;
-use spatial_index::bounds2;
+use rules::Bounds;
+use strips::gather;
 
 // Whether the operation keeps those pieces of a mesh that lie inside the other, and those that don't.
 pub struct Keep {
@@ -38,42 +37,78 @@ pub struct Listed {
 
 // ---- Inside the other mesh or not
 
-// Whether the cell's box holds p, and the cell contains it.
-fn cell_holds(coords: &[f64], corners: &[u32], p: Point) -> bool
-    ensures { λ r. ⌜ r ≡ (boxHolds (boxOf (now (coords .entry)) (now (corners .entry))) p && inside (now (coords .entry)) (now (corners .entry)) p) ⌝ }
+// Where cell j starts.
+fn start_of(ends: &[u32], j: usize) -> usize
+    requires { ⌜ j ≤ length (now ends) ⌝ }
+    ensures { λ r. ⌜ r ≡ prior (now (ends .entry)) j ⌝ }
 {
-    if bounds_hold(bounds2(coords, corners), p) {
-        return inside(coords, corners, p);
+    if j == 0 {
+        return 0;
+    }
+    ends[j - 1] as usize
+}
+
+// Whether cell j contains p.
+fn cell_contains(coords: &[f64], nodes: &[u32], ends: &[u32], j: usize, p: Point) -> bool
+    requires { ⌜ (Rising (now ends) (length (now nodes))) × (j < length (now ends)) ⌝ }
+    ensures { λ r. ⌜ r ≡ cellContains (now (coords .entry)) (runsOf (now (nodes .entry)) (now (ends .entry))) p j ⌝ }
+{
+    let s = start_of(ends, j);
+    let e = ends[j] as usize;
+    inside(coords, &nodes[s..e], p)
+}
+
+// Whether one of the cells at these places contains p.
+fn one_contains(coords: &[f64], nodes: &[u32], ends: &[u32], js: &[u32], p: Point) -> bool
+    requires { ⌜ (Rising (now ends) (length (now nodes))) × CellPlaces (now js) (now ends) ⌝ }
+    ensures { λ r. ⌜ r ≡ oneContains (now (coords .entry)) (runsOf (now (nodes .entry)) (now (ends .entry))) p (now (js .entry)) ⌝ }
+{
+    for k in 0..js.len() {
+        let j = js[k] as usize;
+        if cell_contains(coords, nodes, ends, j, p) {
+            return true;
+        }
     }
     false
 }
 
-fn some_holds(coords: &[f64], nodes: &[u32], ends: &[u32], x: f64, y: f64) -> bool
-    requires { ⌜ Rising (now ends) (length (now nodes)) ⌝ }
+// Whether some cell holds the point: those whose boxes hold it are asked, 64 at a time.
+fn some_holds(coords: &[f64], nodes: &[u32], ends: &[u32], ix: &[u32], x: f64, y: f64) -> bool
+    requires { ⌜ Indexed (now coords) (now nodes) (now ends) (now ix) ⌝ }
     ensures { λ r. ⌜ r ≡ someHolds (now (coords .entry)) (runsOf (now (nodes .entry)) (now (ends .entry))) (Inside x y) ⌝ }
 {
     let p = Point { x, y };
-    let mut start: usize = 0;
-    for i in 0..ends.len() {
-        let e = ends[i] as usize;
-        if cell_holds(coords, &nodes[start..e], p) {
+    let b = Bounds {
+        left: x,
+        low: y,
+        right: x,
+        high: y,
+    };
+    let mut found = [0u32; 64];
+    let mut from: usize = 0;
+    while from < ends.len() {
+        let n = gather(coords, nodes, ends, ix, b, from, &mut found);
+        if one_contains(coords, nodes, ends, &found[..n], p) {
             return true;
         }
-        start = e;
+        if n < 64 {
+            return false;
+        }
+        from = found[63] as usize + 1;
     }
     false
 }
 
 // Whether the piece lies inside the mesh of the given cells.
-fn point_inside(coords: &[f64], nodes: &[u32], ends: &[u32], piece: &[u32]) -> bool
-    requires { ⌜ Rising (now ends) (length (now nodes)) ⌝ }
+fn point_inside(coords: &[f64], nodes: &[u32], ends: &[u32], ix: &[u32], piece: &[u32]) -> bool
+    requires { ⌜ Indexed (now coords) (now nodes) (now ends) (now ix) ⌝ }
     ensures { λ r. ⌜ r ≡ pointInside (now (coords .entry)) (runsOf (now (nodes .entry)) (now (ends .entry))) (now (piece .entry)) ⌝ }
 {
     let p = strict_interior_point(coords, piece);
     let Inner::Inside(x, y) = p else {
         return false;
     };
-    some_holds(coords, nodes, ends, x, y)
+    some_holds(coords, nodes, ends, ix, x, y)
 }
 
 // ---- Kept or not
@@ -107,14 +142,14 @@ pub fn keep_of(op: u32, cutter: bool) -> Keep
 }
 
 // Where the piece is kept either way it isn't asked whether it lies inside.
-fn is_kept(k: Keep, coords: &[f64], nodes: &[u32], ends: &[u32], piece: &[u32]) -> bool
-    requires { ⌜ Rising (now ends) (length (now nodes)) ⌝ }
+fn is_kept(k: Keep, coords: &[f64], nodes: &[u32], ends: &[u32], ix: &[u32], piece: &[u32]) -> bool
+    requires { ⌜ Indexed (now coords) (now nodes) (now ends) (now ix) ⌝ }
     ensures { λ r. ⌜ r ≡ isKept k (now (coords .entry)) (runsOf (now (nodes .entry)) (now (ends .entry))) (now (piece .entry)) ⌝ }
 {
     if k.inside & k.outside {
         return true;
     }
-    if point_inside(coords, nodes, ends, piece) {
+    if point_inside(coords, nodes, ends, ix, piece) {
         return k.inside;
     }
     k.outside
@@ -156,6 +191,7 @@ fn place_kept(
     coords: &[f64],
     nodes: &[u32],
     ends: &[u32],
+    ix: &[u32],
     on: &mut [u32],
     oe: &mut [u32],
     ot: &mut [u32],
@@ -163,12 +199,12 @@ fn place_kept(
     piece: &[u32],
     tag: u32,
 ) -> Listed
-    requires { ⌜ (Rising (now ends) (length (now nodes))) × Space p (length (now piece)) (now on) (now oe) (now ot) ⌝ }
+    requires { ⌜ (Indexed (now coords) (now nodes) (now ends) (now ix)) × Space p (length (now piece)) (now on) (now oe) (now ot) ⌝ }
     ensures { λ r. ⌜ BeforeZeroing (placedBehind p (tagged tag
         (passing (isKept k (now (coords .entry)) (runsOf (now (nodes .entry)) (now (ends .entry)))) (now (piece .entry) ∷ [])))
         (now (on .entry)) (now (oe .entry)) (now (ot .entry))) r (now (on .exit)) (now (oe .exit)) (now (ot .exit)) ⌝ }
 {
-    if is_kept(k, coords, nodes, ends, piece) {
+    if is_kept(k, coords, nodes, ends, ix, piece) {
         if place_piece(on, oe, ot, p.count, p.entries, piece, tag) {
             return Listed {
                 code: 0,
@@ -195,6 +231,7 @@ fn place_run(
     coords: &[f64],
     nodes: &[u32],
     ends: &[u32],
+    ix: &[u32],
     on: &mut [u32],
     oe: &mut [u32],
     ot: &mut [u32],
@@ -203,7 +240,7 @@ fn place_run(
     stops: &[u32],
     t: u32,
 ) -> Listed
-    requires { ⌜ Placeable p (now nodes) (now ends) (now runs) (now stops) (now on) (now oe) (now ot) ⌝ }
+    requires { ⌜ Placeable p (now coords) (now nodes) (now ends) (now ix) (now runs) (now stops) (now on) (now oe) (now ot) ⌝ }
     ensures { λ r. ⌜ BeforeZeroing (placedBehind p (tagged t
         (passing (isKept k (now (coords .entry)) (runsOf (now (nodes .entry)) (now (ends .entry)))) (runsOf (now (runs .entry)) (now (stops .entry)))))
         (now (on .entry)) (now (oe .entry)) (now (ot .entry))) r (now (on .exit)) (now (oe .exit)) (now (ot .exit)) ⌝ }
@@ -216,7 +253,7 @@ fn place_run(
     let mut a: usize = 0;
     for i in 0..stops.len() {
         let b = stops[i] as usize;
-        q = place_kept(k, coords, nodes, ends, on, oe, ot, q, &runs[a..b], t);
+        q = place_kept(k, coords, nodes, ends, ix, on, oe, ot, q, &runs[a..b], t);
         if q.code != 0 {
             return q;
         }
@@ -246,6 +283,7 @@ pub fn place_pieces(
     coords: &[f64],
     nodes: &[u32],
     ends: &[u32],
+    ix: &[u32],
     on: &mut [u32],
     oe: &mut [u32],
     ot: &mut [u32],
@@ -254,24 +292,12 @@ pub fn place_pieces(
     stops: &[u32],
     tag: u32,
 ) -> Listed
-    requires { ⌜ Placeable p (now nodes) (now ends) (now runs) (now stops) (now on) (now oe) (now ot) ⌝ }
+    requires { ⌜ Placeable p (now coords) (now nodes) (now ends) (now ix) (now runs) (now stops) (now on) (now oe) (now ot) ⌝ }
     ensures { λ r. ⌜ placing r (now (on .exit)) (now (oe .exit)) (now (ot .exit)) ≡ placedBehind p (tagged tag
         (passing (isKept k (now (coords .entry)) (runsOf (now (nodes .entry)) (now (ends .entry)))) (runsOf (now (runs .entry)) (now (stops .entry)))))
         (now (on .entry)) (now (oe .entry)) (now (ot .entry)) ⌝ }
 {
-    let r = place_run(
-        k,
-        coords,
-        nodes,
-        ends,
-        on,
-        oe,
-        ot,
-        p,
-        runs,
-        stops,
-        tag,
-    );
+    let r = place_run(k, coords, nodes, ends, ix, on, oe, ot, p, runs, stops, tag);
     let code = r.code;
     if code == 0 {
         return r;

@@ -9,13 +9,13 @@ use Rattle.pieces.proofs.is_kept.Tie as tie
 
 -- places of the code, each counted once
 abbrev entry-at-returns : tie.Then1 → tie.Start
-entry-at-returns c = c .before .before .before .before .before .before
+entry-at-returns c = c .before .before .before .before .before .before .before
 
 abbrev entry-at-returns-3 : tie.Else2 → tie.Start
-entry-at-returns-3 c = c .before .before .before .before .before .before .before .before
+entry-at-returns-3 c = c .before .before .before .before .before .before .before .before .before
 
 abbrev entry-at-returns-2 : tie.Then2 → tie.Start
-entry-at-returns-2 c = c .before .before .before .before .before .before .before .before
+entry-at-returns-2 c = c .before .before .before .before .before .before .before .before .before
 
 returns : tie.Need-returns
 returns c =

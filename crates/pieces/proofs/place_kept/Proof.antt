@@ -7,11 +7,11 @@ use Rattle.pieces.proofs.place_kept.Statement.{statement}
 use Rattle.pieces.proofs.place_kept.Tie as tie
 
 -- places of the code, each counted once
-abbrev entry-at-is-kept-requires : tie.After-shared-slice-known4 → tie.Start
-entry-at-is-kept-requires c = c .before .before .before .before .before .before .before
+abbrev entry-at-is-kept-requires : tie.After-shared-slice-known5 → tie.Start
+entry-at-is-kept-requires c = c .before .before .before .before .before .before .before .before
 
 abbrev entry-of-is-kept : tie.After-is-kept → tie.Start
-entry-of-is-kept c = c .before .before .before .before .before .before .before .before
+entry-of-is-kept c = c .before .before .before .before .before .before .before .before .before
 
 abbrev is-kept-at-returns-3 : tie.Else1 → tie.After-is-kept
 is-kept-at-returns-3 c = c .before
@@ -31,8 +31,8 @@ place-piece-at-same-length-4 c = c .before .before .before .before .before .befo
 abbrev place-piece-of-then2 : tie.Then2 → tie.After-place-piece
 place-piece-of-then2 c = c .before .before .before .before .before .before .before
 
-abbrev then2-at-add-t19 : tie.After-struct-known → tie.Then2
-then2-at-add-t19 c = c .before
+abbrev then2-at-add-t20 : tie.After-struct-known → tie.Then2
+then2-at-add-t20 c = c .before
 
 abbrev then2-at-same-length : tie.After-struct-known2 → tie.Then2
 then2-at-same-length c = c .before .before
@@ -46,9 +46,9 @@ place-piece-requires c κs =
     let s = at-entry .pre .1 in
     (s .counted, s .tags, s .short)
 
-add-t19 : tie.Need-add-t19
-add-t19 c =
-    let at-entry = entry-of-is-kept (is-kept-of-then1 (then1-of-place-piece (place-piece-of-then2 (then2-at-add-t19 c)))) in
+add-t20 : tie.Need-add-t20
+add-t20 c =
+    let at-entry = entry-of-is-kept (is-kept-of-then1 (then1-of-place-piece (place-piece-of-then2 (then2-at-add-t20 c)))) in
     omega (arith, at-entry .pre .1 .counted, at-entry .good, at-entry .fits)
 
 same-length : tie.Need-same-length
@@ -114,5 +114,5 @@ returns-3 c =
     (k .result) (k .ensures) (c .if1 .left)
 
 pub place-kept-spec : {M : Type 1} → statement M
-place-kept-spec = tie.close (tie.spec is-kept-requires place-piece-requires add-t19 (λ c. search needs) same-length same-length-2 same-length-3 returns
+place-kept-spec = tie.close (tie.spec is-kept-requires place-piece-requires add-t20 (λ c. search needs) same-length same-length-2 same-length-3 returns
     same-length-4 same-length-5 same-length-6 returns-2 returns-3)

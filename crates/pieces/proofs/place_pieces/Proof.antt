@@ -8,7 +8,7 @@ use Rattle.pieces.proofs.place_pieces.Tie as tie
 
 -- places of the code, each counted once
 abbrev entry : tie.After-place-run → tie.Start
-entry c = c .before .before .before .before .before .before .before .before .before .before .before .before
+entry c = c .before .before .before .before .before .before .before .before .before .before .before .before .before
 
 abbrev place-run-of-else1 : tie.Else1 → tie.After-place-run
 place-run-of-else1 c = c .before .before .before .before .before .before .before
@@ -34,9 +34,9 @@ returns-2 c =
     let z = refuse-at-returns-2 c .refuse in
     let f = isKept (a .k) (a .coords .now) (runsOf (a .nodes .now) (a .ends .now)) in
     zeroed (a .p) (tagged (a .tag) (passing f (runsOf (a .runs .now) (a .stops .now)))) (a .on .now) (a .oe .now) (a .ot .now)
-    (r .result) (z .result) (r .last .1 .1 .1 .1 .0) (r .last .1 .1 .1 .1 .1 .0) (r .last .1 .1 .1 .1 .1 .1 .0)
+    (r .result) (z .result) (r .last .1 .1 .1 .1 .1 .0) (r .last .1 .1 .1 .1 .1 .1 .0) (r .last .1 .1 .1 .1 .1 .1 .1 .0)
     (z .last .1 .0) (z .last .1 .1 .0) (z .last .1 .1 .1 .0) (r .ensures .answer) (at-else1 .if1 .left)
-    (r .kept .1 .1 .1 .1 .0) (r .kept .1 .1 .1 .1 .1 .0) (r .kept .1 .1 .1 .1 .1 .1 .0) (z .ensures)
+    (r .kept .1 .1 .1 .1 .1 .0) (r .kept .1 .1 .1 .1 .1 .1 .0) (r .kept .1 .1 .1 .1 .1 .1 .1 .0) (z .ensures)
 
 pub place-pieces-spec : {M : Type 1} → statement M
 place-pieces-spec = tie.close (tie.spec (λ c κs. search needs) (λ c. search needs) (λ c. search needs) (λ c. search needs) returns (λ c κs. search needs)

@@ -10,18 +10,18 @@ use Rattle.pieces.proofs.place_run.Statement.{statement}
 use Rattle.pieces.proofs.place_run.Tie as tie
 
 abbrev Inv-loop : tie.InvT-loop
-Inv-loop k coords nodes ends on₀ oe₀ ot₀ runs stops t q₀ a₀ i₀ i-end on oe ot q a i =
+Inv-loop k coords nodes ends ix on₀ oe₀ ot₀ runs stops t q₀ a₀ i₀ i-end on oe ot q a i =
     Going (isKept k coords (runsOf nodes ends)) runs stops q₀ t on₀ oe₀ ot₀ on oe ot q a i
 
 abbrev μ-loop : tie.MeasureT-loop
-μ-loop k coords nodes ends on₀ oe₀ ot₀ runs stops t q₀ a₀ i₀ i-end on oe ot q a i = length stops - i
+μ-loop k coords nodes ends ix on₀ oe₀ ot₀ runs stops t q₀ a₀ i₀ i-end on oe ot q a i = length stops - i
 
 -- places of the code, each counted once
-abbrev entry-at-loop-holds : tie.After-shared-slice-known5 Inv-loop μ-loop → tie.Start Inv-loop μ-loop
-entry-at-loop-holds c = c .before .before .before .before .before .before .before .before
+abbrev entry-at-loop-holds : tie.After-shared-slice-known6 Inv-loop μ-loop → tie.Start Inv-loop μ-loop
+entry-at-loop-holds c = c .before .before .before .before .before .before .before .before .before
 
 abbrev entry-of-loop : tie.At-loop Inv-loop μ-loop → tie.Start Inv-loop μ-loop
-entry-of-loop c = c .before .before .before .before .before .before .before .before .before
+entry-of-loop c = c .before .before .before .before .before .before .before .before .before .before
 
 abbrev loop-at-returns-2 : tie.After-loop Inv-loop μ-loop → tie.At-loop Inv-loop μ-loop
 loop-at-returns-2 c = c .before
@@ -29,7 +29,7 @@ loop-at-returns-2 c = c .before
 abbrev loop-of-in-loop : tie.In-loop Inv-loop μ-loop → tie.At-loop Inv-loop μ-loop
 loop-of-in-loop c = c .before
 
-abbrev in-loop-at-cast-b : tie.After-shared-slice-known6 Inv-loop μ-loop → tie.In-loop Inv-loop μ-loop
+abbrev in-loop-at-cast-b : tie.After-shared-slice-known7 Inv-loop μ-loop → tie.In-loop Inv-loop μ-loop
 in-loop-at-cast-b c = c .before
 
 abbrev in-loop-at-mul-place-kept : tie.After-place-kept-arg3 Inv-loop μ-loop → tie.In-loop Inv-loop μ-loop
@@ -57,7 +57,7 @@ loop-holds c =
 cast-b : tie.Need-cast-b Inv-loop μ-loop
 cast-b c =
     let at-loop = loop-of-in-loop (in-loop-at-cast-b c) in
-    omega (arith, c .shared-slice-known6 .given (at-loop .loop .i))
+    omega (arith, c .shared-slice-known7 .given (at-loop .loop .i))
 
 mul-place-kept : tie.Need-mul-place-kept Inv-loop μ-loop
 mul-place-kept c =
@@ -99,19 +99,19 @@ place-kept-requires c κs =
 same-length : tie.Need-same-length Inv-loop μ-loop
 same-length c =
     let at-loop = loop-of-in-loop (in-loop-of-place-kept (place-kept-at-same-length c)) in
-    let on-kept = place-kept-at-same-length c .place-kept .kept .1 .1 .1 .1 .0 in
+    let on-kept = place-kept-at-same-length c .place-kept .kept .1 .1 .1 .1 .1 .0 in
     on-kept ∙ at-loop .loop .inv .sameOn
 
 same-length-2 : tie.Need-same-length-2 Inv-loop μ-loop
 same-length-2 c =
     let at-loop = loop-of-in-loop (in-loop-of-place-kept (place-kept-at-same-length c)) in
-    let oe-kept = place-kept-at-same-length c .place-kept .kept .1 .1 .1 .1 .1 .0 in
+    let oe-kept = place-kept-at-same-length c .place-kept .kept .1 .1 .1 .1 .1 .1 .0 in
     oe-kept ∙ at-loop .loop .inv .sameOe
 
 same-length-3 : tie.Need-same-length-3 Inv-loop μ-loop
 same-length-3 c =
     let at-loop = loop-of-in-loop (in-loop-of-place-kept (place-kept-at-same-length c)) in
-    let ot-kept = place-kept-at-same-length c .place-kept .kept .1 .1 .1 .1 .1 .1 .0 in
+    let ot-kept = place-kept-at-same-length c .place-kept .kept .1 .1 .1 .1 .1 .1 .1 .0 in
     ot-kept ∙ at-loop .loop .inv .sameOt
 
 returns : tie.Need-returns Inv-loop μ-loop
@@ -124,7 +124,7 @@ returns c =
     let r = place-kept-at-same-length c .place-kept in
     stopped f (a .runs .now) (a .stops .now) (at-entry .pre .pieces) (a .p) (a .t) (a .on .now) (a .oe .now) (a .ot .now) (at-entry .pre .space)
     (l .on) (l .oe) (l .ot) (l .q) (l .a) (l .i) (l .inv) (at-in-loop .loop-test .taken)
-    (r .result) (r .last .1 .1 .1 .1 .0) (r .last .1 .1 .1 .1 .1 .0) (r .last .1 .1 .1 .1 .1 .1 .0) (r .ensures) (c .if1 .taken)
+    (r .result) (r .last .1 .1 .1 .1 .1 .0) (r .last .1 .1 .1 .1 .1 .1 .0) (r .last .1 .1 .1 .1 .1 .1 .1 .0) (r .ensures) (c .if1 .taken)
 
 add-i : tie.Need-add-i Inv-loop μ-loop
 add-i c =
@@ -142,8 +142,8 @@ loop-again c =
     let r = place-kept-at-add-i c .place-kept in
     turn f (a .runs .now) (a .stops .now) (at-entry .pre .pieces) (a .p) (a .t) (a .on .now) (a .oe .now) (a .ot .now) (at-entry .pre .space) (l .on)
     (l .oe) (l .ot) (l .q) (l .a) (l .i) (l .inv) (at-in-loop .loop-test .taken)
-    (r .result) (r .last .1 .1 .1 .1 .0) (r .last .1 .1 .1 .1 .1 .0) (r .last .1 .1 .1 .1 .1 .1 .0) (r .ensures)
-    (r .kept .1 .1 .1 .1 .0) (r .kept .1 .1 .1 .1 .1 .0) (r .kept .1 .1 .1 .1 .1 .1 .0) (c .if1 .left)
+    (r .result) (r .last .1 .1 .1 .1 .1 .0) (r .last .1 .1 .1 .1 .1 .1 .0) (r .last .1 .1 .1 .1 .1 .1 .1 .0) (r .ensures)
+    (r .kept .1 .1 .1 .1 .1 .0) (r .kept .1 .1 .1 .1 .1 .1 .0) (r .kept .1 .1 .1 .1 .1 .1 .1 .0) (c .if1 .left)
 
 same-length-4 : tie.Need-same-length-4 Inv-loop μ-loop
 same-length-4 c = c .before .loop .inv .sameOn

@@ -1,88 +1,148 @@
--- `pieces::some_holds` meets its contract: the loop's invariant: none of the cells passed holds the point. Assumes nothing.
-use Prim.Native.Nat.{_-_}
+-- `pieces::some_holds` meets its contract: the loop's invariant: no cell before `from` holds the point. Assumes nothing.
+use mathlib.Core.Path.{_≡_, refl, sym, _∙_}
+use mathlib.Core.List.{List}
+use Prim.Native.Nat.{ℕ, _-_, _≤_, _<_}
 use native.Mathlib.Omega.{arith}
-use lib.ListN.{length}
-use Rattle.pieces.proofs.Inside.{Passed, passed-none, found, further, none-holds}
+use lib.ListN.{length, getD}
+use lib.Seq.{length-take-le}
+use Rattle.pieces.proofs.Inside.{Passed, passed-none, none-holds, Round, gathered, places-low, last-within, one-holds, passed-all, passed-more}
 use borrow.Author.Needs.{needs}
 use Rattle.pieces.proofs.some_holds.Statement.{statement}
 use Rattle.pieces.proofs.some_holds.Tie as tie
 
 abbrev Inv-loop : tie.InvT-loop
-Inv-loop coords nodes ends x y p start₀ i₀ i-end start i = Passed coords nodes ends (record { x = x; y = y }) start i
+Inv-loop coords nodes ends ix x y p b found₀ from₀ found from = (length found ≡ 64) × Passed coords nodes ends x y from
 
 abbrev μ-loop : tie.MeasureT-loop
-μ-loop coords nodes ends x y p start₀ i₀ i-end start i = length ends - i
+μ-loop coords nodes ends ix x y p b found₀ from₀ found from = length ends - from
 
 -- places of the code, each counted once
-abbrev entry-at-loop-holds : tie.After-shared-slice-known3 Inv-loop μ-loop → tie.Start Inv-loop μ-loop
-entry-at-loop-holds c = c .before .before .before
+abbrev entry-of-start : tie.After-shared-slice-known4 Inv-loop μ-loop → tie.Start Inv-loop μ-loop
+entry-of-start c = c .before .before .before .before
 
-abbrev entry-of-loop : tie.At-loop Inv-loop μ-loop → tie.Start Inv-loop μ-loop
-entry-of-loop c = c .before .before .before .before
+abbrev entry : tie.At-loop Inv-loop μ-loop → tie.Start Inv-loop μ-loop
+entry c = c .before .before .before .before .before
 
-abbrev loop-at-returns-2 : tie.After-loop Inv-loop μ-loop → tie.At-loop Inv-loop μ-loop
-loop-at-returns-2 c = c .before
+abbrev loop : tie.In-loop Inv-loop μ-loop → tie.At-loop Inv-loop μ-loop
+loop c = c .before
 
-abbrev loop-of-in-loop : tie.In-loop Inv-loop μ-loop → tie.At-loop Inv-loop μ-loop
-loop-of-in-loop c = c .before
+abbrev loop-of-end : tie.After-loop Inv-loop μ-loop → tie.At-loop Inv-loop μ-loop
+loop-of-end c = c .before
 
-abbrev in-loop-at-cast-e : tie.After-shared-slice-known4 Inv-loop μ-loop → tie.In-loop Inv-loop μ-loop
-in-loop-at-cast-e c = c .before
+abbrev turn-of-list : tie.After-found Inv-loop μ-loop → tie.In-loop Inv-loop μ-loop
+turn-of-list c = c .before
 
-abbrev in-loop-at-loop-again : tie.Else1 Inv-loop μ-loop → tie.In-loop Inv-loop μ-loop
-in-loop-at-loop-again c = c .before .before .before .before
+abbrev turn : tie.After-gather Inv-loop μ-loop → tie.In-loop Inv-loop μ-loop
+turn c = c .before .before
 
-abbrev in-loop-at-returns : tie.Then1 Inv-loop μ-loop → tie.In-loop Inv-loop μ-loop
-in-loop-at-returns c = c .before .before .before .before
+abbrev gather-of-part : tie.After-found2 Inv-loop μ-loop → tie.After-gather Inv-loop μ-loop
+gather-of-part c = c .before
+
+abbrev gather-of-places : tie.After-found3 Inv-loop μ-loop → tie.After-gather Inv-loop μ-loop
+gather-of-places c = c .before .before
+
+abbrev gather : tie.After-one-contains Inv-loop μ-loop → tie.After-gather Inv-loop μ-loop
+gather c = c .before .before .before
+
+abbrev asked-of-found : tie.Then1 Inv-loop μ-loop → tie.After-one-contains Inv-loop μ-loop
+asked-of-found c = c .before
+
+abbrev asked-of-few : tie.Then2 Inv-loop μ-loop → tie.After-one-contains Inv-loop μ-loop
+asked-of-few c = c .before .before
+
+abbrev asked-of-full : tie.Else2 Inv-loop μ-loop → tie.After-one-contains Inv-loop μ-loop
+asked-of-full c = c .before .before
 
 loop-holds : tie.Need-loop-holds Inv-loop μ-loop
 loop-holds c =
-    let a = entry-at-loop-holds c .args in passed-none (a .coords .now) (a .nodes .now) (a .ends .now) (a .x) (a .y)
+    let a = entry-of-start c .args in
+    (refl, passed-none (a .coords .now) (a .nodes .now) (a .ends .now) (a .x) (a .y))
 
-cast-e : tie.Need-cast-e Inv-loop μ-loop
-cast-e c =
-    let at-loop = loop-of-in-loop (in-loop-at-cast-e c) in
-    omega (arith, c .shared-slice-known4 .given (at-loop .loop .i))
+slice-aggregate-gather : tie.Need-slice-aggregate-gather Inv-loop μ-loop
+slice-aggregate-gather c = sym (loop (turn-of-list c) .loop .inv .0)
 
-sub-cell-holds : tie.Need-sub-cell-holds Inv-loop μ-loop
-sub-cell-holds c =
-    let at-loop = loop-of-in-loop (in-loop-at-cast-e c) in
-    omega (arith, entry-of-loop at-loop .pre (at-loop .loop .i) (c .before .loop-test .taken), at-loop .loop .inv .1)
+gather-requires : tie.Need-gather-requires Inv-loop μ-loop
+gather-requires c κs = entry (loop (turn-of-list c)) .pre
 
-part-cell-holds-start : tie.Need-part-cell-holds-start Inv-loop μ-loop
-part-cell-holds-start c =
-    let at-loop = loop-of-in-loop (in-loop-at-cast-e c) in
-    omega (arith, entry-of-loop at-loop .pre (at-loop .loop .i) (c .before .loop-test .taken), at-loop .loop .inv .1)
+-- what the round has gathered
+abbrev found : tie.After-gather Inv-loop μ-loop → List ℕ
+found c = c .gather .last .1 .1 .1 .1 .1 .1 .0
 
-part-cell-holds-end : tie.Need-part-cell-holds-end Inv-loop μ-loop
-part-cell-holds-end c =
-    let at-loop = loop-of-in-loop (in-loop-at-cast-e c) in
-    omega (arith, entry-of-loop at-loop .pre (at-loop .loop .i) (c .before .loop-test .taken), at-loop .loop .inv .1)
+fits : (c : tie.After-gather Inv-loop μ-loop) → c .gather .result ≤ length (found c)
+fits c = omega (arith, c .gather .ensures .fits, c .gather .kept .1 .1 .1 .1 .1 .1 .0)
+
+round : (c : tie.After-gather Inv-loop μ-loop) → (let a = entry (loop (turn c)) .args in
+    Round (a .coords .now) (a .nodes .now) (a .ends .now) (a .x) (a .y) (loop (turn c) .loop .from) (c .gather .result) (found c))
+round c =
+    let a = entry (loop (turn c)) .args in
+    let l = loop (turn c) .loop in
+    gathered (a .coords .now) (a .nodes .now) (a .ends .now) (a .x) (a .y) (l .from) (c .gather .result) (l .found) (found c) (turn c .loop-test .taken) (l .inv .0) (c .gather .ensures)
+
+array-share-prefix-found : tie.Need-array-share-prefix-found Inv-loop μ-loop
+array-share-prefix-found c = fits (gather-of-part c)
+
+slice-aggregate-one-contains : tie.Need-slice-aggregate-one-contains Inv-loop μ-loop
+slice-aggregate-one-contains c =
+    let g = gather-of-places c in
+    sym (length-take-le (g .gather .result) (found g) (fits g))
+
+one-contains-requires : tie.Need-one-contains-requires Inv-loop μ-loop
+one-contains-requires c κs =
+    let g = gather-of-places c in
+    let at-entry = entry (loop (turn g)) in
+    let a = at-entry .args in
+    (at-entry .pre .rising, places-low (a .coords .now) (a .nodes .now) (a .ends .now) (a .x) (a .y) (loop (turn g) .loop .from) (g .gather .result) (found g) (round g))
 
 returns : tie.Need-returns Inv-loop μ-loop
 returns c =
-    let at-loop = loop-of-in-loop (in-loop-at-returns c) in
-    let a = entry-of-loop at-loop .args in
-    let l = at-loop .loop in
-    found (a .coords .now) (a .nodes .now) (a .ends .now) (a .x) (a .y) (l .start) (l .i) (l .inv) (in-loop-at-returns c .loop-test .taken)
-    (c .before .cell-holds .result) (c .before .cell-holds .ensures) (c .if1 .taken)
-
-loop-again : tie.Need-loop-again Inv-loop μ-loop
-loop-again c =
-    let at-loop = loop-of-in-loop (in-loop-at-loop-again c) in
-    let at-entry = entry-of-loop at-loop in
-    let a = at-entry .args in
-    let l = at-loop .loop in
-    further (a .coords .now) (a .nodes .now) (a .ends .now) (a .x) (a .y) (l .start) (l .i) (l .inv) (at-entry .pre)
-    (in-loop-at-loop-again c .loop-test .taken) (c .before .cell-holds .result) (c .before .cell-holds .ensures) (c .if1 .left)
+    let g = gather (asked-of-found c) in
+    let a = entry (loop (turn g)) .args in
+    let o = asked-of-found c .one-contains in
+    one-holds (a .coords .now) (a .nodes .now) (a .ends .now) (a .x) (a .y) (loop (turn g) .loop .from) (g .gather .result) (found g) (round g) (o .result) (o .ensures) (c .if1 .taken)
 
 returns-2 : tie.Need-returns-2 Inv-loop μ-loop
 returns-2 c =
-    let at-entry = entry-of-loop (loop-at-returns-2 c) in
-    let a = at-entry .args in
-    let l = c .before .loop in
-    none-holds (a .coords .now) (a .nodes .now) (a .ends .now) (a .x) (a .y) (l .start) (l .i) (l .inv) (c .loop-test .left)
+    let g = gather (asked-of-few c) in
+    let a = entry (loop (turn g)) .args in
+    let l = loop (turn g) .loop in
+    let o = asked-of-few c .one-contains in
+    passed-all (a .coords .now) (a .nodes .now) (a .ends .now) (a .x) (a .y) (l .from) (g .gather .result) (found g) (round g) (o .result) (o .ensures) (c .before .if1 .left) (l .inv .1)
+    (c .if2 .taken)
+
+-- the last one gathered, where the list is full
+last-low : (c : tie.Else2 Inv-loop μ-loop) → (let g = gather (asked-of-full c) in
+    (loop (turn g) .loop .from ≤ getD (found g) 63 0) × (getD (found g) 63 0 < length (entry (loop (turn g)) .args .ends .now)))
+last-low c =
+    let g = gather (asked-of-full c) in
+    let a = entry (loop (turn g)) .args in
+    last-within (a .coords .now) (a .nodes .now) (a .ends .now) (a .x) (a .y) (loop (turn g) .loop .from) (g .gather .result) (found g) (round g) (c .if2 .left)
+
+cast-from : tie.Need-cast-from Inv-loop μ-loop
+cast-from c = omega (arith, entry (loop (turn (gather (asked-of-full c)))) .good, last-low c)
+
+add-from : tie.Need-add-from Inv-loop μ-loop
+add-from c = omega (arith, entry (loop (turn (gather (asked-of-full c)))) .good, last-low c)
+
+loop-less : tie.Need-loop-less Inv-loop μ-loop
+loop-less c = omega (arith, last-low c)
+
+loop-again : tie.Need-loop-again Inv-loop μ-loop
+loop-again c =
+    let g = gather (asked-of-full c) in
+    let a = entry (loop (turn g)) .args in
+    let l = loop (turn g) .loop in
+    let o = asked-of-full c .one-contains in (
+      g .gather .kept .1 .1 .1 .1 .1 .1 .0 ∙ l .inv .0,
+      passed-more (a .coords .now) (a .nodes .now) (a .ends .now) (a .x) (a .y) (l .from) (g .gather .result) (found g) (round g) (o .result) (o .ensures) (c .before .if1 .left)
+          (l .inv .1) (c .if2 .left),
+    )
+
+returns-3 : tie.Need-returns-3 Inv-loop μ-loop
+returns-3 c =
+    let a = entry (loop-of-end c) .args in
+    let l = loop-of-end c .loop in
+    none-holds (a .coords .now) (a .nodes .now) (a .ends .now) (a .x) (a .y) (l .from) (l .inv .1) (c .loop-test .left)
 
 pub some-holds-spec : {M : Type 1} → statement M
-some-holds-spec = tie.close (tie.spec Inv-loop μ-loop loop-holds (λ c. search needs) (λ c. search needs) cast-e (λ c. search needs) sub-cell-holds
-    part-cell-holds-start part-cell-holds-end (λ c κs. search needs) returns (λ c. search needs) (λ c. search needs) loop-again returns-2)
+some-holds-spec = tie.close (tie.spec Inv-loop μ-loop loop-holds slice-aggregate-gather gather-requires array-share-prefix-found
+    slice-aggregate-one-contains one-contains-requires returns returns-2 (λ c. search needs) cast-from add-from loop-less loop-again returns-3)
