@@ -10,7 +10,6 @@ use lib.ListN.{length, getD, take, drop}
 use lib.Seq.{getD-take}
 use Rattle.lists.specs.Search.{has}
 use Rattle.lists.proofs.Search.{has-at, has-some, has-none}
-use Rattle.insides.specs.Inside.{inside}
 use Rattle.plane.specs.declared.Point.{Point}
 use Rattle.polygons.specs.declared.Inner.the-variants.{Inside}
 use Rattle.entry.specs.Mesh.{prior}
@@ -19,7 +18,7 @@ use Rattle.rules.specs.declared.Bounds.{Bounds}
 use Rattle.rules.specs.SpatialIndex.{boxOf, boxesMeet, boxHolds}
 use Rattle.rules.specs.Inside.{someHolds}
 use Rattle.spatial_index.specs.Candidates.{placesAmong}
-use Rattle.strips.specs.Things.{thingCount, thingBox, thingMeets}
+use Rattle.strips.specs.Things.{thingBox, thingMeets}
 use Rattle.strips.specs.Gathering.{thingsMeeting, FrontIs}
 use Rattle.strips.proofs.PairsOrRuns.{count-runs}
 use Rattle.strips.proofs.Rising.{front-taken}
@@ -43,24 +42,29 @@ none-has p n none = go (has p n) refl
     go false e = e
     go true e = let s = has-some p n e in absurd (true≢false (sym (s .2) ∙ none (s .0) (s .1)))
 
--- a box holds the point where it meets the box of the point alone
-meets-is : (coords : List Float) (nodes ends : List ℕ) (x y : Float) (i : ℕ) → i < length ends → thingMeets coords nodes ends (record { left = x; low = y; right = x; high = y }) i
-    ≡ boxHolds (boxOf coords (getD (runsOf nodes ends) i [])) (record { x = x; y = y })
+-- the point
+abbrev pub at : Float → Float → Point
+at x y = record { x = x; y = y }
+
+-- the box of it alone
+abbrev pub boxAt : Float → Float → Bounds
+boxAt x y = record { left = x; low = y; right = x; high = y }
+
+-- a box holds the point where it meets that box
+meets-is : (coords : List Float) (nodes ends : List ℕ) (x y : Float) (i : ℕ) → i < length ends
+    → thingMeets coords nodes ends (boxAt x y) i ≡ boxHolds (boxOf coords (getD (runsOf nodes ends) i [])) (at x y)
 unfolding thingBox boxesMeet boxHolds cellAt
 meets-is coords nodes [] x y i h = absurd (omega (arith, h))
-meets-is coords nodes (e ∷ ends) x y i h = ap (λ (c : List ℕ). boxHolds (boxOf coords c) (record { x = x; y = y })) (sym (run-at nodes (e ∷ ends) i h))
+meets-is coords nodes (e ∷ ends) x y i h = ap (λ (c : List ℕ). boxHolds (boxOf coords c) (at x y)) (sym (run-at nodes (e ∷ ends) i h))
 
 module _ (coords : List Float) (nodes ends : List ℕ) (x y : Float) where
-  abbrev at : Point
-  at = record { x = x; y = y }
+  -- cell i contains the point
+  abbrev contains : ℕ → Bool
+  contains = cellContains coords (runsOf nodes ends) (at x y)
 
-  -- the box of the point alone
-  abbrev pub boxAt : Bounds
-  boxAt = record { left = x; low = y; right = x; high = y }
-
-  -- cell i holds it
+  -- and its box holds it
   abbrev holds : ℕ → Bool
-  holds i = boxHolds (boxOf coords (getD (runsOf nodes ends) i [])) at && cellContains coords (runsOf nodes ends) at i
+  holds i = boxHolds (boxOf coords (getD (runsOf nodes ends) i [])) (at x y) && contains i
 
   -- no cell before `from` does
   abbrev pub Passed : ℕ → Type 0
@@ -76,88 +80,83 @@ module _ (coords : List Float) (nodes ends : List ℕ) (x y : Float) where
   pub none-holds : (from : ℕ) → Passed from → length ends ≤ from → false ≡ someHolds coords (runsOf nodes ends) (Inside x y)
   none-holds from passed h = some-hold false (none-has holds (length ends) (λ i l. passed i (omega (arith, h, l)) l))
 
-  module _ (from : ℕ) (more : from < length ends) (js : List ℕ) (is : js ≡ take 64 (thingsMeeting coords nodes ends boxAt from)) where
-    abbrev meets : ℕ → Bool
-    meets = thingMeets coords nodes ends boxAt
+  -- ---- a round: the first n in the list are the first 64 cells from `from` on whose boxes hold the point
 
+  abbrev meets : ℕ → Bool
+  meets = thingMeets coords nodes ends (boxAt x y)
+
+  pub record Round (from n : ℕ) (found : List ℕ) : Type 0 where
+    pub more : from < length ends
+    pub count : length (take n found) ≡ n
+    pub are : take n found ≡ take 64 (placesAmong meets from (length ends - from))
+
+  pub gathered : (from n : ℕ) (out found : List ℕ) → from < length ends → length out ≡ 64
+      → FrontIs (take (length out) (thingsMeeting coords nodes ends (boxAt x y) from)) out n found → Round from n found
+  gathered from n out found h l got =
+      let taken = front-taken (take (length out) (thingsMeeting coords nodes ends (boxAt x y) from)) out found n got in
+      record {
+        more = h;
+        count = ap length taken ∙ sym (got .count);
+        are = taken ∙ ap₂ (λ (m k : ℕ). take m (placesAmong meets from (k - from))) l (sym (count-runs nodes ends (λ e. omega (arith, e, h))));
+      }
+
+  module _ (from n : ℕ) (found : List ℕ) (round : Round from n found) where
     all : from + (length ends - from) ≡ length ends
-    all = omega (arith, more)
+    all = omega (arith, round .more)
 
-    js-are : js ≡ take 64 (placesAmong meets from (length ends - from))
-    js-are = is ∙ ap (λ (n : ℕ). take 64 (placesAmong meets from (n - from))) (sym (count-runs nodes ends (λ e. omega (arith, e, more))))
+    passing : PassingIn meets from (length ends) (take n found)
+    passing = rw (round .are) (rw all at (taken-pass meets from (length ends - from) 64))
 
-    gathered : PassingIn meets from (length ends) js
-    gathered = rw js-are (rw all at (taken-pass meets from (length ends - from) 64))
+    pub places-low : CellPlaces (take n found) ends
+    places-low k h = passing k h .1
 
-    -- a cell gathered holds the point where it contains it
-    holds-is : (k : ℕ) → k < length js → holds (getD js k 0) ≡ cellContains coords (runsOf nodes ends) at (getD js k 0)
+    last-is : 64 ≤ n → getD (take n found) 63 0 ≡ getD found 63 0
+    last-is h = getD-take n found 63 0 (omega (arith, h))
+
+    -- the last one, where there are 64
+    pub last-within : 64 ≤ n → (from ≤ getD found 63 0) × (getD found 63 0 < length ends)
+    last-within h =
+        let p = passing 63 (omega (arith, h, round .count)) in
+        (omega (arith, p .0, last-is h), omega (arith, p .1, last-is h))
+
+    -- one of them holds the point where it contains it
+    holds-is : (k : ℕ) → k < length (take n found) → holds (getD (take n found) k 0) ≡ contains (getD (take n found) k 0)
     holds-is k h =
-        let g = gathered k h in
-        ap (λ (t : Bool). t && cellContains coords (runsOf nodes ends) at (getD js k 0)) (sym (meets-is coords nodes ends x y (getD js k 0) (g .1)) ∙ g .2)
+        let p = passing k h in
+        let j : ℕ = getD (take n found) k 0 in
+        ap (λ (t : Bool). t && contains j) (sym (meets-is coords nodes ends x y j (p .1)) ∙ p .2)
 
-    module _ (r : Bool) (e : r ≡ oneContains coords (runsOf nodes ends) at js) where
-      one-holds : r ≡ true → true ≡ someHolds coords (runsOf nodes ends) (Inside x y)
+    module _ (r : Bool) (e : r ≡ oneContains coords (runsOf nodes ends) (at x y) (take n found)) where
+      abbrev test : ℕ → Bool
+      test = containsAt coords (runsOf nodes ends) (at x y) (take n found)
+
+      pub one-holds : r ≡ true → true ≡ someHolds coords (runsOf nodes ends) (Inside x y)
       one-holds t =
-          let s = has-some (containsAt coords (runsOf nodes ends) at js) (length js) (sym e ∙ t) in
-          some-hold true (has-at holds (length ends) (getD js (s .0) 0) (gathered (s .0) (s .1) .1) (holds-is (s .0) (s .1) ∙ s .2))
+          let s = has-some test (length (take n found)) (sym e ∙ t) in
+          some-hold true (has-at holds (length ends) (getD (take n found) (s .0) 0) (places-low (s .0) (s .1)) (holds-is (s .0) (s .1) ∙ s .2))
 
       module _ (f : r ≡ false) (passed : Passed from) where
-        none : NoneOf meets holds js
-        none k h = holds-is k h ∙ has-none (containsAt coords (runsOf nodes ends) at js) (length js) k (sym e ∙ f) h
+        none : NoneOf holds (take n found)
+        none k h = holds-is k h ∙ has-none test (length (take n found)) k (sym e ∙ f) h
 
         only : (i : ℕ) → i < from + (length ends - from) → meets i ≡ false → holds i ≡ false
-        only i h m = ap (λ (t : Bool). t && cellContains coords (runsOf nodes ends) at i) (sym (meets-is coords nodes ends x y i (omega (arith, h, all))) ∙ m)
+        only i h m = ap (λ (t : Bool). t && contains i) (sym (meets-is coords nodes ends x y i (omega (arith, h, all))) ∙ m)
 
         -- a cell that holds it comes after 64 others
-        behind : (j : ℕ) → from ≤ j → j < length ends → holds j ≡ true → Behind meets holds 64 js j
-        behind j a b t = rw js-are (behind-taken meets holds from (length ends - from) 64 only (rw js-are at none) j a (omega (arith, b, all)) t)
+        behind : (j : ℕ) → from ≤ j → j < length ends → holds j ≡ true → Behind 64 (take n found) j
+        behind j a b t =
+            rw (round .are) (behind-taken meets holds from (length ends - from) 64 only (rw (round .are) at none) j a (omega (arith, b, all)) t)
 
-        -- none before the end, or before the one after the last gathered
-        passed-to : (to : ℕ) → ((j : ℕ) → j < to → j < length ends → Behind meets holds 64 js j → ⊥) → Passed to
-        passed-to to nobody i h l = go (decLt i from) (holds i) refl
+        passed-to : (to : ℕ) → ((j : ℕ) → j < to → Behind 64 (take n found) j → ⊥) → Passed to
+        passed-to to not-behind i h l = go (decLt i from) (holds i) refl
           where
             go : Dec (i < from) → (t : Bool) → holds i ≡ t → holds i ≡ false
             go (yes b) t g = passed i b l
             go (no b) false g = g
-            go (no b) true g = absurd (nobody i h l (behind i (omega (arith, b)) l g))
+            go (no b) true g = absurd (not-behind i h (behind i (omega (arith, b)) l g))
 
-        none-left : length js < 64 → false ≡ someHolds coords (runsOf nodes ends) (Inside x y)
-        none-left less = none-holds (length ends) (passed-to (length ends) (λ j h l b. omega (arith, b .0, less))) (omega arith)
+        pub passed-all : n < 64 → false ≡ someHolds coords (runsOf nodes ends) (Inside x y)
+        passed-all h = none-holds (length ends) (passed-to (length ends) (λ j l b. omega (arith, b .0, h, round .count))) (omega arith)
 
-        round-passed : 64 ≤ length js → Passed (getD js 63 0 + 1)
-        round-passed full = passed-to (getD js 63 0 + 1) (λ j h l b. omega (arith, h, b .1 63 (omega arith)))
-
-  -- ---- one round: the first 64 from `from` on are gathered in a list of 64
-
-  module _ (from : ℕ) (more : from < length ends) (found found′ : List ℕ) (n : ℕ) (long : length found ≡ 64)
-      (got : FrontIs (take (length found) (thingsMeeting coords nodes ends boxAt from)) found n found′) where
-    taken-is : take n found′ ≡ take (length found) (thingsMeeting coords nodes ends boxAt from)
-    taken-is = front-taken (take (length found) (thingsMeeting coords nodes ends boxAt from)) found found′ n got
-
-    is : take n found′ ≡ take 64 (thingsMeeting coords nodes ends boxAt from)
-    is = taken-is ∙ ap (λ (k : ℕ). take k (thingsMeeting coords nodes ends boxAt from)) long
-
-    count : length (take n found′) ≡ n
-    count = ap length taken-is ∙ sym (got .count)
-
-    pub places-low : CellPlaces (take n found′) ends
-    places-low k h = gathered from more (take n found′) is k h .1
-
-    last-is : 64 ≤ n → getD (take n found′) 63 0 ≡ getD found′ 63 0
-    last-is h = getD-take n found′ 63 0 (omega (arith, h))
-
-    -- the last one gathered, where the list is full
-    pub last-within : 64 ≤ n → (from ≤ getD found′ 63 0) × (getD found′ 63 0 < length ends)
-    last-within h =
-        let g = gathered from more (take n found′) is 63 (omega (arith, h, count)) in
-        (omega (arith, g .0, last-is h), omega (arith, g .1, last-is h))
-
-    module _ (r : Bool) (e : r ≡ oneContains coords (runsOf nodes ends) at (take n found′)) where
-      pub found-one : r ≡ true → true ≡ someHolds coords (runsOf nodes ends) (Inside x y)
-      found-one = one-holds from more (take n found′) is r e
-
-      pub found-none : r ≡ false → Passed from → n < 64 → false ≡ someHolds coords (runsOf nodes ends) (Inside x y)
-      found-none f passed h = none-left from more (take n found′) is r e f passed (omega (arith, h, count))
-
-      pub passed-more : r ≡ false → Passed from → 64 ≤ n → Passed (getD found′ 63 0 + 1)
-      passed-more f passed h = rw (← last-is h) (round-passed from more (take n found′) is r e f passed (omega (arith, h, count)))
+        pub passed-more : 64 ≤ n → Passed (getD found 63 0 + 1)
+        passed-more h = passed-to (getD found 63 0 + 1) (λ j l b. omega (arith, l, b .1 63 (omega arith), last-is h))

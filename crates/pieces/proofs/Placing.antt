@@ -40,11 +40,14 @@ allOf-more f i = rw add-one
 -- the first n stand before the others
 pub allOf-behind : (f : ℕ → Yield) (n k : ℕ) → (more : Yield) × (allOf (k + n) f ≡ both (allOf n f) more)
 unfolding allOf
-allOf-behind f n zero = rw zero-add (nothing, λ i. record {
-  events = sym (append-nil (allOf n f .events)) i;
-  pieces = sym (append-nil (allOf n f .pieces)) i;
-  tags = sym (append-nil (allOf n f .tags)) i;
-})
+allOf-behind f n zero = rw zero-add (
+  nothing,
+  λ i. record {
+    events = sym (append-nil (allOf n f .events)) i;
+    pieces = sym (append-nil (allOf n f .pieces)) i;
+    tags = sym (append-nil (allOf n f .tags)) i;
+  },
+)
 allOf-behind f n (suc k) =
     let h = allOf-behind f n k in
     rw suc-add (both (h .0) (f (k + n)), ap (λ (y : Yield). both y (f (k + n))) (h .1) ∙ both-assoc (allOf n f) (h .0) (f (k + n)))

@@ -25,18 +25,17 @@ module _ (p : ℕ → Bool) where
       go true e less same (suc i) h = let r = less i (omega (arith, h)) in (omega (arith, r .0), omega (arith, r .1), r .2)
       go false e less same i h = let r = same i h in (omega (arith, r .0), omega (arith, r .1), r .2)
 
--- q is a test that only those pass that pass p
+-- no number of a list passes
+abbrev pub NoneOf : (ℕ → Bool) → List ℕ → Type 0
+NoneOf q xs = (i : ℕ) → i < length xs → q (getD xs i 0) ≡ false
+
+-- a list has m numbers, and j comes after all of them
+abbrev pub Behind : ℕ → List ℕ → ℕ → Type 0
+Behind m xs j = (length xs ≡ m) × ((i : ℕ) → i < m → getD xs i 0 < j)
+
 module _ (p q : ℕ → Bool) where
-  -- no number of a list passes
-  abbrev pub NoneOf : List ℕ → Type 0
-  NoneOf xs = (i : ℕ) → i < length xs → q (getD xs i 0) ≡ false
-
-  -- they are m, and j comes after all of them
-  abbrev pub Behind : ℕ → List ℕ → ℕ → Type 0
-  Behind m xs j = (length xs ≡ m) × ((i : ℕ) → i < m → getD xs i 0 < j)
-
-  -- where none of the first m passes, one that passes comes after m of them
-  pub behind-taken : (k l m : ℕ) → ((i : ℕ) → i < k + l → p i ≡ false → q i ≡ false) → NoneOf (take m (placesAmong p k l))
+  -- only those pass q that pass p: where none of the first m does, one that does comes after m of them
+  pub behind-taken : (k l m : ℕ) → ((i : ℕ) → i < k + l → p i ≡ false → q i ≡ false) → NoneOf q (take m (placesAmong p k l))
       → (j : ℕ) → k ≤ j → j < k + l → q j ≡ true → Behind m (take m (placesAmong p k l)) j
   unfolding placesAmong
   behind-taken k l zero only none j a b e = (refl, λ i h. absurd (omega (arith, h)))
@@ -45,9 +44,9 @@ module _ (p q : ℕ → Bool) where
       (λ g f. behind-taken (suc k) l m (λ i h. only i (omega (arith, h))) g j f (omega (arith, b)) e)
       (λ g f. behind-taken (suc k) l (suc m) (λ i h. only i (omega (arith, h))) g j f (omega (arith, b)) e)
     where
-      go : (t : Bool) → p k ≡ t → Dec (k ≡ j) → NoneOf (take (suc m) (cond t (k ∷ []) [] ++ placesAmong p (suc k) l))
-          → (NoneOf (take m (placesAmong p (suc k) l)) → suc k ≤ j → Behind m (take m (placesAmong p (suc k) l)) j)
-          → (NoneOf (take (suc m) (placesAmong p (suc k) l)) → suc k ≤ j → Behind (suc m) (take (suc m) (placesAmong p (suc k) l)) j)
+      go : (t : Bool) → p k ≡ t → Dec (k ≡ j) → NoneOf q (take (suc m) (cond t (k ∷ []) [] ++ placesAmong p (suc k) l))
+          → (NoneOf q (take m (placesAmong p (suc k) l)) → suc k ≤ j → Behind m (take m (placesAmong p (suc k) l)) j)
+          → (NoneOf q (take (suc m) (placesAmong p (suc k) l)) → suc k ≤ j → Behind (suc m) (take (suc m) (placesAmong p (suc k) l)) j)
           → Behind (suc m) (take (suc m) (cond t (k ∷ []) [] ++ placesAmong p (suc k) l)) j
       go true f (yes s) g less same = absurd (true≢false (sym e ∙ ap q (sym s) ∙ g 0 (omega arith)))
       go true f (no s) g less same =

@@ -25,20 +25,6 @@ use Rattle.pieces.specs.declared.Listed.{Listed}
 abbrev pub runsOf : List ℕ → List ℕ → List (List ℕ)
 runsOf nodes ends = cellsOf (mesh [] nodes ends [] [])
 
--- ---- the cells of the other mesh, by their places
-
--- cell j contains p
-abbrev pub cellContains : List Float → List (List ℕ) → Point → ℕ → Bool
-cellContains coords cells p j = inside coords (getD cells j []) p
-
--- these are places of cells
-abbrev pub CellPlaces : List ℕ → List ℕ → Type 0
-CellPlaces js ends = (k : ℕ) → k < length js → getD js k 0 < length ends
-
--- one of the cells at these places contains p
-abbrev pub oneContains : List Float → List (List ℕ) → Point → List ℕ → Bool
-oneContains coords cells p js = has (λ k. cellContains coords cells p (getD js k 0)) (length js)
-
 -- ---- "Operations": kept or not
 
 -- the mesh whose cells are cut
@@ -123,3 +109,17 @@ placedBehind p y on oe ot =
 pub record BeforeZeroing (g : Placing) (r : Listed) (on oe ot : List ℕ) : Type 0 where
   pub answer : r ≡ g .answer
   pub lists : r .code ≡ 0 → placing r on oe ot ≡ g
+
+-- ---- cells of the other mesh by their places: what only inner functions' contracts cite
+
+-- cell j contains p
+abbrev pub cellContains : List Float → List (List ℕ) → Point → ℕ → Bool
+cellContains coords cells p j = inside coords (getD cells j []) p
+
+-- these are places of cells
+abbrev pub CellPlaces : List ℕ → List ℕ → Type 0
+CellPlaces js ends = (k : ℕ) → k < length js → getD js k 0 < length ends
+
+-- one of the cells at these places contains p
+abbrev pub oneContains : List Float → List (List ℕ) → Point → List ℕ → Bool
+oneContains coords cells p js = has (λ k. cellContains coords cells p (getD js k 0)) (length js)

@@ -297,20 +297,7 @@ pub fn place_pieces(
         (passing (isKept k (now (coords .entry)) (runsOf (now (nodes .entry)) (now (ends .entry)))) (runsOf (now (runs .entry)) (now (stops .entry)))))
         (now (on .entry)) (now (oe .entry)) (now (ot .entry)) ⌝ }
 {
-    let r = place_run(
-        k,
-        coords,
-        nodes,
-        ends,
-        ix,
-        on,
-        oe,
-        ot,
-        p,
-        runs,
-        stops,
-        tag,
-    );
+    let r = place_run(k, coords, nodes, ends, ix, on, oe, ot, p, runs, stops, tag);
     let code = r.code;
     if code == 0 {
         return r;

@@ -1,10 +1,11 @@
 -- `pieces::some_holds` meets its contract: the loop's invariant: no cell before `from` holds the point. Assumes nothing.
 use mathlib.Core.Path.{_≡_, refl, sym, _∙_}
-use Prim.Native.Nat.{_-_}
+use mathlib.Core.List.{List}
+use Prim.Native.Nat.{ℕ, _-_, _≤_, _<_}
 use native.Mathlib.Omega.{arith}
-use lib.ListN.{length}
+use lib.ListN.{length, getD}
 use lib.Seq.{length-take-le}
-use Rattle.pieces.proofs.Inside.{Passed, passed-none, none-holds, places-low, last-within, found-one, found-none, passed-more}
+use Rattle.pieces.proofs.Inside.{Passed, passed-none, none-holds, Round, gathered, places-low, last-within, one-holds, passed-all, passed-more}
 use borrow.Author.Needs.{needs}
 use Rattle.pieces.proofs.some_holds.Statement.{statement}
 use Rattle.pieces.proofs.some_holds.Tie as tie
@@ -63,88 +64,77 @@ slice-aggregate-gather c = sym (loop (turn-of-list c) .loop .inv .0)
 gather-requires : tie.Need-gather-requires Inv-loop μ-loop
 gather-requires c κs = entry (loop (turn-of-list c)) .pre
 
+-- what the round has gathered
+abbrev found : tie.After-gather Inv-loop μ-loop → List ℕ
+found c = c .gather .last .1 .1 .1 .1 .1 .1 .0
+
+fits : (c : tie.After-gather Inv-loop μ-loop) → c .gather .result ≤ length (found c)
+fits c = omega (arith, c .gather .ensures .fits, c .gather .kept .1 .1 .1 .1 .1 .1 .0)
+
+round : (c : tie.After-gather Inv-loop μ-loop) → (let a = entry (loop (turn c)) .args in
+    Round (a .coords .now) (a .nodes .now) (a .ends .now) (a .x) (a .y) (loop (turn c) .loop .from) (c .gather .result) (found c))
+round c =
+    let a = entry (loop (turn c)) .args in
+    let l = loop (turn c) .loop in
+    gathered (a .coords .now) (a .nodes .now) (a .ends .now) (a .x) (a .y) (l .from) (c .gather .result) (l .found) (found c) (turn c .loop-test .taken) (l .inv .0) (c .gather .ensures)
+
 array-share-prefix-found : tie.Need-array-share-prefix-found Inv-loop μ-loop
-array-share-prefix-found c =
-    let g = gather-of-part c .gather in
-    omega (arith, g .ensures .fits, g .kept .1 .1 .1 .1 .1 .1 .0)
+array-share-prefix-found c = fits (gather-of-part c)
 
 slice-aggregate-one-contains : tie.Need-slice-aggregate-one-contains Inv-loop μ-loop
 slice-aggregate-one-contains c =
-    let g = gather-of-places c .gather in
-    sym (length-take-le (g .result) (g .last .1 .1 .1 .1 .1 .1 .0) (omega (arith, g .ensures .fits, g .kept .1 .1 .1 .1 .1 .1 .0)))
+    let g = gather-of-places c in
+    sym (length-take-le (g .gather .result) (found g) (fits g))
 
 one-contains-requires : tie.Need-one-contains-requires Inv-loop μ-loop
 one-contains-requires c κs =
-    let at-turn = turn (gather-of-places c) in
-    let at-entry = entry (loop at-turn) in
+    let g = gather-of-places c in
+    let at-entry = entry (loop (turn g)) in
     let a = at-entry .args in
-    let l = loop at-turn .loop in
-    let g = gather-of-places c .gather in (
-      at-entry .pre .rising,
-      places-low (a .coords .now) (a .nodes .now) (a .ends .now) (a .x) (a .y) (l .from) (at-turn .loop-test .taken) (l .found)
-          (g .last .1 .1 .1 .1 .1 .1 .0) (g .result) (l .inv .0) (g .ensures),
-    )
+    (at-entry .pre .rising, places-low (a .coords .now) (a .nodes .now) (a .ends .now) (a .x) (a .y) (loop (turn g) .loop .from) (g .gather .result) (found g) (round g))
 
 returns : tie.Need-returns Inv-loop μ-loop
 returns c =
-    let at-turn = turn (gather (asked-of-found c)) in
-    let a = entry (loop at-turn) .args in
-    let l = loop at-turn .loop in
-    let g = gather (asked-of-found c) .gather in
+    let g = gather (asked-of-found c) in
+    let a = entry (loop (turn g)) .args in
     let o = asked-of-found c .one-contains in
-    found-one (a .coords .now) (a .nodes .now) (a .ends .now) (a .x) (a .y) (l .from) (at-turn .loop-test .taken) (l .found)
-    (g .last .1 .1 .1 .1 .1 .1 .0) (g .result) (l .inv .0) (g .ensures) (o .result) (o .ensures) (c .if1 .taken)
+    one-holds (a .coords .now) (a .nodes .now) (a .ends .now) (a .x) (a .y) (loop (turn g) .loop .from) (g .gather .result) (found g) (round g) (o .result) (o .ensures) (c .if1 .taken)
 
 returns-2 : tie.Need-returns-2 Inv-loop μ-loop
 returns-2 c =
-    let at-turn = turn (gather (asked-of-few c)) in
-    let a = entry (loop at-turn) .args in
-    let l = loop at-turn .loop in
-    let g = gather (asked-of-few c) .gather in
+    let g = gather (asked-of-few c) in
+    let a = entry (loop (turn g)) .args in
+    let l = loop (turn g) .loop in
     let o = asked-of-few c .one-contains in
-    found-none (a .coords .now) (a .nodes .now) (a .ends .now) (a .x) (a .y) (l .from) (at-turn .loop-test .taken) (l .found)
-    (g .last .1 .1 .1 .1 .1 .1 .0) (g .result) (l .inv .0) (g .ensures) (o .result) (o .ensures) (c .before .if1 .left) (l .inv .1) (c .if2 .taken)
+    passed-all (a .coords .now) (a .nodes .now) (a .ends .now) (a .x) (a .y) (l .from) (g .gather .result) (found g) (round g) (o .result) (o .ensures) (c .before .if1 .left) (l .inv .1)
+    (c .if2 .taken)
+
+-- the last one gathered, where the list is full
+last-low : (c : tie.Else2 Inv-loop μ-loop) → (let g = gather (asked-of-full c) in
+    (loop (turn g) .loop .from ≤ getD (found g) 63 0) × (getD (found g) 63 0 < length (entry (loop (turn g)) .args .ends .now)))
+last-low c =
+    let g = gather (asked-of-full c) in
+    let a = entry (loop (turn g)) .args in
+    last-within (a .coords .now) (a .nodes .now) (a .ends .now) (a .x) (a .y) (loop (turn g) .loop .from) (g .gather .result) (found g) (round g) (c .if2 .left)
 
 cast-from : tie.Need-cast-from Inv-loop μ-loop
-cast-from c =
-    let at-turn = turn (gather (asked-of-full c)) in
-    let at-entry = entry (loop at-turn) in
-    let a = at-entry .args in
-    let l = loop at-turn .loop in
-    let g = gather (asked-of-full c) .gather in
-    omega (arith, at-entry .good, last-within (a .coords .now) (a .nodes .now) (a .ends .now) (a .x) (a .y) (l .from) (at-turn .loop-test .taken) (l .found)
-    (g .last .1 .1 .1 .1 .1 .1 .0) (g .result) (l .inv .0) (g .ensures) (c .if2 .left))
+cast-from c = omega (arith, entry (loop (turn (gather (asked-of-full c)))) .good, last-low c)
 
 add-from : tie.Need-add-from Inv-loop μ-loop
-add-from c =
-    let at-turn = turn (gather (asked-of-full c)) in
-    let at-entry = entry (loop at-turn) in
-    let a = at-entry .args in
-    let l = loop at-turn .loop in
-    let g = gather (asked-of-full c) .gather in
-    omega (arith, at-entry .good, last-within (a .coords .now) (a .nodes .now) (a .ends .now) (a .x) (a .y) (l .from) (at-turn .loop-test .taken) (l .found)
-    (g .last .1 .1 .1 .1 .1 .1 .0) (g .result) (l .inv .0) (g .ensures) (c .if2 .left))
+add-from c = omega (arith, entry (loop (turn (gather (asked-of-full c)))) .good, last-low c)
 
 loop-less : tie.Need-loop-less Inv-loop μ-loop
-loop-less c =
-    let at-turn = turn (gather (asked-of-full c)) in
-    let at-entry = entry (loop at-turn) in
-    let a = at-entry .args in
-    let l = loop at-turn .loop in
-    let g = gather (asked-of-full c) .gather in
-    omega (arith, at-entry .good, last-within (a .coords .now) (a .nodes .now) (a .ends .now) (a .x) (a .y) (l .from) (at-turn .loop-test .taken) (l .found)
-    (g .last .1 .1 .1 .1 .1 .1 .0) (g .result) (l .inv .0) (g .ensures) (c .if2 .left))
+loop-less c = omega (arith, last-low c)
 
 loop-again : tie.Need-loop-again Inv-loop μ-loop
 loop-again c =
-    let at-turn = turn (gather (asked-of-full c)) in
-    let a = entry (loop at-turn) .args in
-    let l = loop at-turn .loop in
-    let g = gather (asked-of-full c) .gather in
+    let g = gather (asked-of-full c) in
+    let a = entry (loop (turn g)) .args in
+    let l = loop (turn g) .loop in
     let o = asked-of-full c .one-contains in (
-      g .kept .1 .1 .1 .1 .1 .1 .0 ∙ l .inv .0,
-      passed-more (a .coords .now) (a .nodes .now) (a .ends .now) (a .x) (a .y) (l .from) (at-turn .loop-test .taken) (l .found)
-          (g .last .1 .1 .1 .1 .1 .1 .0) (g .result) (l .inv .0) (g .ensures) (o .result) (o .ensures) (c .before .if1 .left) (l .inv .1) (c .if2 .left),
+      g .gather .kept .1 .1 .1 .1 .1 .1 .0 ∙ l .inv .0,
+      passed-more (a .coords .now) (a .nodes .now) (a .ends .now) (a .x) (a .y) (l .from) (g .gather .result) (found g) (round g) (o .result) (o .ensures) (c .before .if1 .left)
+          (l .inv .1) (c .if2 .left),
     )
 
 returns-3 : tie.Need-returns-3 Inv-loop μ-loop
