@@ -17,7 +17,7 @@ use Rattle.strips.proofs.Gathered.{with-not, with-put}
 
 -- ---- one more among those that pass
 
-among-ext : (p q : ℕ → Bool) (k m : ℕ) → ((i : ℕ) → k ≤ i → i < k + m → p i ≡ q i) → placesAmong p k m ≡ placesAmong q k m
+pub among-ext : (p q : ℕ → Bool) (k m : ℕ) → ((i : ℕ) → k ≤ i → i < k + m → p i ≡ q i) → placesAmong p k m ≡ placesAmong q k m
 unfolding placesAmong
 among-ext p q k zero h = refl
 among-ext p q k (suc m) h =
