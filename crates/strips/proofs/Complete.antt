@@ -32,7 +32,11 @@ put-first q v k (suc m) h = go (q k) (put-first q v (suc k) m (omega arith))
     go : (t : Bool) → putRising v (placesAmong q (suc k) m) ≡ v ∷ placesAmong q (suc k) m
         → putRising v (cond t (k ∷ []) [] ++ placesAmong q (suc k) m) ≡ v ∷ (cond t (k ∷ []) [] ++ placesAmong q (suc k) m)
     go true ih =
-        ap (λ (t : Bool). let l : List ℕ = elim t [ true ↦ k ∷ putRising v (placesAmong q (suc k) m) | false ↦ cond (eqb k v) (k ∷ placesAmong q (suc k) m) (v ∷ k ∷ placesAmong q (suc k) m) ] in l)
+        ap (λ (t : Bool). let l : List ℕ = elim t [
+          | true ↦ k ∷ putRising v (placesAmong q (suc k) m)
+          | false ↦ cond (eqb k v) (k ∷ placesAmong q (suc k) m)
+              (v ∷ k ∷ placesAmong q (suc k) m)
+        ] in l)
         (le-ltb k v (omega arith)) ∙ ap (λ (t : Bool). cond t (k ∷ placesAmong q (suc k) m) (v ∷ k ∷ placesAmong q (suc k) m)) (ne-eqb k v (λ e. omega (arith, e)))
     go false ih = ih
 
@@ -123,10 +127,11 @@ module _ (most : ℕ) (p : ℕ → Bool) (k m : ℕ) where
   all-put q [] within = refl
   all-put q (j ∷ js) within = go (p j) refl ∙ all-put (λ i. q i || (eqb i j && p j)) js (λ i h e. within i (List·Memᴰ·tail h) e)
     where
-      go : (t : Bool) → p j ≡ t → withThings most p (withThing most p (take most (placesAmong q k m)) j) js ≡ withThings most p (take most (placesAmong (λ i. q i || (eqb i j && p j)) k m)) js
+      go : (t : Bool) → p j ≡ t → withThings most p (withThing most p (take most (placesAmong q k m)) j) js ≡ withThings most p
+          (take most (placesAmong (λ i. q i || (eqb i j && p j)) k m)) js
       go false e =
           let none : (i : ℕ) → q i ≡ q i || (eqb i j && p j) =
-              λ i. sym (ap (λ (t : Bool). q i || (eqb i j && t)) e ∙ ap (λ (t : Bool). q i || t) (and-false (eqb i j)) ∙ or-false (q i)) in
+          λ i. sym (ap (λ (t : Bool). q i || (eqb i j && t)) e ∙ ap (λ (t : Bool). q i || t) (and-false (eqb i j)) ∙ or-false (q i)) in
           ap (λ (l : List ℕ). withThings most p l js) (with-not most p (take most (placesAmong q k m)) j e ∙ ap (take most) (among-ext q _ k m (λ i a b. none i)))
       go true e =
           let in-range = within j (List·Memᴰ·head refl) e in

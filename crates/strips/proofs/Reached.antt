@@ -108,7 +108,7 @@ module _ (f : ℕ → ℕ) (n h j : ℕ) (low : j < n) where
       let x : s .x0 ≡ t .x0 - 1 + i = omega (arith, touch .x-high, w .0) in
       let y : s .y0 ≡ t .y0 - 1 + k = omega (arith, touch .y-high, w .1) in
       let place : s .at + s .y0 * s .side + s .x0 ≡ t .at + (t .y0 - 1 + k) * t .side + (t .x0 - 1 + i) =
-          ap₂ (λ (a d : ℕ). a + s .y0 * d + s .x0) (touch .at-same) (touch .side-same) ∙ ap₂ (λ (p q : ℕ). t .at + p * t .side + q) y x in
+      ap₂ (λ (a d : ℕ). a + s .y0 * d + s .x0) (touch .at-same) (touch .side-same) ∙ ap₂ (λ (p q : ℕ). t .at + p * t .side + q) y x in
       in-gathered (t .y1 + 1 - (t .y0 - 1)) (λ m. inRow f n h t (t .y0 - 1 + m)) j k (omega (arith, touch .y-low, touch .y-high, w .1))
       (in-gathered (t .x1 + 1 - (t .x0 - 1)) (λ m. onChains f n h (squareChain h t (t .x0 - 1 + m) (t .y0 - 1 + k))) j i (omega (arith, touch .x-low, touch .x-high, w .0))
       (on-chain (squareChain h t (t .x0 - 1 + i) (t .y0 - 1 + k)) (e ∙ ap (λ (c : ℕ). cond (ltb c h) c 0) place)))
@@ -118,7 +118,8 @@ module _ (f : ℕ → ℕ) (n h j : ℕ) (low : j < n) where
       → f j ≡ squareChain h (narrowed fuel s) (narrowed fuel s .x0) (narrowed fuel s .y0) → List·Memᴰ j (inLevels f n h t m)
   unfolding inLevels
   on-levels fuel zero s t far touch l e = absurd (omega (arith, l, level-rises fuel s))
-  on-levels zero (suc m) s t far touch l e = Memᴰ·append-left (inLevels f n h (halved t) m) (on-level s t touch (flat (isWide s) refl) (e ∙ ap (λ (u : Span). squareChain h u (u .x0) (u .y0)) (narrowed-zero s)))
+  on-levels zero (suc m) s t far touch l e = Memᴰ·append-left (inLevels f n h (halved t) m)
+      (on-level s t touch (flat (isWide s) refl) (e ∙ ap (λ (u : Span). squareChain h u (u .x0) (u .y0)) (narrowed-zero s)))
     where
       flat : (b : Bool) → isWide s ≡ b → isWide s ≡ false
       flat false w = w

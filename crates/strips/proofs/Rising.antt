@@ -166,7 +166,7 @@ module _ (found : List ℕ) (k p v : ℕ) (low : k ≤ length found) (p-is : p �
       let short : take (k - 1) xs ≡ take (k - 1) found = take-take (k - 1) k found (omega arith) in
       let n : length (take (k - 1) found) ≡ k - 1 = length-take-le (k - 1) found (omega arith) in
       let made : take (length found) (putRising v xs) ≡ putIn p v (take (k - 1) found) =
-          ap₂ take m (not-there e) ∙ take-putIn v p (k - 1) xs (omega arith) (omega (arith, length-xs)) ∙ ap (putIn p v) short in
+      ap₂ take m (not-there e) ∙ take-putIn v p (k - 1) xs (omega arith) (omega (arith, length-xs)) ∙ ap (putIn p v) short in
       held-as (putIn p v (take (k - 1) found)) found′ k made
       record {
         count = sym (length-putIn p v (take (k - 1) found) (omega (arith, n)) ∙ omega (arith, n));
@@ -182,7 +182,7 @@ module _ (found : List ℕ) (k p v : ℕ) (low : k ≤ length found) (p-is : p �
       let m : length found ≡ k = omega (arith, low) in
       let whole : take p xs ≡ xs = take-all p xs (omega (arith, length-xs)) in
       let made : take (length found) (putRising v xs) ≡ xs =
-          ap₂ take m (not-there e ∙ ap (λ (u : List ℕ). u ++ v ∷ drop p xs) whole) ∙ take-at xs (v ∷ drop p xs) k length-xs in
+      ap₂ take m (not-there e ∙ ap (λ (u : List ℕ). u ++ v ∷ drop p xs) whole) ∙ take-at xs (v ∷ drop p xs) k length-xs in
       held-as xs found k made (front-here found k low)
 
 -- ---- they go on rising

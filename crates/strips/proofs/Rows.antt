@@ -33,7 +33,8 @@ module _ (f : ℕ → ℕ) (n h : ℕ) (p : ℕ → Bool) where
         let z : x ≡ s .x0 - 1 + (x - (s .x0 - 1)) = omega (arith, inv .from) in
         going-turn p squares (s .x0 - 1) (s .x1) k found₀ fits x r q (onChains f n h c) found found′ inv l (ap (onChains f n h) (e ∙ ap (λ (i : ℕ). squareChain h s i y) z)) next
 
-    pub row-end : (x r : ℕ) (found : List ℕ) → k ≤ length found₀ → InRow x r found → s .x1 < x → FrontIs (withThings (length found₀) p (take k found₀) (inRow f n h s y)) found₀ r found
+    pub row-end : (x r : ℕ) (found : List ℕ) → k ≤ length found₀ → InRow x r found → s .x1 < x
+        → FrontIs (withThings (length found₀) p (take k found₀) (inRow f n h s y)) found₀ r found
     unfolding inRow
     row-end x r found fits inv l = going-end p squares (s .x0 - 1) (s .x1) k found₀ fits x r found inv l
 
@@ -56,7 +57,8 @@ module _ (f : ℕ → ℕ) (n h : ℕ) (p : ℕ → Bool) where
         let z : y ≡ s .y0 - 1 + (y - (s .y0 - 1)) = omega (arith, inv .from) in
         going-turn p rows (s .y0 - 1) (s .y1) k found₀ fits y r q (inRow f n h s y) found found′ inv l (ap (inRow f n h s) z) next
 
-    pub level-end : (y r : ℕ) (found : List ℕ) → k ≤ length found₀ → InLevel y r found → s .y1 < y → FrontIs (withThings (length found₀) p (take k found₀) (inLevel f n h s)) found₀ r found
+    pub level-end : (y r : ℕ) (found : List ℕ) → k ≤ length found₀ → InLevel y r found → s .y1 < y
+        → FrontIs (withThings (length found₀) p (take k found₀) (inLevel f n h s)) found₀ r found
     unfolding inLevel
     level-end y r found fits inv l = going-end p rows (s .y0 - 1) (s .y1) k found₀ fits y r found inv l
 

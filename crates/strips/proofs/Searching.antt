@@ -107,9 +107,11 @@ module _ (coords : List Float) (nodes ends : List ℕ) where
       (omega (arith, small .0, small .1, length-bounds coords nodes ends 0, length-bounds coords nodes ends 1, side-range n .1)) (touch-start coords X Y some-x some-y e b meets)
       (omega (arith, level-zero e, above-each (λ i. spanBy coords X Y nodes ends i .level) 0 n j (omega arith) (omega (arith, l)))) refl
 
-  pub search-found : (most : ℕ) (b : Bounds) (from h levels : ℕ) (s : Span) → h ≡ chainCount (thingCount nodes ends) → s ≡ spanOf coords (boundsOf coords nodes ends 0) (boundsOf coords nodes ends 1) b
+  pub search-found : (most : ℕ) (b : Bounds) (from h levels : ℕ) (s : Span) → h ≡ chainCount (thingCount nodes ends)
+      → s ≡ spanOf coords (boundsOf coords nodes ends 0) (boundsOf coords nodes ends 1) b
       → levels ≡ levelCount coords nodes ends
-      → withThings most (isWanted coords nodes ends b from) [] (inLevels (chainAt coords nodes ends) (thingCount nodes ends) h s levels) ≡ take most (thingsMeeting coords nodes ends b from)
+      → withThings most (isWanted coords nodes ends b from) [] (inLevels (chainAt coords nodes ends) (thingCount nodes ends) h s levels) ≡ take most
+      (thingsMeeting coords nodes ends b from)
   search-found most b from h levels s h-is s-is levels-is = rw (h-is, s-is, levels-is)
       (all-found most (thingMeets coords nodes ends b) from n
       (inLevels (chainAt coords nodes ends) n (chainCount n) (spanOf coords X Y b) (levelCount coords nodes ends))
@@ -146,12 +148,12 @@ module _ (coords : List Float) (nodes ends : List ℕ) where
 
       pub chains-read : (h : ℕ) → h ≡ chainCount (thingCount nodes ends) → Chains coords nodes ends (take (length ix - (2 + s + s)) (drop (2 + s + s) ix)) h
       chains-read h h-is = rw (h-is, links-read) (
-        record {
-          rising = indexed .rising;
-          few = indexed .few;
-          chained = record {
-            long = length-links (chainAt coords nodes ends) n (chainCount n);
-            head = links-head (chainAt coords nodes ends) n (chainCount n);
-            next = links-next (chainAt coords nodes ends) n (chainCount n);
-          };
-        })
+          record {
+            rising = indexed .rising;
+            few = indexed .few;
+            chained = record {
+              long = length-links (chainAt coords nodes ends) n (chainCount n);
+              head = links-head (chainAt coords nodes ends) n (chainCount n);
+              next = links-next (chainAt coords nodes ends) n (chainCount n);
+            };
+          })

@@ -35,13 +35,15 @@ index-held coords ends from end at w₀ w rises apart fits few rising e =
     let ix : List ℕ = indexOf coords nodes ends in
     let same : run w from (end - from) ≡ nodes = ap (λ (u : List ℕ). run u from (end - from)) e ∙ run-before w₀ at (omega (arith, fits)) ix from (end - from) (omega arith) in
     let there : run w at (indexSize (thingCount nodes ends)) ≡ ix =
-        ap (λ (u : List ℕ). run u at (indexSize (thingCount nodes ends))) e ∙ run-put w₀ at (omega (arith, fits)) ix (indexSize (thingCount nodes ends)) (length-index coords nodes ends) in
+    ap (λ (u : List ℕ). run u at (indexSize (thingCount nodes ends))) e ∙ run-put w₀ at (omega (arith, fits)) ix (indexSize (thingCount nodes ends))
+    (length-index coords nodes ends) in
     let long : length nodes ≡ end - from = length-run w₀ from (end - from) (omega (arith, fits)) in
     rw (same, there) (record { rising = λ i l. (rising i l .0, omega (arith, rising i l .1, long)); few = few; is = refl })
 
 -- ---- edges: without ends
 
-pub pairs-meeting : (coords : List Float) (nodes : List ℕ) (b : Bounds) (from : ℕ) → thingsMeeting coords nodes [] b from ≡ placesFrom (meets coords (pairs nodes) b) from (length (pairs nodes))
+pub pairs-meeting : (coords : List Float) (nodes : List ℕ) (b : Bounds) (from : ℕ)
+    → thingsMeeting coords nodes [] b from ≡ placesFrom (meets coords (pairs nodes) b) from (length (pairs nodes))
 unfolding thingCount thingBox
 pairs-meeting coords nodes b from = ap (placesFrom (meets coords (pairs nodes) b) from) (sym (pairs-length nodes))
 

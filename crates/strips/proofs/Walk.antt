@@ -65,7 +65,7 @@ module _ (f : ℕ → ℕ) (n c : ℕ) where
         let at = found-at (j + 1) (omega arith) in
         let one : FrontIs (withThings (length found) p (take r found) (j ∷ [])) found q found′ = rw (sym (one-thing (length found) p (take r found) j)) put in
         let more : places on next ≡ places on j ++ j ∷ [] =
-            ap (places on) z ∙ skipped on (j + 1) n (omega arith) ∙ places-more j on ∙ ap (λ (t : Bool). places on j ++ cond t (j ∷ []) []) (eq-eqb (f j) c (inv .here h)) in (
+        ap (places on) z ∙ skipped on (j + 1) n (omega arith) ∙ places-more j on ∙ ap (λ (t : Bool). places on j ++ cond t (j ∷ []) []) (eq-eqb (f j) c (inv .here h)) in (
           omega (arith, z, first-from on (j + 1) n),
           record {
             low = omega (arith, z, at .0);
@@ -77,7 +77,8 @@ module _ (f : ℕ → ℕ) (n c : ℕ) where
         short : length (take k found₀) ≤ length found₀
         short = omega (arith, length-take k found₀, min-le-right k (length found₀))
 
-    pub walk-end : (j r : ℕ) (found : List ℕ) → Walking p k found₀ j r found → n ≤ j → FrontIs (withThings (length found₀) p (take k found₀) (places (onChain f n c) n)) found₀ r found
+    pub walk-end : (j r : ℕ) (found : List ℕ) → Walking p k found₀ j r found → n ≤ j
+        → FrontIs (withThings (length found₀) p (take k found₀) (places (onChain f n c) n)) found₀ r found
     walk-end j r found inv h =
         let z : n ≡ j = le-antisymm {n = n} {m = j} h (inv .low) in
         rw z (inv .holds)
