@@ -1,5 +1,5 @@
 -- The index made: where strips begin by x, then by y, then the chains, then the two numbers in front. Assumes nothing.
-use mathlib.Core.Path.{_≡_, refl, sym, ap, ap₂, _∙_}
+use mathlib.Core.Path.{_≡_, sym, ap, ap₂, _∙_}
 use mathlib.Core.List.{List}
 use Prim.Native.Nat.{ℕ, _+_, _*_, _-_, _≤_, _<_}
 use native.Mathlib.Decide.{decLt, ℕ-discrete}
@@ -8,14 +8,14 @@ use lib.ListN.{length, getD, set, length-set}
 use lib.Seq.{ext-getD, getD-set-same, getD-set-other}
 use lib.Ieee.{Float}
 use Rattle.lists.specs.Regions.{run, put}
-use Rattle.lists.proofs.Regions.{length-put, put-before, put-in, put-behind, getD-run, length-run}
+use Rattle.lists.proofs.Regions.{length-put, put-before, put-in, put-behind, getD-run}
 use Rattle.entry.specs.Mesh.{Rising}
 use Rattle.strips.specs.Things.{thingCount}
-use Rattle.strips.specs.Index.{sideOf, chainCount, indexSize, boundsOf, spanBy, chainBy, above, headAt, linksOf, chainAt, levelCount, indexOf}
+use Rattle.strips.specs.Index.{sideOf, chainCount, indexSize, boundsOf, spanBy, chainBy, above, linksOf, chainAt, levelCount, indexOf}
 use Rattle.strips.specs.Made.{Bounded, Chained, Room}
 use Rattle.strips.proofs.Sizes.{side-range}
 use Rattle.strips.proofs.OnChains.{same-run}
-use Rattle.strips.proofs.IndexAt.{length-bounds, length-links, links-head, links-next, length-index, index-side, index-levels, index-x-at, index-y-at, index-link-at}
+use Rattle.strips.proofs.IndexAt.{length-bounds, links-head, links-next, length-index, index-side, index-levels, index-x-at, index-y-at, index-link-at}
 
 module _ (coords : List Float) (ends : List ℕ) (from end at : ℕ) (w₀ w₁ w₂ : List ℕ) (rises : from ≤ end) (apart : end ≤ at)
     (fits : at + indexSize (thingCount (run w₀ from (end - from)) ends) ≤ length w₀) where

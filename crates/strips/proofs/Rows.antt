@@ -1,15 +1,13 @@
 -- The squares that a search goes over: row by row, level by level. Assumes nothing.
-use mathlib.Core.Path.{_≡_, refl, sym, ap, _∙_}
+use mathlib.Core.Path.{_≡_, sym, ap, _∙_}
 use mathlib.Core.Bool.{Bool}
-use mathlib.Core.List.{List, [], _∷_, _++_, append-nil, append-assoc}
-use Prim.Native.Nat.{ℕ, zero, suc, _+_, _-_, _≤_, _<_}
+use mathlib.Core.List.{List, [], _++_, append-nil, append-assoc}
+use Prim.Native.Nat.{ℕ, suc, _+_, _-_, _≤_, _<_}
 use native.Mathlib.Omega.{arith}
 use lib.ListN.{length, take}
-use Rattle.lists.specs.Gather.{gathered}
 use Rattle.strips.specs.declared.squares.Span.{Span}
 use Rattle.strips.specs.Squares.{halved, squareChain, Small}
 use Rattle.strips.specs.Gathering.{FrontIs, Rises, withThings, onChains, inRow, inLevel, inLevels}
-use Rattle.strips.proofs.Rising.{front-here}
 use Rattle.strips.proofs.Gathered.{Holds, holds-none, holds-more, holds-long, holds-rises}
 use Rattle.strips.proofs.Walk.{Going, going-start, going-turn, going-end}
 

@@ -1,12 +1,12 @@
 -- The samples and the nodes at which strips begin, as they are made. Assumes nothing.
 use mathlib.Core.Path.{_≡_, refl, sym, ap, ap₂, _∙_}
 use mathlib.Core.Bool.{Bool}
-use mathlib.Core.List.{List, [], _∷_, _++_, append-nil}
+use mathlib.Core.List.{List, _++_, append-nil}
 use Prim.Native.Nat.{ℕ, _+_, _*_, _-_, _/_, _≤_, _<_, min}
 use native.Mathlib.Nat.{le-antisymm}
 use native.Mathlib.Omega.{arith}
-use lib.ListN.{length, getD, set, take, drop, length-append, length-drop, length-set, drop-of-length-le}
-use lib.Seq.{take-all, getD-take, getD-drop, length-take-le}
+use lib.ListN.{length, getD, set, take, drop, length-drop, length-set, drop-of-length-le}
+use lib.Seq.{take-all, getD-take, length-take-le}
 use lib.Ieee.{Float, lt}
 use Rattle.lists.specs.Search.{first}
 use Rattle.lists.specs.Gather.{gathered, each}
@@ -15,21 +15,7 @@ use Rattle.lists.specs.Regions.{run, front, put, insertAt}
 use Rattle.lists.proofs.Search.{first-ext}
 use Rattle.lists.proofs.Gather.{each-more, length-each}
 use Rattle.lists.proofs.Sort.{insertAt-is, length-insert, length-sorted, sorted-snoc}
-use Rattle.lists.proofs.Regions.{
-  length-front,
-  length-run,
-  run-put,
-  run-before,
-  run-behind,
-  put-none,
-  put-put,
-  put-store,
-  put-before,
-  put-in,
-  put-behind,
-  length-put,
-  part-back,
-}
+use Rattle.lists.proofs.Regions.{length-front, run-put, run-before, run-behind, put-none, put-put, put-store, put-before, put-behind, length-put, part-back}
 use Rattle.strips.specs.Things.{thingCount, startOf}
 use Rattle.strips.specs.Squares.{coordinateOf}
 use Rattle.strips.specs.Index.{sideOf, isBefore, sampleCount, sampleNode, samplesOf, picked, boundsOf}

@@ -1,22 +1,21 @@
 -- The index read, and what a search over its chains finds. Assumes nothing.
-use mathlib.Core.Path.{_≡_, refl, sym, ap, ap₂, _∙_}
-use mathlib.Core.Bool.{Bool, true, false, cond, true≢false}
-use mathlib.Core.List.{List, [], _∷_, _++_, List·Memᴰ, List·Memᴰ·not-nil, List·Memᴰ·cases-cons, List·Memᴰ·append-cases}
+use mathlib.Core.Path.{_≡_, refl, ap, ap₂, _∙_}
+use mathlib.Core.Bool.{Bool, true, false, cond}
+use mathlib.Core.List.{List, [], _∷_, List·Memᴰ, List·Memᴰ·not-nil, List·Memᴰ·cases-cons, List·Memᴰ·append-cases}
 use mathlib.Core.Logic.{_⊎_, inl, inr}
-use Prim.Native.Nat.{ℕ, zero, suc, _+_, _*_, _-_, _≤_, _<_, max}
+use Prim.Native.Nat.{ℕ, zero, suc, _+_, _-_, _≤_, _<_}
 use native.Mathlib.Nat.{max-le}
 use native.Mathlib.Omega.{arith}
 use lib.ListN.{length, getD, take, drop, length-drop}
 use lib.Seq.{take-all}
 use lib.Ieee.{Float}
-use Rattle.lists.specs.Gather.{gathered}
 use Rattle.lists.proofs.Gather.{gathered-at}
 use Rattle.rules.specs.declared.Bounds.{Bounds}
 use Rattle.strips.specs.declared.squares.Span.{Span}
 use Rattle.strips.specs.Things.{thingCount, thingBox, thingMeets}
 use Rattle.strips.specs.Squares.{spanOf, halved, isWide, narrowed, squareChain}
-use Rattle.strips.specs.Index.{sideOf, chainCount, indexSize, boundsOf, spanBy, chainBy, onChain, linksOf, above, chainAt, levelCount, indexOf, Indexed}
-use Rattle.strips.specs.Gathering.{thingsMeeting, FrontIs, withThings, isWanted, onChains, inRow, inLevel, inLevels, Links, Chains}
+use Rattle.strips.specs.Index.{sideOf, chainCount, indexSize, boundsOf, spanBy, chainBy, onChain, linksOf, above, chainAt, levelCount, Indexed}
+use Rattle.strips.specs.Gathering.{thingsMeeting, withThings, isWanted, onChains, inRow, inLevel, inLevels, Chains}
 use Rattle.strips.proofs.Sizes.{side-range}
 use Rattle.strips.proofs.IndexAt.{length-bounds, length-links, links-head, links-next, length-index, index-side, index-levels, index-x, index-y, index-links}
 use Rattle.strips.proofs.Reached.{touch-start, reach-small, on-levels, above-each}

@@ -9,7 +9,7 @@ use lib.Seq.{take-all, length-take-le, getD-take}
 use lib.Ieee.{Float}
 use native.Mathlib.Decide.{decLe}
 use Rattle.lists.specs.Regions.{run, put}
-use Rattle.lists.proofs.Regions.{length-run, length-put, run-before, run-put}
+use Rattle.lists.proofs.Regions.{length-run, run-before, run-put}
 use Rattle.cutting.specs.Lent.{pairs}
 use Rattle.cutting.proofs.Pairs.{pairs-length}
 use Rattle.plane.specs.declared.Point.{Point}

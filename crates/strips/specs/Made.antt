@@ -3,12 +3,11 @@ use mathlib.Core.Path.{_≡_}
 use mathlib.Core.List.{List}
 use Prim.Native.Nat.{ℕ, _+_, _*_, _-_, _≤_, _<_}
 use lib.ListN.{length, getD, set}
-use lib.Ieee.{Float}
 use Rattle.lists.specs.Search.{first}
 use Rattle.lists.specs.Regions.{run}
 use Rattle.entry.specs.Mesh.{Rising}
 use Rattle.strips.specs.Things.{thingCount}
-use Rattle.strips.specs.Index.{sideOf, chainCount, boundsOf, onChain, nextAt}
+use Rattle.strips.specs.Index.{chainCount, onChain, nextAt}
 
 -- w has become w′: from `to` on stand the nodes at which the strips of one axis begin; else only the n numbers at `scratch` have changed
 pub record Bounded (bounds : List ℕ) (to scratch n : ℕ) (w w′ : List ℕ) : Type 0 where

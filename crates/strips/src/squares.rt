@@ -1,6 +1,5 @@
 // The plane cut into strips by x and by y, and their squares on levels: on each level they are twice as wide as on the one before.
 ghost use mathlib.Core.Path.{_≡_};
-ghost use mathlib.Core.Bool.{true};
 ghost use Prim.Native.Nat.{_≤_, _<_};
 ghost use lib.ListN.{length};
 ghost use Rattle.strips.specs.Squares.{coordinateOf, stripOf, spanOf, halved, narrowed, squareChain, Small};

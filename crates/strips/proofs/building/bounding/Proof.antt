@@ -5,7 +5,6 @@ use native.Mathlib.Nat.{min-le-left, min-le-right}
 use native.Mathlib.Omega.{arith}
 use Rattle.lists.specs.Regions.{run}
 use Rattle.strips.specs.Things.{thingCount}
-use Rattle.strips.specs.Index.{sideOf}
 use Rattle.strips.proofs.Sizes.{side-range}
 use Rattle.strips.proofs.Samples.{part-run, bounded}
 use borrow.Author.Needs.{needs}

@@ -1,15 +1,13 @@
 use mathlib.Core.Path.{sym, ap, _∙_}
 use Rattle.strips.proofs.Making.{nodes-counted, room-counted, index-counted}
-use mathlib.Core.Path.{refl, sym, ap, ap₂, _∙_}
 use mathlib.Core.List.{List}
-use Prim.Native.Nat.{ℕ, _+_, _*_, _-_, _≤_}
+use Prim.Native.Nat.{ℕ, _+_, _-_}
 use native.Mathlib.Omega.{arith}
-use lib.ListN.{length, set, length-set}
+use lib.ListN.{set, length-set}
 use Rattle.lists.specs.Regions.{run}
 use Rattle.strips.specs.Things.{thingCount}
-use Rattle.strips.specs.Index.{sideOf, indexSize}
+use Rattle.strips.specs.Index.{sideOf}
 use Rattle.strips.proofs.Samples.{part-run}
-use Rattle.strips.proofs.Making.{nodes₁, room, index-made}
 use borrow.Author.Needs.{needs}
 use Rattle.strips.proofs.building.build.Statement.{statement}
 use Rattle.strips.proofs.building.build.Tie as tie

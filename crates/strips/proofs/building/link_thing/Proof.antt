@@ -1,11 +1,9 @@
 use mathlib.Core.Path.{ap, _∙_}
 use mathlib.Core.List.{List}
-use Prim.Native.Nat.{ℕ, _+_, _-_, _≤_, _<_}
+use Prim.Native.Nat.{ℕ, _+_, _-_}
 use native.Mathlib.Omega.{arith}
 use lib.ListN.{length, getD, length-set}
-use Rattle.lists.specs.Regions.{run}
 use Rattle.lists.proofs.Regions.{length-run}
-use Rattle.entry.specs.Mesh.{Rising}
 use Rattle.strips.specs.Things.{thingCount}
 use Rattle.strips.specs.declared.squares.Span.{Span}
 use Rattle.strips.proofs.Samples.{part-run}

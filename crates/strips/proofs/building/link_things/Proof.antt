@@ -4,7 +4,6 @@ use Prim.Native.Nat.{ℕ, _+_, _*_}
 use Rattle.lists.specs.Gather.{each}
 use Rattle.lists.specs.Regions.{put}
 use native.Mathlib.Omega.{arith}
-use Rattle.strips.proofs.OnChains.{OnChains, chains-start, room-kept, chains-turn, chains-end}
 use borrow.Author.Needs.{needs}
 use Rattle.strips.proofs.building.link_things.Statement.{statement}
 use Rattle.strips.proofs.building.link_things.Tie as tie

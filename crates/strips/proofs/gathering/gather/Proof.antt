@@ -1,12 +1,11 @@
 use mathlib.Core.Path.{sym, ap, ap₂, _∙_}
 use mathlib.Core.List.{List}
-use Prim.Native.Nat.{ℕ, _+_, _-_}
+use Prim.Native.Nat.{ℕ, _-_}
 use native.Mathlib.Omega.{arith}
-use lib.ListN.{length, getD, take, drop}
+use lib.ListN.{length, getD}
 use Rattle.strips.specs.Things.{thingCount}
 use Rattle.strips.specs.Squares.{spanOf}
 use Rattle.strips.specs.Index.{chainCount}
-use Rattle.strips.specs.Gathering.{FrontIs}
 use Rattle.strips.proofs.Sizes.{side-range}
 use Rattle.strips.proofs.IndexAt.{length-bounds}
 use Rattle.strips.proofs.Searching.{levels-few, search-found, index-long, side-read, levels-read, xs-read, ys-read, chains-read}

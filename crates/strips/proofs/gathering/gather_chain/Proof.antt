@@ -1,14 +1,10 @@
-use Prim.Native.Nat.{_<_}
+use Prim.Native.Nat.{_<_, _+_, _-_}
 use Rattle.lists.specs.Gather.{places}
-use Rattle.strips.specs.Index.{onChain}
-use mathlib.Core.Path.{sym, ap, _∙_}
-use mathlib.Core.List.{[], _∷_}
-use Prim.Native.Nat.{ℕ, _+_, _-_}
+use Rattle.strips.specs.Index.{onChain, chainAt}
 use native.Mathlib.Omega.{arith}
 use lib.ListN.{length, take}
 use Rattle.strips.specs.Things.{thingCount}
-use Rattle.strips.specs.Index.{chainAt}
-use Rattle.strips.specs.Gathering.{FrontIs, isWanted}
+use Rattle.strips.specs.Gathering.{isWanted}
 use Rattle.strips.proofs.Gathered.{holds-long, holds-rises}
 use Rattle.strips.proofs.Walk.{Walking, walk-start, walk-turn, walk-end}
 use borrow.Author.Needs.{needs}

@@ -1,11 +1,9 @@
-use Prim.Native.Nat.{ℕ, _-_}
+use Prim.Native.Nat.{_-_}
 use native.Mathlib.Omega.{arith}
-use lib.ListN.{length}
 use Rattle.strips.specs.Things.{thingCount}
 use Rattle.strips.specs.Index.{chainAt}
 use Rattle.strips.specs.Gathering.{isWanted}
 use Rattle.strips.proofs.Rows.{InLevels, levels-start, levels-turn, levels-end, levels-long, levels-fits, levels-rise}
-use borrow.Author.Needs.{needs}
 use Rattle.strips.proofs.gathering.gather_levels.Statement.{statement}
 use Rattle.strips.proofs.gathering.gather_levels.Tie as tie
 use Rattle.strips.proofs.gathering.gather_levels.Reads as reads

@@ -1,4 +1,4 @@
-use mathlib.Core.Path.{sym, ap, _∙_}
+use mathlib.Core.Path.{sym, ap}
 use mathlib.Core.Bool.{Bool, _&&_}
 use lib.Dec.{eqb}
 use lib.ListN.{length, getD}

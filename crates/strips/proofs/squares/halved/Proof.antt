@@ -1,7 +1,6 @@
 use mathlib.Core.Path.{refl}
 use native.Mathlib.Omega.{arith}
 use Rattle.strips.proofs.Spans.{square-small, halved-small}
-use borrow.Author.Needs.{needs}
 use Rattle.strips.proofs.squares.halved.Statement.{statement}
 use Rattle.strips.proofs.squares.halved.Tie as tie
 use Rattle.strips.proofs.squares.halved.Reads as reads

@@ -3,7 +3,6 @@ use Rattle.strips.specs.declared.squares.Span.{Span}
 use native.Mathlib.Omega.{arith}
 use Prim.Native.Nat.{_+_}
 use Rattle.strips.proofs.Spans.{OnWay, wide-far, way-start, way-turn, way-end}
-use borrow.Author.Needs.{needs}
 use Rattle.strips.proofs.squares.narrowed.Statement.{statement}
 use Rattle.strips.proofs.squares.narrowed.Tie as tie
 use Rattle.strips.proofs.squares.narrowed.Reads as reads
