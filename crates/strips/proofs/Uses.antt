@@ -17,8 +17,9 @@ use Rattle.entry.specs.Mesh.{mesh, Rising}
 use Rattle.rules.specs.declared.Bounds.{Bounds}
 use Rattle.rules.specs.Mesh.{cellAt}
 use Rattle.rules.specs.SpatialIndex.{boxOf, boxesMeet, boxHolds}
-use Rattle.spatial_index.specs.Candidates.{placesAmong, placesFrom, meets}
-use Rattle.strips.specs.Things.{thingCount, thingBox, pointBox}
+use Rattle.spatial_index.specs.Candidates.{placesAmong, placesFrom, meets, pointBox}
+use Rattle.spatial_index.proofs.Candidates.{point-meets}
+use Rattle.strips.specs.Things.{thingCount, thingBox}
 use Rattle.strips.specs.Index.{indexSize, indexOf, Indexed}
 use Rattle.strips.specs.Gathering.{thingsMeeting}
 use Rattle.strips.proofs.IndexAt.{length-index}
@@ -61,10 +62,6 @@ module _ (coords : List Float) (nodes : List ℕ) where
   cell-box (e ∷ ends) j h = refl
 
 -- ---- a point
-
-pub point-meets : (a : Bounds) (p : Point) → boxesMeet a (pointBox p) ≡ boxHolds a p
-unfolding boxesMeet boxHolds
-point-meets a p = refl
 
 pub things-holding : (coords : List Float) (nodes ends : List ℕ) (p : Point) (from : ℕ)
     → thingsMeeting coords nodes ends (pointBox p) from ≡ placesFrom (λ j. boxHolds (thingBox coords nodes ends j) p) from (thingCount nodes ends)

@@ -8,7 +8,6 @@ use Rattle.lists.specs.Regions.{run}
 use Rattle.cutting.specs.Edges.{edgeAt}
 use Rattle.cutting.specs.Lent.{pairs}
 use Rattle.entry.specs.Mesh.{prior, cellSize}
-use Rattle.plane.specs.declared.Point.{Point}
 use Rattle.rules.specs.declared.Bounds.{Bounds}
 use Rattle.rules.specs.SpatialIndex.{boxOf, edgeBox, boxesMeet}
 
@@ -30,7 +29,3 @@ thingBox coords nodes (e ∷ ends) j = boxOf coords (run nodes (prior (e ∷ end
 -- whether it meets the box b
 abbrev pub thingMeets : List Float → List ℕ → List ℕ → Bounds → ℕ → Bool
 thingMeets coords nodes ends b j = boxesMeet (thingBox coords nodes ends j) b
-
--- the box of a point
-abbrev pub pointBox : Point → Bounds
-pointBox p = record { left = p .x; low = p .y; right = p .x; high = p .y }

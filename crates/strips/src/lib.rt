@@ -9,4 +9,3 @@ pub use building::build;
 pub use building::index_size;
 pub use gathering::gather;
 pub use squares::Span;
-pub use things::point_bounds;

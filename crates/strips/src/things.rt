@@ -3,8 +3,7 @@ ghost use mathlib.Core.Path.{_≡_};
 ghost use Prim.Native.Nat.{_≤_, _<_};
 ghost use lib.ListN.{length, getD};
 ghost use Rattle.entry.specs.Mesh.{prior, Rising};
-ghost use Rattle.strips.specs.Things.{pointBox, thingCount, startOf, thingBox};
-use plane::Point;
+ghost use Rattle.strips.specs.Things.{thingCount, startOf, thingBox};
 use rules::Bounds;
 use spatial_index::bounds2;
 use spatial_index::edge_bounds;
@@ -61,16 +60,4 @@ pub(crate) fn thing_bounds(coords: &[f64], nodes: &[u32], ends: &[u32], j: usize
     let s = prior(ends, j);
     let e = ends[j] as usize;
     bounds2(coords, &nodes[s..e])
-}
-
-// The box of a point: where it is gathered by, the things are those whose boxes hold the point.
-pub fn point_bounds(p: Point) -> Bounds
-    ensures { λ r. ⌜ r ≡ pointBox p ⌝ }
-{
-    Bounds {
-        left: p.x,
-        low: p.y,
-        right: p.x,
-        high: p.y,
-    }
 }
