@@ -9,7 +9,8 @@ use lib.Dec.{ltb, leb, eqb}
 use lib.ListN.{length, take}
 use lib.Seq.{take-all, length-take-le}
 use borrow.Author.Tests.{lt-leb, le-leb}
-use Rattle.strips.specs.Gathering.{FrontIs, Rises, putRising, withThing, withThings}
+use Rattle.strips.specs.Meeting.{FrontIs}
+use Rattle.strips.specs.Gathering.{Rises, putRising, withThing, withThings}
 use Rattle.strips.proofs.Rising.{front-here, front-taken, front-long, front-then, rises-put, rises-take}
 
 length-put : (v : ℕ) (xs : List ℕ) → length xs ≤ length (putRising v xs)

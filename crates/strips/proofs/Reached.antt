@@ -94,8 +94,8 @@ level-rises (suc f) s = go (isWide s) (level-rises f (halved s))
     go false ih = omega arith
 
 module _ (f : ℕ → ℕ) (n h j : ℕ) (low : j < n) where
-  on-chain : (c : ℕ) → f j ≡ c → List·Memᴰ j (onChains f n h c)
-  on-chain c e = in-gathered n (λ i. cond (onChain f n c i) (i ∷ []) []) j j low (rw (eq-eqb (f j) c e) (List·Memᴰ·head refl))
+  on-chain : (c : ℕ) → f j ≡ c → List·Memᴰ j (onChains f n c)
+  on-chain c e = in-gathered n (λ i. cond (onChain f c i) (i ∷ []) []) j j low (rw (eq-eqb (f j) c e) (List·Memᴰ·head refl))
 
   -- on this level
   on-level : (s t : Span) → Touch s t → isWide s ≡ false → f j ≡ squareChain h s (s .x0) (s .y0) → List·Memᴰ j (inLevel f n h t)
@@ -109,7 +109,7 @@ module _ (f : ℕ → ℕ) (n h j : ℕ) (low : j < n) where
       let place : s .at + s .y0 * s .side + s .x0 ≡ t .at + (t .y0 - 1 + k) * t .side + (t .x0 - 1 + i) =
       ap₂ (λ (a d : ℕ). a + s .y0 * d + s .x0) (touch .at-same) (touch .side-same) ∙ ap₂ (λ (p q : ℕ). t .at + p * t .side + q) y x in
       in-gathered (t .y1 + 1 - (t .y0 - 1)) (λ m. inRow f n h t (t .y0 - 1 + m)) j k (omega (arith, touch .y-low, touch .y-high, w .1))
-      (in-gathered (t .x1 + 1 - (t .x0 - 1)) (λ m. onChains f n h (squareChain h t (t .x0 - 1 + m) (t .y0 - 1 + k))) j i (omega (arith, touch .x-low, touch .x-high, w .0))
+      (in-gathered (t .x1 + 1 - (t .x0 - 1)) (λ m. onChains f n (squareChain h t (t .x0 - 1 + m) (t .y0 - 1 + k))) j i (omega (arith, touch .x-low, touch .x-high, w .0))
       (on-chain (squareChain h t (t .x0 - 1 + i) (t .y0 - 1 + k)) (e ∙ ap (λ (c : ℕ). cond (ltb c h) c 0) place)))
 
   -- on one of the next m levels

@@ -15,7 +15,8 @@ use Rattle.lists.specs.Regions.{front, putIn, insertAt}
 use Rattle.lists.proofs.Search.{first-hit, first-some, first-le, first-here, first-shift}
 use Rattle.lists.proofs.Insert.{insertAt-fits, length-putIn}
 use Rattle.lists.proofs.Regions.{front-take, front-front, length-front, take-front-of}
-use Rattle.strips.specs.Gathering.{FrontIs, Rises, putRising}
+use Rattle.strips.specs.Meeting.{FrontIs}
+use Rattle.strips.specs.Gathering.{Rises, putRising}
 
 -- ---- where it goes
 

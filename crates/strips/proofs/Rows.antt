@@ -7,7 +7,8 @@ use native.Mathlib.Omega.{arith}
 use lib.ListN.{length, take}
 use Rattle.strips.specs.declared.squares.Span.{Span}
 use Rattle.strips.specs.Squares.{halved, squareChain, Small}
-use Rattle.strips.specs.Gathering.{FrontIs, Rises, withThings, onChains, inRow, inLevel, inLevels}
+use Rattle.strips.specs.Meeting.{FrontIs}
+use Rattle.strips.specs.Gathering.{Rises, withThings, onChains, inRow, inLevel, inLevels}
 use Rattle.strips.proofs.Gathered.{Holds, holds-none, holds-more, holds-long, holds-rises}
 use Rattle.strips.proofs.Walk.{Going, going-start, going-turn, going-end}
 
@@ -16,20 +17,20 @@ module _ (f : ℕ → ℕ) (n h : ℕ) (p : ℕ → Bool) where
 
   module _ (s : Span) (y k : ℕ) (found₀ : List ℕ) where
     abbrev squares : ℕ → List ℕ
-    squares i = onChains f n h (squareChain h s (s .x0 - 1 + i) y)
+    squares i = onChains f n (squareChain h s (s .x0 - 1 + i) y)
 
     -- the squares before x have been gone over
     abbrev pub InRow : ℕ → ℕ → List ℕ → Type 0
-    InRow x r found = Going p (λ i. onChains f n h (squareChain h s (s .x0 - 1 + i) y)) (s .x0 - 1) (s .x1) k found₀ x r found
+    InRow x r found = Going p (λ i. onChains f n (squareChain h s (s .x0 - 1 + i) y)) (s .x0 - 1) (s .x1) k found₀ x r found
 
     pub row-start : (x : ℕ) → k ≤ length found₀ → x ≡ s .x0 - 1 → InRow x k found₀
     row-start x fits e = rw e (going-start p squares (s .x0 - 1) (s .x1) k found₀ fits)
 
     pub row-turn : (x c r q : ℕ) (found found′ : List ℕ) → k ≤ length found₀ → InRow x r found → x ≤ s .x1 → c ≡ squareChain h s x y
-        → FrontIs (withThings (length found) p (take r found) (onChains f n h c)) found q found′ → InRow (x + 1) q found′
+        → FrontIs (withThings (length found) p (take r found) (onChains f n c)) found q found′ → InRow (x + 1) q found′
     row-turn x c r q found found′ fits inv l e next =
         let z : x ≡ s .x0 - 1 + (x - (s .x0 - 1)) = omega (arith, inv .from) in
-        going-turn p squares (s .x0 - 1) (s .x1) k found₀ fits x r q (onChains f n h c) found found′ inv l (ap (onChains f n h) (e ∙ ap (λ (i : ℕ). squareChain h s i y) z)) next
+        going-turn p squares (s .x0 - 1) (s .x1) k found₀ fits x r q (onChains f n c) found found′ inv l (ap (onChains f n) (e ∙ ap (λ (i : ℕ). squareChain h s i y) z)) next
 
     pub row-end : (x r : ℕ) (found : List ℕ) → k ≤ length found₀ → InRow x r found → s .x1 < x
         → FrontIs (withThings (length found₀) p (take k found₀) (inRow f n h s y)) found₀ r found

@@ -15,7 +15,8 @@ use Rattle.strips.specs.declared.squares.Span.{Span}
 use Rattle.strips.specs.Things.{thingCount, thingBox, thingMeets}
 use Rattle.strips.specs.Squares.{spanOf, halved, isWide, narrowed, squareChain}
 use Rattle.strips.specs.Index.{sideOf, chainCount, indexSize, boundsOf, spanBy, chainBy, onChain, linksOf, above, chainAt, levelCount, Indexed}
-use Rattle.strips.specs.Gathering.{thingsMeeting, withThings, isWanted, onChains, inRow, inLevel, inLevels, Chains}
+use Rattle.strips.specs.Meeting.{thingsMeeting}
+use Rattle.strips.specs.Gathering.{withThings, isWanted, onChains, inRow, inLevel, inLevels, Chains}
 use Rattle.strips.proofs.Sizes.{side-range}
 use Rattle.strips.proofs.IndexAt.{length-bounds, length-links, links-head, links-next, length-index, index-side, index-levels, index-x, index-y, index-links}
 use Rattle.strips.proofs.Reached.{touch-start, reach-small, on-levels, above-each}
@@ -40,10 +41,10 @@ above-low g b k (suc m) h = max-le {a = g k + 1} {b = above g (suc k) m} {k = b 
 -- ---- things on chains are below n
 
 module _ (f : ℕ → ℕ) (n h j : ℕ) where
-  on-chain-low : (c : ℕ) → List·Memᴰ j (onChains f n h c) → j < n
+  on-chain-low : (c : ℕ) → List·Memᴰ j (onChains f n c) → j < n
   on-chain-low c m =
-      let r = gathered-at n (λ i. cond (onChain f n c i) (i ∷ []) []) j m in
-      one (r .0) (r .1) (onChain f n c (r .0)) (r .2)
+      let r = gathered-at n (λ i. cond (onChain f c i) (i ∷ []) []) j m in
+      one (r .0) (r .1) (onChain f c (r .0)) (r .2)
     where
       is : (i : ℕ) → i < n → (j ≡ i) ⊎ List·Memᴰ j [] → j < n
       is i l (inl e) = omega (arith, e, l)
@@ -57,7 +58,7 @@ module _ (f : ℕ → ℕ) (n h j : ℕ) where
   unfolding inLevel inRow
   level-low s m =
       let row = gathered-at (s .y1 + 1 - (s .y0 - 1)) (λ i. inRow f n h s (s .y0 - 1 + i)) j m in
-      let square = gathered-at (s .x1 + 1 - (s .x0 - 1)) (λ i. onChains f n h (squareChain h s (s .x0 - 1 + i) (s .y0 - 1 + row .0))) j (row .2) in
+      let square = gathered-at (s .x1 + 1 - (s .x0 - 1)) (λ i. onChains f n (squareChain h s (s .x0 - 1 + i) (s .y0 - 1 + row .0))) j (row .2) in
       on-chain-low (squareChain h s (s .x0 - 1 + square .0) (s .y0 - 1 + row .0)) (square .2)
 
   levels-low : (m : ℕ) (s : Span) → List·Memᴰ j (inLevels f n h s m) → j < n

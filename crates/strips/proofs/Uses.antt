@@ -21,7 +21,7 @@ use Rattle.spatial_index.specs.Candidates.{placesAmong, placesFrom, meets, poin
 use Rattle.spatial_index.proofs.Candidates.{point-meets}
 use Rattle.strips.specs.Things.{thingCount, thingBox}
 use Rattle.strips.specs.Index.{indexSize, indexOf, Indexed}
-use Rattle.strips.specs.Gathering.{thingsMeeting}
+use Rattle.strips.specs.Meeting.{thingsMeeting}
 use Rattle.strips.proofs.IndexAt.{length-index}
 use Rattle.strips.proofs.Complete.{among-ext}
 

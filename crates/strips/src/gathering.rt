@@ -20,7 +20,8 @@ ghost use Rattle.entry.specs.Mesh.{Rising};
 ghost use Rattle.strips.specs.Things.{thingCount};
 ghost use Rattle.strips.specs.Squares.{Small};
 ghost use Rattle.strips.specs.Index.{chainAt, Indexed};
-ghost use Rattle.strips.specs.Gathering.{thingsMeeting, FrontIs, Rises, putRising, withThing, withThings, isWanted, onChains, inRow, inLevel, inLevels, Chains};
+ghost use Rattle.strips.specs.Meeting.{thingsMeeting, FrontIs};
+ghost use Rattle.strips.specs.Gathering.{Rises, putRising, withThing, withThings, isWanted, onChains, inRow, inLevel, inLevels, Chains};
 
 // Where v goes among numbers that rise.
 fn rising_place(found: &[u32], v: u32) -> usize
@@ -110,7 +111,7 @@ fn gather_chain(
     requires { ⌜ Chains (now coords) (now nodes) (now ends) (now links) h × (c < h) × (k ≤ length (now found)) × Rises (take k (now found)) ⌝ }
     ensures { λ r. ⌜ FrontIs
         (withThings (length (now (found .entry))) (isWanted (now (coords .entry)) (now (nodes .entry)) (now (ends .entry)) b from) (take k (now (found .entry)))
-        (onChains (chainAt (now (coords .entry)) (now (nodes .entry)) (now (ends .entry))) (thingCount (now (nodes .entry)) (now (ends .entry))) h c))
+        (onChains (chainAt (now (coords .entry)) (now (nodes .entry)) (now (ends .entry))) (thingCount (now (nodes .entry)) (now (ends .entry))) c))
         (now (found .entry)) r (now (found .exit)) ⌝ }
 {
     let n = links.len() - h;

@@ -1,11 +1,10 @@
+use Rattle.strips.proofs.Walk.{walk-long, walk-fits, walk-rises}
 use Prim.Native.Nat.{_<_, _+_, _-_}
-use Rattle.lists.specs.Gather.{places}
-use Rattle.strips.specs.Index.{onChain, chainAt}
+use Rattle.strips.specs.Index.{chainAt}
 use native.Mathlib.Omega.{arith}
-use lib.ListN.{length, take}
+use lib.ListN.{length}
 use Rattle.strips.specs.Things.{thingCount}
 use Rattle.strips.specs.Gathering.{isWanted}
-use Rattle.strips.proofs.Gathered.{holds-long, holds-rises}
 use Rattle.strips.proofs.Walk.{Walking, walk-start, walk-turn, walk-end}
 use borrow.Author.Needs.{needs}
 use Rattle.strips.proofs.gathering.gather_chain.Statement.{statement}
@@ -60,14 +59,13 @@ gather-thing-requires c κs =
     let at-entry = entry-of-loop at-loop in
     let a = at-entry .args in
     let p = at-entry .pre in
-    let l = at-loop .loop in
-    let long = holds-long (isWanted (a .coords .now) (a .nodes .now) (a .ends .now) (a .b) (a .from)) (take (a .k) (a .found .now))
-    (places (onChain (chainAt (a .coords .now) (a .nodes .now) (a .ends .now)) (thingCount (a .nodes .now) (a .ends .now)) (a .c)) (l .j)) (a .found .now)
-    (l .found) (l .r) (l .inv .holds) in
-    let rise = holds-rises (isWanted (a .coords .now) (a .nodes .now) (a .ends .now) (a .b) (a .from)) (take (a .k) (a .found .now))
-    (places (onChain (chainAt (a .coords .now) (a .nodes .now) (a .ends .now)) (thingCount (a .nodes .now) (a .ends .now)) (a .c)) (l .j)) (a .found .now)
-    (l .found) (l .r) (l .inv .holds) (p .3) in
-    (p .0 .rising, omega (arith, c .before .loop-test .taken, p .0 .chained .long), p .0 .few, omega (arith, l .inv .holds .fits, long), rise)
+    let l = at-loop .loop in (
+      p .0 .rising,
+      omega (arith, c .before .loop-test .taken, p .0 .chained .long),
+      p .0 .few,
+      walk-fits (chainAt (a .coords .now) (a .nodes .now) (a .ends .now)) (thingCount (a .nodes .now) (a .ends .now)) (a .c) (l .inv),
+      walk-rises (chainAt (a .coords .now) (a .nodes .now) (a .ends .now)) (thingCount (a .nodes .now) (a .ends .now)) (a .c) (l .inv) (p .3),
+    )
 
 cast-j-2 : tie.Need-cast-j-2 Inv-loop μ-loop
 cast-j-2 c =
@@ -108,11 +106,7 @@ loop-again c =
 same-length : tie.Need-same-length Inv-loop μ-loop
 same-length c =
     let at-entry = entry-of-loop (loop-at-same-length c) in
-    let a = at-entry .args in
-    let l = c .before .loop in
-    holds-long (isWanted (a .coords .now) (a .nodes .now) (a .ends .now) (a .b) (a .from)) (take (a .k) (a .found .now))
-    (places (onChain (chainAt (a .coords .now) (a .nodes .now) (a .ends .now)) (thingCount (a .nodes .now) (a .ends .now)) (a .c)) (l .j)) (a .found .now)
-    (l .found) (l .r) (l .inv .holds)
+    let a = at-entry .args in walk-long (chainAt (a .coords .now) (a .nodes .now) (a .ends .now)) (thingCount (a .nodes .now) (a .ends .now)) (a .c) (c .before .loop .inv)
 
 returns : tie.Need-returns Inv-loop μ-loop
 returns c =

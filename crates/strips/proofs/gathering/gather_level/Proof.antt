@@ -1,11 +1,9 @@
+use Rattle.strips.proofs.Walk.{going-long, going-fits, going-rises}
 use Prim.Native.Nat.{_+_, _-_}
 use native.Mathlib.Omega.{arith}
-use lib.ListN.{take}
-use Rattle.lists.specs.Gather.{gathered}
 use Rattle.strips.specs.Things.{thingCount}
 use Rattle.strips.specs.Index.{chainAt}
-use Rattle.strips.specs.Gathering.{isWanted, inRow}
-use Rattle.strips.proofs.Gathered.{holds-long, holds-rises}
+use Rattle.strips.specs.Gathering.{isWanted}
 use Rattle.strips.proofs.Rows.{InLevel, level-start, level-turn, level-end}
 use borrow.Author.Needs.{needs}
 use Rattle.strips.proofs.gathering.gather_level.Statement.{statement}
@@ -53,21 +51,13 @@ loop-holds c =
 gather-row-requires : tie.Need-gather-row-requires Inv-loop μ-loop
 gather-row-requires c κs =
     let at-loop = loop-of-then1 (then1-at-gather-row-requires c) in
-    let at-entry = entry-of-loop at-loop in
-    let a = at-entry .args in
-    let p = at-entry .pre in
-    let l = at-loop .loop in
-    let long = holds-long (isWanted (a .coords .now) (a .nodes .now) (a .ends .now) (a .b) (a .from)) (take (a .k) (a .found .now))
-    (gathered (l .y - (a .s .y0 - 1)) (λ i. inRow (chainAt (a .coords .now) (a .nodes .now) (a .ends .now)) (thingCount (a .nodes .now) (a .ends .now))
-    (a .h) (a .s) (a .s .y0 - 1 + i))) (a .found .now) (l .found) (l .r) (l .inv .holds) in (
-      p .0,
-      p .1,
-      p .2,
-      omega (arith, c .before .if1 .taken, p .2 .y1-small),
-      omega (arith, l .inv .holds .fits, long),
-      holds-rises (isWanted (a .coords .now) (a .nodes .now) (a .ends .now) (a .b) (a .from)) (take (a .k) (a .found .now))
-          (gathered (l .y - (a .s .y0 - 1)) (λ i. inRow (chainAt (a .coords .now) (a .nodes .now) (a .ends .now)) (thingCount (a .nodes .now) (a .ends .now))
-          (a .h) (a .s) (a .s .y0 - 1 + i))) (a .found .now) (l .found) (l .r) (l .inv .holds) (p .4),
+    let at-entry = entry-of-loop at-loop in (
+      at-entry .pre .0,
+      at-entry .pre .1,
+      at-entry .pre .2,
+      omega (arith, c .before .if1 .taken, at-entry .pre .2 .y1-small),
+      going-fits (at-loop .loop .inv),
+      going-rises (at-loop .loop .inv) (at-entry .pre .4),
     )
 
 add-y : tie.Need-add-y Inv-loop μ-loop
@@ -93,13 +83,7 @@ loop-again c =
     (at-gather-row .gather-row .result) (l .found) _ (at-entry .pre .3) (l .inv) (then1-of-gather-row at-gather-row .if1 .taken) (at-gather-row .gather-row .ensures)
 
 same-length : tie.Need-same-length Inv-loop μ-loop
-same-length c =
-    let at-entry = entry-of-loop (loop-at-same-length c) in
-    let a = at-entry .args in
-    let l = loop-at-same-length c .loop in
-    holds-long (isWanted (a .coords .now) (a .nodes .now) (a .ends .now) (a .b) (a .from)) (take (a .k) (a .found .now))
-    (gathered (l .y - (a .s .y0 - 1)) (λ i. inRow (chainAt (a .coords .now) (a .nodes .now) (a .ends .now)) (thingCount (a .nodes .now) (a .ends .now))
-    (a .h) (a .s) (a .s .y0 - 1 + i))) (a .found .now) (l .found) (l .r) (l .inv .holds)
+same-length c = going-long (loop-at-same-length c .loop .inv)
 
 returns : tie.Need-returns Inv-loop μ-loop
 returns c =

@@ -1,12 +1,9 @@
+use Rattle.strips.proofs.Walk.{going-long, going-fits, going-rises}
 use Prim.Native.Nat.{_+_, _-_}
 use native.Mathlib.Omega.{arith}
-use lib.ListN.{take}
-use Rattle.lists.specs.Gather.{gathered}
 use Rattle.strips.specs.Things.{thingCount}
-use Rattle.strips.specs.Squares.{squareChain}
 use Rattle.strips.specs.Index.{chainAt}
-use Rattle.strips.specs.Gathering.{isWanted, onChains}
-use Rattle.strips.proofs.Gathered.{holds-long, holds-rises}
+use Rattle.strips.specs.Gathering.{isWanted}
 use Rattle.strips.proofs.Rows.{InRow, row-start, row-turn, row-end}
 use borrow.Author.Needs.{needs}
 use Rattle.strips.proofs.gathering.gather_row.Statement.{statement}
@@ -64,19 +61,7 @@ gather-chain-requires : tie.Need-gather-chain-requires Inv-loop μ-loop
 gather-chain-requires c κs =
     let at-loop = loop-of-then1 (then1 (square-chain-at-gather-chain-requires c)) in
     let at-entry = entry-of-loop at-loop in
-    let a = at-entry .args in
-    let p = at-entry .pre in
-    let l = at-loop .loop in
-    let long = holds-long (isWanted (a .coords .now) (a .nodes .now) (a .ends .now) (a .b) (a .from)) (take (a .k) (a .found .now))
-    (gathered (l .x - (a .s .x0 - 1)) (λ i. onChains (chainAt (a .coords .now) (a .nodes .now) (a .ends .now)) (thingCount (a .nodes .now) (a .ends .now))
-    (a .h) (squareChain (a .h) (a .s) (a .s .x0 - 1 + i) (a .y)))) (a .found .now) (l .found) (l .r) (l .inv .holds) in (
-      p .0,
-      c .before .square-chain .ensures .1,
-      omega (arith, l .inv .holds .fits, long),
-      holds-rises (isWanted (a .coords .now) (a .nodes .now) (a .ends .now) (a .b) (a .from)) (take (a .k) (a .found .now))
-          (gathered (l .x - (a .s .x0 - 1)) (λ i. onChains (chainAt (a .coords .now) (a .nodes .now) (a .ends .now)) (thingCount (a .nodes .now) (a .ends .now))
-          (a .h) (squareChain (a .h) (a .s) (a .s .x0 - 1 + i) (a .y)))) (a .found .now) (l .found) (l .r) (l .inv .holds) (p .5),
-    )
+    (at-entry .pre .0, c .before .square-chain .ensures .1, going-fits (at-loop .loop .inv), going-rises (at-loop .loop .inv) (at-entry .pre .5))
 
 add-x : tie.Need-add-x Inv-loop μ-loop
 add-x c =
@@ -103,13 +88,7 @@ loop-again c =
     (at-square-chain .square-chain .ensures .0) (at-gather-chain .gather-chain .ensures)
 
 same-length : tie.Need-same-length Inv-loop μ-loop
-same-length c =
-    let at-entry = entry-of-loop (loop-at-same-length c) in
-    let a = at-entry .args in
-    let l = loop-at-same-length c .loop in
-    holds-long (isWanted (a .coords .now) (a .nodes .now) (a .ends .now) (a .b) (a .from)) (take (a .k) (a .found .now))
-    (gathered (l .x - (a .s .x0 - 1)) (λ i. onChains (chainAt (a .coords .now) (a .nodes .now) (a .ends .now)) (thingCount (a .nodes .now) (a .ends .now))
-    (a .h) (squareChain (a .h) (a .s) (a .s .x0 - 1 + i) (a .y)))) (a .found .now) (l .found) (l .r) (l .inv .holds)
+same-length c = going-long (loop-at-same-length c .loop .inv)
 
 returns : tie.Need-returns Inv-loop μ-loop
 returns c =
