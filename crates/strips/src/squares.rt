@@ -6,7 +6,7 @@ ghost use Rattle.strips.specs.Squares.{coordinateOf, stripOf, spanOf, ha
 use rules::Bounds;
 
 // From which strip to which something reaches by x and by y, on a level whose squares have their chains from `at` on, `side` to a row.
-pub struct Span {
+pub(crate) struct Span {
     pub x0: usize,
     pub x1: usize,
     pub y0: usize,
