@@ -25,21 +25,39 @@ use Rattle.strips.specs.Meeting.{thingsMeeting}
 use Rattle.strips.proofs.IndexAt.{length-index}
 use Rattle.strips.proofs.Complete.{among-ext}
 
--- ---- the index in its region
+-- ---- the index in its region, as `build` leaves it
 
-pub index-held : (coords : List Float) (ends : List ℕ) (from end at : ℕ) (w₀ w : List ℕ) → from ≤ end → end ≤ at
-    → at + indexSize (thingCount (run w₀ from (end - from)) ends) ≤ length w₀ → thingCount (run w₀ from (end - from)) ends ≤ 65536 → Rising ends (end - from)
-    → w ≡ put w₀ at (indexOf coords (run w₀ from (end - from)) ends)
-    → Indexed coords (run w from (end - from)) ends (run w at (indexSize (thingCount (run w₀ from (end - from)) ends)))
-index-held coords ends from end at w₀ w rises apart fits few rising e =
-    let nodes : List ℕ = run w₀ from (end - from) in
-    let ix : List ℕ = indexOf coords nodes ends in
-    let same : run w from (end - from) ≡ nodes = ap (λ (u : List ℕ). run u from (end - from)) e ∙ run-before w₀ at (omega (arith, fits)) ix from (end - from) (omega arith) in
-    let there : run w at (indexSize (thingCount nodes ends)) ≡ ix =
-    ap (λ (u : List ℕ). run u at (indexSize (thingCount nodes ends))) e ∙ run-put w₀ at (omega (arith, fits)) ix (indexSize (thingCount nodes ends))
-    (length-index coords nodes ends) in
-    let long : length nodes ≡ end - from = length-run w₀ from (end - from) (omega (arith, fits)) in
-    rw (same, there) (record { rising = λ i l. (rising i l .0, omega (arith, rising i l .1, long)); few = few; is = refl })
+module _ (coords : List Float) (ends : List ℕ) (from end at : ℕ) (w₀ w : List ℕ) (rises : from ≤ end) (apart : end ≤ at)
+    (fits : at + indexSize (thingCount (run w₀ from (end - from)) ends) ≤ length w₀) (e : w ≡ put w₀ at (indexOf coords (run w₀ from (end - from)) ends)) where
+  abbrev nodes : List ℕ
+  nodes = run w₀ from (end - from)
+
+  abbrev size : ℕ
+  size = indexSize (thingCount (run w₀ from (end - from)) ends)
+
+  -- the things are as they were
+  pub nodes-held : run w from (end - from) ≡ run w₀ from (end - from)
+  nodes-held = ap (λ (u : List ℕ). run u from (end - from)) e ∙ run-before w₀ at (omega (arith, fits)) (indexOf coords nodes ends) from (end - from) (omega arith)
+
+  pub index-held : thingCount (run w₀ from (end - from)) ends ≤ 65536 → Rising ends (end - from)
+      → Indexed coords (run w from (end - from)) ends (run w at (indexSize (thingCount (run w₀ from (end - from)) ends)))
+  index-held few rising =
+      let ix : List ℕ = indexOf coords nodes ends in
+      let there : run w at size ≡ ix = ap (λ (u : List ℕ). run u at size) e ∙ run-put w₀ at (omega (arith, fits)) ix size (length-index coords nodes ends) in
+      let long : length nodes ≡ end - from = length-run w₀ from (end - from) (omega (arith, fits)) in
+      rw (nodes-held, there) (record { rising = λ i l. (rising i l .0, omega (arith, rising i l .1, long)); few = few; is = refl })
+
+  -- the same of the parts that are lent to `gather`
+  pub nodes-lent : take (end - from) (drop from w) ≡ run w₀ from (end - from)
+  unfolding run
+  nodes-lent = nodes-held
+
+  pub index-lent : (to : ℕ) → to ≡ at + indexSize (thingCount (run w₀ from (end - from)) ends) → thingCount (run w₀ from (end - from)) ends ≤ 65536 → Rising ends (end - from)
+      → Indexed coords (take (end - from) (drop from w)) ends (take (to - at) (drop at w))
+  unfolding run
+  index-lent to to-is few rising =
+      let z : to - at ≡ size = omega (arith, to-is) in
+      rw z (index-held few rising)
 
 -- ---- edges: without ends
 
