@@ -27,7 +27,7 @@ use Rattle.spatial_index.specs.Candidates.{placesFrom, meets}
 use Rattle.spatial_index.proofs.Candidates.{candidates-from}
 use Rattle.strips.specs.Things.{thingCount, thingBox}
 use Rattle.strips.specs.Index.{Indexed}
-use Rattle.strips.specs.Gathering.{thingsMeeting, FrontIs}
+use Rattle.strips.specs.Meeting.{thingsMeeting, FrontIs}
 use Rattle.regions.specs.declared.Run.{Run}
 use Rattle.regions.specs.declared.MeshRuns.{MeshRuns}
 use Rattle.regions.specs.declared.MeshIndex.{MeshIndex}

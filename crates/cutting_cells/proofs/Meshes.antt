@@ -1,6 +1,6 @@
 -- `cut_meshes`: the subject's cells, then the cutter's. Assumes nothing.
 use mathlib.Core.Path.{_≡_, refl, sym, ap, _∙_, subst}
-use mathlib.Core.Bool.{Bool, true, false, cond, not}
+use mathlib.Core.Bool.{Bool, true, false, cond}
 use mathlib.Core.List.{List, [], append-nil}
 use Prim.Native.Nat.{ℕ, _+_, _*_, _≤_, _<_}
 use native.Mathlib.Omega.{arith}
@@ -10,22 +10,16 @@ use Rattle.rules.specs.Mesh.{Side, theSubject, theCutter, other}
 use Rattle.rules.specs.Operations.{cuts}
 use Rattle.regions.specs.declared.MeshRuns.{MeshRuns}
 use Rattle.regions.specs.declared.Regions.{Regions}
+use Rattle.regions.specs.declared.Indexes.{Indexes}
 use Rattle.regions.specs.Runs.{runIn}
-use Rattle.pieces.specs.declared.Keep.{Keep}
+use Rattle.cutting_cells.specs.declared.Treatment.{Treatment}
 use Rattle.pieces.specs.declared.Listed.{Listed}
-use Rattle.pieces.specs.Pieces.{runsOf, keepOf, sideOf, Yield, nothing, both, allOf, Placing, placing, placedBehind}
+use Rattle.pieces.specs.Pieces.{runsOf, keepOf, Yield, nothing, both, allOf, Placing, placing, placedBehind}
 use Rattle.pieces.proofs.Placing.{Steady, steady-nothing, steady-both, steady-all, fit, refused-first, placed-behind}
-use Rattle.cutting_cells.specs.Yields.{yieldOf, runsOn, numberedFrom, cellsYield, meshesYield, noneYet, Few, CellsAsk, MeshesReady}
+use Rattle.cutting_cells.specs.Yields.{yieldOf, treatmentOf, runsOn, numberedFrom, cellsYield, meshesYield, noneYet, Few, CellsAsk, MeshesReady}
 use Rattle.cutting_cells.proofs.Cell.{yield-steady}
 
 -- ---- the cells of one mesh
-
-other-side : (cutter : Bool) → sideOf (not cutter) ≡ other (sideOf cutter)
-other-side true = refl
-other-side false = refl
-
-pub others-are : (g : Regions) (cutter : Bool) (o : MeshRuns) → o ≡ runsOn g (sideOf (not cutter)) → o ≡ runsOn g (other (sideOf cutter))
-others-are g cutter o e = e ∙ ap (runsOn g) (other-side cutter)
 
 pub numbers-low : (w : Side) (i n k : ℕ) → n + k ≤ 32768 → i < k → numberedFrom w n + i < 32768
 numbers-low theSubject i n k h l = omega (arith, h, l)
@@ -47,13 +41,13 @@ module _ (op : ℕ) (coords : List Float) (work : List ℕ) (g : Regions) (w : S
   cells-steady = subst Steady all-cells (steady-all cellYield (length stops) (λ i h. cell-steady i))
 
   -- as it is lent
-  pub cell-lent : (o mine : MeshRuns) (k : Keep) (own : List ℕ) (number i : ℕ) (cell : List ℕ) → o ≡ runsOn g (other w) → mine ≡ runsOn g w → k ≡ keepOf op w
+  pub cell-lent : (x : Indexes) (t : Treatment) (mine : MeshRuns) (own : List ℕ) (number i : ℕ) (cell : List ℕ) → t ≡ treatmentOf op g x w → mine ≡ runsOn g w
       → own ≡ runIn work (mine .entries) → number ≡ numberedFrom w (length ends) → getD (runsOf own stops) i [] ≡ cell
-      → yieldOf coords work g o ends k (number + i) cell ≡ cellYield i
-  cell-lent o mine k own number i cell eo em ek ew en ec =
+      → yieldOf coords work g (t .other) ends (t .keep) (number + i) cell ≡ cellYield i
+  cell-lent x t mine own number i cell et em ew en ec =
       let corners : cell ≡ getD (runsOf (runIn work (runsOn g w .entries)) stops) i [] =
       sym ec ∙ ap (λ (l : List ℕ). getD (runsOf l stops) i []) (ew ∙ ap (λ (m : MeshRuns). runIn work (m .entries)) em) in
-      λ s. yieldOf coords work g (eo s) ends (ek s) (en s + i) (corners s)
+      λ s. yieldOf coords work g (et s .other) ends (et s .keep) (en s + i) (corners s)
 
 -- ---- both meshes
 
@@ -67,7 +61,7 @@ meshes-steady op coords work g se ce =
     go true = cells-steady op coords work g theCutter se ce
     go false = steady-nothing
 
-module _ (op : ℕ) (coords : List Float) (work : List ℕ) (g : Regions) (se ce on oe ot : List ℕ) (ready : MeshesReady op work g se ce) (ht : length oe ≤ length ot) where
+module _ (op : ℕ) (coords : List Float) (work : List ℕ) (g : Regions) (x : Indexes) (se ce on oe ot : List ℕ) (ready : MeshesReady op coords work g x se ce) (ht : length oe ≤ length ot) where
   abbrev first : Yield
   first = cellsYield op coords work g theSubject ce se
 
@@ -77,13 +71,13 @@ module _ (op : ℕ) (coords : List Float) (work : List ℕ) (g : Regions) (se ce
   abbrev rest : Yield
   rest = cond (cuts op theCutter) second nothing
 
-  pub asks-first : CellsAsk work g theSubject ce se noneYet on oe ot
+  pub asks-first : CellsAsk coords work g x theSubject ce se noneYet on oe ot
   asks-first =
       record {
         others = ready .cutter;
         within = ready .subject .entries;
         cells = ready .subjectCells;
-        rise = ready .subject .rise;
+        rise = ready .subject .indexed .cells .rising;
         most = omega (arith, ready .mostSubject, ready .mostCutter);
         calm = refl;
         space = record { counted = omega arith; tags = ht; corners = omega arith; short = omega (arith, ready .mostSubject) };
@@ -110,14 +104,14 @@ module _ (op : ℕ) (coords : List Float) (work : List ℕ) (g : Regions) (se ce
         behind-none = λ s. record { events = append-nil (first .events) s; pieces = append-nil (first .pieces) s; tags = append-nil (first .tags) s }
 
     module _ (z : p .code ≡ 0) (ln : length on₁ ≡ length on) (le : length oe₁ ≡ length oe) (lt : length ot₁ ≡ length ot) (e : cuts op theCutter ≡ true) where
-      pub asks-second : CellsAsk work g theCutter se ce p on₁ oe₁ ot₁
+      pub asks-second : CellsAsk coords work g x theCutter se ce p on₁ oe₁ ot₁
       asks-second =
           let f = fit noneYet first on oe ot p on₁ oe₁ ot₁ (one .0) (cells-steady op coords work g theSubject ce se) (omega arith) (omega arith) z in
           record {
             others = ready .subject;
             within = ready .cutter .entries;
             cells = ready .cutterCells e;
-            rise = ready .cutter .rise;
+            rise = ready .cutter .indexed .cells .rising;
             most = omega (arith, ready .mostSubject, ready .mostCutter);
             calm = z;
             space = record {

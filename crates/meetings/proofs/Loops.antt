@@ -23,7 +23,7 @@ use Rattle.rules.specs.Meetings.{Met, segmentOf, recorded, addedBy, metPair, me
 use Rattle.rules.specs.Refusals.{Event, ofMeeting, firstRefusal}
 use Rattle.rules.proofs.Course.{edges-behind}
 use Rattle.strips.specs.Index.{indexSize, Indexed}
-use Rattle.strips.specs.Gathering.{FrontIs}
+use Rattle.strips.specs.Meeting.{FrontIs}
 use Rattle.meetings.specs.declared.Found.{Found}
 use Rattle.meetings.specs.Booked.{booked, netOn, edgesIn, meetingsAt}
 use Rattle.meetings.specs.MeetingsFound.{MeetingsRoom, CutterIndexed, meetingsFound}

@@ -9,7 +9,7 @@ ghost use Rattle.segments.specs.Meet.{meeting};
 ghost use Rattle.rules.specs.Meetings.{nodeOf, segmentOf};
 ghost use Rattle.rules.specs.SpatialIndex.{edgeBox, candidates};
 ghost use Rattle.strips.specs.Index.{Indexed};
-ghost use Rattle.strips.specs.Gathering.{FrontIs};
+ghost use Rattle.strips.specs.Meeting.{FrontIs};
 ghost use Rattle.meetings.specs.Booked.{edgesIn, meetingsAt};
 ghost use Rattle.meetings.specs.MeetingsFound.{MeetingsRoom, CutterIndexed, meetingsFound};
 ghost use Rattle.meetings.specs.Steps.{edgeIn, metOf, metWith, StandBefore, Ready, Answered};

@@ -19,7 +19,7 @@ use Rattle.rules.specs.SpatialIndex.{boxOf, boxesMeet, boxHolds}
 use Rattle.rules.specs.Inside.{someHolds}
 use Rattle.spatial_index.specs.Candidates.{placesAmong}
 use Rattle.strips.specs.Things.{thingBox, thingMeets}
-use Rattle.strips.specs.Gathering.{thingsMeeting, FrontIs}
+use Rattle.strips.specs.Meeting.{thingsMeeting, FrontIs}
 use Rattle.strips.proofs.PairsOrRuns.{count-runs}
 use Rattle.strips.proofs.Rising.{front-taken}
 use Rattle.pieces.specs.Pieces.{runsOf, cellContains, CellPlaces, oneContains}

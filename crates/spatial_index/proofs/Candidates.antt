@@ -12,9 +12,10 @@ use Rattle.lists.specs.Gather.{gathered, places}
 use Rattle.lists.proofs.Search.{seek-range}
 use Rattle.lists.proofs.Gather.{gathered-ext, gathered-head}
 use Rattle.cutting.specs.Edges.{Edge}
+use Rattle.plane.specs.declared.Point.{Point}
 use Rattle.rules.specs.declared.Bounds.{Bounds}
-use Rattle.rules.specs.SpatialIndex.{candidates}
-use Rattle.spatial_index.specs.Candidates.{placesAmong, placesFrom, meets}
+use Rattle.rules.specs.SpatialIndex.{candidates, boxesMeet, boxHolds}
+use Rattle.spatial_index.specs.Candidates.{placesAmong, placesFrom, meets, pointBox}
 
 -- ---- the numbers that pass, one after the other
 
@@ -79,3 +80,10 @@ places-end p k n h = among-none p k (n - k) (omega (arith, seek-range p k (n - k
 pub candidates-from : (coords : List Float) (es : List Edge) (b : Bounds) → placesFrom (meets coords es b) 0 (length es) ≡ candidates coords es b
 unfolding candidates
 candidates-from coords es b = places-from (meets coords es b) (length es)
+
+-- ---- a point
+
+-- its box meets the boxes that hold it
+pub point-meets : (a : Bounds) (p : Point) → boxesMeet a (pointBox p) ≡ boxHolds a p
+unfolding boxesMeet boxHolds
+point-meets a p = refl

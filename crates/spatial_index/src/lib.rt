@@ -11,6 +11,7 @@ ghost use Rattle.cutting.specs.Edges.{edgeAt};
 ghost use Rattle.cutting.specs.Lent.{pairs};
 ghost use Rattle.rules.specs.SpatialIndex.{smaller, stretched, boxOf, edgeBox, boxesMeet, boxHolds};
 ghost use Rattle.spatial_index.specs.Blocks.{boxAt, blockBoxes, Covered, Apart};
+ghost use Rattle.spatial_index.specs.Candidates.{pointBox};
 use plane::Point;
 use plane::point_at;
 use rules::Bounds;
@@ -73,6 +74,18 @@ pub fn edge_bounds(coords: &[f64], a: u32, b: u32) -> Bounds
 {
     let one = stretched(empty(), point_at(coords, a));
     stretched(one, point_at(coords, b))
+}
+
+// The box of a point: it meets the boxes that hold the point.
+pub fn point_bounds(p: Point) -> Bounds
+    ensures { λ r. ⌜ r ≡ pointBox p ⌝ }
+{
+    Bounds {
+        left: p.x,
+        low: p.y,
+        right: p.x,
+        high: p.y,
+    }
 }
 
 // Closed boxes meet where they only touch.

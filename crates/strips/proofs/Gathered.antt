@@ -2,14 +2,15 @@
 use mathlib.Core.Path.{_≡_, refl, sym, ap, ap₂, _∙_}
 use mathlib.Core.Bool.{Bool, true, false, cond, _&&_, and-false}
 use mathlib.Core.List.{List, [], _∷_, _++_}
-use Prim.Native.Nat.{ℕ, zero, suc, _+_, _-_, _≤_, _<_}
+use Prim.Native.Nat.{ℕ, _+_, _-_, _≤_, _<_}
 use native.Mathlib.Decide.{decLe}
 use native.Mathlib.Omega.{arith}
 use lib.Dec.{ltb, leb, eqb}
-use lib.ListN.{length, getD, take}
+use lib.ListN.{length, take}
 use lib.Seq.{take-all, length-take-le}
 use borrow.Author.Tests.{lt-leb, le-leb}
-use Rattle.strips.specs.Gathering.{FrontIs, Rises, putRising, withThing, withThings}
+use Rattle.strips.specs.Meeting.{FrontIs}
+use Rattle.strips.specs.Gathering.{Rises, putRising, withThing, withThings}
 use Rattle.strips.proofs.Rising.{front-here, front-taken, front-long, front-then, rises-put, rises-take}
 
 length-put : (v : ℕ) (xs : List ℕ) → length xs ≤ length (putRising v xs)
@@ -87,15 +88,16 @@ module _ (p : ℕ → Bool) where
     holds-long = front-long (withThings (length found₀) p xs js) found₀ found r h
 
     -- and the things ks
-    pub holds-more : (ks found′ : List ℕ) (q : ℕ) → length xs ≤ length found₀ → FrontIs (withThings (length found) p (take r found) ks) found q found′ → Holds xs (js ++ ks) found₀ q found′
+    pub holds-more : (ks found′ : List ℕ) (q : ℕ) → length xs ≤ length found₀ → FrontIs (withThings (length found) p (take r found) ks) found q found′
+        → Holds xs (js ++ ks) found₀ q found′
     holds-more ks found′ q low next =
         let ys : List ℕ = withThings (length found₀) p xs js in
         let taken : take r found ≡ ys = front-taken ys found₀ found r h in
         let same : withThings (length found) p (take r found) ks ≡ withThings (length found₀) p xs (js ++ ks) =
-            ap₂ (λ (m : ℕ) (zs : List ℕ). withThings m p zs ks) holds-long taken ∙ sym (with-append (length found₀) p xs js ks) in
+        ap₂ (λ (m : ℕ) (zs : List ℕ). withThings m p zs ks) holds-long taken ∙ sym (with-append (length found₀) p xs js ks) in
         let whole : FrontIs (withThings (length found₀) p xs (js ++ ks)) found q found′ = rw (sym same) next in
         let grown : length ys ≤ length (withThings (length found₀) p xs (js ++ ks)) =
-            omega (arith, ap length (with-append (length found₀) p xs js ks), all-grow (length found₀) p ys ks (all-grow (length found₀) p xs js low .1) .0) in
+        omega (arith, ap length (with-append (length found₀) p xs js ks), all-grow (length found₀) p ys ks (all-grow (length found₀) p xs js low .1) .0) in
         front-then ys (withThings (length found₀) p xs (js ++ ks)) found₀ found found′ r q h grown whole
 
   pub holds-none : (found : List ℕ) (k : ℕ) → k ≤ length found → Holds (take k found) [] found k found

@@ -14,3 +14,4 @@ pub mod Rows
 pub mod Reached
 pub mod Complete
 pub mod Searching
+pub mod Uses

@@ -1,7 +1,7 @@
 -- Things put on chains by any function, the last one first. Assumes nothing.
 use mathlib.Core.Path.{_≡_, refl, sym, ap, ap₂, _∙_}
 use mathlib.Core.List.{List}
-use Prim.Native.Nat.{ℕ, zero, suc, _+_, _*_, _-_, _/_, _≤_, _<_, max}
+use Prim.Native.Nat.{ℕ, suc, _+_, _-_, _≤_, _<_, max}
 use native.Mathlib.Nat.{le-antisymm}
 use native.Mathlib.Decide.{ℕ-discrete}
 use native.Mathlib.Omega.{arith}
@@ -50,7 +50,7 @@ module _ (f : ℕ → ℕ) (h n heads nexts : ℕ) (w₀ : List ℕ) (apart : he
   link-start none =
       record {
         long = refl;
-        head = λ c b. none c b ∙ sym (first-end (onChain f n c) n n (omega arith));
+        head = λ c b. none c b ∙ sym (first-end (onChain f c) n n (omega arith));
         next = λ p a b. absurd (omega arith);
         before = λ i b. refl;
         behind = λ i b. refl;
@@ -70,19 +70,19 @@ module _ (f : ℕ → ℕ) (h n heads nexts : ℕ) (w₀ : List ℕ) (apart : he
     other : (i : ℕ) → (i ≡ nexts + q → ⊥) → (i ≡ heads + c → ⊥) → getD (set v (heads + c) q) i 0 ≡ getD w i 0
     other i a b = getD-set-other v (heads + c) i q 0 b ∙ getD-set-other w (nexts + q) i (getD w (heads + c) 0) 0 a
 
-    head-turn : (k : ℕ) → k < h → Dec (k ≡ c) → getD (set v (heads + c) q) (heads + k) 0 ≡ first (onChain f n k) q n
+    head-turn : (k : ℕ) → k < h → Dec (k ≡ c) → getD (set v (heads + c) q) (heads + k) 0 ≡ first (onChain f k) q n
     head-turn k b (yes e) =
         ap (λ (j : ℕ). getD (set v (heads + c) q) (heads + j) 0) e ∙ getD-set-same v (heads + c) q 0 (omega (arith, long-v, inv .long))
-        ∙ sym (first-here (onChain f n k) q n l (eq-eqb (f q) k (sym e)))
+        ∙ sym (first-here (onChain f k) q n l (eq-eqb (f q) k (sym e)))
     head-turn k b (no e) =
         other (heads + k) (λ z. omega (arith, z)) (λ z. e (omega (arith, z))) ∙ inv .head k b
-        ∙ first-on (onChain f n k) q n l (ne-eqb (f q) k (λ z. e (sym z)))
+        ∙ first-on (onChain f k) q n l (ne-eqb (f q) k (λ z. e (sym z)))
 
     next-turn : (p : ℕ) → q ≤ p → p < n → Dec (p ≡ q) → getD (set v (heads + c) q) (nexts + p) 0 ≡ nextAt f n p
     next-turn p a b (yes e) =
         ap (λ (j : ℕ). getD (set v (heads + c) q) (nexts + j) 0) e ∙ getD-set-other v (heads + c) (nexts + q) q 0 (λ z. omega (arith, z))
         ∙ getD-set-same w (nexts + q) (getD w (heads + c) 0) 0 (omega (arith, inv .long)) ∙ inv .head c low
-        ∙ ap (λ (j : ℕ). first (onChain f n (f j)) (j + 1) n) (sym e)
+        ∙ ap (λ (j : ℕ). first (onChain f (f j)) (j + 1) n) (sym e)
     next-turn p a b (no e) = other (nexts + p) (λ z. e (omega (arith, z))) (λ z. omega (arith, z)) ∙ inv .next p (omega (arith, e)) b
 
     pub link-turn : (w′ : List ℕ) → w′ ≡ headed w heads nexts (f q) q → Chained f h n heads nexts q w₀ w′

@@ -1,5 +1,5 @@
 -- The index made: where strips begin by x, then by y, then the chains, then the two numbers in front. Assumes nothing.
-use mathlib.Core.Path.{_≡_, refl, sym, ap, ap₂, _∙_}
+use mathlib.Core.Path.{_≡_, sym, ap, ap₂, _∙_}
 use mathlib.Core.List.{List}
 use Prim.Native.Nat.{ℕ, _+_, _*_, _-_, _≤_, _<_}
 use native.Mathlib.Decide.{decLt, ℕ-discrete}
@@ -8,14 +8,14 @@ use lib.ListN.{length, getD, set, length-set}
 use lib.Seq.{ext-getD, getD-set-same, getD-set-other}
 use lib.Ieee.{Float}
 use Rattle.lists.specs.Regions.{run, put}
-use Rattle.lists.proofs.Regions.{length-put, put-before, put-in, put-behind, getD-run, length-run}
+use Rattle.lists.proofs.Regions.{length-put, put-before, put-in, put-behind, getD-run}
 use Rattle.entry.specs.Mesh.{Rising}
 use Rattle.strips.specs.Things.{thingCount}
-use Rattle.strips.specs.Index.{sideOf, chainCount, indexSize, boundsOf, spanBy, chainBy, above, headAt, linksOf, chainAt, levelCount, indexOf}
+use Rattle.strips.specs.Index.{sideOf, chainCount, indexSize, boundsOf, spanBy, chainBy, above, linksOf, chainAt, levelCount, indexOf}
 use Rattle.strips.specs.Made.{Bounded, Chained, Room}
 use Rattle.strips.proofs.Sizes.{side-range}
 use Rattle.strips.proofs.OnChains.{same-run}
-use Rattle.strips.proofs.IndexAt.{length-bounds, length-links, links-head, links-next, length-index, index-side, index-levels, index-x-at, index-y-at, index-link-at}
+use Rattle.strips.proofs.IndexAt.{length-bounds, links-head, links-next, length-index, index-side, index-levels, index-x-at, index-y-at, index-link-at}
 
 module _ (coords : List Float) (ends : List ℕ) (from end at : ℕ) (w₀ w₁ w₂ : List ℕ) (rises : from ≤ end) (apart : end ≤ at)
     (fits : at + indexSize (thingCount (run w₀ from (end - from)) ends) ≤ length w₀) where
@@ -78,7 +78,8 @@ module _ (coords : List Float) (ends : List ℕ) (from end at : ℕ) (w₀ w₁ 
 
       -- the chains by what stands in w₂ are those of the index
       module _ (w₃ : List ℕ) (levels : ℕ)
-          (chains : Chained (chainBy coords (run w₂ (at + 2) side) (run w₂ (at + 2 + side) side) (run w₂ from (end - from)) ends) (chainCount n) n heads (heads + chainCount n) 0 w₂ w₃)
+          (chains : Chained (chainBy coords (run w₂ (at + 2) side) (run w₂ (at + 2 + side) side) (run w₂ from (end - from)) ends) (chainCount n) n heads
+          (heads + chainCount n) 0 w₂ w₃)
           (highest : levels ≡ above (λ j. spanBy coords (run w₂ (at + 2) side) (run w₂ (at + 2 + side) side) (run w₂ from (end - from)) ends j .level) 0 n) where
         by-lists : (x y m : List ℕ) → run w₂ (at + 2) side ≡ x → run w₂ (at + 2 + side) side ≡ y → run w₂ from (end - from) ≡ m
             → Chained (chainBy coords x y m ends) (chainCount n) n heads (heads + chainCount n) 0 w₂ w₃
@@ -147,7 +148,8 @@ module _ (coords : List Float) (ends : List ℕ) (from end at : ℕ) (w₀ w₁ 
 
         every-place : (i : ℕ) → Dec (i < at) → Dec (i < at + indexSize n) → getD w₄ i 0 ≡ getD (put w₀ at ix) i 0
         every-place i (yes a) b =
-            other i (λ z. omega (arith, z)) (λ z. omega (arith, z)) ∙ third .before i (omega arith) ∙ before₂ i (omega arith) ∙ sym (put-before w₀ at (omega (arith, fits)) ix i 0 a)
+            other i (λ z. omega (arith, z)) (λ z. omega (arith, z)) ∙ third .before i (omega arith) ∙ before₂ i (omega arith) ∙ sym
+            (put-before w₀ at (omega (arith, fits)) ix i 0 a)
         every-place i (no a) (yes b) =
             let j : ℕ = i - at in
             let e : at + j ≡ i = omega arith in
@@ -183,7 +185,8 @@ module _ (coords : List Float) (ends : List ℕ) (from end at : ℕ) (w₀ w₁ 
   room-counted w₂ = rw (n-is, s-is) (λ one two few rising. room coords ends from end at w₀ w₁ w₂ rises apart fits one two few rising)
 
   pub index-counted : (w₂ w₃ : List ℕ) (levels : ℕ) → First s → Second s w₂
-      → Chained (chainBy coords (run w₂ (at + 2) s) (run w₂ (at + 2 + s) s) (run w₂ from (end - from)) ends) (chainCount n′) n′ (at + 2 + 2 * s) (at + 2 + 2 * s + chainCount n′) 0 w₂ w₃
+      → Chained (chainBy coords (run w₂ (at + 2) s) (run w₂ (at + 2 + s) s) (run w₂ from (end - from)) ends) (chainCount n′) n′ (at + 2 + 2 * s)
+      (at + 2 + 2 * s + chainCount n′) 0 w₂ w₃
       → levels ≡ above (λ j. spanBy coords (run w₂ (at + 2) s) (run w₂ (at + 2 + s) s) (run w₂ from (end - from)) ends j .level) 0 n′
       → set (set w₃ at s) (at + 1) levels ≡ put w₀ at (indexOf coords (run w₀ from (end - from)) ends)
   index-counted w₂ w₃ levels =

@@ -138,7 +138,8 @@ module _ (coords : List Float) (ends : List ℕ) (from end bounds side n : ℕ) 
           room = room-kept w₀ w₁ room long-filled before-filled;
           low = omega arith;
           chained = link-start (chainIn w₁) (chainCount n) n (bounds + 2 * side) (bounds + 2 * side + chainCount n) w₁ (omega arith) (omega (arith, room .fits, long-filled))
-              (λ c b. at (bounds + 2 * side + c) ∙ put-in w₀ (bounds + 2 * side) (omega (arith, room .fits)) none c 0 (omega (arith, length-none)) ∙ getD-each (chainCount n) (λ _. n) c 0 b);
+              (λ c b. at (bounds + 2 * side + c) ∙ put-in w₀ (bounds + 2 * side) (omega (arith, room .fits)) none c 0 (omega (arith, length-none)) ∙ getD-each
+              (chainCount n) (λ _. n) c 0 b);
           highest = ap (above (λ i. spanIn w₁ i .level) n) (sym z);
           few = omega arith;
         }
@@ -150,7 +151,8 @@ module _ (coords : List Float) (ends : List ℕ) (from end bounds side n : ℕ) 
         let z : 0 ≡ j = omega arith in
         let none-left : n - j ≡ n = omega arith in
         let k : Chained (chainIn w₁) (chainCount n) n (bounds + 2 * side) (bounds + 2 * side + chainCount n) 0 w₁ w = rw z (inv .chained) in
-        let r : Chained (chainIn w₀) (chainCount n) n (bounds + 2 * side) (bounds + 2 * side + chainCount n) 0 w₁ w = rw (sym (chains-same w₀ w₁ room long-filled before-filled)) k in
+        let r : Chained (chainIn w₀) (chainCount n) n (bounds + 2 * side) (bounds + 2 * side + chainCount n) 0 w₁ w = rw
+        (sym (chains-same w₀ w₁ room long-filled before-filled)) k in
         let all : levels ≡ above (λ i. spanIn w₁ i .level) 0 (n - j) = rw z (inv .highest) in (
           record {
             long = r .long ∙ long-filled;
@@ -177,7 +179,7 @@ module _ (coords : List Float) (ends : List ℕ) (from end bounds side n : ℕ) 
         let so-far : levels ≡ above (λ i. spanIn w₁ i .level) (q + 1) (n - (q + 1)) = rw back (inv .highest) in
         let all : ℕ = thingCount (run w₁ from (end - from)) ends in
         let chain-fits : chainIn w₁ q < chainCount n =
-            omega (arith, inv .room .count, chain-low (chainCount all) (spanIn w₁ q) (spanIn w₁ q .x0) (spanIn w₁ q .y0) (omega arith)) in
+        omega (arith, inv .room .count, chain-low (chainCount all) (spanIn w₁ q) (spanIn w₁ q .x0) (spanIn w₁ q .y0) (omega arith)) in
         let level : l ≡ spanIn w₁ q .level = l-is ∙ ap (λ (g : ℕ → Span). g q .level) (spans-same w₁ w (inv .room) (inv .chained .long) (inv .chained .before)) in
         let chain : chainIn w q ≡ chainIn w₁ q = ap (λ (g : ℕ → ℕ). g q) (chains-same w₁ w (inv .room) (inv .chained .long) (inv .chained .before)) in
         record {

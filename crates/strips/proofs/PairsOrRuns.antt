@@ -1,15 +1,13 @@
 -- The things, by whether there are ends. Assumes nothing.
-use mathlib.Core.Path.{_≡_, refl, sym, ap, ap₂, _∙_}
+use mathlib.Core.Path.{_≡_, refl, sym, ap, _∙_}
 use mathlib.Core.List.{List, [], _∷_}
-use Prim.Native.Nat.{ℕ, zero, suc, _+_, _*_, _-_, _/_, _≤_, _<_}
+use Prim.Native.Nat.{ℕ, zero, suc, _+_, _*_, _-_, _/_, _<_}
 use native.Mathlib.Omega.{arith}
 use lib.ListN.{length, getD, take, drop}
 use lib.Ieee.{Float}
 use Rattle.lists.specs.Regions.{run}
-use Rattle.cutting.specs.Edges.{Edge, edgeAt}
-use Rattle.cutting.specs.Lent.{pairs}
 use Rattle.cutting.proofs.Pairs.{pairs-at}
-use Rattle.entry.specs.Mesh.{prior, cellSize, Rising}
+use Rattle.entry.specs.Mesh.{prior}
 use Rattle.rules.specs.declared.Bounds.{Bounds}
 use Rattle.rules.specs.SpatialIndex.{boxOf, edgeBox}
 use Rattle.strips.specs.Things.{thingCount, startOf, thingBox}

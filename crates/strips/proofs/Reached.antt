@@ -1,16 +1,15 @@
 -- A thing whose box meets a box is on one of the chains that a search goes over. Assumes nothing.
-use mathlib.Core.Path.{_≡_, refl, sym, ap, ap₂, _∙_}
-use mathlib.Core.Bool.{Bool, true, false, cond, _&&_, _||_, true≢false}
+use mathlib.Core.Path.{_≡_, refl, ap, ap₂, _∙_}
+use mathlib.Core.Bool.{Bool, true, false, cond, _&&_}
 use mathlib.Core.List.{List, [], _∷_, _++_, List·Memᴰ, List·Memᴰ·head, Memᴰ·append-left, Memᴰ·append-right}
 use Prim.Native.Nat.{ℕ, zero, suc, _+_, _*_, _-_, _/_, _≤_, _<_, max}
 use native.Mathlib.Nat.{le-max-left, le-max-right}
 use native.Mathlib.Decide.{ℕ-discrete}
 use native.Mathlib.Omega.{arith}
-use lib.Dec.{ltb, eqb}
+use lib.Dec.{ltb}
 use lib.ListN.{length, getD}
 use lib.Ieee.{Float, le}
 use borrow.Author.Tests.{ltb-false, eq-eqb}
-use Rattle.lists.specs.Gather.{gathered, places}
 use Rattle.lists.proofs.Search.{and-true, or-false}
 use Rattle.lists.proofs.Gather.{in-gathered}
 use Rattle.rules.specs.declared.Bounds.{Bounds}
@@ -95,8 +94,8 @@ level-rises (suc f) s = go (isWide s) (level-rises f (halved s))
     go false ih = omega arith
 
 module _ (f : ℕ → ℕ) (n h j : ℕ) (low : j < n) where
-  on-chain : (c : ℕ) → f j ≡ c → List·Memᴰ j (onChains f n h c)
-  on-chain c e = in-gathered n (λ i. cond (onChain f n c i) (i ∷ []) []) j j low (rw (eq-eqb (f j) c e) (List·Memᴰ·head refl))
+  on-chain : (c : ℕ) → f j ≡ c → List·Memᴰ j (onChains f n c)
+  on-chain c e = in-gathered n (λ i. cond (onChain f c i) (i ∷ []) []) j j low (rw (eq-eqb (f j) c e) (List·Memᴰ·head refl))
 
   -- on this level
   on-level : (s t : Span) → Touch s t → isWide s ≡ false → f j ≡ squareChain h s (s .x0) (s .y0) → List·Memᴰ j (inLevel f n h t)
@@ -108,9 +107,9 @@ module _ (f : ℕ → ℕ) (n h j : ℕ) (low : j < n) where
       let x : s .x0 ≡ t .x0 - 1 + i = omega (arith, touch .x-high, w .0) in
       let y : s .y0 ≡ t .y0 - 1 + k = omega (arith, touch .y-high, w .1) in
       let place : s .at + s .y0 * s .side + s .x0 ≡ t .at + (t .y0 - 1 + k) * t .side + (t .x0 - 1 + i) =
-          ap₂ (λ (a d : ℕ). a + s .y0 * d + s .x0) (touch .at-same) (touch .side-same) ∙ ap₂ (λ (p q : ℕ). t .at + p * t .side + q) y x in
+      ap₂ (λ (a d : ℕ). a + s .y0 * d + s .x0) (touch .at-same) (touch .side-same) ∙ ap₂ (λ (p q : ℕ). t .at + p * t .side + q) y x in
       in-gathered (t .y1 + 1 - (t .y0 - 1)) (λ m. inRow f n h t (t .y0 - 1 + m)) j k (omega (arith, touch .y-low, touch .y-high, w .1))
-      (in-gathered (t .x1 + 1 - (t .x0 - 1)) (λ m. onChains f n h (squareChain h t (t .x0 - 1 + m) (t .y0 - 1 + k))) j i (omega (arith, touch .x-low, touch .x-high, w .0))
+      (in-gathered (t .x1 + 1 - (t .x0 - 1)) (λ m. onChains f n (squareChain h t (t .x0 - 1 + m) (t .y0 - 1 + k))) j i (omega (arith, touch .x-low, touch .x-high, w .0))
       (on-chain (squareChain h t (t .x0 - 1 + i) (t .y0 - 1 + k)) (e ∙ ap (λ (c : ℕ). cond (ltb c h) c 0) place)))
 
   -- on one of the next m levels
@@ -118,7 +117,8 @@ module _ (f : ℕ → ℕ) (n h j : ℕ) (low : j < n) where
       → f j ≡ squareChain h (narrowed fuel s) (narrowed fuel s .x0) (narrowed fuel s .y0) → List·Memᴰ j (inLevels f n h t m)
   unfolding inLevels
   on-levels fuel zero s t far touch l e = absurd (omega (arith, l, level-rises fuel s))
-  on-levels zero (suc m) s t far touch l e = Memᴰ·append-left (inLevels f n h (halved t) m) (on-level s t touch (flat (isWide s) refl) (e ∙ ap (λ (u : Span). squareChain h u (u .x0) (u .y0)) (narrowed-zero s)))
+  on-levels zero (suc m) s t far touch l e = Memᴰ·append-left (inLevels f n h (halved t) m)
+      (on-level s t touch (flat (isWide s) refl) (e ∙ ap (λ (u : Span). squareChain h u (u .x0) (u .y0)) (narrowed-zero s)))
     where
       flat : (b : Bool) → isWide s ≡ b → isWide s ≡ false
       flat false w = w

@@ -1,21 +1,22 @@
 -- Numbers that rise, and one put among them. Assumes nothing.
 use mathlib.Core.Path.{_≡_, refl, sym, ap, ap₂, _∙_}
 use mathlib.Core.Bool.{Bool, true, false, cond, _&&_, true≢false}
-use mathlib.Core.List.{List, [], _∷_, _++_, append-nil}
+use mathlib.Core.List.{List, [], _∷_, _++_}
 use Prim.Native.Nat.{ℕ, zero, suc, _+_, _-_, _≤_, _<_}
 use native.Mathlib.Nat.{le-antisymm, min-le-left, min-le-right}
-use native.Mathlib.Decide.{decLt, decLe, ℕ-discrete}
+use native.Mathlib.Decide.{decLt}
 use native.Mathlib.Omega.{arith}
 use lib.Dec.{ltb, leb, eqb}
 use lib.ListN.{length, getD, take, drop, length-take}
 use lib.Seq.{take-all, take-at, take-take, getD-take, length-take-le}
-use borrow.Author.Tests.{ltb-true, ltb-false, eqb-true, eqb-false, lt-ltb, le-ltb, le-leb, lt-leb, leb-true, leb-false}
+use borrow.Author.Tests.{ltb-true, ltb-false, eqb-false, lt-ltb, le-ltb, le-leb, lt-leb}
 use Rattle.lists.specs.Search.{seek, first}
 use Rattle.lists.specs.Regions.{front, putIn, insertAt}
 use Rattle.lists.proofs.Search.{first-hit, first-some, first-le, first-here, first-shift}
 use Rattle.lists.proofs.Insert.{insertAt-fits, length-putIn}
 use Rattle.lists.proofs.Regions.{front-take, front-front, length-front, take-front-of}
-use Rattle.strips.specs.Gathering.{FrontIs, Rises, putRising}
+use Rattle.strips.specs.Meeting.{FrontIs}
+use Rattle.strips.specs.Gathering.{Rises, putRising}
 
 -- ---- where it goes
 
@@ -166,7 +167,7 @@ module _ (found : List ℕ) (k p v : ℕ) (low : k ≤ length found) (p-is : p �
       let short : take (k - 1) xs ≡ take (k - 1) found = take-take (k - 1) k found (omega arith) in
       let n : length (take (k - 1) found) ≡ k - 1 = length-take-le (k - 1) found (omega arith) in
       let made : take (length found) (putRising v xs) ≡ putIn p v (take (k - 1) found) =
-          ap₂ take m (not-there e) ∙ take-putIn v p (k - 1) xs (omega arith) (omega (arith, length-xs)) ∙ ap (putIn p v) short in
+      ap₂ take m (not-there e) ∙ take-putIn v p (k - 1) xs (omega arith) (omega (arith, length-xs)) ∙ ap (putIn p v) short in
       held-as (putIn p v (take (k - 1) found)) found′ k made
       record {
         count = sym (length-putIn p v (take (k - 1) found) (omega (arith, n)) ∙ omega (arith, n));
@@ -182,7 +183,7 @@ module _ (found : List ℕ) (k p v : ℕ) (low : k ≤ length found) (p-is : p �
       let m : length found ≡ k = omega (arith, low) in
       let whole : take p xs ≡ xs = take-all p xs (omega (arith, length-xs)) in
       let made : take (length found) (putRising v xs) ≡ xs =
-          ap₂ take m (not-there e ∙ ap (λ (u : List ℕ). u ++ v ∷ drop p xs) whole) ∙ take-at xs (v ∷ drop p xs) k length-xs in
+      ap₂ take m (not-there e ∙ ap (λ (u : List ℕ). u ++ v ∷ drop p xs) whole) ∙ take-at xs (v ∷ drop p xs) k length-xs in
       held-as xs found k made (front-here found k low)
 
 -- ---- they go on rising

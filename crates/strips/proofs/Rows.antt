@@ -1,15 +1,14 @@
 -- The squares that a search goes over: row by row, level by level. Assumes nothing.
-use mathlib.Core.Path.{_≡_, refl, sym, ap, _∙_}
+use mathlib.Core.Path.{_≡_, sym, ap, _∙_}
 use mathlib.Core.Bool.{Bool}
-use mathlib.Core.List.{List, [], _∷_, _++_, append-nil, append-assoc}
-use Prim.Native.Nat.{ℕ, zero, suc, _+_, _-_, _≤_, _<_}
+use mathlib.Core.List.{List, [], _++_, append-nil, append-assoc}
+use Prim.Native.Nat.{ℕ, suc, _+_, _-_, _≤_, _<_}
 use native.Mathlib.Omega.{arith}
 use lib.ListN.{length, take}
-use Rattle.lists.specs.Gather.{gathered}
 use Rattle.strips.specs.declared.squares.Span.{Span}
 use Rattle.strips.specs.Squares.{halved, squareChain, Small}
-use Rattle.strips.specs.Gathering.{FrontIs, Rises, withThings, onChains, inRow, inLevel, inLevels}
-use Rattle.strips.proofs.Rising.{front-here}
+use Rattle.strips.specs.Meeting.{FrontIs}
+use Rattle.strips.specs.Gathering.{Rises, withThings, onChains, inRow, inLevel, inLevels}
 use Rattle.strips.proofs.Gathered.{Holds, holds-none, holds-more, holds-long, holds-rises}
 use Rattle.strips.proofs.Walk.{Going, going-start, going-turn, going-end}
 
@@ -18,22 +17,23 @@ module _ (f : ℕ → ℕ) (n h : ℕ) (p : ℕ → Bool) where
 
   module _ (s : Span) (y k : ℕ) (found₀ : List ℕ) where
     abbrev squares : ℕ → List ℕ
-    squares i = onChains f n h (squareChain h s (s .x0 - 1 + i) y)
+    squares i = onChains f n (squareChain h s (s .x0 - 1 + i) y)
 
     -- the squares before x have been gone over
     abbrev pub InRow : ℕ → ℕ → List ℕ → Type 0
-    InRow x r found = Going p (λ i. onChains f n h (squareChain h s (s .x0 - 1 + i) y)) (s .x0 - 1) (s .x1) k found₀ x r found
+    InRow x r found = Going p (λ i. onChains f n (squareChain h s (s .x0 - 1 + i) y)) (s .x0 - 1) (s .x1) k found₀ x r found
 
     pub row-start : (x : ℕ) → k ≤ length found₀ → x ≡ s .x0 - 1 → InRow x k found₀
     row-start x fits e = rw e (going-start p squares (s .x0 - 1) (s .x1) k found₀ fits)
 
     pub row-turn : (x c r q : ℕ) (found found′ : List ℕ) → k ≤ length found₀ → InRow x r found → x ≤ s .x1 → c ≡ squareChain h s x y
-        → FrontIs (withThings (length found) p (take r found) (onChains f n h c)) found q found′ → InRow (x + 1) q found′
+        → FrontIs (withThings (length found) p (take r found) (onChains f n c)) found q found′ → InRow (x + 1) q found′
     row-turn x c r q found found′ fits inv l e next =
         let z : x ≡ s .x0 - 1 + (x - (s .x0 - 1)) = omega (arith, inv .from) in
-        going-turn p squares (s .x0 - 1) (s .x1) k found₀ fits x r q (onChains f n h c) found found′ inv l (ap (onChains f n h) (e ∙ ap (λ (i : ℕ). squareChain h s i y) z)) next
+        going-turn p squares (s .x0 - 1) (s .x1) k found₀ fits x r q (onChains f n c) found found′ inv l (ap (onChains f n) (e ∙ ap (λ (i : ℕ). squareChain h s i y) z)) next
 
-    pub row-end : (x r : ℕ) (found : List ℕ) → k ≤ length found₀ → InRow x r found → s .x1 < x → FrontIs (withThings (length found₀) p (take k found₀) (inRow f n h s y)) found₀ r found
+    pub row-end : (x r : ℕ) (found : List ℕ) → k ≤ length found₀ → InRow x r found → s .x1 < x
+        → FrontIs (withThings (length found₀) p (take k found₀) (inRow f n h s y)) found₀ r found
     unfolding inRow
     row-end x r found fits inv l = going-end p squares (s .x0 - 1) (s .x1) k found₀ fits x r found inv l
 
@@ -56,7 +56,8 @@ module _ (f : ℕ → ℕ) (n h : ℕ) (p : ℕ → Bool) where
         let z : y ≡ s .y0 - 1 + (y - (s .y0 - 1)) = omega (arith, inv .from) in
         going-turn p rows (s .y0 - 1) (s .y1) k found₀ fits y r q (inRow f n h s y) found found′ inv l (ap (inRow f n h s) z) next
 
-    pub level-end : (y r : ℕ) (found : List ℕ) → k ≤ length found₀ → InLevel y r found → s .y1 < y → FrontIs (withThings (length found₀) p (take k found₀) (inLevel f n h s)) found₀ r found
+    pub level-end : (y r : ℕ) (found : List ℕ) → k ≤ length found₀ → InLevel y r found → s .y1 < y
+        → FrontIs (withThings (length found₀) p (take k found₀) (inLevel f n h s)) found₀ r found
     unfolding inLevel
     level-end y r found fits inv l = going-end p rows (s .y0 - 1) (s .y1) k found₀ fits y r found inv l
 

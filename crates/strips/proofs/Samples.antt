@@ -1,12 +1,12 @@
 -- The samples and the nodes at which strips begin, as they are made. Assumes nothing.
 use mathlib.Core.Path.{_≡_, refl, sym, ap, ap₂, _∙_}
 use mathlib.Core.Bool.{Bool}
-use mathlib.Core.List.{List, [], _∷_, _++_, append-nil}
+use mathlib.Core.List.{List, _++_, append-nil}
 use Prim.Native.Nat.{ℕ, _+_, _*_, _-_, _/_, _≤_, _<_, min}
 use native.Mathlib.Nat.{le-antisymm}
 use native.Mathlib.Omega.{arith}
-use lib.ListN.{length, getD, set, take, drop, length-append, length-drop, length-set, drop-of-length-le}
-use lib.Seq.{take-all, getD-take, getD-drop, length-take-le}
+use lib.ListN.{length, getD, set, take, drop, length-drop, length-set, drop-of-length-le}
+use lib.Seq.{take-all, getD-take, length-take-le}
 use lib.Ieee.{Float, lt}
 use Rattle.lists.specs.Search.{first}
 use Rattle.lists.specs.Gather.{gathered, each}
@@ -15,21 +15,7 @@ use Rattle.lists.specs.Regions.{run, front, put, insertAt}
 use Rattle.lists.proofs.Search.{first-ext}
 use Rattle.lists.proofs.Gather.{each-more, length-each}
 use Rattle.lists.proofs.Sort.{insertAt-is, length-insert, length-sorted, sorted-snoc}
-use Rattle.lists.proofs.Regions.{
-  length-front,
-  length-run,
-  run-put,
-  run-before,
-  run-behind,
-  put-none,
-  put-put,
-  put-store,
-  put-before,
-  put-in,
-  put-behind,
-  length-put,
-  part-back,
-}
+use Rattle.lists.proofs.Regions.{length-front, run-put, run-before, run-behind, put-none, put-put, put-store, put-before, put-behind, length-put, part-back}
 use Rattle.strips.specs.Things.{thingCount, startOf}
 use Rattle.strips.specs.Squares.{coordinateOf}
 use Rattle.strips.specs.Index.{sideOf, isBefore, sampleCount, sampleNode, samplesOf, picked, boundsOf}
@@ -83,10 +69,10 @@ module _ (before : ℕ → ℕ → Bool) (w : List ℕ) (to i v p : ℕ) (fits :
       let z : to + i - to ≡ i = omega arith in
       let n : length (take i D) ≡ i = length-take-le i D (omega (arith, long)) in
       let q : p ≡ first (λ k. before v (getD D k 0)) 0 i =
-          p-is ∙ ap (λ (m : ℕ). first (λ k. before v (getD (take m D) k 0)) 0 (length (take m D))) z ∙ ap (first (λ k. before v (getD (take i D) k 0)) 0) n
-          ∙ first-ext _ _ i (λ k h. ap (before v) (getD-take i D k 0 h)) in
+      p-is ∙ ap (λ (m : ℕ). first (λ k. before v (getD (take m D) k 0)) 0 (length (take m D))) z ∙ ap (first (λ k. before v (getD (take i D) k 0)) 0) n
+      ∙ first-ext _ _ i (λ k h. ap (before v) (getD-take i D k 0 h)) in
       let made : l ≡ front D (insert before v (take i D)) =
-          l-is ∙ ap (λ (u : List ℕ). insertAt u i p v) L-is ∙ insertAt-is before D i p v 0 (omega (arith, long)) q in
+      l-is ∙ ap (λ (u : List ℕ). insertAt u i p v) L-is ∙ insertAt-is before D i p v 0 (omega (arith, long)) q in
       let short : length (insert before v (take i D)) ≤ length D = omega (arith, length-insert before v (take i D), n, long) in
       let whole : length l ≡ length w - to = ap length made ∙ length-front D (insert before v (take i D)) short ∙ long in
       w-is ∙ part-back w l to (length w - to) whole ∙ ap (put w to) made ∙ put-front w (insert before v (take i D)) to short
@@ -111,17 +97,19 @@ module _ (coords : List Float) (nodes ends : List ℕ) (axis k to : ℕ) (w₀ :
     unfolding gathered sortOnto
     sorting-start = record { low = omega arith; long = refl; held = sym (put-none w₀ to) }
 
-    pub sorting-turn : (i v : ℕ) (w w′ : List ℕ) → Sorting i w → i < k → v ≡ sampleNode nodes ends k i → w′ ≡ put w to (insert (isBefore coords axis) v (run w to i)) → Sorting (i + 1) w′
+    pub sorting-turn : (i v : ℕ) (w w′ : List ℕ) → Sorting i w → i < k → v ≡ sampleNode nodes ends k i
+        → w′ ≡ put w to (insert (isBefore coords axis) v (run w to i)) → Sorting (i + 1) w′
     sorting-turn i v w w′ inv h v-is w-is =
         let B = isBefore coords axis in
         let n : length (firsts i) ≡ i = length-firsts i in
         let there : run w to i ≡ firsts i = ap (λ (u : List ℕ). run u to i) (inv .held) ∙ run-put w₀ to (omega arith) (firsts i) i n in
         let next : insert B v (firsts i) ≡ firsts (i + 1) =
-            ap (λ (x : ℕ). insert B x (firsts i)) v-is ∙ sym (sorted-snoc B (each i (sampleNode nodes ends k)) (sampleNode nodes ends k i))
-            ∙ ap (sorted B) (sym (each-more i (sampleNode nodes ends k))) in
+        ap (λ (x : ℕ). insert B x (firsts i)) v-is ∙ sym (sorted-snoc B (each i (sampleNode nodes ends k)) (sampleNode nodes ends k i))
+        ∙ ap (sorted B) (sym (each-more i (sampleNode nodes ends k))) in
         let made : w′ ≡ put w₀ to (firsts (i + 1)) =
-            w-is ∙ ap₂ (λ (u xs : List ℕ). put u to (insert B v xs)) (inv .held) there ∙ put-put w₀ to (omega arith) (firsts i) (insert B v (firsts i)) (omega (arith, length-insert B v (firsts i)))
-            ∙ ap (put w₀ to) next in
+        w-is ∙ ap₂ (λ (u xs : List ℕ). put u to (insert B v xs)) (inv .held) there ∙ put-put w₀ to (omega arith) (firsts i) (insert B v (firsts i))
+        (omega (arith, length-insert B v (firsts i)))
+        ∙ ap (put w₀ to) next in
         record { low = omega arith; long = ap length made ∙ length-put w₀ to (omega arith) (firsts (i + 1)) (omega (arith, length-firsts (i + 1))); held = made }
 
     pub sorting-end : (i : ℕ) (w : List ℕ) → Sorting i w → k ≤ i → w ≡ put w₀ to (samplesOf coords nodes ends axis k)
@@ -150,11 +138,12 @@ module _ (w₀ : List ℕ) (scratch k to side : ℕ) where
     unfolding gathered
     picking-start = record { low = omega arith; long = refl; held = sym (put-none w₀ to) }
 
-    pub picking-turn : (t v : ℕ) (w : List ℕ) → Picking t w → t < side → v ≡ getD (take (scratch + k - scratch) (drop scratch w)) (t * k / side) 0 → Picking (t + 1) (set w (to + t) v)
+    pub picking-turn : (t v : ℕ) (w : List ℕ) → Picking t w → t < side → v ≡ getD (take (scratch + k - scratch) (drop scratch w)) (t * k / side) 0
+        → Picking (t + 1) (set w (to + t) v)
     picking-turn t v w inv h v-is =
         let n : length (each t one) ≡ t = length-each t one in
         let same : take (scratch + k - scratch) (drop scratch w) ≡ run w₀ scratch k =
-            part-of w scratch k ∙ ap (λ (u : List ℕ). run u scratch k) (inv .held) ∙ run-behind w₀ to (omega arith) (each t one) scratch k (omega (arith, n)) in
+        part-of w scratch k ∙ ap (λ (u : List ℕ). run u scratch k) (inv .held) ∙ run-behind w₀ to (omega arith) (each t one) scratch k (omega (arith, n)) in
         let is : v ≡ one t = v-is ∙ ap (λ (u : List ℕ). getD u (t * k / side) 0) same in
         record {
           low = omega arith;

@@ -1,22 +1,22 @@
 -- The index read, and what a search over its chains finds. Assumes nothing.
-use mathlib.Core.Path.{_≡_, refl, sym, ap, ap₂, _∙_}
-use mathlib.Core.Bool.{Bool, true, false, cond, true≢false}
-use mathlib.Core.List.{List, [], _∷_, _++_, List·Memᴰ, List·Memᴰ·not-nil, List·Memᴰ·cases-cons, List·Memᴰ·append-cases}
+use mathlib.Core.Path.{_≡_, refl, ap, ap₂, _∙_}
+use mathlib.Core.Bool.{Bool, true, false, cond}
+use mathlib.Core.List.{List, [], _∷_, List·Memᴰ, List·Memᴰ·not-nil, List·Memᴰ·cases-cons, List·Memᴰ·append-cases}
 use mathlib.Core.Logic.{_⊎_, inl, inr}
-use Prim.Native.Nat.{ℕ, zero, suc, _+_, _*_, _-_, _≤_, _<_, max}
+use Prim.Native.Nat.{ℕ, zero, suc, _+_, _-_, _≤_, _<_}
 use native.Mathlib.Nat.{max-le}
 use native.Mathlib.Omega.{arith}
 use lib.ListN.{length, getD, take, drop, length-drop}
 use lib.Seq.{take-all}
 use lib.Ieee.{Float}
-use Rattle.lists.specs.Gather.{gathered}
 use Rattle.lists.proofs.Gather.{gathered-at}
 use Rattle.rules.specs.declared.Bounds.{Bounds}
 use Rattle.strips.specs.declared.squares.Span.{Span}
 use Rattle.strips.specs.Things.{thingCount, thingBox, thingMeets}
 use Rattle.strips.specs.Squares.{spanOf, halved, isWide, narrowed, squareChain}
-use Rattle.strips.specs.Index.{sideOf, chainCount, indexSize, boundsOf, spanBy, chainBy, onChain, linksOf, above, chainAt, levelCount, indexOf, Indexed}
-use Rattle.strips.specs.Gathering.{thingsMeeting, FrontIs, withThings, isWanted, onChains, inRow, inLevel, inLevels, Links, Chains}
+use Rattle.strips.specs.Index.{sideOf, chainCount, indexSize, boundsOf, spanBy, chainBy, onChain, linksOf, above, chainAt, levelCount, Indexed}
+use Rattle.strips.specs.Meeting.{thingsMeeting}
+use Rattle.strips.specs.Gathering.{withThings, isWanted, onChains, inRow, inLevel, inLevels, Chains}
 use Rattle.strips.proofs.Sizes.{side-range}
 use Rattle.strips.proofs.IndexAt.{length-bounds, length-links, links-head, links-next, length-index, index-side, index-levels, index-x, index-y, index-links}
 use Rattle.strips.proofs.Reached.{touch-start, reach-small, on-levels, above-each}
@@ -41,10 +41,10 @@ above-low g b k (suc m) h = max-le {a = g k + 1} {b = above g (suc k) m} {k = b 
 -- ---- things on chains are below n
 
 module _ (f : ℕ → ℕ) (n h j : ℕ) where
-  on-chain-low : (c : ℕ) → List·Memᴰ j (onChains f n h c) → j < n
+  on-chain-low : (c : ℕ) → List·Memᴰ j (onChains f n c) → j < n
   on-chain-low c m =
-      let r = gathered-at n (λ i. cond (onChain f n c i) (i ∷ []) []) j m in
-      one (r .0) (r .1) (onChain f n c (r .0)) (r .2)
+      let r = gathered-at n (λ i. cond (onChain f c i) (i ∷ []) []) j m in
+      one (r .0) (r .1) (onChain f c (r .0)) (r .2)
     where
       is : (i : ℕ) → i < n → (j ≡ i) ⊎ List·Memᴰ j [] → j < n
       is i l (inl e) = omega (arith, e, l)
@@ -58,7 +58,7 @@ module _ (f : ℕ → ℕ) (n h j : ℕ) where
   unfolding inLevel inRow
   level-low s m =
       let row = gathered-at (s .y1 + 1 - (s .y0 - 1)) (λ i. inRow f n h s (s .y0 - 1 + i)) j m in
-      let square = gathered-at (s .x1 + 1 - (s .x0 - 1)) (λ i. onChains f n h (squareChain h s (s .x0 - 1 + i) (s .y0 - 1 + row .0))) j (row .2) in
+      let square = gathered-at (s .x1 + 1 - (s .x0 - 1)) (λ i. onChains f n (squareChain h s (s .x0 - 1 + i) (s .y0 - 1 + row .0))) j (row .2) in
       on-chain-low (squareChain h s (s .x0 - 1 + square .0) (s .y0 - 1 + row .0)) (square .2)
 
   levels-low : (m : ℕ) (s : Span) → List·Memᴰ j (inLevels f n h s m) → j < n
@@ -107,9 +107,11 @@ module _ (coords : List Float) (nodes ends : List ℕ) where
       (omega (arith, small .0, small .1, length-bounds coords nodes ends 0, length-bounds coords nodes ends 1, side-range n .1)) (touch-start coords X Y some-x some-y e b meets)
       (omega (arith, level-zero e, above-each (λ i. spanBy coords X Y nodes ends i .level) 0 n j (omega arith) (omega (arith, l)))) refl
 
-  pub search-found : (most : ℕ) (b : Bounds) (from h levels : ℕ) (s : Span) → h ≡ chainCount (thingCount nodes ends) → s ≡ spanOf coords (boundsOf coords nodes ends 0) (boundsOf coords nodes ends 1) b
+  pub search-found : (most : ℕ) (b : Bounds) (from h levels : ℕ) (s : Span) → h ≡ chainCount (thingCount nodes ends)
+      → s ≡ spanOf coords (boundsOf coords nodes ends 0) (boundsOf coords nodes ends 1) b
       → levels ≡ levelCount coords nodes ends
-      → withThings most (isWanted coords nodes ends b from) [] (inLevels (chainAt coords nodes ends) (thingCount nodes ends) h s levels) ≡ take most (thingsMeeting coords nodes ends b from)
+      → withThings most (isWanted coords nodes ends b from) [] (inLevels (chainAt coords nodes ends) (thingCount nodes ends) h s levels) ≡ take most
+      (thingsMeeting coords nodes ends b from)
   search-found most b from h levels s h-is s-is levels-is = rw (h-is, s-is, levels-is)
       (all-found most (thingMeets coords nodes ends b) from n
       (inLevels (chainAt coords nodes ends) n (chainCount n) (spanOf coords X Y b) (levelCount coords nodes ends))
@@ -146,12 +148,12 @@ module _ (coords : List Float) (nodes ends : List ℕ) where
 
       pub chains-read : (h : ℕ) → h ≡ chainCount (thingCount nodes ends) → Chains coords nodes ends (take (length ix - (2 + s + s)) (drop (2 + s + s) ix)) h
       chains-read h h-is = rw (h-is, links-read) (
-        record {
-          rising = indexed .rising;
-          few = indexed .few;
-          chained = record {
-            long = length-links (chainAt coords nodes ends) n (chainCount n);
-            head = links-head (chainAt coords nodes ends) n (chainCount n);
-            next = links-next (chainAt coords nodes ends) n (chainCount n);
-          };
-        })
+          record {
+            rising = indexed .rising;
+            few = indexed .few;
+            chained = record {
+              long = length-links (chainAt coords nodes ends) n (chainCount n);
+              head = links-head (chainAt coords nodes ends) n (chainCount n);
+              next = links-next (chainAt coords nodes ends) n (chainCount n);
+            };
+          })

@@ -1,7 +1,7 @@
 -- How many strips there are, and how large the index is. Assumes nothing.
 use mathlib.Core.Path.{_≡_, refl, sym, _∙_}
 use mathlib.Core.Bool.{Bool, false}
-use Prim.Native.Nat.{ℕ, _+_, _*_, _-_, _/_, _≤_, _<_, min}
+use Prim.Native.Nat.{ℕ, _+_, _*_, _-_, _/_, _≤_, _<_}
 use native.Mathlib.Nat.{mul-le-mul, mul-le-mul-right, div-le-of-le-mul, le-mul-of-pos-right}
 use native.Mathlib.Decide.{decLe}
 use native.Mathlib.Omega.{arith}
@@ -9,7 +9,7 @@ use lib.Dec.{ltb}
 use borrow.Author.Tests.{lt-ltb, le-ltb, ltb-false}
 use Rattle.lists.specs.Search.{first}
 use Rattle.lists.proofs.Search.{first-on, first-here, first-end, first-none, first-from, first-le}
-use Rattle.strips.specs.Index.{sideOf, chainCount, indexSize}
+use Rattle.strips.specs.Index.{sideOf, indexSize}
 
 -- n is below the square of the next number
 abbrev below : ℕ → ℕ → Bool

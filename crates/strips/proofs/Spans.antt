@@ -1,8 +1,8 @@
 -- Spans and their squares: narrowed level by level, and small. Assumes nothing.
 use mathlib.Core.Path.{_≡_, refl, sym, ap, _∙_}
-use mathlib.Core.Bool.{Bool, true, false, cond, _||_, true≢false}
+use mathlib.Core.Bool.{Bool, true, false, _||_, true≢false}
 use mathlib.Core.List.{List}
-use Prim.Native.Nat.{ℕ, zero, suc, _+_, _*_, _-_, _/_, _≤_, _<_}
+use Prim.Native.Nat.{ℕ, zero, suc, _+_, _*_, _-_, _≤_, _<_}
 use native.Mathlib.Nat.{mul-le-mul}
 use native.Mathlib.Omega.{arith}
 use lib.Dec.{ltb}
@@ -99,12 +99,12 @@ way-turn s r t way w e small =
     let far : 2 ≤ r .x1 + r .y1 = wide-far r w in
     let k : 512 - r .level ≡ suc (512 - (r .level + 1)) = omega (arith, way .left) in
     let here : OnWay s (halved r) =
-        record {
-          small = rw (sym e) small;
-          low = omega (arith, way .left);
-          left = omega (arith, way .left);
-          same = sym (narrowed-wide (512 - (r .level + 1)) r w) ∙ ap (λ (f : ℕ). narrowed f r) (sym k) ∙ way .same;
-        } in
+    record {
+      small = rw (sym e) small;
+      low = omega (arith, way .left);
+      left = omega (arith, way .left);
+      same = sym (narrowed-wide (512 - (r .level + 1)) r w) ∙ ap (λ (f : ℕ). narrowed f r) (sym k) ∙ way .same;
+    } in
     rw e here
 
 pub way-end : (s r : Span) → OnWay s r → isWide r ≡ false → r ≡ narrowed 512 s

@@ -42,7 +42,7 @@ strip-mono (suc f) t v w lo n h l =
         → strip f t v (lo + n / 2) (n - n / 2) ≤ strip f t w (lo + n / 2) (n - n / 2) → strip f t v lo (n - n / 2) ≤ strip f t w lo (n - n / 2)
         → strip f t v lo (n - n / 2) < lo + (n - n / 2) → lo + n / 2 ≤ strip f t w (lo + n / 2) (n - n / 2)
         → (let r : ℕ = elim a [ true ↦ strip f t v (lo + n / 2) (n - n / 2) | false ↦ strip f t v lo (n - n / 2) ] in
-           let s : ℕ = elim b [ true ↦ strip f t w (lo + n / 2) (n - n / 2) | false ↦ strip f t w lo (n - n / 2) ] in r ≤ s)
+        let s : ℕ = elim b [ true ↦ strip f t w (lo + n / 2) (n - n / 2) | false ↦ strip f t w lo (n - n / 2) ] in r ≤ s)
     go true true k p q c d = p
     go false false k p q c d = q
     go false true k p q c d = omega arith

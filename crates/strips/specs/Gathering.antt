@@ -1,4 +1,4 @@
--- The things whose boxes meet a box, rising: what `gather` finds, and how it goes over the chains. Assumes nothing.
+-- How `gather` goes over the chains, and puts in one thing after the other: what only inner functions' contracts cite. Assumes nothing.
 use mathlib.Core.Path.{_≡_}
 use mathlib.Core.Bool.{Bool, true, false, cond, _&&_}
 use mathlib.Core.List.{List, [], _∷_, _++_}
@@ -8,26 +8,12 @@ use lib.ListN.{length, take, getD}
 use lib.Ieee.{Float}
 use Rattle.lists.specs.Search.{first}
 use Rattle.lists.specs.Gather.{gathered, places}
-use Rattle.lists.specs.Regions.{front}
 use Rattle.rules.specs.declared.Bounds.{Bounds}
-use Rattle.spatial_index.specs.Candidates.{placesFrom}
 use Rattle.strips.specs.declared.squares.Span.{Span}
 use Rattle.strips.specs.Things.{thingCount, thingMeets}
 use Rattle.strips.specs.Squares.{halved, squareChain}
 use Rattle.entry.specs.Mesh.{Rising}
 use Rattle.strips.specs.Index.{onChain, nextAt, chainAt}
-
--- the things from `from` on whose boxes meet b, rising
-abbrev pub thingsMeeting : List Float → List ℕ → List ℕ → Bounds → ℕ → List ℕ
-thingsMeeting coords nodes ends b from = placesFrom (thingMeets coords nodes ends b) from (thingCount nodes ends)
-
--- a list comes to hold xs in front; the answer is how many they are
-pub record FrontIs (xs out : List ℕ) (r : ℕ) (out′ : List ℕ) : Type 0 where
-  pub count : r ≡ length xs
-  pub fits : r ≤ length out
-  pub held : out′ ≡ front out xs
-
--- ---- one after the other: what only inner functions' contracts cite
 
 -- each is below those behind it
 abbrev pub Rises : List ℕ → Type 0
@@ -51,19 +37,21 @@ module _ (most : ℕ) (p : ℕ → Bool) where
 abbrev pub isWanted : List Float → List ℕ → List ℕ → Bounds → ℕ → ℕ → Bool
 isWanted coords nodes ends b from j = leb from j && thingMeets coords nodes ends b j
 
--- things on chains by f, of h chains
+-- of n things on chains by f those on chain c
+abbrev pub onChains : (ℕ → ℕ) → ℕ → ℕ → List ℕ
+onChains f n c = places (onChain f c) n
+
+-- those on the chains of squares, of h chains
 module _ (f : ℕ → ℕ) (n h : ℕ) where
-  abbrev pub onChains : ℕ → List ℕ
-  onChains c = places (onChain f n c) n
-
-  -- on those of the squares of row y, from the strip before the first that is reached up to the last
+  -- of the squares of row y, from the strip before the first that s reaches up to the last
   unfoldable pub inRow : Span → ℕ → List ℕ
-  inRow s y = gathered (s .x1 + 1 - (s .x0 - 1)) (λ i. onChains (squareChain h s (s .x0 - 1 + i) y))
+  inRow s y = gathered (s .x1 + 1 - (s .x0 - 1)) (λ i. onChains f n (squareChain h s (s .x0 - 1 + i) y))
 
+  -- of the rows from the one before the first that s reaches up to the last
   unfoldable pub inLevel : Span → List ℕ
   inLevel s = gathered (s .y1 + 1 - (s .y0 - 1)) (λ i. inRow s (s .y0 - 1 + i))
 
-  -- on the next m levels
+  -- of m levels, where s is the span on the first of them
   unfoldable pub inLevels : Span → ℕ → List ℕ
   inLevels s zero = []
   inLevels s (suc m) = inLevel s ++ inLevels (halved s) m
@@ -71,7 +59,7 @@ module _ (f : ℕ → ℕ) (n h : ℕ) where
 -- the list holds the heads of h chains by f, and the next one of each of n things
 pub record Links (f : ℕ → ℕ) (n h : ℕ) (links : List ℕ) : Type 0 where
   pub long : length links ≡ h + n
-  pub head : (c : ℕ) → c < h → getD links c 0 ≡ first (onChain f n c) 0 n
+  pub head : (c : ℕ) → c < h → getD links c 0 ≡ first (onChain f c) 0 n
   pub next : (j : ℕ) → j < n → getD links (h + j) 0 ≡ nextAt f n j
 
 -- the list chains these things

@@ -66,18 +66,19 @@ module _ (coords : List Float) (xs ys nodes ends : List ℕ) where
   unfoldable pub chainBy : ℕ → ℕ
   chainBy j = squareChain (chainCount (thingCount nodes ends)) (spanBy j) (spanBy j .x0) (spanBy j .y0)
 
--- things are on chains by f
-module _ (f : ℕ → ℕ) (n : ℕ) where
-  abbrev pub onChain : ℕ → ℕ → Bool
-  onChain c j = eqb (f j) c
+-- thing j is on chain c, by f
+abbrev pub onChain : (ℕ → ℕ) → ℕ → ℕ → Bool
+onChain f c j = eqb (f j) c
 
+-- n things are on chains by f
+module _ (f : ℕ → ℕ) (n : ℕ) where
   -- the first thing on chain c; n where there is none
   abbrev pub headAt : ℕ → ℕ
-  headAt c = first (onChain c) 0 n
+  headAt c = first (onChain f c) 0 n
 
   -- the next one on the chain of thing j
   abbrev pub nextAt : ℕ → ℕ
-  nextAt j = first (onChain (f j)) (j + 1) n
+  nextAt j = first (onChain f (f j)) (j + 1) n
 
   -- the heads of h chains, then the next one of each thing
   unfoldable pub linksOf : ℕ → List ℕ
@@ -95,7 +96,7 @@ module _ (coords : List Float) (nodes ends : List ℕ) where
   abbrev pub chainAt : ℕ → ℕ
   chainAt = chainBy coords (boundsOf coords nodes ends 0) (boundsOf coords nodes ends 1) nodes ends
 
-  -- how many levels have a thing
+  -- how many levels there are: one more than the highest that a thing is on
   abbrev pub levelCount : ℕ
   levelCount = above (λ j. spanBy coords (boundsOf coords nodes ends 0) (boundsOf coords nodes ends 1) nodes ends j .level) 0 (thingCount nodes ends)
 

@@ -3,12 +3,11 @@ use mathlib.Core.Path.{_≡_}
 use mathlib.Core.List.{List}
 use Prim.Native.Nat.{ℕ, _+_, _*_, _-_, _≤_, _<_}
 use lib.ListN.{length, getD, set}
-use lib.Ieee.{Float}
 use Rattle.lists.specs.Search.{first}
 use Rattle.lists.specs.Regions.{run}
 use Rattle.entry.specs.Mesh.{Rising}
 use Rattle.strips.specs.Things.{thingCount}
-use Rattle.strips.specs.Index.{sideOf, chainCount, boundsOf, onChain, nextAt}
+use Rattle.strips.specs.Index.{chainCount, onChain, nextAt}
 
 -- w has become w′: from `to` on stand the nodes at which the strips of one axis begin; else only the n numbers at `scratch` have changed
 pub record Bounded (bounds : List ℕ) (to scratch n : ℕ) (w w′ : List ℕ) : Type 0 where
@@ -25,7 +24,7 @@ headed w heads nexts c j = set (set w (nexts + j) (getD w (heads + c) 0)) (heads
 -- w has become w′: it holds the heads of h chains by f of the n things from q on, and of these the next ones; nothing else has changed
 pub record Chained (f : ℕ → ℕ) (h n heads nexts q : ℕ) (w w′ : List ℕ) : Type 0 where
   pub long : length w′ ≡ length w
-  pub head : (c : ℕ) → c < h → getD w′ (heads + c) 0 ≡ first (onChain f n c) q n
+  pub head : (c : ℕ) → c < h → getD w′ (heads + c) 0 ≡ first (onChain f c) q n
   pub next : (p : ℕ) → q ≤ p → p < n → getD w′ (nexts + p) 0 ≡ nextAt f n p
   pub before : (i : ℕ) → i < heads → getD w′ i 0 ≡ getD w i 0
   pub behind : (i : ℕ) → nexts + n ≤ i → getD w′ i 0 ≡ getD w i 0

@@ -20,7 +20,8 @@ ghost use Rattle.entry.specs.Mesh.{Rising};
 ghost use Rattle.strips.specs.Things.{thingCount};
 ghost use Rattle.strips.specs.Squares.{Small};
 ghost use Rattle.strips.specs.Index.{chainAt, Indexed};
-ghost use Rattle.strips.specs.Gathering.{thingsMeeting, FrontIs, Rises, putRising, withThing, withThings, isWanted, onChains, inRow, inLevel, inLevels, Chains};
+ghost use Rattle.strips.specs.Meeting.{thingsMeeting, FrontIs};
+ghost use Rattle.strips.specs.Gathering.{Rises, putRising, withThing, withThings, isWanted, onChains, inRow, inLevel, inLevels, Chains};
 
 // Where v goes among numbers that rise.
 fn rising_place(found: &[u32], v: u32) -> usize
@@ -78,8 +79,10 @@ fn gather_thing(
     found: &mut [u32],
     k: usize,
 ) -> usize
-    requires { ⌜ (Rising (now ends) (length (now nodes))) × (j < thingCount (now nodes) (now ends)) × (thingCount (now nodes) (now ends) ≤ 65536) × (k ≤ length (now found)) × Rises (take k (now found)) ⌝ }
-    ensures { λ r. ⌜ FrontIs (withThing (length (now (found .entry))) (isWanted (now (coords .entry)) (now (nodes .entry)) (now (ends .entry)) b from) (take k (now (found .entry))) j)
+    requires { ⌜ (Rising (now ends) (length (now nodes))) × (j < thingCount (now nodes) (now ends)) × (thingCount (now nodes) (now ends) ≤ 65536) × (k ≤ length (now found))
+        × Rises (take k (now found)) ⌝ }
+    ensures { λ r. ⌜ FrontIs
+        (withThing (length (now (found .entry))) (isWanted (now (coords .entry)) (now (nodes .entry)) (now (ends .entry)) b from) (take k (now (found .entry))) j)
         (now (found .entry)) r (now (found .exit)) ⌝ }
 {
     if j < from {
@@ -106,7 +109,9 @@ fn gather_chain(
     k: usize,
 ) -> usize
     requires { ⌜ Chains (now coords) (now nodes) (now ends) (now links) h × (c < h) × (k ≤ length (now found)) × Rises (take k (now found)) ⌝ }
-    ensures { λ r. ⌜ FrontIs (withThings (length (now (found .entry))) (isWanted (now (coords .entry)) (now (nodes .entry)) (now (ends .entry)) b from) (take k (now (found .entry))) (onChains (chainAt (now (coords .entry)) (now (nodes .entry)) (now (ends .entry))) (thingCount (now (nodes .entry)) (now (ends .entry))) h c))
+    ensures { λ r. ⌜ FrontIs
+        (withThings (length (now (found .entry))) (isWanted (now (coords .entry)) (now (nodes .entry)) (now (ends .entry)) b from) (take k (now (found .entry)))
+        (onChains (chainAt (now (coords .entry)) (now (nodes .entry)) (now (ends .entry))) (thingCount (now (nodes .entry)) (now (ends .entry))) c))
         (now (found .entry)) r (now (found .exit)) ⌝ }
 {
     let n = links.len() - h;
@@ -144,7 +149,9 @@ fn gather_row(
     k: usize,
 ) -> usize
     requires { ⌜ Chains (now coords) (now nodes) (now ends) (now links) h × (0 < h) × Small s × (y ≤ 256) × (k ≤ length (now found)) × Rises (take k (now found)) ⌝ }
-    ensures { λ r. ⌜ FrontIs (withThings (length (now (found .entry))) (isWanted (now (coords .entry)) (now (nodes .entry)) (now (ends .entry)) b from) (take k (now (found .entry))) (inRow (chainAt (now (coords .entry)) (now (nodes .entry)) (now (ends .entry))) (thingCount (now (nodes .entry)) (now (ends .entry))) h s y))
+    ensures { λ r. ⌜ FrontIs
+        (withThings (length (now (found .entry))) (isWanted (now (coords .entry)) (now (nodes .entry)) (now (ends .entry)) b from) (take k (now (found .entry)))
+        (inRow (chainAt (now (coords .entry)) (now (nodes .entry)) (now (ends .entry))) (thingCount (now (nodes .entry)) (now (ends .entry))) h s y))
         (now (found .entry)) r (now (found .exit)) ⌝ }
 {
     let mut r = k;
@@ -171,7 +178,9 @@ fn gather_level(
     k: usize,
 ) -> usize
     requires { ⌜ Chains (now coords) (now nodes) (now ends) (now links) h × (0 < h) × Small s × (k ≤ length (now found)) × Rises (take k (now found)) ⌝ }
-    ensures { λ r. ⌜ FrontIs (withThings (length (now (found .entry))) (isWanted (now (coords .entry)) (now (nodes .entry)) (now (ends .entry)) b from) (take k (now (found .entry))) (inLevel (chainAt (now (coords .entry)) (now (nodes .entry)) (now (ends .entry))) (thingCount (now (nodes .entry)) (now (ends .entry))) h s))
+    ensures { λ r. ⌜ FrontIs
+        (withThings (length (now (found .entry))) (isWanted (now (coords .entry)) (now (nodes .entry)) (now (ends .entry)) b from) (take k (now (found .entry)))
+        (inLevel (chainAt (now (coords .entry)) (now (nodes .entry)) (now (ends .entry))) (thingCount (now (nodes .entry)) (now (ends .entry))) h s))
         (now (found .entry)) r (now (found .exit)) ⌝ }
 {
     let mut r = k;
@@ -197,7 +206,9 @@ fn gather_levels(
     found: &mut [u32],
 ) -> usize
     requires { ⌜ Chains (now coords) (now nodes) (now ends) (now links) h × (0 < h) × Small first × (first .level ≡ 0) × (levels ≤ 513) ⌝ }
-    ensures { λ r. ⌜ FrontIs (withThings (length (now (found .entry))) (isWanted (now (coords .entry)) (now (nodes .entry)) (now (ends .entry)) b from) [] (inLevels (chainAt (now (coords .entry)) (now (nodes .entry)) (now (ends .entry))) (thingCount (now (nodes .entry)) (now (ends .entry))) h first levels))
+    ensures { λ r. ⌜ FrontIs
+        (withThings (length (now (found .entry))) (isWanted (now (coords .entry)) (now (nodes .entry)) (now (ends .entry)) b from) []
+        (inLevels (chainAt (now (coords .entry)) (now (nodes .entry)) (now (ends .entry))) (thingCount (now (nodes .entry)) (now (ends .entry))) h first levels))
         (now (found .entry)) r (now (found .exit)) ⌝ }
 {
     let mut r: usize = 0;
@@ -222,7 +233,8 @@ pub fn gather(
     found: &mut [u32],
 ) -> usize
     requires { ⌜ Indexed (now coords) (now nodes) (now ends) (now ix) ⌝ }
-    ensures { λ r. ⌜ FrontIs (take (length (now (found .entry))) (thingsMeeting (now (coords .entry)) (now (nodes .entry)) (now (ends .entry)) b from)) (now (found .entry)) r (now (found .exit)) ⌝ }
+    ensures { λ r. ⌜ FrontIs (take (length (now (found .entry))) (thingsMeeting (now (coords .entry)) (now (nodes .entry)) (now (ends .entry)) b from))
+        (now (found .entry)) r (now (found .exit)) ⌝ }
 {
     let n = thing_count(nodes, ends);
     let h = chain_count(n);
@@ -231,5 +243,16 @@ pub fn gather(
     let ys = 2 + side;
     let heads = ys + side;
     let s = span_of(coords, &ix[2..ys], &ix[ys..heads], b);
-    gather_levels(coords, nodes, ends, &ix[heads..], h, b, from, s, levels, found)
+    gather_levels(
+        coords,
+        nodes,
+        ends,
+        &ix[heads..],
+        h,
+        b,
+        from,
+        s,
+        levels,
+        found,
+    )
 }

@@ -8,5 +8,4 @@ mod things;
 pub use building::build;
 pub use building::index_size;
 pub use gathering::gather;
-pub use squares::Span;
 pub use things::thing_count;

@@ -1,13 +1,12 @@
 // The plane cut into strips by x and by y, and their squares on levels: on each level they are twice as wide as on the one before.
 ghost use mathlib.Core.Path.{_≡_};
-ghost use mathlib.Core.Bool.{true};
 ghost use Prim.Native.Nat.{_≤_, _<_};
 ghost use lib.ListN.{length};
 ghost use Rattle.strips.specs.Squares.{coordinateOf, stripOf, spanOf, halved, narrowed, squareChain, Small};
 use rules::Bounds;
 
 // From which strip to which something reaches by x and by y, on a level whose squares have their chains from `at` on, `side` to a row.
-pub struct Span {
+pub(crate) struct Span {
     pub x0: usize,
     pub x1: usize,
     pub y0: usize,

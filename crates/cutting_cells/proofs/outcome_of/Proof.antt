@@ -36,4 +36,5 @@ returns-2 c =
     out-cut (a .coords .now) (a .w .now) (a .g) (a .edges) (a .cell .now) (a .runs .now) (a .stops .now) _ (a .js .now) (t .if1 .left) (cut c .cut-cell .ensures)
 
 pub outcome-of-spec : {M : Type 1} → statement M
-outcome-of-spec = ?
+outcome-of-spec = tie.close (tie.spec (λ c κs. search needs) (λ c. search needs) (λ c. search needs) returns (λ c κs. search needs) (λ c. search needs) (λ c. search needs)
+    returns-2)

@@ -1,11 +1,9 @@
 use mathlib.Core.Path.{ap, _∙_}
 use mathlib.Core.List.{List}
-use Prim.Native.Nat.{ℕ, _+_, _-_, _≤_, _<_}
+use Prim.Native.Nat.{ℕ, _+_, _-_}
 use native.Mathlib.Omega.{arith}
 use lib.ListN.{length, getD, length-set}
-use Rattle.lists.specs.Regions.{run}
 use Rattle.lists.proofs.Regions.{length-run}
-use Rattle.entry.specs.Mesh.{Rising}
 use Rattle.strips.specs.Things.{thingCount}
 use Rattle.strips.specs.declared.squares.Span.{Span}
 use Rattle.strips.proofs.Samples.{part-run}
@@ -21,184 +19,144 @@ use Rattle.strips.proofs.squares.span_of.Reads as span-of-reads
 use Rattle.strips.proofs.squares.square_chain.Reads as square-chain-reads
 use Rattle.strips.proofs.things.thing_bounds.Reads as thing-bounds-reads
 
--- src/building.rt:201:14
-add-ys : tie.Need-add-ys
-add-ys c = search needs
+-- places of the code, each counted once
+abbrev entry : tie.After-chain-count → tie.Start
+entry c = c .before .before .before .before
 
--- src/building.rt:202:17
-add-heads : tie.Need-add-heads
-add-heads c = search needs
+abbrev chain-count-at-thing-bounds-requires : tie.After-thing-bounds-arg → tie.After-chain-count
+chain-count-at-thing-bounds-requires c = c .before .before
 
--- src/building.rt:203:9
-chain-count-requires : tie.Need-chain-count-requires
-chain-count-requires c κs = search needs
+abbrev chain-count-of-thing-bounds : tie.After-thing-bounds → tie.After-chain-count
+chain-count-of-thing-bounds c = c .before .before .before
 
--- src/building.rt:204:34
-mul-thing-bounds : tie.Need-mul-thing-bounds
-mul-thing-bounds c = search needs
+abbrev thing-bounds-of-span-of : tie.After-span-of → tie.After-thing-bounds
+thing-bounds-of-span-of c = c .before .before .before .before
 
--- src/building.rt:204:34
-sub-thing-bounds : tie.Need-sub-thing-bounds
-sub-thing-bounds c = search needs
+abbrev span-of-of-narrowed : tie.After-narrowed → tie.After-span-of
+span-of-of-narrowed c = c .before
 
--- src/building.rt:204:34
-part-thing-bounds-start : tie.Need-part-thing-bounds-start
-part-thing-bounds-start c = search needs
+abbrev narrowed-at-add-next : tie.After-square-chain → tie.After-narrowed
+narrowed-at-add-next c = c .before
 
--- src/building.rt:204:34
-part-thing-bounds-end : tie.Need-part-thing-bounds-end
-part-thing-bounds-end c = search needs
+abbrev narrowed-at-slice-read-next : tie.After-slice-known2 → tie.After-narrowed
+narrowed-at-slice-read-next c = c .before .before
 
--- src/building.rt:204:9
 thing-bounds-requires : tie.Need-thing-bounds-requires
 thing-bounds-requires c κs =
-    let a = c .before .before .before .before .before .before .args in
-    let r = c .before .before .before .before .before .before .pre .0 in
+    let at-entry = entry (chain-count-at-thing-bounds-requires c) in
+    let a = at-entry .args in
+    let r = at-entry .pre .0 in
     let same = part-run (a .w .now) (a .from) (a .end) in
     let long = ap length same ∙ length-run (a .w .now) (a .from) (a .end - a .from) (omega (arith, r .rises, r .apart, r .fits)) in
-    (λ i l. (r .rising i l .0, omega (arith, r .rising i l .1, long)), omega (arith, c .before .before .before .before .before .before .pre .1, r .count, ap (λ (u : List ℕ). thingCount u (a .ends .now)) same))
+    (λ i l. (r .rising i l .0, omega (arith, r .rising i l .1, long)), omega (arith, at-entry .pre .1, r .count, ap (λ (u : List ℕ). thingCount u (a .ends .now)) same))
 
--- src/building.rt:205:38
-mul-span-of : tie.Need-mul-span-of
-mul-span-of c = search needs
-
--- src/building.rt:205:38
-sub-span-of : tie.Need-sub-span-of
-sub-span-of c = search needs
-
--- src/building.rt:205:38
-part-span-of-start : tie.Need-part-span-of-start
-part-span-of-start c = search needs
-
--- src/building.rt:205:38
-part-span-of-end : tie.Need-part-span-of-end
-part-span-of-end c = search needs
-
--- src/building.rt:205:54
-mul-span-of-2 : tie.Need-mul-span-of-2
-mul-span-of-2 c = search needs
-
--- src/building.rt:205:54
-sub-span-of-2 : tie.Need-sub-span-of-2
-sub-span-of-2 c = search needs
-
--- src/building.rt:205:54
-part-span-of-start-2 : tie.Need-part-span-of-start-2
-part-span-of-start-2 c = search needs
-
--- src/building.rt:205:54
-part-span-of-end-2 : tie.Need-part-span-of-end-2
-part-span-of-end-2 c = search needs
-
--- src/building.rt:205:22
-span-of-requires : tie.Need-span-of-requires
-span-of-requires c κs = search needs
-
--- src/building.rt:205:9
-narrowed-requires : tie.Need-narrowed-requires
-narrowed-requires c κs = search needs
-
--- src/building.rt:206:9
-square-chain-requires : tie.Need-square-chain-requires
-square-chain-requires c κs = search needs
-
--- src/building.rt:207:18
 add-next : tie.Need-add-next
-add-next c = omega (arith, c .before .before .before .before .before .before .before .before .before .before .before .before .before .pre .0 .fits, c .before .before .before .before .before .before .before .before .before .before .before .before .before .pre .1, c .before .before .before .before .before .before .before .before .before .chain-count .ensures, c .square-chain .ensures .1, c .before .before .before .before .before .before .before .before .before .before .before .before .before .good .1 .0)
+add-next c =
+    let at-chain-count = chain-count-of-thing-bounds (thing-bounds-of-span-of (span-of-of-narrowed (narrowed-at-add-next c))) in
+    let at-entry = entry at-chain-count in
+    let w-good = at-entry .good .1 .0 in
+    omega (arith, at-entry .pre .0 .fits, at-entry .pre .1, at-chain-count .chain-count .ensures, c .square-chain .ensures .1, w-good)
 
--- src/building.rt:207:16
 mul-next : tie.Need-mul-next
-mul-next c = omega (arith, c .before .before .before .before .before .before .before .before .before .before .before .before .before .pre .0 .fits, c .before .before .before .before .before .before .before .before .before .before .before .before .before .pre .1, c .before .before .before .before .before .before .before .before .before .chain-count .ensures, c .square-chain .ensures .1, c .before .before .before .before .before .before .before .before .before .before .before .before .before .good .1 .0)
+mul-next c =
+    let at-chain-count = chain-count-of-thing-bounds (thing-bounds-of-span-of (span-of-of-narrowed (narrowed-at-add-next c))) in
+    let at-entry = entry at-chain-count in
+    let w-good = at-entry .good .1 .0 in
+    omega (arith, at-entry .pre .0 .fits, at-entry .pre .1, at-chain-count .chain-count .ensures, c .square-chain .ensures .1, w-good)
 
--- src/building.rt:207:16
 slice-read-next : tie.Need-slice-read-next
-slice-read-next c = omega (arith, c .before .before .before .before .before .before .before .before .before .before .before .before .before .before .pre .0 .fits, c .before .before .before .before .before .before .before .before .before .before .before .before .before .before .pre .1, c .before .before .before .before .before .before .before .before .before .before .chain-count .ensures, c .before .square-chain .ensures .1, c .before .before .before .before .before .before .before .before .before .before .before .before .before .before .good .1 .0)
+slice-read-next c =
+    let at-chain-count = chain-count-of-thing-bounds (thing-bounds-of-span-of (span-of-of-narrowed (narrowed-at-slice-read-next c))) in
+    let at-entry = entry at-chain-count in
+    let w-good = at-entry .good .1 .0 in
+    omega (arith, at-entry .pre .0 .fits, at-entry .pre .1, at-chain-count .chain-count .ensures, c .before .square-chain .ensures .1, w-good)
 
--- src/building.rt:208:7
 add-w : tie.Need-add-w
-add-w c = omega (arith, c .before .before .before .before .before .before .before .before .before .before .before .before .before .before .pre .0 .fits, c .before .before .before .before .before .before .before .before .before .before .before .before .before .before .pre .1, c .before .before .before .before .before .before .before .before .before .before .chain-count .ensures, c .before .square-chain .ensures .1, c .before .before .before .before .before .before .before .before .before .before .before .before .before .before .good .1 .0)
+add-w c =
+    let at-chain-count = chain-count-of-thing-bounds (thing-bounds-of-span-of (span-of-of-narrowed (narrowed-at-slice-read-next c))) in
+    let at-entry = entry at-chain-count in
+    let w-good = at-entry .good .1 .0 in
+    omega (arith, at-entry .pre .0 .fits, at-entry .pre .1, at-chain-count .chain-count .ensures, c .before .square-chain .ensures .1, w-good)
 
--- src/building.rt:208:7
 add-w-2 : tie.Need-add-w-2
-add-w-2 c = omega (arith, c .before .before .before .before .before .before .before .before .before .before .before .before .before .before .pre .0 .fits, c .before .before .before .before .before .before .before .before .before .before .before .before .before .before .pre .1, c .before .before .before .before .before .before .before .before .before .before .chain-count .ensures, c .before .square-chain .ensures .1, c .before .before .before .before .before .before .before .before .before .before .before .before .before .before .good .1 .0)
+add-w-2 c =
+    let at-chain-count = chain-count-of-thing-bounds (thing-bounds-of-span-of (span-of-of-narrowed (narrowed-at-slice-read-next c))) in
+    let at-entry = entry at-chain-count in
+    let w-good = at-entry .good .1 .0 in
+    omega (arith, at-entry .pre .0 .fits, at-entry .pre .1, at-chain-count .chain-count .ensures, c .before .square-chain .ensures .1, w-good)
 
--- src/building.rt:208:5
 mul-w : tie.Need-mul-w
-mul-w c = omega (arith, c .before .before .before .before .before .before .before .before .before .before .before .before .before .before .pre .0 .fits, c .before .before .before .before .before .before .before .before .before .before .before .before .before .before .pre .1, c .before .before .before .before .before .before .before .before .before .before .chain-count .ensures, c .before .square-chain .ensures .1, c .before .before .before .before .before .before .before .before .before .before .before .before .before .before .good .1 .0)
+mul-w c =
+    let at-chain-count = chain-count-of-thing-bounds (thing-bounds-of-span-of (span-of-of-narrowed (narrowed-at-slice-read-next c))) in
+    let at-entry = entry at-chain-count in
+    let w-good = at-entry .good .1 .0 in
+    omega (arith, at-entry .pre .0 .fits, at-entry .pre .1, at-chain-count .chain-count .ensures, c .before .square-chain .ensures .1, w-good)
 
--- src/building.rt:208:5
 slice-write-w : tie.Need-slice-write-w
-slice-write-w c = omega (arith, c .before .before .before .before .before .before .before .before .before .before .before .before .before .before .pre .0 .fits, c .before .before .before .before .before .before .before .before .before .before .before .before .before .before .pre .1, c .before .before .before .before .before .before .before .before .before .before .chain-count .ensures, c .before .square-chain .ensures .1, c .before .before .before .before .before .before .before .before .before .before .before .before .before .before .good .1 .0)
+slice-write-w c =
+    let at-chain-count = chain-count-of-thing-bounds (thing-bounds-of-span-of (span-of-of-narrowed (narrowed-at-slice-read-next c))) in
+    let at-entry = entry at-chain-count in
+    let w-good = at-entry .good .1 .0 in
+    omega (arith, at-entry .pre .0 .fits, at-entry .pre .1, at-chain-count .chain-count .ensures, c .before .square-chain .ensures .1, w-good)
 
--- src/building.rt:209:20
 cast-w : tie.Need-cast-w
-cast-w c = omega (arith, c .before .before .before .before .before .before .before .before .before .before .before .before .before .before .pre .0 .few, c .before .before .before .before .before .before .before .before .before .before .before .before .before .before .pre .1)
+cast-w c =
+    let at-entry = entry (chain-count-of-thing-bounds (thing-bounds-of-span-of (span-of-of-narrowed (narrowed-at-slice-read-next c)))) in
+    omega (arith, at-entry .pre .0 .few, at-entry .pre .1)
 
--- src/building.rt:209:7
 add-w-3 : tie.Need-add-w-3
-add-w-3 c = omega (arith, c .before .before .before .before .before .before .before .before .before .before .before .before .before .before .pre .0 .fits, c .before .before .before .before .before .before .before .before .before .before .before .before .before .before .pre .1, c .before .before .before .before .before .before .before .before .before .before .chain-count .ensures, c .before .square-chain .ensures .1, c .before .before .before .before .before .before .before .before .before .before .before .before .before .before .good .1 .0)
+add-w-3 c =
+    let at-chain-count = chain-count-of-thing-bounds (thing-bounds-of-span-of (span-of-of-narrowed (narrowed-at-slice-read-next c))) in
+    let at-entry = entry at-chain-count in
+    let w-good = at-entry .good .1 .0 in
+    omega (arith, at-entry .pre .0 .fits, at-entry .pre .1, at-chain-count .chain-count .ensures, c .before .square-chain .ensures .1, w-good)
 
--- src/building.rt:209:5
 mul-w-2 : tie.Need-mul-w-2
-mul-w-2 c = omega (arith, c .before .before .before .before .before .before .before .before .before .before .before .before .before .before .pre .0 .fits, c .before .before .before .before .before .before .before .before .before .before .before .before .before .before .pre .1, c .before .before .before .before .before .before .before .before .before .before .chain-count .ensures, c .before .square-chain .ensures .1, c .before .before .before .before .before .before .before .before .before .before .before .before .before .before .good .1 .0)
+mul-w-2 c =
+    let at-chain-count = chain-count-of-thing-bounds (thing-bounds-of-span-of (span-of-of-narrowed (narrowed-at-slice-read-next c))) in
+    let at-entry = entry at-chain-count in
+    let w-good = at-entry .good .1 .0 in
+    omega (arith, at-entry .pre .0 .fits, at-entry .pre .1, at-chain-count .chain-count .ensures, c .before .square-chain .ensures .1, w-good)
 
--- src/building.rt:209:5
 slice-write-w-2 : tie.Need-slice-write-w-2
-slice-write-w-2 c = let a = c .before .before .before .before .before .before .before .before .before .before .before .before .before .before .args in
-    omega (arith, length-set (a .w .now) (a .bounds + a .side + a .side + c .before .before .before .before .before .before .before .before .before .before .chain-count .result + a .j) (getD (a .w .now) (a .bounds + a .side + a .side + c .before .square-chain .result) 0),
-    c .before .before .before .before .before .before .before .before .before .before .before .before .before .before .pre .0 .fits, c .before .before .before .before .before .before .before .before .before .before .chain-count .ensures, c .before .square-chain .ensures .1)
+slice-write-w-2 c =
+    let at-chain-count = chain-count-of-thing-bounds (thing-bounds-of-span-of (span-of-of-narrowed (narrowed-at-slice-read-next c))) in
+    let at-entry = entry at-chain-count in
+    let a = at-entry .args in
+    omega (
+      arith,
+      length-set (a .w .now) (a .bounds + a .side + a .side + at-chain-count .chain-count .result + a .j)
+          (getD (a .w .now) (a .bounds + a .side + a .side + c .before .square-chain .result) 0),
+      at-entry .pre .0 .fits,
+      at-chain-count .chain-count .ensures,
+      c .before .square-chain .ensures .1,
+    )
 
--- src/building.rt:184:1
-same-length : tie.Need-same-length
-same-length c = search needs
-
--- src/building.rt:184:1
 returns : tie.Need-returns
-returns c = let a = c .before .before .before .before .before .before .before .before .before .before .before .before .before .before .args in
-    let r = c .before .before .before .before .before .before .before .before .before .before .before .before .before .before .pre .0 in
-    let span = thing-span (a .coords .now) (a .ends .now) (a .from) (a .end) (a .bounds) (a .side) (a .n) (a .w .now) (a .j) (c .before .before .before .before .before .before .before .before .before .before .chain-count .result) (c .before .square-chain .result)
-        (c .before .before .before .before .before .before .before .thing-bounds .result) (c .before .before .before .span-of .result) (c .before .before .narrowed .result) (r .count) (c .before .before .before .before .before .before .before .before .before .before .chain-count .ensures) (c .before .before .before .before .before .before .before .thing-bounds .ensures) (c .before .before .before .span-of .ensures .0) (c .before .before .narrowed .ensures .0)
-        (c .before .square-chain .ensures .0) in (
-      thing-headed (a .coords .now) (a .ends .now) (a .from) (a .end) (a .bounds) (a .side) (a .n) (a .w .now) (a .j) (c .before .before .before .before .before .before .before .before .before .before .chain-count .result) (c .before .square-chain .result)
-          (c .before .before .before .before .before .before .before .thing-bounds .result) (c .before .before .before .span-of .result) (c .before .before .narrowed .result) (r .count) (c .before .before .before .before .before .before .before .before .before .before .chain-count .ensures) (c .before .before .before .before .before .before .before .thing-bounds .ensures) (c .before .before .before .span-of .ensures .0) (c .before .before .narrowed .ensures .0)
+returns c =
+    let at-narrowed = narrowed-at-slice-read-next c in
+    let at-span-of = span-of-of-narrowed at-narrowed in
+    let at-thing-bounds = thing-bounds-of-span-of at-span-of in
+    let at-chain-count = chain-count-of-thing-bounds at-thing-bounds in
+    let at-entry = entry at-chain-count in
+    let a = at-entry .args in
+    let r = at-entry .pre .0 in
+    let span = thing-span (a .coords .now) (a .ends .now) (a .from) (a .end) (a .bounds) (a .side) (a .n) (a .w .now) (a .j)
+    (at-chain-count .chain-count .result) (c .before .square-chain .result)
+    (at-thing-bounds .thing-bounds .result) (at-span-of .span-of .result) (at-narrowed .narrowed .result) (r .count) (at-chain-count .chain-count .ensures)
+    (at-thing-bounds .thing-bounds .ensures) (at-span-of .span-of .ensures .0) (at-narrowed .narrowed .ensures .0)
+    (c .before .square-chain .ensures .0) in (
+      thing-headed (a .coords .now) (a .ends .now) (a .from) (a .end) (a .bounds) (a .side) (a .n) (a .w .now) (a .j) (at-chain-count .chain-count .result)
+          (c .before .square-chain .result)
+          (at-thing-bounds .thing-bounds .result) (at-span-of .span-of .result) (at-narrowed .narrowed .result) (r .count)
+          (at-chain-count .chain-count .ensures) (at-thing-bounds .thing-bounds .ensures) (at-span-of .span-of .ensures .0) (at-narrowed .narrowed .ensures .0)
           (c .before .square-chain .ensures .0),
       ap (λ (s : Span). s .level) span,
-      c .before .before .narrowed .ensures .2,
+      at-narrowed .narrowed .ensures .2,
     )
 
 pub link-thing-spec : {M : Type 1} → statement M
-link-thing-spec =
-    tie.close
-    (tie.spec
-    add-ys
-    add-heads
-    chain-count-requires
-    mul-thing-bounds
-    sub-thing-bounds
-    part-thing-bounds-start
-    part-thing-bounds-end
-    thing-bounds-requires
-    mul-span-of
-    sub-span-of
-    part-span-of-start
-    part-span-of-end
-    mul-span-of-2
-    sub-span-of-2
-    part-span-of-start-2
-    part-span-of-end-2
-    span-of-requires
-    narrowed-requires
-    square-chain-requires
-    add-next
-    mul-next
-    slice-read-next
-    add-w
-    add-w-2
-    mul-w
-    slice-write-w
-    cast-w
-    add-w-3
-    mul-w-2
-    slice-write-w-2
-    same-length
-    returns)
+link-thing-spec = tie.close (tie.spec (λ c. search needs) (λ c. search needs) (λ c κs. search needs) (λ c. search needs) (λ c. search needs)
+    (λ c. search needs) (λ c. search needs) thing-bounds-requires (λ c. search needs) (λ c. search needs) (λ c. search needs) (λ c. search needs)
+    (λ c. search needs) (λ c. search needs) (λ c. search needs) (λ c. search needs) (λ c κs. search needs) (λ c κs. search needs) (λ c κs. search needs)
+    add-next mul-next slice-read-next add-w add-w-2 mul-w slice-write-w cast-w add-w-3 mul-w-2 slice-write-w-2 (λ c. search needs) returns)

@@ -4,7 +4,6 @@ use Prim.Native.Nat.{ℕ, _+_, _*_}
 use Rattle.lists.specs.Gather.{each}
 use Rattle.lists.specs.Regions.{put}
 use native.Mathlib.Omega.{arith}
-use Rattle.strips.proofs.OnChains.{OnChains, chains-start, room-kept, chains-turn, chains-end}
 use borrow.Author.Needs.{needs}
 use Rattle.strips.proofs.building.link_things.Statement.{statement}
 use Rattle.strips.proofs.building.link_things.Tie as tie
@@ -21,89 +20,85 @@ Inv-loop coords w₀ from end ends bounds side n h levels₀ j₀ w levels j = O
 abbrev μ-loop : tie.MeasureT-loop
 μ-loop coords w₀ from end ends bounds side n h levels₀ j₀ w levels j = j
 
--- src/building.rt:232:9
-chain-count-requires : tie.Need-chain-count-requires Inv-loop μ-loop
-chain-count-requires c κs = search needs
+-- places of the code, each counted once
+abbrev entry : tie.After-chain-count Inv-loop μ-loop → tie.Start Inv-loop μ-loop
+entry c = c .before .before .before .before
 
--- src/building.rt:233:22
-mul-fill : tie.Need-mul-fill Inv-loop μ-loop
-mul-fill c = search needs
+abbrev chain-count-of-fill : tie.After-fill Inv-loop μ-loop → tie.After-chain-count Inv-loop μ-loop
+chain-count-of-fill c = c .before .before
 
--- src/building.rt:233:13
-add-fill : tie.Need-add-fill Inv-loop μ-loop
-add-fill c = search needs
+abbrev fill-at-loop-holds : tie.After-slice-known2 Inv-loop μ-loop → tie.After-fill Inv-loop μ-loop
+fill-at-loop-holds c = c .before .before
 
--- src/building.rt:233:35
-cast-fill : tie.Need-cast-fill Inv-loop μ-loop
-cast-fill c = search needs
+abbrev fill-of-loop : tie.At-loop Inv-loop μ-loop → tie.After-fill Inv-loop μ-loop
+fill-of-loop c = c .before .before .before
 
--- src/building.rt:233:5
-fill-requires : tie.Need-fill-requires Inv-loop μ-loop
-fill-requires c κs = search needs
+abbrev loop-at-same-length : tie.After-loop Inv-loop μ-loop → tie.At-loop Inv-loop μ-loop
+loop-at-same-length c = c .before
 
--- src/building.rt:236:5
+abbrev loop-of-in-loop : tie.In-loop Inv-loop μ-loop → tie.At-loop Inv-loop μ-loop
+loop-of-in-loop c = c .before
+
+abbrev in-loop-at-link-thing-requires : tie.After-link-thing-arg Inv-loop μ-loop → tie.In-loop Inv-loop μ-loop
+in-loop-at-link-thing-requires c = c .before
+
+abbrev in-loop-of-link-thing : tie.After-link-thing Inv-loop μ-loop → tie.In-loop Inv-loop μ-loop
+in-loop-of-link-thing c = c .before .before
+
+abbrev link-thing-at-add-greater : tie.After-slice-known3 Inv-loop μ-loop → tie.After-link-thing Inv-loop μ-loop
+link-thing-at-add-greater c = c .before .before
+
+abbrev link-thing-at-loop-again : tie.After-greater Inv-loop μ-loop → tie.After-link-thing Inv-loop μ-loop
+link-thing-at-loop-again c = c .before .before .before
+
 loop-holds : tie.Need-loop-holds Inv-loop μ-loop
-loop-holds c = let a = c .before .before .before .before .before .before .before .before .args in
-    chains-start (a .coords .now) (a .ends .now) (a .from) (a .end) (a .bounds) (a .side) (a .n) (a .w .now) _ (c .before .before .before .before .before .before .before .before .pre) (c .before .before .fill .ensures ∙ ap (λ (k : ℕ). put (a .w .now) (a .bounds + 2 * a .side) (each k (λ _. a .n))) (c .before .before .before .before .chain-count .ensures))
+loop-holds c =
+    let at-chain-count = chain-count-of-fill (fill-at-loop-holds c) in
+    let at-entry = entry at-chain-count in
+    let a = at-entry .args in
+    chains-start (a .coords .now) (a .ends .now) (a .from) (a .end) (a .bounds) (a .side) (a .n) (a .w .now) _ (at-entry .pre)
+    (fill-at-loop-holds c .fill .ensures ∙ ap (λ (k : ℕ). put (a .w .now) (a .bounds + 2 * a .side) (each k (λ _. a .n))) (at-chain-count .chain-count .ensures))
 
--- src/building.rt:237:9
-sub-j : tie.Need-sub-j Inv-loop μ-loop
-sub-j c = search needs
-
--- src/building.rt:238:13
 link-thing-requires : tie.Need-link-thing-requires Inv-loop μ-loop
 link-thing-requires c κs =
-    let a = c .before .before .before .before .before .before .before .before .before .before .before .args in
-    let l = c .before .before .loop in
-    (room-still (a .coords .now) (a .ends .now) (a .from) (a .end) (a .bounds) (a .side) (a .n) _ (l .j) (l .w) (l .levels) (l .inv), omega (arith, l .inv .low, c .before .loop-test .taken))
+    let at-loop = loop-of-in-loop (in-loop-at-link-thing-requires c) in
+    let at-entry = entry (chain-count-of-fill (fill-of-loop at-loop)) in
+    let a = at-entry .args in
+    let l = at-loop .loop in (
+      room-still (a .coords .now) (a .ends .now) (a .from) (a .end) (a .bounds) (a .side) (a .n) _ (l .j) (l .w) (l .levels) (l .inv),
+      omega (arith, l .inv .low, c .before .loop-test .taken),
+    )
 
--- src/building.rt:239:26
 add-greater : tie.Need-add-greater Inv-loop μ-loop
-add-greater c = omega (arith, c .before .before .link-thing .ensures .2)
+add-greater c = omega (arith, link-thing-at-add-greater c .link-thing .ensures .2)
 
--- src/building.rt:239:9
-greater-requires : tie.Need-greater-requires Inv-loop μ-loop
-greater-requires c κs = search needs
-
--- src/building.rt:236:5
-loop-less : tie.Need-loop-less Inv-loop μ-loop
-loop-less c = search needs
-
--- src/building.rt:236:5
 loop-again : tie.Need-loop-again Inv-loop μ-loop
-loop-again c = let a = c .before .before .before .before .before .before .before .before .before .before .before .before .before .before .before .args in
-    let l = c .before .before .before .before .before .before .loop in
-    let r = c .before .before .before .link-thing in
-    chains-turn (a .coords .now) (a .ends .now) (a .from) (a .end) (a .bounds) (a .side) (a .n) _ (l .j) (l .w) (l .levels) (l .inv) (c .before .before .before .before .before .loop-test .taken) _ (r .result) (c .greater .result)
+loop-again c =
+    let at-in-loop = in-loop-of-link-thing (link-thing-at-loop-again c) in
+    let at-entry = entry (chain-count-of-fill (fill-of-loop (loop-of-in-loop at-in-loop))) in
+    let a = at-entry .args in
+    let l = loop-of-in-loop at-in-loop .loop in
+    let r = link-thing-at-loop-again c .link-thing in
+    chains-turn (a .coords .now) (a .ends .now) (a .from) (a .end) (a .bounds) (a .side) (a .n) _ (l .j) (l .w) (l .levels) (l .inv)
+    (at-in-loop .loop-test .taken) _ (r .result) (c .greater .result)
     (r .ensures .0) (r .ensures .1) (r .ensures .2) (c .greater .ensures)
 
--- src/building.rt:214:1
 same-length : tie.Need-same-length Inv-loop μ-loop
-same-length c = c .before .loop .inv .chained .long ∙ c .before .before .before .before .fill .kept .0
+same-length c =
+    let at-fill = fill-of-loop (loop-at-same-length c) in
+    let w-kept = at-fill .fill .kept .0 in
+    c .before .loop .inv .chained .long ∙ w-kept
 
--- src/building.rt:214:1
 returns : tie.Need-returns Inv-loop μ-loop
-returns c = let a = c .before .before .before .before .before .before .before .before .before .before .args in
+returns c =
+    let at-fill = fill-of-loop (loop-at-same-length c) in
+    let at-entry = entry (chain-count-of-fill at-fill) in
+    let a = at-entry .args in
     let l = c .before .loop in
-    chains-end (a .coords .now) (a .ends .now) (a .from) (a .end) (a .bounds) (a .side) (a .n) (a .w .now) _ (c .before .before .before .before .before .before .before .before .before .before .pre) (c .before .before .before .before .fill .ensures ∙ ap (λ (k : ℕ). put (a .w .now) (a .bounds + 2 * a .side) (each k (λ _. a .n))) (c .before .before .before .before .before .before .chain-count .ensures)) (l .j) (l .w) (l .levels) (l .inv) (omega (arith, c .loop-test .left))
+    chains-end (a .coords .now) (a .ends .now) (a .from) (a .end) (a .bounds) (a .side) (a .n) (a .w .now) _ (at-entry .pre)
+    (at-fill .fill .ensures ∙ ap (λ (k : ℕ). put (a .w .now) (a .bounds + 2 * a .side) (each k (λ _. a .n)))
+    (chain-count-of-fill at-fill .chain-count .ensures)) (l .j) (l .w) (l .levels) (l .inv) (omega (arith, c .loop-test .left))
 
 pub link-things-spec : {M : Type 1} → statement M
-link-things-spec =
-    tie.close
-    (tie.spec
-    Inv-loop
-    μ-loop
-    chain-count-requires
-    mul-fill
-    add-fill
-    cast-fill
-    fill-requires
-    loop-holds
-    sub-j
-    link-thing-requires
-    add-greater
-    greater-requires
-    loop-less
-    loop-again
-    same-length
-    returns)
+link-things-spec = tie.close (tie.spec Inv-loop μ-loop (λ c κs. search needs) (λ c. search needs) (λ c. search needs) (λ c. search needs)
+    (λ c κs. search needs) loop-holds (λ c. search needs) link-thing-requires add-greater (λ c κs. search needs) (λ c. search needs) loop-again same-length returns)

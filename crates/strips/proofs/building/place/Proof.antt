@@ -20,68 +20,52 @@ Inv-loop coords order axis v c i₀ i =
 abbrev μ-loop : tie.MeasureT-loop
 μ-loop coords order axis v c i₀ i = length order - i
 
--- src/building.rt:85:9
-coordinate-requires : tie.Need-coordinate-requires Inv-loop μ-loop
-coordinate-requires c κs = search needs
+-- places of the code, each counted once
+abbrev entry : tie.After-coordinate Inv-loop μ-loop → tie.Start Inv-loop μ-loop
+entry c = c .before .before .before
 
--- src/building.rt:87:5
+abbrev coordinate-of-loop : tie.At-loop Inv-loop μ-loop → tie.After-coordinate Inv-loop μ-loop
+coordinate-of-loop c = c .before
+
+abbrev loop-of-in-loop : tie.In-loop Inv-loop μ-loop → tie.At-loop Inv-loop μ-loop
+loop-of-in-loop c = c .before
+
+abbrev in-loop-at-loop-again : tie.Else1 Inv-loop μ-loop → tie.In-loop Inv-loop μ-loop
+in-loop-at-loop-again c = c .before .before .before
+
+abbrev in-loop-at-returns : tie.Then1 Inv-loop μ-loop → tie.In-loop Inv-loop μ-loop
+in-loop-at-returns c = c .before .before .before
+
 loop-holds : tie.Need-loop-holds Inv-loop μ-loop
 loop-holds c = (omega arith, refl)
 
--- src/building.rt:88:42
-mul-coordinate : tie.Need-mul-coordinate Inv-loop μ-loop
-mul-coordinate c = search needs
-
--- src/building.rt:88:42
-shared-slice-read-coordinate : tie.Need-shared-slice-read-coordinate Inv-loop μ-loop
-shared-slice-read-coordinate c = search needs
-
--- src/building.rt:88:13
-coordinate-requires-2 : tie.Need-coordinate-requires-2 Inv-loop μ-loop
-coordinate-requires-2 c κs = search needs
-
--- src/building.rt:90:13
 returns : tie.Need-returns Inv-loop μ-loop
-returns c = let a = c .before .before .before .before .before .before .before .before .args in
-    let l = c .before .before .before .before .loop in
-    search-here _ (l .i) _ (l .inv .1) (c .before .before .before .loop-test .taken)
-    (before-is (a .coords .now) (a .axis) (a .v) (getD (a .order .now) (l .i) 0) (c .before .before .before .before .before .coordinate .result) (c .before .coordinate2 .result) (c .before .before .before .before .before .coordinate .ensures) (c .before .coordinate2 .ensures) ∙ c .if1 .taken)
+returns c =
+    let at-loop = loop-of-in-loop (in-loop-at-returns c) in
+    let at-coordinate = coordinate-of-loop at-loop in
+    let a = entry at-coordinate .args in
+    let l = at-loop .loop in
+    search-here _ (l .i) _ (l .inv .1) (in-loop-at-returns c .loop-test .taken)
+    (before-is (a .coords .now) (a .axis) (a .v) (getD (a .order .now) (l .i) 0) (at-coordinate .coordinate .result) (c .before .coordinate2 .result)
+    (at-coordinate .coordinate .ensures) (c .before .coordinate2 .ensures) ∙ c .if1 .taken)
 
--- src/building.rt:92:9
-add-i : tie.Need-add-i Inv-loop μ-loop
-add-i c = search needs
-
--- src/building.rt:87:5
-loop-less : tie.Need-loop-less Inv-loop μ-loop
-loop-less c = search needs
-
--- src/building.rt:87:5
 loop-again : tie.Need-loop-again Inv-loop μ-loop
-loop-again c = let a = c .before .before .before .before .before .before .before .before .args in
-    let l = c .before .before .before .before .loop in (
+loop-again c =
+    let at-loop = loop-of-in-loop (in-loop-at-loop-again c) in
+    let at-coordinate = coordinate-of-loop at-loop in
+    let a = entry at-coordinate .args in
+    let l = at-loop .loop in (
       omega arith,
-      first-on _ (l .i) _ (c .before .before .before .loop-test .taken)
-          (before-is (a .coords .now) (a .axis) (a .v) (getD (a .order .now) (l .i) 0) (c .before .before .before .before .before .coordinate .result) (c .before .coordinate2 .result) (c .before .before .before .before .before .coordinate .ensures) (c .before .coordinate2 .ensures) ∙ c .if1 .left)
+      first-on _ (l .i) _ (in-loop-at-loop-again c .loop-test .taken)
+          (before-is (a .coords .now) (a .axis) (a .v) (getD (a .order .now) (l .i) 0) (at-coordinate .coordinate .result) (c .before .coordinate2 .result)
+          (at-coordinate .coordinate .ensures) (c .before .coordinate2 .ensures) ∙ c .if1 .left)
           ∙ l .inv .1,
     )
 
--- src/building.rt:81:1
 returns-2 : tie.Need-returns-2 Inv-loop μ-loop
-returns-2 c = let l = c .before .loop in search-end _ (l .i) _ (l .inv .1) (l .inv .0) (c .loop-test .left)
+returns-2 c =
+    let l = c .before .loop in search-end _ (l .i) _ (l .inv .1) (l .inv .0) (c .loop-test .left)
 
 pub place-spec : {M : Type 1} → statement M
-place-spec =
-    tie.close
-    (tie.spec
-    Inv-loop
-    μ-loop
-    coordinate-requires
-    loop-holds
-    mul-coordinate
-    shared-slice-read-coordinate
-    coordinate-requires-2
-    returns
-    add-i
-    loop-less
-    loop-again
-    returns-2)
+place-spec = tie.close (tie.spec Inv-loop μ-loop (λ c κs. search needs) loop-holds (λ c. search needs) (λ c. search needs) (λ c κs. search needs) returns
+    (λ c. search needs) (λ c. search needs) loop-again returns-2)

@@ -9,73 +9,24 @@ use Rattle.strips.proofs.building.put_in_order.Lts as lts
 use Rattle.lists.proofs.insert_at_u32.Reads as insert-at-u32-reads
 use Rattle.strips.proofs.building.place.Reads as place-reads
 
--- src/building.rt:102:13
-add-e : tie.Need-add-e
-add-e c = search needs
+-- places of the code, each counted once
+abbrev entry : tie.After-place → tie.Start
+entry c = c .before .before .before .before .before
 
--- src/building.rt:103:27
-mul-place : tie.Need-mul-place
-mul-place c = search needs
+abbrev place-of-insert-at-u32 : tie.After-insert-at-u32 → tie.After-place
+place-of-insert-at-u32 c = c .before .before
 
--- src/building.rt:103:27
-sub-place : tie.Need-sub-place
-sub-place c = search needs
+abbrev insert-at-u32-at-returns : tie.After-slice-known2 → tie.After-insert-at-u32
+insert-at-u32-at-returns c = c .before .before
 
--- src/building.rt:103:27
-part-place-start : tie.Need-part-place-start
-part-place-start c = search needs
-
--- src/building.rt:103:27
-part-place-end : tie.Need-part-place-end
-part-place-end c = search needs
-
--- src/building.rt:103:9
-place-requires : tie.Need-place-requires
-place-requires c κs = search needs
-
--- src/building.rt:104:19
-mul-insert-at-u32 : tie.Need-mul-insert-at-u32
-mul-insert-at-u32 c = search needs
-
--- src/building.rt:104:19
-sub-insert-at-u32 : tie.Need-sub-insert-at-u32
-sub-insert-at-u32 c = search needs
-
--- src/building.rt:104:19
-part-insert-at-u32-start : tie.Need-part-insert-at-u32-start
-part-insert-at-u32-start c = search needs
-
--- src/building.rt:104:19
-part-insert-at-u32-end : tie.Need-part-insert-at-u32-end
-part-insert-at-u32-end c = search needs
-
--- src/building.rt:104:5
-insert-at-u32-requires : tie.Need-insert-at-u32-requires
-insert-at-u32-requires c κs = search needs
-
--- src/building.rt:98:1
-same-length : tie.Need-same-length
-same-length c = search needs
-
--- src/building.rt:98:1
 returns : tie.Need-returns
-returns c = let a = c .before .before .before .before .before .before .before .before .before .args in
-    inserted (isBefore (a .coords .now) (a .axis)) (a .w .now) (a .to) (a .i) (a .v) (c .before .before .before .before .place .result) (c .before .before .before .before .before .before .before .before .before .pre .1) _ (c .before .before .before .before .place .ensures .0) _ (c .before .before .insert-at-u32 .ensures .1) refl
+returns c =
+    let at-place = place-of-insert-at-u32 (insert-at-u32-at-returns c) in
+    let at-entry = entry at-place in
+    let a = at-entry .args in
+    inserted (isBefore (a .coords .now) (a .axis)) (a .w .now) (a .to) (a .i) (a .v) (at-place .place .result) (at-entry .pre .1) _
+    (at-place .place .ensures .0) _ (insert-at-u32-at-returns c .insert-at-u32 .ensures .1) refl
 
 pub put-in-order-spec : {M : Type 1} → statement M
-put-in-order-spec =
-    tie.close
-    (tie.spec
-    add-e
-    mul-place
-    sub-place
-    part-place-start
-    part-place-end
-    place-requires
-    mul-insert-at-u32
-    sub-insert-at-u32
-    part-insert-at-u32-start
-    part-insert-at-u32-end
-    insert-at-u32-requires
-    same-length
-    returns)
+put-in-order-spec = tie.close (tie.spec (λ c. search needs) (λ c. search needs) (λ c. search needs) (λ c. search needs) (λ c. search needs)
+    (λ c κs. search needs) (λ c. search needs) (λ c. search needs) (λ c. search needs) (λ c. search needs) (λ c κs. search needs) (λ c. search needs) returns)

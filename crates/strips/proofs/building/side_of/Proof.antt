@@ -13,54 +13,44 @@ Inv-loop n s₀ s = Rooting n s
 abbrev μ-loop : tie.MeasureT-loop
 μ-loop n s₀ s = 256 - s
 
--- src/building.rt:40:5
+-- places of the code, each counted once
+abbrev entry : tie.At-loop Inv-loop μ-loop → tie.Start Inv-loop μ-loop
+entry c = c .before
+
+abbrev loop-at-returns-2 : tie.After-loop Inv-loop μ-loop → tie.At-loop Inv-loop μ-loop
+loop-at-returns-2 c = c .before
+
+abbrev loop-at-mul-if1 : tie.In-loop Inv-loop μ-loop → tie.At-loop Inv-loop μ-loop
+loop-at-mul-if1 c = c .before
+
+abbrev loop-at-loop-again : tie.Else1 Inv-loop μ-loop → tie.At-loop Inv-loop μ-loop
+loop-at-loop-again c = c .before .before
+
+abbrev loop-at-returns : tie.Then1 Inv-loop μ-loop → tie.At-loop Inv-loop μ-loop
+loop-at-returns c = c .before .before
+
 loop-holds : tie.Need-loop-holds Inv-loop μ-loop
 loop-holds c = root-start (c .args .n)
 
--- src/building.rt:41:17
-add-if1 : tie.Need-add-if1 Inv-loop μ-loop
-add-if1 c = search needs
-
--- src/building.rt:41:27
-add-if1-2 : tie.Need-add-if1-2 Inv-loop μ-loop
-add-if1-2 c = search needs
-
--- src/building.rt:41:16
 mul-if1 : tie.Need-mul-if1 Inv-loop μ-loop
-mul-if1 c = omega (arith, root-small (c .before .before .args .n) (c .before .loop .s) (c .loop-test .taken))
+mul-if1 c =
+    let at-entry = entry (loop-at-mul-if1 c) in
+    omega (arith, root-small (at-entry .args .n) (c .before .loop .s) (c .loop-test .taken))
 
--- src/building.rt:42:13
 returns : tie.Need-returns Inv-loop μ-loop
-returns c = root-here (c .before .before .before .args .n) (c .before .before .loop .s) (c .before .before .loop .inv) (c .before .loop-test .taken) (c .if1 .taken)
+returns c =
+    let at-loop = loop-at-returns c in
+    root-here (entry at-loop .args .n) (at-loop .loop .s) (at-loop .loop .inv) (c .before .loop-test .taken) (c .if1 .taken)
 
--- src/building.rt:44:9
-add-s : tie.Need-add-s Inv-loop μ-loop
-add-s c = search needs
-
--- src/building.rt:40:5
-loop-less : tie.Need-loop-less Inv-loop μ-loop
-loop-less c = search needs
-
--- src/building.rt:40:5
 loop-again : tie.Need-loop-again Inv-loop μ-loop
-loop-again c = root-turn (c .before .before .before .args .n) (c .before .before .loop .s) (c .before .before .loop .inv) (c .before .loop-test .taken) (c .if1 .left)
+loop-again c =
+    let at-loop = loop-at-loop-again c in
+    root-turn (entry at-loop .args .n) (at-loop .loop .s) (at-loop .loop .inv) (c .before .loop-test .taken) (c .if1 .left)
 
--- src/building.rt:36:1
 returns-2 : tie.Need-returns-2 Inv-loop μ-loop
-returns-2 c = root-end (c .before .before .args .n) (c .before .loop .s) (c .before .loop .inv) (c .loop-test .left)
+returns-2 c =
+    let at-entry = entry (loop-at-returns-2 c) in
+    root-end (at-entry .args .n) (c .before .loop .s) (c .before .loop .inv) (c .loop-test .left)
 
 pub side-of-spec : {M : Type 1} → statement M
-side-of-spec =
-    tie.close
-    (tie.spec
-    Inv-loop
-    μ-loop
-    loop-holds
-    add-if1
-    add-if1-2
-    mul-if1
-    returns
-    add-s
-    loop-less
-    loop-again
-    returns-2)
+side-of-spec = tie.close (tie.spec Inv-loop μ-loop loop-holds (λ c. search needs) (λ c. search needs) mul-if1 returns (λ c. search needs) (λ c. search needs) loop-again returns-2)

@@ -20,83 +20,91 @@ Inv-loop coords w₀ from end ends axis k to i₀ w i = Sorting coords (run w₀
 abbrev μ-loop : tie.MeasureT-loop
 μ-loop coords w₀ from end ends axis k to i₀ w i = k - i
 
--- src/building.rt:123:5
+-- places of the code, each counted once
+abbrev entry-at-loop-holds : tie.After-shared-slice-known2 Inv-loop μ-loop → tie.Start Inv-loop μ-loop
+entry-at-loop-holds c = c .before .before .before
+
+abbrev entry-of-loop : tie.At-loop Inv-loop μ-loop → tie.Start Inv-loop μ-loop
+entry-of-loop c = c .before .before .before .before
+
+abbrev loop-at-returns : tie.After-loop Inv-loop μ-loop → tie.At-loop Inv-loop μ-loop
+loop-at-returns c = c .before
+
+abbrev loop-of-in-loop : tie.In-loop Inv-loop μ-loop → tie.At-loop Inv-loop μ-loop
+loop-of-in-loop c = c .before
+
+abbrev in-loop-at-part-sample-node-end : tie.After-w Inv-loop μ-loop → tie.In-loop Inv-loop μ-loop
+in-loop-at-part-sample-node-end c = c .before
+
+abbrev in-loop-at-sample-node-requires : tie.After-sample-node-arg Inv-loop μ-loop → tie.In-loop Inv-loop μ-loop
+in-loop-at-sample-node-requires c = c .before .before
+
+abbrev in-loop-of-sample-node : tie.After-sample-node Inv-loop μ-loop → tie.In-loop Inv-loop μ-loop
+in-loop-of-sample-node c = c .before .before .before
+
+abbrev sample-node-at-put-in-order-requires : tie.After-put-in-order-arg Inv-loop μ-loop → tie.After-sample-node Inv-loop μ-loop
+sample-node-at-put-in-order-requires c = c .before
+
+abbrev sample-node-of-put-in-order : tie.After-put-in-order Inv-loop μ-loop → tie.After-sample-node Inv-loop μ-loop
+sample-node-of-put-in-order c = c .before .before
+
+abbrev put-in-order-at-loop-again : tie.After-slice-known2 Inv-loop μ-loop → tie.After-put-in-order Inv-loop μ-loop
+put-in-order-at-loop-again c = c .before .before
+
 loop-holds : tie.Need-loop-holds Inv-loop μ-loop
-loop-holds c = let a = c .before .before .before .args in sorting-start (a .coords .now) (run (a .w .now) (a .from) (a .end - a .from)) (a .ends .now) (a .axis) (a .k) (a .to) (a .w .now) (c .before .before .before .pre .3)
+loop-holds c =
+    let at-entry = entry-at-loop-holds c in
+    let a = at-entry .args in sorting-start (a .coords .now) (run (a .w .now) (a .from) (a .end - a .from)) (a .ends .now) (a .axis) (a .k) (a .to) (a .w .now) (at-entry .pre .3)
 
--- src/building.rt:124:29
-mul-sample-node : tie.Need-mul-sample-node Inv-loop μ-loop
-mul-sample-node c = search needs
-
--- src/building.rt:124:29
-sub-sample-node : tie.Need-sub-sample-node Inv-loop μ-loop
-sub-sample-node c = search needs
-
--- src/building.rt:124:29
-part-sample-node-start : tie.Need-part-sample-node-start Inv-loop μ-loop
-part-sample-node-start c = search needs
-
--- src/building.rt:124:29
 part-sample-node-end : tie.Need-part-sample-node-end Inv-loop μ-loop
-part-sample-node-end c = omega (arith, c .before .before .loop .inv .long, c .before .before .before .before .before .before .pre .1, c .before .before .before .before .before .before .pre .2, c .before .before .before .before .before .before .pre .3)
+part-sample-node-end c =
+    let at-loop = loop-of-in-loop (in-loop-at-part-sample-node-end c) in
+    let at-entry = entry-of-loop at-loop in
+    omega (arith, at-loop .loop .inv .long, at-entry .pre .1, at-entry .pre .2, at-entry .pre .3)
 
--- src/building.rt:124:13
 sample-node-requires : tie.Need-sample-node-requires Inv-loop μ-loop
 sample-node-requires c κs =
-    let a = c .before .before .before .before .before .before .before .args in
-    let p = c .before .before .before .before .before .before .before .pre in
-    let l = c .before .before .before .loop in
-    let same = part-run (l .w) (a .from) (a .end) ∙ sorting-before (a .coords .now) (run (a .w .now) (a .from) (a .end - a .from)) (a .ends .now) (a .axis) (a .k) (a .to) (a .w .now) (p .3)
-        (l .i) (a .from) (a .end - a .from) (l .w) (l .inv) (omega (arith, p .1, p .2)) in
-    (c .before .before .loop-test .taken, p .4, omega (arith, p .5, ap (λ (u : List ℕ). thingCount u (a .ends .now)) same))
+    let at-loop = loop-of-in-loop (in-loop-at-sample-node-requires c) in
+    let at-entry = entry-of-loop at-loop in
+    let a = at-entry .args in
+    let p = at-entry .pre in
+    let l = at-loop .loop in
+    let same = part-run (l .w) (a .from) (a .end) ∙ sorting-before (a .coords .now) (run (a .w .now) (a .from) (a .end - a .from)) (a .ends .now) (a .axis)
+    (a .k) (a .to) (a .w .now) (p .3)
+    (l .i) (a .from) (a .end - a .from) (l .w) (l .inv) (omega (arith, p .1, p .2)) in
+    (in-loop-at-sample-node-requires c .loop-test .taken, p .4, omega (arith, p .5, ap (λ (u : List ℕ). thingCount u (a .ends .now)) same))
 
--- src/building.rt:125:9
 put-in-order-requires : tie.Need-put-in-order-requires Inv-loop μ-loop
-put-in-order-requires c κs = (c .before .before .before .before .before .before .before .before .before .pre .0, omega (arith, c .before .before .before .before .before .loop .inv .long, c .before .before .before .before .loop-test .taken, c .before .before .before .before .before .before .before .before .before .pre .3))
+put-in-order-requires c κs =
+    let at-in-loop = in-loop-of-sample-node (sample-node-at-put-in-order-requires c) in
+    let at-entry = entry-of-loop (loop-of-in-loop at-in-loop) in
+    (at-entry .pre .0, omega (arith, loop-of-in-loop at-in-loop .loop .inv .long, at-in-loop .loop-test .taken, at-entry .pre .3))
 
--- src/building.rt:126:9
-add-i : tie.Need-add-i Inv-loop μ-loop
-add-i c = search needs
-
--- src/building.rt:123:5
-loop-less : tie.Need-loop-less Inv-loop μ-loop
-loop-less c = search needs
-
--- src/building.rt:123:5
 loop-again : tie.Need-loop-again Inv-loop μ-loop
-loop-again c = let a = c .before .before .before .before .before .before .before .before .before .before .before .before .args in
-    let p = c .before .before .before .before .before .before .before .before .before .before .before .before .pre in
-    let l = c .before .before .before .before .before .before .before .before .loop in
+loop-again c =
+    let at-sample-node = sample-node-of-put-in-order (put-in-order-at-loop-again c) in
+    let at-loop = loop-of-in-loop (in-loop-of-sample-node at-sample-node) in
+    let at-entry = entry-of-loop at-loop in
+    let a = at-entry .args in
+    let p = at-entry .pre in
+    let l = at-loop .loop in
     let nodes = run (a .w .now) (a .from) (a .end - a .from) in
     let same = part-run (l .w) (a .from) (a .end) ∙ sorting-before (a .coords .now) nodes (a .ends .now) (a .axis) (a .k) (a .to) (a .w .now) (p .3)
-        (l .i) (a .from) (a .end - a .from) (l .w) (l .inv) (omega (arith, p .1, p .2)) in
-    sorting-turn (a .coords .now) nodes (a .ends .now) (a .axis) (a .k) (a .to) (a .w .now) (p .3) (l .i) (c .before .before .before .before .sample-node .result) (l .w) _ (l .inv) (c .before .before .before .before .before .before .before .loop-test .taken)
-    (c .before .before .before .before .sample-node .ensures ∙ ap (λ (u : List ℕ). sampleNode u (a .ends .now) (a .k) (l .i)) same) (c .before .before .put-in-order .ensures)
+    (l .i) (a .from) (a .end - a .from) (l .w) (l .inv) (omega (arith, p .1, p .2)) in
+    sorting-turn (a .coords .now) nodes (a .ends .now) (a .axis) (a .k) (a .to) (a .w .now) (p .3) (l .i) (at-sample-node .sample-node .result) (l .w) _
+    (l .inv) (in-loop-of-sample-node at-sample-node .loop-test .taken)
+    (at-sample-node .sample-node .ensures ∙ ap (λ (u : List ℕ). sampleNode u (a .ends .now) (a .k) (l .i)) same) (put-in-order-at-loop-again c .put-in-order .ensures)
 
--- src/building.rt:108:1
 same-length : tie.Need-same-length Inv-loop μ-loop
 same-length c = c .before .loop .inv .long
 
--- src/building.rt:108:1
 returns : tie.Need-returns Inv-loop μ-loop
-returns c = let a = c .before .before .before .before .before .args in
-    sorting-end (a .coords .now) (run (a .w .now) (a .from) (a .end - a .from)) (a .ends .now) (a .axis) (a .k) (a .to) (a .w .now) (c .before .before .before .before .before .pre .3) (c .before .loop .i) (c .before .loop .w) (c .before .loop .inv) (c .loop-test .left)
+returns c =
+    let at-entry = entry-of-loop (loop-at-returns c) in
+    let a = at-entry .args in
+    sorting-end (a .coords .now) (run (a .w .now) (a .from) (a .end - a .from)) (a .ends .now) (a .axis) (a .k) (a .to) (a .w .now) (at-entry .pre .3)
+    (c .before .loop .i) (c .before .loop .w) (c .before .loop .inv) (c .loop-test .left)
 
 pub sort-samples-spec : {M : Type 1} → statement M
-sort-samples-spec =
-    tie.close
-    (tie.spec
-    Inv-loop
-    μ-loop
-    loop-holds
-    mul-sample-node
-    sub-sample-node
-    part-sample-node-start
-    part-sample-node-end
-    sample-node-requires
-    put-in-order-requires
-    add-i
-    loop-less
-    loop-again
-    same-length
-    returns)
+sort-samples-spec = tie.close (tie.spec Inv-loop μ-loop loop-holds (λ c. search needs) (λ c. search needs) (λ c. search needs) part-sample-node-end
+    sample-node-requires put-in-order-requires (λ c. search needs) (λ c. search needs) loop-again same-length returns)

@@ -1,16 +1,10 @@
-
-use Prim.Native.Nat.{_<_}
-use Rattle.lists.specs.Gather.{places}
-use Rattle.strips.specs.Index.{onChain}
-use mathlib.Core.Path.{sym, ap, _∙_}
-use mathlib.Core.List.{[], _∷_}
-use Prim.Native.Nat.{ℕ, _+_, _-_}
-use native.Mathlib.Omega.{arith}
-use lib.ListN.{length, take}
-use Rattle.strips.specs.Things.{thingCount}
+use Rattle.strips.proofs.Walk.{walk-long, walk-fits, walk-rises}
+use Prim.Native.Nat.{_<_, _+_, _-_}
 use Rattle.strips.specs.Index.{chainAt}
-use Rattle.strips.specs.Gathering.{FrontIs, isWanted}
-use Rattle.strips.proofs.Gathered.{holds-long, holds-rises}
+use native.Mathlib.Omega.{arith}
+use lib.ListN.{length}
+use Rattle.strips.specs.Things.{thingCount}
+use Rattle.strips.specs.Gathering.{isWanted}
 use Rattle.strips.proofs.Walk.{Walking, walk-start, walk-turn, walk-end}
 use borrow.Author.Needs.{needs}
 use Rattle.strips.proofs.gathering.gather_chain.Statement.{statement}
@@ -26,103 +20,103 @@ Inv-loop coords nodes ends links h b from c found₀ k n r₀ j₀ found r j =
 abbrev μ-loop : tie.MeasureT-loop
 μ-loop coords nodes ends links h b from c found₀ k n r₀ j₀ found r j = length links - h - j
 
--- src/gathering.rt:112:13
-sub-n : tie.Need-sub-n Inv-loop μ-loop
-sub-n c = search needs
+-- places of the code, each counted once
+abbrev entry-at-cast-j : tie.After-shared-slice-known5 Inv-loop μ-loop → tie.Start Inv-loop μ-loop
+entry-at-cast-j c = c .before .before .before .before .before .before
 
--- src/gathering.rt:114:17
-mul-j : tie.Need-mul-j Inv-loop μ-loop
-mul-j c = search needs
+abbrev entry-of-loop : tie.At-loop Inv-loop μ-loop → tie.Start Inv-loop μ-loop
+entry-of-loop c = c .before .before .before .before .before .before .before
 
--- src/gathering.rt:114:17
-shared-slice-read-j : tie.Need-shared-slice-read-j Inv-loop μ-loop
-shared-slice-read-j c = search needs
+abbrev loop-at-same-length : tie.After-loop Inv-loop μ-loop → tie.At-loop Inv-loop μ-loop
+loop-at-same-length c = c .before
 
--- src/gathering.rt:114:17
+abbrev loop-of-in-loop : tie.In-loop Inv-loop μ-loop → tie.At-loop Inv-loop μ-loop
+loop-of-in-loop c = c .before
+
+abbrev in-loop-at-gather-thing-requires : tie.After-gather-thing-arg Inv-loop μ-loop → tie.In-loop Inv-loop μ-loop
+in-loop-at-gather-thing-requires c = c .before
+
+abbrev in-loop-of-gather-thing : tie.After-gather-thing Inv-loop μ-loop → tie.In-loop Inv-loop μ-loop
+in-loop-of-gather-thing c = c .before .before
+
+abbrev gather-thing-at-cast-j-2 : tie.After-shared-slice-known6 Inv-loop μ-loop → tie.After-gather-thing Inv-loop μ-loop
+gather-thing-at-cast-j-2 c = c .before .before .before
+
 cast-j : tie.Need-cast-j Inv-loop μ-loop
-cast-j c = omega (arith, c .shared-slice-known5 .given (c .before .before .before .before .before .before .args .c))
+cast-j c = omega (arith, c .shared-slice-known5 .given (entry-at-cast-j c .args .c))
 
--- src/gathering.rt:115:5
 loop-holds : tie.Need-loop-holds Inv-loop μ-loop
-loop-holds c = let a = c .before .before .before .before .before .before .args in
-    walk-start (chainAt (a .coords .now) (a .nodes .now) (a .ends .now)) (thingCount (a .nodes .now) (a .ends .now)) (a .c) (isWanted (a .coords .now) (a .nodes .now) (a .ends .now) (a .b) (a .from)) (a .k) (a .found .now) (c .before .before .before .before .before .before .pre .2) _ (c .before .before .before .before .before .before .pre .0 .chained .head (a .c) (c .before .before .before .before .before .before .pre .1))
+loop-holds c =
+    let at-entry = entry-at-cast-j c in
+    let a = at-entry .args in
+    walk-start (chainAt (a .coords .now) (a .nodes .now) (a .ends .now)) (thingCount (a .nodes .now) (a .ends .now)) (a .c)
+    (isWanted (a .coords .now) (a .nodes .now) (a .ends .now) (a .b) (a .from)) (a .k) (a .found .now) (at-entry .pre .2) _
+    (at-entry .pre .0 .chained .head (a .c) (at-entry .pre .1))
 
--- src/gathering.rt:116:9
 gather-thing-requires : tie.Need-gather-thing-requires Inv-loop μ-loop
 gather-thing-requires c κs =
-    let a = c .before .before .before .before .before .before .before .before .before .args in
-    let p = c .before .before .before .before .before .before .before .before .before .pre in
-    let l = c .before .before .loop in
-    let long = holds-long (isWanted (a .coords .now) (a .nodes .now) (a .ends .now) (a .b) (a .from)) (take (a .k) (a .found .now)) (places (onChain (chainAt (a .coords .now) (a .nodes .now) (a .ends .now)) (thingCount (a .nodes .now) (a .ends .now)) (a .c)) (l .j)) (a .found .now) (l .found) (l .r) (l .inv .holds) in
-    let rise = holds-rises (isWanted (a .coords .now) (a .nodes .now) (a .ends .now) (a .b) (a .from)) (take (a .k) (a .found .now)) (places (onChain (chainAt (a .coords .now) (a .nodes .now) (a .ends .now)) (thingCount (a .nodes .now) (a .ends .now)) (a .c)) (l .j)) (a .found .now) (l .found) (l .r) (l .inv .holds) (p .3) in
-    (p .0 .rising, omega (arith, c .before .loop-test .taken, p .0 .chained .long), p .0 .few, omega (arith, l .inv .holds .fits, long), rise)
+    let at-loop = loop-of-in-loop (in-loop-at-gather-thing-requires c) in
+    let at-entry = entry-of-loop at-loop in
+    let a = at-entry .args in
+    let p = at-entry .pre in
+    let l = at-loop .loop in (
+      p .0 .rising,
+      omega (arith, c .before .loop-test .taken, p .0 .chained .long),
+      p .0 .few,
+      walk-fits (chainAt (a .coords .now) (a .nodes .now) (a .ends .now)) (thingCount (a .nodes .now) (a .ends .now)) (a .c) (l .inv),
+      walk-rises (chainAt (a .coords .now) (a .nodes .now) (a .ends .now)) (thingCount (a .nodes .now) (a .ends .now)) (a .c) (l .inv) (p .3),
+    )
 
--- src/gathering.rt:117:19
-add-j : tie.Need-add-j Inv-loop μ-loop
-add-j c = search needs
-
--- src/gathering.rt:117:13
-mul-j-2 : tie.Need-mul-j-2 Inv-loop μ-loop
-mul-j-2 c = search needs
-
--- src/gathering.rt:117:13
-shared-slice-read-j-2 : tie.Need-shared-slice-read-j-2 Inv-loop μ-loop
-shared-slice-read-j-2 c = search needs
-
--- src/gathering.rt:117:13
 cast-j-2 : tie.Need-cast-j-2 Inv-loop μ-loop
-cast-j-2 c = omega (arith, c .shared-slice-known6 .given (c .before .before .before .before .before .before .before .before .before .before .before .before .before .args .h + c .before .before .before .before .before .before .loop .j))
+cast-j-2 c =
+    let at-loop = loop-of-in-loop (in-loop-of-gather-thing (gather-thing-at-cast-j-2 c)) in
+    omega (arith, c .shared-slice-known6 .given (entry-of-loop at-loop .args .h + at-loop .loop .j))
 
--- src/gathering.rt:115:5
 loop-less : tie.Need-loop-less Inv-loop μ-loop
-loop-less c = let a = c .before .before .before .before .before .before .before .before .before .before .before .before .before .args in
-    let p = c .before .before .before .before .before .before .before .before .before .before .before .before .before .pre in
-    let l = c .before .before .before .before .before .before .loop in
-    let h : l .j < (thingCount (a .nodes .now) (a .ends .now)) = omega (arith, c .before .before .before .before .before .loop-test .taken, p .0 .chained .long) in
-    let put = c .before .before .before .gather-thing .ensures in
-    let next = walk-turn (chainAt (a .coords .now) (a .nodes .now) (a .ends .now)) (thingCount (a .nodes .now) (a .ends .now)) (a .c) (isWanted (a .coords .now) (a .nodes .now) (a .ends .now) (a .b) (a .from)) (a .k) (a .found .now) (p .2) (l .j) (l .r) (c .before .before .before .gather-thing .result) _ (l .found) _ (l .inv) h (p .0 .chained .next (l .j) h)
-        put in
-    omega (arith, next .0, c .before .before .before .before .before .loop-test .taken)
+loop-less c =
+    let at-gather-thing = gather-thing-at-cast-j-2 c in
+    let at-in-loop = in-loop-of-gather-thing at-gather-thing in
+    let at-entry = entry-of-loop (loop-of-in-loop at-in-loop) in
+    let a = at-entry .args in
+    let p = at-entry .pre in
+    let l = loop-of-in-loop at-in-loop .loop in
+    let h : l .j < (thingCount (a .nodes .now) (a .ends .now)) = omega (arith, at-in-loop .loop-test .taken, p .0 .chained .long) in
+    let put = at-gather-thing .gather-thing .ensures in
+    let next = walk-turn (chainAt (a .coords .now) (a .nodes .now) (a .ends .now)) (thingCount (a .nodes .now) (a .ends .now)) (a .c)
+    (isWanted (a .coords .now) (a .nodes .now) (a .ends .now) (a .b) (a .from)) (a .k) (a .found .now) (p .2) (l .j) (l .r)
+    (at-gather-thing .gather-thing .result) _ (l .found) _ (l .inv) h (p .0 .chained .next (l .j) h)
+    put in
+    omega (arith, next .0, at-in-loop .loop-test .taken)
 
--- src/gathering.rt:115:5
 loop-again : tie.Need-loop-again Inv-loop μ-loop
-loop-again c = let a = c .before .before .before .before .before .before .before .before .before .before .before .before .before .args in
-    let p = c .before .before .before .before .before .before .before .before .before .before .before .before .before .pre in
-    let l = c .before .before .before .before .before .before .loop in
-    let h : l .j < (thingCount (a .nodes .now) (a .ends .now)) = omega (arith, c .before .before .before .before .before .loop-test .taken, p .0 .chained .long) in
-    let put = c .before .before .before .gather-thing .ensures in
-    walk-turn (chainAt (a .coords .now) (a .nodes .now) (a .ends .now)) (thingCount (a .nodes .now) (a .ends .now)) (a .c) (isWanted (a .coords .now) (a .nodes .now) (a .ends .now) (a .b) (a .from)) (a .k) (a .found .now) (p .2) (l .j) (l .r) (c .before .before .before .gather-thing .result) _ (l .found) _ (l .inv) h (p .0 .chained .next (l .j) h)
+loop-again c =
+    let at-gather-thing = gather-thing-at-cast-j-2 c in
+    let at-loop = loop-of-in-loop (in-loop-of-gather-thing at-gather-thing) in
+    let at-entry = entry-of-loop at-loop in
+    let a = at-entry .args in
+    let p = at-entry .pre in
+    let l = at-loop .loop in
+    let h : l .j < (thingCount (a .nodes .now) (a .ends .now)) = omega (arith, in-loop-of-gather-thing at-gather-thing .loop-test .taken, p .0 .chained .long) in
+    let put = at-gather-thing .gather-thing .ensures in
+    walk-turn (chainAt (a .coords .now) (a .nodes .now) (a .ends .now)) (thingCount (a .nodes .now) (a .ends .now)) (a .c)
+    (isWanted (a .coords .now) (a .nodes .now) (a .ends .now) (a .b) (a .from)) (a .k) (a .found .now) (p .2) (l .j) (l .r)
+    (at-gather-thing .gather-thing .result) _ (l .found) _ (l .inv) h (p .0 .chained .next (l .j) h)
     put .1
 
--- src/gathering.rt:96:1
 same-length : tie.Need-same-length Inv-loop μ-loop
-same-length c = let a = c .before .before .before .before .before .before .before .before .args in
-    let l = c .before .loop in
-    holds-long (isWanted (a .coords .now) (a .nodes .now) (a .ends .now) (a .b) (a .from)) (take (a .k) (a .found .now)) (places (onChain (chainAt (a .coords .now) (a .nodes .now) (a .ends .now)) (thingCount (a .nodes .now) (a .ends .now)) (a .c)) (l .j)) (a .found .now) (l .found) (l .r) (l .inv .holds)
+same-length c =
+    let at-entry = entry-of-loop (loop-at-same-length c) in
+    let a = at-entry .args in walk-long (chainAt (a .coords .now) (a .nodes .now) (a .ends .now)) (thingCount (a .nodes .now) (a .ends .now)) (a .c) (c .before .loop .inv)
 
--- src/gathering.rt:96:1
 returns : tie.Need-returns Inv-loop μ-loop
-returns c = let a = c .before .before .before .before .before .before .before .before .args in
+returns c =
+    let at-entry = entry-of-loop (loop-at-same-length c) in
+    let a = at-entry .args in
     let l = c .before .loop in
-    walk-end (chainAt (a .coords .now) (a .nodes .now) (a .ends .now)) (thingCount (a .nodes .now) (a .ends .now)) (a .c) (isWanted (a .coords .now) (a .nodes .now) (a .ends .now) (a .b) (a .from)) (a .k) (a .found .now) (c .before .before .before .before .before .before .before .before .pre .2) (l .j) (l .r) (l .found) (l .inv) (omega (arith, c .loop-test .left, c .before .before .before .before .before .before .before .before .pre .0 .chained .long))
+    walk-end (chainAt (a .coords .now) (a .nodes .now) (a .ends .now)) (thingCount (a .nodes .now) (a .ends .now)) (a .c)
+    (isWanted (a .coords .now) (a .nodes .now) (a .ends .now) (a .b) (a .from)) (a .k) (a .found .now) (at-entry .pre .2) (l .j) (l .r) (l .found) (l .inv)
+    (omega (arith, c .loop-test .left, at-entry .pre .0 .chained .long))
 
 pub gather-chain-spec : {M : Type 1} → statement M
-gather-chain-spec =
-    tie.close
-    (tie.spec
-    Inv-loop
-    μ-loop
-    sub-n
-    mul-j
-    shared-slice-read-j
-    cast-j
-    loop-holds
-    gather-thing-requires
-    add-j
-    mul-j-2
-    shared-slice-read-j-2
-    cast-j-2
-    loop-less
-    loop-again
-    same-length
-    returns)
+gather-chain-spec = tie.close (tie.spec Inv-loop μ-loop (λ c. search needs) (λ c. search needs) (λ c. search needs) cast-j loop-holds gather-thing-requires
+    (λ c. search needs) (λ c. search needs) (λ c. search needs) cast-j-2 loop-less loop-again same-length returns)

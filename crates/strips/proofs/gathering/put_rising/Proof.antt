@@ -11,101 +11,97 @@ use Rattle.lists.proofs.insert_at_u32.Reads as insert-at-u32-reads
 use Rattle.strips.proofs.gathering.rising_place.Reads as rising-place-reads
 use Rattle.strips.proofs.gathering.stands_at.Reads as stands-at-reads
 
--- src/gathering.rt:55:26
-slice-reshare-prefix-rising-place : tie.Need-slice-reshare-prefix-rising-place
-slice-reshare-prefix-rising-place c = search needs
+-- places of the code, each counted once
+abbrev entry-at-slice-aggregate-rising-place : tie.After-rising-place-arg → tie.Start
+entry-at-slice-aggregate-rising-place c = c .before .before
 
--- src/gathering.rt:55:26
+abbrev entry-of-rising-place : tie.After-rising-place → tie.Start
+entry-of-rising-place c = c .before .before .before
+
+abbrev rising-place-at-slice-aggregate-stands-at : tie.After-stands-at-arg → tie.After-rising-place
+rising-place-at-slice-aggregate-stands-at c = c .before
+
+abbrev rising-place-of-stands-at : tie.After-stands-at → tie.After-rising-place
+rising-place-of-stands-at c = c .before .before
+
+abbrev stands-at-of-else1 : tie.Else1 → tie.After-stands-at
+stands-at-of-else1 c = c .before
+
+abbrev stands-at-at-returns : tie.Then1 → tie.After-stands-at
+stands-at-at-returns c = c .before
+
+abbrev else1-of-else2 : tie.Else2 → tie.Else1
+else1-of-else2 c = c .before
+
+abbrev else1-of-then2 : tie.Then2 → tie.Else1
+else1-of-then2 c = c .before
+
+abbrev else2-at-returns-4 : tie.Else3 → tie.Else2
+else2-at-returns-4 c = c .before
+
+abbrev else2-of-then3 : tie.Then3 → tie.Else2
+else2-of-then3 c = c .before
+
+abbrev then2 : tie.After-insert-at-u32 → tie.Then2
+then2 c = c .before .before
+
+abbrev then3 : tie.After-insert-at-u322 → tie.Then3
+then3 c = c .before .before
+
+abbrev insert-at-u32-at-returns-2 : tie.After-slice-known2 → tie.After-insert-at-u32
+insert-at-u32-at-returns-2 c = c .before .before
+
+abbrev insert-at-u322-at-returns-3 : tie.After-slice-known3 → tie.After-insert-at-u322
+insert-at-u322-at-returns-3 c = c .before .before
+
 slice-aggregate-rising-place : tie.Need-slice-aggregate-rising-place
-slice-aggregate-rising-place c = sym (length-take-le (c .before .before .args .k) (c .before .before .args .found .now) (c .before .before .pre .0))
+slice-aggregate-rising-place c =
+    let at-entry = entry-at-slice-aggregate-rising-place c in
+    sym (length-take-le (at-entry .args .k) (at-entry .args .found .now) (at-entry .pre .0))
 
--- src/gathering.rt:55:9
-rising-place-requires : tie.Need-rising-place-requires
-rising-place-requires c κs = search needs
-
--- src/gathering.rt:56:18
-slice-reshare-prefix-stands-at : tie.Need-slice-reshare-prefix-stands-at
-slice-reshare-prefix-stands-at c = search needs
-
--- src/gathering.rt:56:18
 slice-aggregate-stands-at : tie.Need-slice-aggregate-stands-at
-slice-aggregate-stands-at c = sym (length-take-le (c .before .before .before .before .args .k) (c .before .before .before .before .args .found .now) (c .before .before .before .before .pre .0))
+slice-aggregate-stands-at c =
+    let at-entry = entry-of-rising-place (rising-place-at-slice-aggregate-stands-at c) in
+    sym (length-take-le (at-entry .args .k) (at-entry .args .found .now) (at-entry .pre .0))
 
--- src/gathering.rt:56:8
-stands-at-requires : tie.Need-stands-at-requires
-stands-at-requires c κs = search needs
-
--- src/gathering.rt:57:9
-same-length : tie.Need-same-length
-same-length c = search needs
-
--- src/gathering.rt:57:9
 returns : tie.Need-returns
-returns c = let a = c .before .before .before .before .before .before .args in put-there (a .found .now) (a .k) (c .before .before .before .rising-place .result) (a .v) (c .before .before .before .before .before .before .pre .0) (c .before .before .before .rising-place .ensures .0) (sym (c .before .stands-at .ensures) ∙ c .if1 .taken)
+returns c =
+    let at-rising-place = rising-place-of-stands-at (stands-at-at-returns c) in
+    let at-entry = entry-of-rising-place at-rising-place in
+    let a = at-entry .args in put-there (a .found .now) (a .k) (at-rising-place .rising-place .result) (a .v) (at-entry .pre .0)
+    (at-rising-place .rising-place .ensures .0) (sym (c .before .stands-at .ensures) ∙ c .if1 .taken)
 
--- src/gathering.rt:60:9
-insert-at-u32-requires : tie.Need-insert-at-u32-requires
-insert-at-u32-requires c κs = search needs
-
--- src/gathering.rt:61:16
-add-result : tie.Need-add-result
-add-result c = search needs
-
--- src/gathering.rt:61:9
-same-length-2 : tie.Need-same-length-2
-same-length-2 c = search needs
-
--- src/gathering.rt:61:9
 returns-2 : tie.Need-returns-2
-returns-2 c = let a = c .before .before .before .before .before .before .before .before .before .before .before .args in
-    put-more (a .found .now) (a .k) (c .before .before .before .before .before .before .before .before .rising-place .result) (a .v) (c .before .before .before .before .before .before .before .before .before .before .before .pre .0) (c .before .before .before .before .before .before .before .before .rising-place .ensures .0) (sym (c .before .before .before .before .before .before .stands-at .ensures) ∙ c .before .before .before .before .before .if1 .left) (c .before .before .before .before .if2 .taken) _ (c .before .before .insert-at-u32 .ensures .1)
+returns-2 c =
+    let at-then2 = then2 (insert-at-u32-at-returns-2 c) in
+    let at-stands-at = stands-at-of-else1 (else1-of-then2 at-then2) in
+    let at-rising-place = rising-place-of-stands-at at-stands-at in
+    let at-entry = entry-of-rising-place at-rising-place in
+    let a = at-entry .args in
+    put-more (a .found .now) (a .k) (at-rising-place .rising-place .result) (a .v) (at-entry .pre .0) (at-rising-place .rising-place .ensures .0)
+    (sym (at-stands-at .stands-at .ensures) ∙ else1-of-then2 at-then2 .if1 .left) (at-then2 .if2 .taken) _ (insert-at-u32-at-returns-2 c .insert-at-u32 .ensures .1)
 
--- src/gathering.rt:64:30
-sub-insert-at-u32 : tie.Need-sub-insert-at-u32
-sub-insert-at-u32 c = search needs
-
--- src/gathering.rt:64:9
-insert-at-u32-requires-2 : tie.Need-insert-at-u32-requires-2
-insert-at-u32-requires-2 c κs = search needs
-
--- src/gathering.rt:65:9
-same-length-3 : tie.Need-same-length-3
-same-length-3 c = search needs
-
--- src/gathering.rt:65:9
 returns-3 : tie.Need-returns-3
-returns-3 c = let a = c .before .before .before .before .before .before .before .before .before .before .before .before .args in
-    put-full (a .found .now) (a .k) (c .before .before .before .before .before .before .before .before .before .rising-place .result) (a .v) (c .before .before .before .before .before .before .before .before .before .before .before .before .pre .0) (c .before .before .before .before .before .before .before .before .before .rising-place .ensures .0) (sym (c .before .before .before .before .before .before .before .stands-at .ensures) ∙ c .before .before .before .before .before .before .if1 .left) (omega (arith, c .before .before .before .before .before .if2 .left)) (c .before .before .before .before .if3 .taken) _
-    (c .before .before .insert-at-u322 .ensures .1)
+returns-3 c =
+    let at-then3 = then3 (insert-at-u322-at-returns-3 c) in
+    let at-else1 = else1-of-else2 (else2-of-then3 at-then3) in
+    let at-rising-place = rising-place-of-stands-at (stands-at-of-else1 at-else1) in
+    let at-entry = entry-of-rising-place at-rising-place in
+    let a = at-entry .args in
+    put-full (a .found .now) (a .k) (at-rising-place .rising-place .result) (a .v) (at-entry .pre .0) (at-rising-place .rising-place .ensures .0)
+    (sym (stands-at-of-else1 at-else1 .stands-at .ensures) ∙ at-else1 .if1 .left) (omega (arith, else2-of-then3 at-then3 .if2 .left)) (at-then3 .if3 .taken) _
+    (insert-at-u322-at-returns-3 c .insert-at-u322 .ensures .1)
 
--- src/gathering.rt:51:1
-same-length-4 : tie.Need-same-length-4
-same-length-4 c = search needs
-
--- src/gathering.rt:51:1
 returns-4 : tie.Need-returns-4
-returns-4 c = let a = c .before .before .before .before .before .before .before .before .args in
-    put-behind (a .found .now) (a .k) (c .before .before .before .before .before .rising-place .result) (a .v) (c .before .before .before .before .before .before .before .before .pre .0) (c .before .before .before .before .before .rising-place .ensures .0) (sym (c .before .before .before .stands-at .ensures) ∙ c .before .before .if1 .left) (omega (arith, c .before .if2 .left)) (omega (arith, c .if3 .left))
+returns-4 c =
+    let at-else1 = else1-of-else2 (else2-at-returns-4 c) in
+    let at-rising-place = rising-place-of-stands-at (stands-at-of-else1 at-else1) in
+    let at-entry = entry-of-rising-place at-rising-place in
+    let a = at-entry .args in
+    put-behind (a .found .now) (a .k) (at-rising-place .rising-place .result) (a .v) (at-entry .pre .0) (at-rising-place .rising-place .ensures .0)
+    (sym (stands-at-of-else1 at-else1 .stands-at .ensures) ∙ at-else1 .if1 .left) (omega (arith, c .before .if2 .left)) (omega (arith, c .if3 .left))
 
 pub put-rising-spec : {M : Type 1} → statement M
-put-rising-spec =
-    tie.close
-    (tie.spec
-    slice-reshare-prefix-rising-place
-    slice-aggregate-rising-place
-    rising-place-requires
-    slice-reshare-prefix-stands-at
-    slice-aggregate-stands-at
-    stands-at-requires
-    same-length
-    returns
-    insert-at-u32-requires
-    add-result
-    same-length-2
-    returns-2
-    sub-insert-at-u32
-    insert-at-u32-requires-2
-    same-length-3
-    returns-3
-    same-length-4
-    returns-4)
+put-rising-spec = tie.close (tie.spec (λ c. search needs) slice-aggregate-rising-place (λ c κs. search needs) (λ c. search needs) slice-aggregate-stands-at
+    (λ c κs. search needs) (λ c. search needs) returns (λ c κs. search needs) (λ c. search needs) (λ c. search needs) returns-2 (λ c. search needs)
+    (λ c κs. search needs) (λ c. search needs) returns-3 (λ c. search needs) returns-4)

@@ -12,54 +12,42 @@ Inv-loop found v i₀ i = Passed found v i
 abbrev μ-loop : tie.MeasureT-loop
 μ-loop found v i₀ i = i
 
--- src/gathering.rt:31:5
+-- places of the code, each counted once
+abbrev entry : tie.At-loop Inv-loop μ-loop → tie.Start Inv-loop μ-loop
+entry c = c .before
+
+abbrev loop-at-returns-2 : tie.After-loop Inv-loop μ-loop → tie.At-loop Inv-loop μ-loop
+loop-at-returns-2 c = c .before
+
+abbrev loop-of-in-loop : tie.In-loop Inv-loop μ-loop → tie.At-loop Inv-loop μ-loop
+loop-of-in-loop c = c .before
+
+abbrev in-loop-at-loop-again : tie.Else1 Inv-loop μ-loop → tie.In-loop Inv-loop μ-loop
+in-loop-at-loop-again c = c .before .before
+
+abbrev in-loop-at-returns : tie.Then1 Inv-loop μ-loop → tie.In-loop Inv-loop μ-loop
+in-loop-at-returns c = c .before .before
+
 loop-holds : tie.Need-loop-holds Inv-loop μ-loop
 loop-holds c = passed-start (c .args .found .now) (c .args .v)
 
--- src/gathering.rt:32:18
-sub-if1 : tie.Need-sub-if1 Inv-loop μ-loop
-sub-if1 c = search needs
-
--- src/gathering.rt:32:12
-mul-if1 : tie.Need-mul-if1 Inv-loop μ-loop
-mul-if1 c = search needs
-
--- src/gathering.rt:32:12
-shared-slice-read-if1 : tie.Need-shared-slice-read-if1 Inv-loop μ-loop
-shared-slice-read-if1 c = search needs
-
--- src/gathering.rt:33:13
 returns : tie.Need-returns Inv-loop μ-loop
-returns c = passed-here (c .before .before .before .before .args .found .now) (c .before .before .before .before .args .v) (c .before .before .before .loop .i) (c .before .before .before .before .pre) (c .before .before .before .loop .inv) (c .before .before .loop-test .taken) (c .if1 .taken)
+returns c =
+    let at-loop = loop-of-in-loop (in-loop-at-returns c) in
+    let at-entry = entry at-loop in
+    passed-here (at-entry .args .found .now) (at-entry .args .v) (at-loop .loop .i) (at-entry .pre) (at-loop .loop .inv) (in-loop-at-returns c .loop-test .taken) (c .if1 .taken)
 
--- src/gathering.rt:35:9
-sub-i : tie.Need-sub-i Inv-loop μ-loop
-sub-i c = search needs
-
--- src/gathering.rt:31:5
-loop-less : tie.Need-loop-less Inv-loop μ-loop
-loop-less c = search needs
-
--- src/gathering.rt:31:5
 loop-again : tie.Need-loop-again Inv-loop μ-loop
-loop-again c = passed-turn (c .before .before .before .before .args .found .now) (c .before .before .before .before .args .v) (c .before .before .before .loop .i) (c .before .before .before .loop .inv) (c .before .before .loop-test .taken) (omega (arith, c .if1 .left))
+loop-again c =
+    let at-loop = loop-of-in-loop (in-loop-at-loop-again c) in
+    let at-entry = entry at-loop in
+    passed-turn (at-entry .args .found .now) (at-entry .args .v) (at-loop .loop .i) (at-loop .loop .inv) (in-loop-at-loop-again c .loop-test .taken) (omega (arith, c .if1 .left))
 
--- src/gathering.rt:26:1
 returns-2 : tie.Need-returns-2 Inv-loop μ-loop
-returns-2 c = passed-end (c .before .before .args .found .now) (c .before .before .args .v) (c .before .loop .i) (c .before .loop .inv) (omega (arith, c .loop-test .left))
+returns-2 c =
+    let at-entry = entry (loop-at-returns-2 c) in
+    passed-end (at-entry .args .found .now) (at-entry .args .v) (c .before .loop .i) (c .before .loop .inv) (omega (arith, c .loop-test .left))
 
 pub rising-place-spec : {M : Type 1} → statement M
-rising-place-spec =
-    tie.close
-    (tie.spec
-    Inv-loop
-    μ-loop
-    loop-holds
-    sub-if1
-    mul-if1
-    shared-slice-read-if1
-    returns
-    sub-i
-    loop-less
-    loop-again
-    returns-2)
+rising-place-spec = tie.close (tie.spec Inv-loop μ-loop loop-holds (λ c. search needs) (λ c. search needs) (λ c. search needs) returns (λ c. search needs)
+    (λ c. search needs) loop-again returns-2)

@@ -1,31 +1,44 @@
 use mathlib.Core.Path.{refl}
 use native.Mathlib.Omega.{arith}
 use Rattle.strips.proofs.Spans.{square-small, halved-small}
-use borrow.Author.Needs.{needs}
 use Rattle.strips.proofs.squares.halved.Statement.{statement}
 use Rattle.strips.proofs.squares.halved.Tie as tie
 use Rattle.strips.proofs.squares.halved.Reads as reads
 use Rattle.strips.proofs.squares.halved.Lts as lts
 
--- src/squares.rt:80:20
+-- places of the code, each counted once
+abbrev entry-at-mul-t6 : tie.After-struct-known5 → tie.Start
+entry-at-mul-t6 c = c .before .before .before .before .before
+
+abbrev entry-at-add-t7 : tie.After-struct-known6 → tie.Start
+entry-at-add-t7 c = c .before .before .before .before .before .before
+
+abbrev entry-at-add-t8 : tie.After-struct-known7 → tie.Start
+entry-at-add-t8 c = c .before .before .before .before .before .before .before
+
+abbrev entry-at-add-t10 : tie.After-struct-known8 → tie.Start
+entry-at-add-t10 c = c .before .before .before .before .before .before .before .before
+
 mul-t6 : tie.Need-mul-t6
-mul-t6 c = let p = c .before .before .before .before .before .pre .0 in omega (arith, square-small (c .before .before .before .before .before .args .s .side) (c .before .before .before .before .before .args .s .side) (p .side-small) (p .side-small))
+mul-t6 c =
+    let at-entry = entry-at-mul-t6 c in
+    let p = at-entry .pre .0 in omega (arith, square-small (at-entry .args .s .side) (at-entry .args .s .side) (p .side-small) (p .side-small))
 
--- src/squares.rt:80:13
 add-t7 : tie.Need-add-t7
-add-t7 c = let p = c .before .before .before .before .before .before .pre .0 in omega (arith, square-small (c .before .before .before .before .before .before .args .s .side) (c .before .before .before .before .before .before .args .s .side) (p .side-small) (p .side-small), p .at-small, p .level-small)
+add-t7 c =
+    let at-entry = entry-at-add-t7 c in
+    let p = at-entry .pre .0 in omega (arith, square-small (at-entry .args .s .side) (at-entry .args .s .side) (p .side-small) (p .side-small), p .at-small, p .level-small)
 
--- src/squares.rt:81:16
 add-t8 : tie.Need-add-t8
-add-t8 c = omega (arith, c .before .before .before .before .before .before .before .pre .0 .side-small)
+add-t8 c = omega (arith, entry-at-add-t8 c .pre .0 .side-small)
 
--- src/squares.rt:82:16
 add-t10 : tie.Need-add-t10
-add-t10 c = omega (arith, c .before .before .before .before .before .before .before .before .pre .0 .level-small)
+add-t10 c = omega (arith, entry-at-add-t10 c .pre .0 .level-small)
 
--- src/squares.rt:71:1
 returns : tie.Need-returns
-returns c = (refl, halved-small (c .before .before .before .before .before .before .before .before .args .s) (c .before .before .before .before .before .before .before .before .pre .0) (c .before .before .before .before .before .before .before .before .pre .1))
+returns c =
+    let at-entry = entry-at-add-t10 c in
+    (refl, halved-small (at-entry .args .s) (at-entry .pre .0) (at-entry .pre .1))
 
 pub halved-spec : {M : Type 1} → statement M
 halved-spec = tie.close (tie.spec mul-t6 add-t7 add-t8 add-t10 returns)

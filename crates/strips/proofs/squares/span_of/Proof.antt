@@ -7,28 +7,24 @@ use Rattle.strips.proofs.squares.span_of.Reads as reads
 use Rattle.strips.proofs.squares.span_of.Lts as lts
 use Rattle.strips.proofs.squares.strip.Reads as strip-reads
 
--- src/squares.rt:55:9
-strip-requires : tie.Need-strip-requires
-strip-requires c κs = search needs
+-- places of the code, each counted once
+abbrev entry : tie.After-strip → tie.Start
+entry c = c .before .before .before .before
 
--- src/squares.rt:56:9
-strip-requires-2 : tie.Need-strip-requires-2
-strip-requires-2 c κs = search needs
+abbrev strip-of-strip2 : tie.After-strip2 → tie.After-strip
+strip-of-strip2 c = c .before
 
--- src/squares.rt:57:9
-strip-requires-3 : tie.Need-strip-requires-3
-strip-requires-3 c κs = search needs
+abbrev strip2-at-returns : tie.After-strip4 → tie.After-strip2
+strip2-at-returns c = c .before .before
 
--- src/squares.rt:58:9
-strip-requires-4 : tie.Need-strip-requires-4
-strip-requires-4 c κs = search needs
-
--- src/squares.rt:51:1
 returns : tie.Need-returns
-returns c = let a = c .before .before .before .before .before .before .before .args in
-    span-made (a .coords .now) (a .xs .now) (a .ys .now) (a .b) (c .before .before .before .strip .result) (c .before .before .strip2 .result) (c .before .strip3 .result) (c .strip4 .result)
-    (c .before .before .before .strip .ensures) (c .before .before .strip2 .ensures) (c .before .strip3 .ensures) (c .strip4 .ensures) (c .before .before .before .before .before .before .before .pre .1) (c .before .before .before .before .before .before .before .pre .2) _ refl
+returns c =
+    let at-strip2 = strip2-at-returns c in
+    let at-strip = strip-of-strip2 at-strip2 in
+    let at-entry = entry at-strip in
+    let a = at-entry .args in
+    span-made (a .coords .now) (a .xs .now) (a .ys .now) (a .b) (at-strip .strip .result) (at-strip2 .strip2 .result) (c .before .strip3 .result) (c .strip4 .result)
+    (at-strip .strip .ensures) (at-strip2 .strip2 .ensures) (c .before .strip3 .ensures) (c .strip4 .ensures) (at-entry .pre .1) (at-entry .pre .2) _ refl
 
 pub span-of-spec : {M : Type 1} → statement M
-span-of-spec =
-    tie.close (tie.spec strip-requires strip-requires-2 strip-requires-3 strip-requires-4 returns)
+span-of-spec = tie.close (tie.spec (λ c κs. search needs) (λ c κs. search needs) (λ c κs. search needs) (λ c κs. search needs) returns)

@@ -6,21 +6,8 @@ use Rattle.strips.proofs.things.number_at.Tie as tie
 use Rattle.strips.proofs.things.number_at.Reads as reads
 use Rattle.strips.proofs.things.number_at.Lts as lts
 
--- src/things.rt:16:16
-mul-result : tie.Need-mul-result
-mul-result c = search needs
-
--- src/things.rt:16:16
-shared-slice-read-result : tie.Need-shared-slice-read-result
-shared-slice-read-result c = search needs
-
--- src/things.rt:16:9
-returns : tie.Need-returns
-returns c = search needs
-
--- src/things.rt:12:1
 returns-2 : tie.Need-returns-2
 returns-2 c = sym (getD-over (c .before .args .xs .now) (c .before .args .i) 0 (c .if1 .left))
 
 pub number-at-spec : {M : Type 1} → statement M
-number-at-spec = tie.close (tie.spec mul-result shared-slice-read-result returns returns-2)
+number-at-spec = tie.close (tie.spec (λ c. search needs) (λ c. search needs) (λ c. search needs) returns-2)

@@ -6,25 +6,22 @@ use Rattle.strips.proofs.things.prior.Reads as reads
 use Rattle.strips.proofs.things.prior.Lts as lts
 use Rattle.strips.proofs.things.number_at.Reads as number-at-reads
 
--- src/things.rt:36:9
+-- places of the code, each counted once
+abbrev entry-at-returns : tie.Then1 → tie.Start
+entry-at-returns c = c .before .before
+
+abbrev entry-at-returns-2 : tie.After-number-at → tie.Start
+entry-at-returns-2 c = c .before .before .before
+
 returns : tie.Need-returns
-returns c = prior-first (c .before .before .args .ends .now) (c .before .before .args .j) (c .if1 .taken)
+returns c =
+    let at-entry = entry-at-returns c in
+    prior-first (at-entry .args .ends .now) (at-entry .args .j) (c .if1 .taken)
 
--- src/things.rt:38:21
-sub-number-at : tie.Need-sub-number-at
-sub-number-at c = search needs
-
--- src/things.rt:38:5
-number-at-requires : tie.Need-number-at-requires
-number-at-requires c κs = search needs
-
--- src/things.rt:38:5
-cast-result : tie.Need-cast-result
-cast-result c = search needs
-
--- src/things.rt:32:1
 returns-2 : tie.Need-returns-2
-returns-2 c = prior-later (c .before .before .before .args .ends .now) (c .before .before .before .args .j) _ (c .before .if1 .left) (c .number-at .ensures)
+returns-2 c =
+    let at-entry = entry-at-returns-2 c in
+    prior-later (at-entry .args .ends .now) (at-entry .args .j) _ (c .before .if1 .left) (c .number-at .ensures)
 
 pub prior-spec : {M : Type 1} → statement M
-prior-spec = tie.close (tie.spec returns sub-number-at number-at-requires cast-result returns-2)
+prior-spec = tie.close (tie.spec returns (λ c. search needs) (λ c κs. search needs) (λ c. search needs) returns-2)

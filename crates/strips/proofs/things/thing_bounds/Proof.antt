@@ -9,106 +9,124 @@ use Rattle.spatial_index.proofs.bounds2.Reads as bounds2-reads
 use Rattle.spatial_index.proofs.edge_bounds.Reads as edge-bounds-reads
 use Rattle.strips.proofs.things.prior.Reads as prior-reads
 
--- src/things.rt:58:42
+-- places of the code, each counted once
+abbrev entry-of-else1 : tie.Else1 → tie.Start
+entry-of-else1 c = c .before .before .before .before
+
+abbrev entry-of-then1 : tie.Then1 → tie.Start
+entry-of-then1 c = c .before .before .before .before
+
+abbrev else1 : tie.After-prior → tie.Else1
+else1 c = c .before
+
+abbrev then1-at-shared-slice-read-edge-bounds : tie.After-shared-slice-known4 → tie.Then1
+then1-at-shared-slice-read-edge-bounds c = c .before
+
+abbrev then1-at-shared-slice-read-edge-bounds-2 : tie.After-shared-slice-known5 → tie.Then1
+then1-at-shared-slice-read-edge-bounds-2 c = c .before .before
+
+abbrev prior-at-shared-slice-read-e : tie.After-shared-slice-known6 → tie.After-prior
+prior-at-shared-slice-read-e c = c .before
+
+abbrev then1-at-returns : tie.After-edge-bounds → tie.Then1
+then1-at-returns c = c .before .before .before
+
+abbrev prior-at-returns-2 : tie.After-bounds2 → tie.After-prior
+prior-at-returns-2 c = c .before .before .before
+
 mul-edge-bounds : tie.Need-mul-edge-bounds
-mul-edge-bounds c = omega (arith, c .before .before .before .before .pre .1, count-pairs (c .before .before .before .before .args .nodes .now) (c .before .before .before .before .args .ends .now) (c .if1 .taken))
+mul-edge-bounds c =
+    let at-entry = entry-of-then1 c in
+    omega (arith, at-entry .pre .1, count-pairs (at-entry .args .nodes .now) (at-entry .args .ends .now) (c .if1 .taken))
 
--- src/things.rt:58:36
 mul-edge-bounds-2 : tie.Need-mul-edge-bounds-2
-mul-edge-bounds-2 c = omega (arith, c .before .before .before .before .pre .1, count-pairs (c .before .before .before .before .args .nodes .now) (c .before .before .before .before .args .ends .now) (c .if1 .taken))
+mul-edge-bounds-2 c =
+    let at-entry = entry-of-then1 c in
+    omega (arith, at-entry .pre .1, count-pairs (at-entry .args .nodes .now) (at-entry .args .ends .now) (c .if1 .taken))
 
--- src/things.rt:58:36
 shared-slice-read-edge-bounds : tie.Need-shared-slice-read-edge-bounds
-shared-slice-read-edge-bounds c = omega (arith, c .before .before .before .before .before .pre .1, count-pairs (c .before .before .before .before .before .args .nodes .now) (c .before .before .before .before .before .args .ends .now) (c .before .if1 .taken))
+shared-slice-read-edge-bounds c =
+    let at-entry = entry-of-then1 (then1-at-shared-slice-read-edge-bounds c) in
+    omega (arith, at-entry .pre .1, count-pairs (at-entry .args .nodes .now) (at-entry .args .ends .now) (c .before .if1 .taken))
 
--- src/things.rt:58:56
 mul-edge-bounds-3 : tie.Need-mul-edge-bounds-3
-mul-edge-bounds-3 c = omega (arith, c .before .before .before .before .before .pre .1, count-pairs (c .before .before .before .before .before .args .nodes .now) (c .before .before .before .before .before .args .ends .now) (c .before .if1 .taken))
+mul-edge-bounds-3 c =
+    let at-entry = entry-of-then1 (then1-at-shared-slice-read-edge-bounds c) in
+    omega (arith, at-entry .pre .1, count-pairs (at-entry .args .nodes .now) (at-entry .args .ends .now) (c .before .if1 .taken))
 
--- src/things.rt:58:56
 add-edge-bounds : tie.Need-add-edge-bounds
-add-edge-bounds c = omega (arith, c .before .before .before .before .before .pre .1, count-pairs (c .before .before .before .before .before .args .nodes .now) (c .before .before .before .before .before .args .ends .now) (c .before .if1 .taken))
+add-edge-bounds c =
+    let at-entry = entry-of-then1 (then1-at-shared-slice-read-edge-bounds c) in
+    omega (arith, at-entry .pre .1, count-pairs (at-entry .args .nodes .now) (at-entry .args .ends .now) (c .before .if1 .taken))
 
--- src/things.rt:58:50
 mul-edge-bounds-4 : tie.Need-mul-edge-bounds-4
-mul-edge-bounds-4 c = omega (arith, c .before .before .before .before .before .pre .1, count-pairs (c .before .before .before .before .before .args .nodes .now) (c .before .before .before .before .before .args .ends .now) (c .before .if1 .taken))
+mul-edge-bounds-4 c =
+    let at-entry = entry-of-then1 (then1-at-shared-slice-read-edge-bounds c) in
+    omega (arith, at-entry .pre .1, count-pairs (at-entry .args .nodes .now) (at-entry .args .ends .now) (c .before .if1 .taken))
 
--- src/things.rt:58:50
 shared-slice-read-edge-bounds-2 : tie.Need-shared-slice-read-edge-bounds-2
-shared-slice-read-edge-bounds-2 c = omega (arith, c .before .before .before .before .before .before .pre .1, count-pairs (c .before .before .before .before .before .before .args .nodes .now) (c .before .before .before .before .before .before .args .ends .now) (c .before .before .if1 .taken))
+shared-slice-read-edge-bounds-2 c =
+    let at-entry = entry-of-then1 (then1-at-shared-slice-read-edge-bounds-2 c) in
+    omega (arith, at-entry .pre .1, count-pairs (at-entry .args .nodes .now) (at-entry .args .ends .now) (then1-at-shared-slice-read-edge-bounds-2 c .if1 .taken))
 
--- src/things.rt:58:9
-edge-bounds-requires : tie.Need-edge-bounds-requires
-edge-bounds-requires c κs = search needs
-
--- src/things.rt:58:9
 returns : tie.Need-returns
-returns c = box-pairs (c .before .before .before .before .before .before .before .args .nodes .now) (c .before .before .before .before .before .before .before .args .coords .now) (c .before .before .before .before .before .before .before .args .ends .now) (c .before .before .before .before .before .before .before .args .j) _ (c .before .before .before .if1 .taken) (c .before .before .before .before .before .before .before .pre .1) (c .edge-bounds .ensures)
+returns c =
+    let at-entry = entry-of-then1 (then1-at-returns c) in
+    box-pairs (at-entry .args .nodes .now) (at-entry .args .coords .now) (at-entry .args .ends .now) (at-entry .args .j) _ (then1-at-returns c .if1 .taken)
+    (at-entry .pre .1) (c .edge-bounds .ensures)
 
--- src/things.rt:60:9
-prior-requires : tie.Need-prior-requires
-prior-requires c κs = search needs
-
--- src/things.rt:61:13
 mul-e : tie.Need-mul-e
-mul-e c = omega (arith, c .before .before .before .before .before .pre .1, count-runs (c .before .before .before .before .before .args .nodes .now) (c .before .before .before .before .before .args .ends .now) (c .before .if1 .left))
+mul-e c =
+    let at-entry = entry-of-else1 (else1 c) in
+    omega (arith, at-entry .pre .1, count-runs (at-entry .args .nodes .now) (at-entry .args .ends .now) (c .before .if1 .left))
 
--- src/things.rt:61:13
 shared-slice-read-e : tie.Need-shared-slice-read-e
-shared-slice-read-e c = omega (arith, c .before .before .before .before .before .before .pre .1, count-runs (c .before .before .before .before .before .before .args .nodes .now) (c .before .before .before .before .before .before .args .ends .now) (c .before .before .if1 .left))
+shared-slice-read-e c =
+    let at-else1 = else1 (prior-at-shared-slice-read-e c) in
+    let at-entry = entry-of-else1 at-else1 in
+    omega (arith, at-entry .pre .1, count-runs (at-entry .args .nodes .now) (at-entry .args .ends .now) (at-else1 .if1 .left))
 
--- src/things.rt:61:13
 cast-e : tie.Need-cast-e
-cast-e c = omega (arith, c .shared-slice-known6 .given (c .before .before .before .before .before .before .args .j))
+cast-e c =
+    let at-entry = entry-of-else1 (else1 (prior-at-shared-slice-read-e c)) in
+    omega (arith, c .shared-slice-known6 .given (at-entry .args .j))
 
--- src/things.rt:62:21
 mul-bounds2 : tie.Need-mul-bounds2
-mul-bounds2 c = let b = c .before .before .before .before .before .before .pre .0 (c .before .before .before .before .before .before .args .j) (omega (arith, c .before .before .before .before .before .before .pre .1, count-runs (c .before .before .before .before .before .before .args .nodes .now) (c .before .before .before .before .before .before .args .ends .now) (c .before .before .if1 .left))) in
+mul-bounds2 c =
+    let at-else1 = else1 (prior-at-shared-slice-read-e c) in
+    let at-entry = entry-of-else1 at-else1 in
+    let b = at-entry .pre .0 (at-entry .args .j) (omega (arith, at-entry .pre .1, count-runs (at-entry .args .nodes .now) (at-entry .args .ends .now) (at-else1 .if1 .left))) in
     omega (arith, b .0, b .1, c .before .prior .ensures)
 
--- src/things.rt:62:21
 sub-bounds2 : tie.Need-sub-bounds2
-sub-bounds2 c = let b = c .before .before .before .before .before .before .pre .0 (c .before .before .before .before .before .before .args .j) (omega (arith, c .before .before .before .before .before .before .pre .1, count-runs (c .before .before .before .before .before .before .args .nodes .now) (c .before .before .before .before .before .before .args .ends .now) (c .before .before .if1 .left))) in
+sub-bounds2 c =
+    let at-else1 = else1 (prior-at-shared-slice-read-e c) in
+    let at-entry = entry-of-else1 at-else1 in
+    let b = at-entry .pre .0 (at-entry .args .j) (omega (arith, at-entry .pre .1, count-runs (at-entry .args .nodes .now) (at-entry .args .ends .now) (at-else1 .if1 .left))) in
     omega (arith, b .0, b .1, c .before .prior .ensures)
 
--- src/things.rt:62:21
 part-bounds2-start : tie.Need-part-bounds2-start
-part-bounds2-start c = let b = c .before .before .before .before .before .before .pre .0 (c .before .before .before .before .before .before .args .j) (omega (arith, c .before .before .before .before .before .before .pre .1, count-runs (c .before .before .before .before .before .before .args .nodes .now) (c .before .before .before .before .before .before .args .ends .now) (c .before .before .if1 .left))) in
+part-bounds2-start c =
+    let at-else1 = else1 (prior-at-shared-slice-read-e c) in
+    let at-entry = entry-of-else1 at-else1 in
+    let b = at-entry .pre .0 (at-entry .args .j) (omega (arith, at-entry .pre .1, count-runs (at-entry .args .nodes .now) (at-entry .args .ends .now) (at-else1 .if1 .left))) in
     omega (arith, b .0, b .1, c .before .prior .ensures)
 
--- src/things.rt:62:21
 part-bounds2-end : tie.Need-part-bounds2-end
-part-bounds2-end c = let b = c .before .before .before .before .before .before .pre .0 (c .before .before .before .before .before .before .args .j) (omega (arith, c .before .before .before .before .before .before .pre .1, count-runs (c .before .before .before .before .before .before .args .nodes .now) (c .before .before .before .before .before .before .args .ends .now) (c .before .before .if1 .left))) in
+part-bounds2-end c =
+    let at-else1 = else1 (prior-at-shared-slice-read-e c) in
+    let at-entry = entry-of-else1 at-else1 in
+    let b = at-entry .pre .0 (at-entry .args .j) (omega (arith, at-entry .pre .1, count-runs (at-entry .args .nodes .now) (at-entry .args .ends .now) (at-else1 .if1 .left))) in
     omega (arith, b .0, b .1, c .before .prior .ensures)
 
--- src/things.rt:62:5
-bounds2-requires : tie.Need-bounds2-requires
-bounds2-requires c κs = search needs
-
--- src/things.rt:53:1
 returns-2 : tie.Need-returns-2
-returns-2 c = box-runs (c .before .before .before .before .before .before .before .before .args .nodes .now) (c .before .before .before .before .before .before .before .before .args .coords .now) (c .before .before .before .before .before .before .before .before .args .ends .now) (c .before .before .before .before .before .before .before .before .args .j) (c .before .before .before .prior .result) _ (c .before .before .before .before .if1 .left) (c .before .before .before .prior .ensures) (c .bounds2 .ensures)
+returns-2 c =
+    let at-prior = prior-at-returns-2 c in
+    let at-entry = entry-of-else1 (else1 at-prior) in
+    box-runs (at-entry .args .nodes .now) (at-entry .args .coords .now) (at-entry .args .ends .now) (at-entry .args .j) (at-prior .prior .result) _
+    (else1 at-prior .if1 .left) (at-prior .prior .ensures) (c .bounds2 .ensures)
 
 pub thing-bounds-spec : {M : Type 1} → statement M
-thing-bounds-spec =
-    tie.close
-    (tie.spec
-    mul-edge-bounds
-    mul-edge-bounds-2
-    shared-slice-read-edge-bounds
-    mul-edge-bounds-3
-    add-edge-bounds
-    mul-edge-bounds-4
-    shared-slice-read-edge-bounds-2
-    edge-bounds-requires
-    returns
-    prior-requires
-    mul-e
-    shared-slice-read-e
-    cast-e
-    mul-bounds2
-    sub-bounds2
-    part-bounds2-start
-    part-bounds2-end
-    bounds2-requires
-    returns-2)
+thing-bounds-spec = tie.close (tie.spec mul-edge-bounds mul-edge-bounds-2 shared-slice-read-edge-bounds mul-edge-bounds-3 add-edge-bounds mul-edge-bounds-4
+    shared-slice-read-edge-bounds-2 (λ c κs. search needs) returns (λ c κs. search needs) mul-e shared-slice-read-e cast-e mul-bounds2 sub-bounds2
+    part-bounds2-start part-bounds2-end (λ c κs. search needs) returns-2)

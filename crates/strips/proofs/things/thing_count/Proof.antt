@@ -4,11 +4,9 @@ use Rattle.strips.proofs.things.thing_count.Tie as tie
 use Rattle.strips.proofs.things.thing_count.Reads as reads
 use Rattle.strips.proofs.things.thing_count.Lts as lts
 
--- src/things.rt:26:9
 returns : tie.Need-returns
 returns c = count-pairs (c .before .args .nodes .now) (c .before .args .ends .now) (c .if1 .taken)
 
--- src/things.rt:22:1
 returns-2 : tie.Need-returns-2
 returns-2 c = count-runs (c .before .args .nodes .now) (c .before .args .ends .now) (c .if1 .left)
 
