@@ -6,22 +6,22 @@ use Rattle.cutting_cells.proofs.outcome_of.Tie as tie
 
 -- places of the code, each counted once
 abbrev entry-of-then : tie.Then1 → tie.Start
-entry-of-then c = c .before
+entry-of-then c = c .before .before .before .before .before .before .before
 
 abbrev entry : tie.Else1 → tie.Start
-entry c = c .before
+entry c = c .before .before .before .before .before .before .before
 
 abbrev then1 : tie.After-copy-cell → tie.Then1
-then1 c = c .before
+then1 c = c .before .before .before
 
 abbrev else1 : tie.After-cut-cell → tie.Else1
-else1 c = c .before
+else1 c = c .before .before .before
 
 abbrev copied : tie.After-slice-known4 → tie.After-copy-cell
-copied c = c .before
+copied c = c .before .before .before .before
 
 abbrev cut : tie.After-slice-known6 → tie.After-cut-cell
-cut c = c .before
+cut c = c .before .before .before .before
 
 returns : tie.Need-returns
 returns c =
