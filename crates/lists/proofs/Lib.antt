@@ -4,3 +4,6 @@ pub mod Regions
 pub mod Fill
 pub mod Insert
 pub mod Sort
+pub mod Halving
+pub mod Rising
+pub mod Merging

@@ -18,9 +18,9 @@ use Rattle.lists.proofs.Gather.{places-more, places-le}
 use Rattle.lists.proofs.Insert.{insertAt-fits}
 use Rattle.lists.proofs.Regions.{length-front, take-front-of, front-front, front-behind}
 use Rattle.lists.proofs.Sort.{length-insert, insert-is, length-sorted, sorted-snoc}
+use Rattle.lists.proofs.Rising.{All, all-take, all-drop}
+use Rattle.lists.proofs.Merging.{sorted-both}
 use Rattle.snap.specs.Steps.{AllPlaced, NodePlaced, InOrder, placeOf, marked, before, indicesInOrder, withNode, counted, merged, mergedFull, countedFull}
-use Rattle.snap.proofs.Rising.{All, all-take, all-drop}
-use Rattle.snap.proofs.Merging.{sorted-both}
 use Rattle.snap.proofs.Orders.{before-asym, before-through, marked-placed, sorted-in-order, order-end}
 
 -- ---- one node put in

@@ -1,9 +1,6 @@
 pub mod Differences
 pub mod Squares
-pub mod Halving
 pub mod Precedence
-pub mod Rising
-pub mod Merging
 pub mod Moves
 pub mod Blocks
 pub mod Places

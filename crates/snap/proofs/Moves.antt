@@ -15,9 +15,9 @@ use Rattle.lists.specs.Regions.{run, front, put}
 use Rattle.lists.proofs.Search.{first-hit, first-none}
 use Rattle.lists.proofs.Sort.{length-sortOnto}
 use Rattle.lists.proofs.Regions.{length-run, put-none, length-put, put-before, take-put, drop-put, drop-take}
+use Rattle.lists.proofs.Rising.{all-of}
+use Rattle.lists.proofs.Merging.{Ahead, onto-last}
 use Rattle.snap.specs.Steps.{NodePlaced, InOrder, before, placeOf, merged}
-use Rattle.snap.proofs.Rising.{all-of}
-use Rattle.snap.proofs.Merging.{Ahead, onto-last}
 use Rattle.snap.proofs.Orders.{before-through}
 
 module _ {A : Type 0} where

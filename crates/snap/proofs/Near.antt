@@ -12,6 +12,7 @@ use lib.ListN.{length, getD, take, drop, length-drop}
 use lib.Seq.{getD-drop, take-all}
 use lib.Ieee.{Float, neg, lt, le}
 use Rattle.lists.proofs.Search.{first-none}
+use Rattle.lists.proofs.Halving.{Turns, Between, between-end}
 use Rattle.plane.specs.Plane.{_⊖_, _⊗_, pointAt}
 use Rattle.plane.specs.declared.Point.{Point}
 use Rattle.plane.proofs.FloatOrder.{lt-asym, lt-irrefl, not-lt-trans, number-right}
@@ -22,7 +23,6 @@ use Rattle.snap.specs.declared.Nearest.{Nearest}
 use Rattle.snap.specs.Steps.{InOrder, ahead, windowStart, closerNode}
 use Rattle.snap.proofs.Differences.{stays-above, stays-below, le-not-lt}
 use Rattle.snap.proofs.Squares.{square-number, far-left, far-right}
-use Rattle.snap.proofs.Halving.{Turns, Between, between-end}
 use Rattle.snap.proofs.Precedence.{precedes-left}
 
 -- what the code holds for the nearest so far: `other` in place of none

@@ -13,14 +13,14 @@ use Rattle.lists.specs.Sort.{sorted}
 use Rattle.lists.specs.Regions.{front}
 use Rattle.lists.proofs.Gather.{places-le, places-at}
 use Rattle.lists.proofs.Sort.{length-sorted}
+use Rattle.lists.proofs.Halving.{Turns, Between, between-end}
+use Rattle.lists.proofs.Rising.{All, all-at, all-of, rising-at, sorted-all, sorted-rising}
 use Rattle.plane.specs.Plane.{isNumber, xOf, yOf, pointAt}
 use Rattle.plane.specs.declared.Point.{Point}
 use Rattle.entry.specs.Passed.{Placed}
 use Rattle.rules.specs.Snap.{precedes}
 use Rattle.snap.specs.Steps.{AllPlaced, NodePlaced, InOrder, placeOf, marked, before, indicesInOrder}
-use Rattle.snap.proofs.Halving.{Turns, Between, between-end}
 use Rattle.snap.proofs.Precedence.{precedes-asym, precedes-through}
-use Rattle.snap.proofs.Rising.{All, all-at, all-of, rising-at, sorted-all, sorted-rising}
 
 -- ---- the search for a place
 

@@ -41,7 +41,7 @@ before coords i j = precedes (pointAt coords i) (pointAt coords j)
 abbrev pub NodePlaced : List Float → ℕ → Type 0
 NodePlaced coords v = Placed (xOf coords v) × Placed (yOf coords v)
 
--- nodes of which none stands before an earlier one
+-- nodes with finite coordinates, of which none stands before an earlier one
 pub record InOrder (coords : List Float) (order : List ℕ) : Type 0 where
   pub placed : (i : ℕ) → i < length order → NodePlaced coords (getD order i 0)
   pub rises : (i j : ℕ) → i < j → j < length order → before coords (getD order j 0) (getD order i 0) ≡ false

@@ -178,7 +178,7 @@ fn window_start(coords: &[f64], order: &[u32], p: Point) -> usize
 }
 
 // The nearest of the nodes in order at a squared distance strictly below 1e-12 × 1e-12, the first of equally near ones; `other` where there is none.
-// Those from the first on that lies 1e-12 or more to the right of p are too far.
+// From the first on that lies 1e-12 or more to the right of p, all are too far.
 fn nearest_from(coords: &[f64], order: &[u32], p: Point, other: u32) -> u32
     requires { ⌜ InOrder (now coords) (now order) ⌝ }
     ensures { λ r. ⌜ r ≡ orShifted other (closestWithin (now (coords .entry)) (now (order .entry)) p) ⌝ }
@@ -201,7 +201,7 @@ fn nearest_from(coords: &[f64], order: &[u32], p: Point, other: u32) -> u32
     best.node
 }
 
-// The same, of nodes of which many may lie to the left of p. Nodes on one vertical line are all looked at.
+// The same, of nodes of which many may lie to the left of p. Nodes on one vertical line are all looked at: to weld such meshes stays quadratic.
 fn closest_within(coords: &[f64], order: &[u32], p: Point, other: u32) -> u32
     requires { ⌜ InOrder (now coords) (now order) ⌝ }
     ensures { λ r. ⌜ r ≡ orShifted other (closestWithin (now (coords .entry)) (now (order .entry)) p) ⌝ }

@@ -3,7 +3,7 @@ use mathlib.Core.Path.{_∙_}
 use Prim.Native.Nat.{_-_}
 use native.Mathlib.Omega.{arith}
 use lib.ListN.{length}
-use Rattle.snap.proofs.Halving.{Between, middle, between-start, between-lower, between-upper}
+use Rattle.lists.proofs.Halving.{Between, middle, between-start, between-lower, between-upper}
 use Rattle.snap.proofs.Orders.{behindAt, precedes-is, place-turns, place-end}
 use borrow.Author.Needs.{needs}
 use Rattle.snap.proofs.place.Statement.{statement}

@@ -1,7 +1,7 @@
 -- `snap::sorted_indices_for` meets its contract. The loop's invariant: the marked ones of the first i nodes stand in order, the first k at the front of s, the others in the block.
 -- Assumes nothing.
 use mathlib.Core.Path.{_≡_, refl, sym, _∙_}
-use Prim.Native.Nat.{_+_, _-_, _≤_, _<_}
+use Prim.Native.Nat.{_-_, _≤_, _<_}
 use native.Mathlib.Omega.{arith}
 use lib.ListN.{length, length-take}
 use lib.Seq.{length-take-le}

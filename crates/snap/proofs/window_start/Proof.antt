@@ -2,7 +2,7 @@
 use Prim.Native.Nat.{_-_}
 use native.Mathlib.Omega.{arith}
 use lib.ListN.{length}
-use Rattle.snap.proofs.Halving.{Between, middle, between-start, between-lower, between-upper}
+use Rattle.lists.proofs.Halving.{Between, middle, between-start, between-lower, between-upper}
 use Rattle.snap.proofs.Near.{nearAt, near-is, window-turns, window-end}
 use borrow.Author.Needs.{needs}
 use Rattle.snap.proofs.window_start.Statement.{statement}

@@ -4,9 +4,9 @@ use mathlib.Core.Path.{_≡_, refl, sym, ap, _∙_}
 use mathlib.Core.Bool.{Bool, true, false, true≢false}
 use mathlib.Core.List.{List, [], _∷_, _++_}
 use lib.Dec.{T}
 use Rattle.lists.specs.Sort.{insert, sortOnto, sorted}
 use Rattle.lists.proofs.Sort.{sortOnto-append, sortOnto-snoc}
-use Rattle.snap.proofs.Rising.{All, Rising, all-map₂, insert-all, onto-all, insert-rising}
+use Rattle.lists.proofs.Rising.{All, Rising, all-map₂, insert-all, onto-all, insert-rising}
 
 module _ {A : Type 0} (before : A → A → Bool) where
   insert-here : (x y : A) (ys : List A) → before x y ≡ true → insert before x (y ∷ ys) ≡ x ∷ y ∷ ys
