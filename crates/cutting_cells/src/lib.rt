@@ -177,17 +177,13 @@ fn treatment_of(op: u32, cutter: bool, g: Regions, x: Indexes) -> Treatment
 {
     let keep = keep_of(op, cutter);
     if cutter {
-        return Treatment {
-            keep,
-            other: g.subject,
-            index: x.subject,
-        };
+        let other = g.subject;
+        let index = x.subject;
+        return Treatment { keep, other, index };
     }
-    Treatment {
-        keep,
-        other: g.cutter,
-        index: x.cutter,
-    }
+    let other = g.cutter;
+    let index = x.cutter;
+    Treatment { keep, other, index }
 }
 
 // The number of a mesh's first cell, where the other has n.
