@@ -68,6 +68,13 @@ holds-linked op s c g w h =
       few = omega (arith, ap length (h .met), length-booked ms, h .few);
     }
 
+-- the regions stand before the end of the links, which isn't far, and no mesh has more edges than entries
+pub record Low (op m : ℕ) (s c : Mesh) (g : Regions) : Type 0 where
+  pub lies : Lies g (g .links .end)
+  pub end : g .links .end ≤ 3 * (nodeCount s + nodeCount c) + 3 * (length (s .nodes) + length (c .nodes)) + 4 * length (c .nodes) + 7 * m + 14
+  pub subjects : length (sceneFor op s c .subject .edges) ≤ length (s .nodes)
+  pub cutters : length (sceneFor op s c .cutter .edges) ≤ length (c .nodes)
+
 pub run-between : (w : List ℕ) (a n : ℕ) → runIn w (between a (a + n)) ≡ run w a n
 unfolding runIn
 run-between w a n = let e : a + n - a ≡ n = omega arith in ap (run w a) e
@@ -144,6 +151,25 @@ module _ (op : ℕ) (sc cc : List Float) (sn se cn ce : List ℕ) (fs : Fit fals
           cutterEntries = record { rises = omega arith; fits = omega (arith, more) };
           met = record { rises = omega arith; fits = omega (arith, more, few) };
           links = record { rises = omega arith; fits = omega (arith, more, few) };
+        }
+
+    pub regions-low : Low op m s c (foundAs op s c .regions)
+    unfolding foundAs regionsBy netsOf sceneOf
+    regions-low =
+        let a = subjects-before lines sc cc sn se cn ce fs fc w₀ room in
+        let b = cutters-before lines sc cc sn se cn ce fs fc w₀ room in
+        record {
+          lies = record {
+            subjectEdges = record { rises = omega arith; fits = omega (arith, a .0) };
+            subjectEntries = record { rises = omega arith; fits = omega arith };
+            cutterEdges = record { rises = omega arith; fits = omega (arith, b .0) };
+            cutterEntries = record { rises = omega arith; fits = omega arith };
+            met = record { rises = omega arith; fits = omega arith };
+            links = record { rises = omega arith; fits = omega arith };
+          };
+          end = omega (arith, few);
+          subjects = a .2;
+          cutters = b .2;
         }
 
     -- and hold what is found

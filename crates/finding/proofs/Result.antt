@@ -22,9 +22,9 @@ use Rattle.finding.specs.declared.stages.Found.{Found}
 use Rattle.finding.specs.Nets.{NetRoom, FindAsks}
 use Rattle.finding.specs.Found.{foundEvents, foundAs, refusedAs, worked, FoundLists, refusedLists, foundOf}
 use Rattle.finding.proofs.Passed.{bare}
-use Rattle.finding.proofs.Held.{Holds, regions-lie, worked-holds}
+use Rattle.finding.proofs.Held.{Holds, Low, length-worked, regions-lie, regions-low, worked-holds}
 use Rattle.finding.proofs.Events.{first-passes, no-nine, few-met}
-use Rattle.finding.proofs.Scenes.{met-bare, coords-bare, events-bare, found-bare, worked-bare, holds-bare, found-any-room}
+use Rattle.finding.proofs.Scenes.{met-bare, coords-bare, events-bare, found-bare, worked-bare, holds-bare, low-bare, found-any-room}
 use Rattle.finding.proofs.Settled.{leaves, all-left, zeros-left, code-left}
 
 module _ (op m : ℕ) (s c : Mesh) where
@@ -65,6 +65,16 @@ module _ (op m : ℕ) (s c : Mesh) where
       found-lies =
           rw (found-bare op s c) at
           (regions-lie op (s .coords) (c .coords) (s .nodes) (s .ends) (c .nodes) (c .ends) (ok .subject) (ok .cutter) w₀ room₀ m (ok .room) few)
+
+      pub worked-long : length (worked op s c w₀) ≡ length w₀
+      worked-long =
+          rw (worked-bare op s c w₀) at
+          (length-worked op (s .coords) (c .coords) (s .nodes) (s .ends) (c .nodes) (c .ends) (ok .subject) (ok .cutter) w₀ room₀ m (ok .room) few)
+
+      pub found-low : Low op m s c (foundAs op s c .regions)
+      found-low =
+          rw (found-bare op s c) at
+          (low-bare op s c m _ (regions-low op (s .coords) (c .coords) (s .nodes) (s .ends) (c .nodes) (c .ends) (ok .subject) (ok .cutter) w₀ room₀ m (ok .room) few))
 
       -- and hold both nets, the meetings and their links
       pub found-holds : Holds op s c (foundAs op s c .regions) (worked op s c w₀)
@@ -119,3 +129,6 @@ module _ (op m : ℕ) (s c : Mesh) where
       -- what the regions of the answer hold, and that they have their places
       pub holds : Holds op s c (r .regions) w′
       holds = rw (answer-is, work-is) (found-holds (length oc / 2) 0 0 none w₀ ok)
+
+      pub low : Low op m s c (r .regions)
+      low = rw answer-is (found-low (length oc / 2) 0 0 none w₀ ok)

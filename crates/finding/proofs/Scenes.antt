@@ -4,6 +4,7 @@ use mathlib.Core.Bool.{Bool, cond}
 use mathlib.Core.List.{List, [], _∷_, _++_, map}
 use Prim.Native.Nat.{ℕ, _/_}
 use lib.Dec.{eqb}
+use native.Mathlib.Omega.{arith}
 use lib.ListN.{length, getD, replicate}
 use lib.Ieee.{Float}
 use Rattle.lists.specs.Gather.{joined}
@@ -29,7 +30,7 @@ use Rattle.finding.specs.declared.stages.Found.{Found}
 use Rattle.finding.specs.Nets.{copiedAt, subjectAt, cutterAt, indexAt, metAt, netsOf, edged, netted}
 use Rattle.finding.specs.Found.{foundEvents, chains, regionsBy, foundAs, linksIn, worked}
 use Rattle.finding.proofs.Passed.{bare}
-use Rattle.finding.proofs.Held.{Holds}
+use Rattle.finding.proofs.Held.{Holds, Low}
 use Rattle.finding.proofs.Events.{early-nine, passes}
 
 -- 9 goes by the edges and the meetings
@@ -132,6 +133,16 @@ module _ (op : ℕ) (s c : Mesh) where
         met = h .met ∙ ap booked met-bare;
         links = h .links ∙ links-bare;
         few = rw met-bare at (h .few);
+      }
+
+  pub low-bare : (m : ℕ) (g : Regions) → Low op m (bare s) (bare c) g → Low op m s c g
+  unfolding sceneOf
+  low-bare m g h =
+      record {
+        lies = h .lies;
+        end = h .end;
+        subjects = omega (arith, h .subjects, ap length (subjects-bare (eqb op 5) s c));
+        cutters = omega (arith, h .cutters, ap length (cutters-bare (eqb op 5) s c));
       }
 
   -- the course begins with what is found, and then come the cells

@@ -277,8 +277,8 @@ module _ (lines : Bool) (sc cc : List Float) (sn se cn ce : List ℕ) where
               let n : 2 * length cutters ≡ length behind = omega (arith, ends-length cutters, ap length is) in
               ap (run held (cutterAt s c)) n ∙ behind-held ∙ is
 
-      pub subjects-before : (subjectAt s c + 2 * length subjects ≤ indexAt s c) × (length subjects ≤ 65536)
-      subjects-before = (omega (arith, few-subjects), omega (arith, few-subjects, fs .mostEntries))
+      pub subjects-before : (subjectAt s c + 2 * length subjects ≤ indexAt s c) × (length subjects ≤ 65536) × (length subjects ≤ length sn)
+      subjects-before = (omega (arith, few-subjects), omega (arith, few-subjects, fs .mostEntries), few-subjects)
 
       pub cutters-before : (cond lines (nodeCount c) (cutterAt s c) + 2 * length cutters ≤ indexAt s c) × (length cutters ≤ 65536) × (length cutters ≤ length cn)
       cutters-before = (go lines, omega (arith, few-cutters, fc .mostEntries), few-cutters)

@@ -1,6 +1,6 @@
 -- Indexes one behind the other, behind the regions that they are of. Assumes nothing.
 use mathlib.Core.Path.{_≡_, refl, sym, ap, ap₂, _∙_, subst}
-use mathlib.Core.List.{List, [], _++_, append-assoc}
+use mathlib.Core.List.{List, [], _++_, append-nil, append-assoc}
 use Prim.Native.Nat.{ℕ, _+_, _-_, _≤_, _<_}
 use native.Mathlib.Nat.{add-assoc}
 use native.Mathlib.Omega.{arith}
@@ -167,3 +167,107 @@ module _ (coords : List Float) (w : List ℕ) (g : Regions) (se ce : List ℕ) (
           two .1 ∙ (λ i. put (one .1 i) (end₁ i) (indexOf coords (edges-kept i) [] ++ indexOf coords (entries-kept i) ce))
               ∙ put-append w at₀ low ixs (meshIndex coords w (g .cutter) ce) (omega (arith, ok .room, subject-long)),
         )
+
+  -- ---- what stands then
+
+  abbrev pub after : List ℕ
+  after = put w (g .links .end) (indexes coords w g se ce)
+
+  cutter-long : length (meshIndex coords w (g .cutter) ce) ≡ meshSize w (g .cutter) ce
+  cutter-long =
+      length-append (edgeIndex coords w (g .cutter) ce) (cellIndex coords w (g .cutter) ce)
+      ∙ ap₂ (λ (a b : ℕ). a + b) (edges-size coords w (g .cutter) ce at₀ (ok .cutter)) (cells-size coords w (g .cutter) ce at₀ (ok .cutter))
+
+  pub length-after : length after ≡ length w
+  length-after =
+      length-put w at₀ low (indexes coords w g se ce)
+      (omega (arith, ok .room, subject-long, cutter-long, length-append ixs (meshIndex coords w (g .cutter) ce)))
+
+  -- what stands before the end of the links is as it was
+  pub kept-after : (r : Run) → Within r (g .links .end) → runIn after r ≡ runIn w r
+  kept-after r i = run-kept w (indexes coords w g se ce) at₀ low r i
+
+  -- a part of what is written
+  part-after : (before part behind : List ℕ) → indexes coords w g se ce ≡ before ++ (part ++ behind) → (a : ℕ) → a ≡ at₀ + length before
+      → runIn after (record { from = a; end = a + length part }) ≡ part
+  unfolding runIn
+  part-after before part behind e a ea =
+      let n : a + length part - a ≡ length part = omega arith in
+      ap₂ (λ (v : List ℕ) (k : ℕ). run (put w at₀ v) a k) e n
+      ∙ ap (λ (v : List ℕ). run v a (length part)) (sym (put-append w at₀ low before (part ++ behind) fit₁))
+      ∙ ap (λ (k : ℕ). run (put (put w at₀ before) k (part ++ behind)) a (length part)) (sym ea)
+      ∙ ap (λ (v : List ℕ). run v a (length part)) (sym (put-append (put w at₀ before) a low₁ part behind fit₂))
+      ∙ run-before (put (put w at₀ before) a part) (a + length part) (omega (arith, fit₂, same₂)) behind a (length part) (omega arith)
+      ∙ run-put (put w at₀ before) a low₁ part (length part) refl
+    where
+      all : at₀ + length (indexes coords w g se ce) ≤ length w
+      all = omega (arith, ok .room, subject-long, cutter-long, length-append ixs (meshIndex coords w (g .cutter) ce))
+
+      fit₁ : at₀ + length before ≤ length w
+      fit₁ = omega (arith, all, ap length e, length-append before (part ++ behind))
+
+      same : length (put w at₀ before) ≡ length w
+      same = length-put w at₀ low before fit₁
+
+      low₁ : a ≤ length (put w at₀ before)
+      low₁ = omega (arith, ea, fit₁, same)
+
+      fit₂ : a + length part ≤ length (put w at₀ before)
+      fit₂ = omega (arith, ea, all, ap length e, length-append before (part ++ behind), length-append part behind, same)
+
+      same₂ : length (put (put w at₀ before) a part) ≡ length (put w at₀ before)
+      same₂ = length-put (put w at₀ before) a low₁ part fit₂
+
+  abbrev e₁ : List ℕ
+  e₁ = edgeIndex coords w (g .subject) se
+
+  abbrev c₁ : List ℕ
+  c₁ = cellIndex coords w (g .subject) se
+
+  abbrev e₂ : List ℕ
+  e₂ = edgeIndex coords w (g .cutter) ce
+
+  abbrev c₂ : List ℕ
+  c₂ = cellIndex coords w (g .cutter) ce
+
+  -- the index of what stands before
+  index-is : (r x : Run) (ends : List ℕ) → Within r (g .links .end) → Rising ends (length (runIn w r)) → thingCount (runIn w r) ends ≤ 65536
+      → runIn after x ≡ indexOf coords (runIn w r) ends → Indexed coords (runIn after r) ends (runIn after x)
+  index-is r x ends i up few e =
+      subst (λ (l : List ℕ). Indexed coords l ends (runIn after x)) (sym (kept-after r i)) (record { rising = up; few = few; is = e })
+
+  within-after : (a n : ℕ) → a + n ≤ at₀ + length (indexes coords w g se ce) → Within (record { from = a; end = a + n }) (length after)
+  within-after a n h =
+      record {
+        rises = omega arith;
+        fits = omega (arith, h, length-after, ok .room, subject-long, cutter-long, length-append ixs (meshIndex coords w (g .cutter) ce));
+      }
+
+  pub subject-indexed : MeshIndexed coords after (g .subject) se (indexesAt coords w g se ce .subject)
+  unfolding indexesAt
+  subject-indexed =
+      let m = ok .subject in
+      record {
+        edgesWithin = within-after at₀ (length e₁) (omega (arith, length-append ixs (e₂ ++ c₂), length-append e₁ c₁));
+        edges = index-is (g .subject .edges) _ [] (m .edges) (λ i h. absurd (omega (arith, h))) (m .fewEdges)
+            (part-after [] e₁ (c₁ ++ (e₂ ++ c₂)) (append-assoc e₁ c₁ (e₂ ++ c₂)) at₀ (omega arith));
+        cellsWithin = within-after (at₀ + length e₁) (length c₁) (omega (arith, length-append ixs (e₂ ++ c₂), length-append e₁ c₁));
+        cells = index-is (g .subject .entries) _ se (m .entries) (m .rising) (m .fewCells)
+            (part-after e₁ c₁ (e₂ ++ c₂) (append-assoc e₁ c₁ (e₂ ++ c₂)) (at₀ + length e₁) refl);
+      }
+
+  pub cutter-indexed : MeshIndexed coords after (g .cutter) ce (indexesAt coords w g se ce .cutter)
+  unfolding indexesAt
+  cutter-indexed =
+      let m = ok .cutter in
+      let a : ℕ = at₀ + length e₁ + length c₁ in
+      let long = length-append e₁ c₁ in
+      record {
+        edgesWithin = within-after a (length e₂) (omega (arith, length-append ixs (e₂ ++ c₂), long, length-append e₂ c₂));
+        edges = index-is (g .cutter .edges) _ [] (m .edges) (λ i h. absurd (omega (arith, h))) (m .fewEdges)
+            (part-after (e₁ ++ c₁) e₂ c₂ refl a (omega (arith, long)));
+        cellsWithin = within-after (a + length e₂) (length c₂) (omega (arith, length-append ixs (e₂ ++ c₂), long, length-append e₂ c₂));
+        cells = index-is (g .cutter .entries) _ ce (m .entries) (m .rising) (m .fewCells)
+            (part-after ((e₁ ++ c₁) ++ e₂) c₂ [] (sym (append-assoc (e₁ ++ c₁) e₂ c₂) ∙ ap (λ (l : List ℕ). ((e₁ ++ c₁) ++ e₂) ++ l) (sym (append-nil c₂))) (a + length e₂)
+            (omega (arith, long, length-append (e₁ ++ c₁) e₂)));
+      }

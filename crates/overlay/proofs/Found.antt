@@ -1,5 +1,5 @@
 -- What `find` leaves in the lists is what the cells ask for. Assumes nothing.
-use mathlib.Core.Path.{_≡_, refl, sym, ap, _∙_}
+use mathlib.Core.Path.{_≡_, refl, sym, ap, _∙_, subst}
 use mathlib.Core.List.{List, [], _∷_, _++_}
 use Prim.Native.Nat.{ℕ, zero, suc, _+_, _*_, _/_, _≤_}
 use native.Mathlib.Omega.{arith}
@@ -7,7 +7,7 @@ use lib.Dec.{eqb}
 use lib.ListN.{length, take, drop, length-append}
 use lib.Ieee.{Float}
 use Rattle.lists.specs.Gather.{joined}
-use Rattle.lists.specs.Regions.{front}
+use Rattle.lists.specs.Regions.{front, put}
 use Rattle.lists.proofs.Gather.{joined-append}
 use Rattle.lists.proofs.Regions.{take-front-of}
 use Rattle.segments.specs.declared.Meeting.{Meeting}
@@ -26,10 +26,14 @@ use Rattle.finding.specs.Found.{foundAs, foundOf}
 use Rattle.finding.proofs.Passed.{bare, ready}
 use Rattle.finding.proofs.Held.{Holds}
 use Rattle.finding.proofs.Settled.{leaves}
-use Rattle.finding.proofs.Result.{answer-is, coords-are, calm, holds}
+use Rattle.finding.proofs.Result.{answer-is, coords-are, work-is, code-is, worked-long, calm, holds, low}
+use Rattle.regions.specs.declared.Indexes.{Indexes}
+use Rattle.indexing.specs.Indexes.{indexes, indexesAt, MeshIndexed, Asks}
+use Rattle.indexing.proofs.Written.{subject-indexed, cutter-indexed}
 use Rattle.cutting_cells.specs.Yields.{MeshesReady}
 use Rattle.overlay.proofs.Yielded.{MeshesIn}
 use Rattle.overlay.proofs.Stands.{meshes-in, meshes-ready}
+use Rattle.overlay.proofs.Indexed.{index-asks, holds-after}
 
 -- ---- new points take two numbers each
 
@@ -94,6 +98,10 @@ module _ (op m : ℕ) (s c : Mesh) (w₀ : List ℕ) (ok : Passed op m s c (leng
   held : Holds op s c (x .regions) w′
   held = holds op m s c w₀ asks oc oc′ w′ x told z
 
+  work-long : length w′ ≡ length w₀
+  work-long =
+      ap length (work-is op m s c w₀ asks oc oc′ w′ x told z) ∙ worked-long op m s c (length oc / 2) 0 0 (sym (code-is op m s c w₀ asks oc oc′ w′ x told 0 0) ∙ z) w₀ asks
+
   pub placed : oc′ ≡ front oc (sc .coords)
   placed = coords-are op m s c w₀ asks oc oc′ w′ x told z
 
@@ -112,8 +120,29 @@ module _ (op m : ℕ) (s c : Mesh) (w₀ : List ℕ) (ok : Passed op m s c (leng
   points : take (2 * x .next) oc′ ≡ sc .coords
   points = ap (take (2 * x .next)) placed ∙ take-front-of oc (sc .coords) (2 * x .next) next-long
 
-  pub lists-hold : MeshesIn sc (take (2 * x .next) oc′) w′ (x .regions) (s .ends) (c .ends)
-  lists-hold = meshes-in op s c (x .regions) w′ held (take (2 * x .next) oc′) (sym points)
+  -- ---- with the indexes
 
-  pub lists-ready : MeshesReady op w′ (x .regions) (s .ends) (c .ends)
-  lists-ready = meshes-ready op s c (x .regions) w′ held m (length w₀) ok (calm op m s c w₀ asks oc oc′ w′ x told z)
+  pub asks-index : Asks w′ (x .regions) (s .ends) (c .ends)
+  asks-index = index-asks op m s c (x .regions) w′ (length w₀) ok work-long held (low op m s c w₀ asks oc oc′ w′ x told z)
+
+  module _ (i : Indexes) (w″ : List ℕ) (built : (i ≡ indexesAt (take (2 * x .next) oc′) w′ (x .regions) (s .ends) (c .ends))
+      × (w″ ≡ put w′ (x .regions .links .end) (indexes (take (2 * x .next) oc′) w′ (x .regions) (s .ends) (c .ends)))) where
+    held″ : Holds op s c (x .regions) w″
+    held″ =
+        subst (λ (v : List ℕ). Holds op s c (x .regions) v) (sym (built .1))
+        (holds-after op m s c (x .regions) w′ (length w₀) ok work-long held (low op m s c w₀ asks oc oc′ w′ x told z) (take (2 * x .next) oc′))
+
+    pub lists-hold : MeshesIn sc (take (2 * x .next) oc′) w″ (x .regions) (s .ends) (c .ends)
+    lists-hold = meshes-in op s c (x .regions) w″ held″ (take (2 * x .next) oc′) (sym points)
+
+    pub lists-ready : MeshesReady op (take (2 * x .next) oc′) w″ (x .regions) i (s .ends) (c .ends)
+    lists-ready =
+        meshes-ready op s c (x .regions) w″ held″ m (length w₀) ok (calm op m s c w₀ asks oc oc′ w′ x told z) (take (2 * x .next) oc′) i
+        (both (λ (y : Indexes) (v : List ℕ). MeshIndexed (take (2 * x .next) oc′) v (x .regions .subject) (s .ends) (y .subject))
+        (subject-indexed (take (2 * x .next) oc′) w′ (x .regions) (s .ends) (c .ends) asks-index))
+        (both (λ (y : Indexes) (v : List ℕ). MeshIndexed (take (2 * x .next) oc′) v (x .regions .cutter) (c .ends) (y .cutter))
+        (cutter-indexed (take (2 * x .next) oc′) w′ (x .regions) (s .ends) (c .ends) asks-index))
+      where
+        both : (P : Indexes → List ℕ → Type 0) → P (indexesAt (take (2 * x .next) oc′) w′ (x .regions) (s .ends) (c .ends))
+            (put w′ (x .regions .links .end) (indexes (take (2 * x .next) oc′) w′ (x .regions) (s .ends) (c .ends))) → P i w″
+        both P h = subst (λ (y : Indexes). P y w″) (sym (built .0)) (subst (P (indexesAt (take (2 * x .next) oc′) w′ (x .regions) (s .ends) (c .ends))) (sym (built .1)) h)

@@ -2,6 +2,7 @@ pub mod Scene
 pub mod Yielded
 pub mod Keys
 pub mod Stands
+pub mod Indexed
 pub mod Found
 pub mod Whole
 pub mod Stages

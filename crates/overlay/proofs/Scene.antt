@@ -7,12 +7,11 @@ use native.Mathlib.Omega.{arith}
 use lib.Dec.{eqb, ltb}
 use lib.ListN.{length, getD, replicate, length-map}
 use lib.Ieee.{Float}
-use borrow.Author.Tests.{ltb-true, ltb-false, eq-eqb, ne-eqb}
-use Rattle.lists.specs.Search.{bit, first}
+use borrow.Author.Tests.{lt-ltb, eq-eqb, ne-eqb}
+use Rattle.lists.specs.Search.{bit}
 use Rattle.lists.specs.Gather.{passing}
 use Rattle.cutting.specs.Edges.{Edge}
-use Rattle.cutting.specs.Outcome.{Outcome, refusal, pieces, cutOutcome, copiedOutcome}
-use Rattle.rules.specs.declared.Bounds.{Bounds}
+use Rattle.cutting.specs.Outcome.{Outcome, refusal, pieces}
 use Rattle.rules.specs.Mesh.{Side, other}
 use Rattle.rules.specs.SpatialIndex.{boxOf, candidates}
 use Rattle.rules.specs.Meetings.{Scene, netOf}
@@ -20,14 +19,13 @@ use Rattle.rules.specs.Nodes.{sortedNodes}
 use Rattle.rules.specs.Cell.{cellOf, nearOf, outcomeOf, treatedBy, treated, kindOf}
 use Rattle.rules.specs.Operations.{Piece, outcomePieces, kept}
 use Rattle.rules.specs.Refusals.{Event, ofCell}
-use Rattle.spatial_index.specs.Candidates.{meets}
+use Rattle.regions.specs.declared.Run.{Run}
 use Rattle.regions.specs.declared.MeshRuns.{MeshRuns}
 use Rattle.regions.specs.declared.Regions.{Regions}
 use Rattle.regions.specs.Runs.{runIn, meshEdges}
 use Rattle.edge_nodes.specs.Lent.{nodesOn}
-use Rattle.cells.specs.declared.Near.{Near}
-use Rattle.cells.specs.Cells.{outlineIn, tableIn, nearEdgesIn, candidatesOf}
-use Rattle.cells.proofs.Scene.{cut-is, copied-is, from-first, none-near}
+use Rattle.cells.specs.Cells.{edgesIn}
+use Rattle.cells.proofs.Scene.{cut-is, copied-is}
 use Rattle.pieces.specs.Pieces.{runsOf, keepOf, isKept, events, Yield}
 use Rattle.pieces.proofs.Listing.{kept-nodes, kept-kinds, kept-families, events-nodes}
 use Rattle.cutting_cells.specs.Yields as Yields
@@ -52,45 +50,29 @@ map-replicate : (f : ℕ → ℕ) (n v : ℕ) → map f (replicate n v) ≡ repl
 map-replicate f zero v = refl
 map-replicate f (suc n) v = ap (λ (l : List ℕ). f v ∷ l) (map-replicate f n v)
 
--- ---- the first candidate decides
+-- ---- by the edges near it
 
-module _ (sc : Scene) (w : Side) (i k : ℕ) (at : k ≡ first (meets (sc .coords) (netOf sc (other w) .edges) (boxOf (sc .coords) (cellOf sc w i))) 0
-    (length (netOf sc (other w) .edges))) where
-  abbrev es : List Edge
-  es = netOf sc (other w) .edges
-
-  abbrev box : Bounds
-  box = boxOf (sc .coords) (cellOf sc w i)
-
-  outcome-as : (work : List ℕ) (g : Regions) → ((e : Edge) → nodesOn (sc .coords) work g e ≡ sortedNodes sc e) → (t : Near) → nearEdgesIn work t ≡ es → t .bounds ≡ box
-      → t .first ≡ k → outcomeBy (sc .coords) work g t (cellOf sc w i) ≡ outcomeOf sc w i
+module _ (sc : Scene) (w : Side) (i : ℕ) where
+  outcome-as : (work : List ℕ) (g : Regions) → ((e : Edge) → nodesOn (sc .coords) work g e ≡ sortedNodes sc e) → (edges : Run) → edgesIn work edges ≡ netOf sc (other w) .edges
+      → (js : List ℕ) → js ≡ candidates (sc .coords) (netOf sc (other w) .edges) (boxOf (sc .coords) (cellOf sc w i))
+      → outcomeBy (sc .coords) work g edges js (cellOf sc w i) ≡ outcomeOf sc w i
   unfolding outcomeBy
-  outcome-as work g same t near-is box-is first-is = go (ltb (t .first) (length (nearEdgesIn work t))) refl
-    where
-      many : length (nearEdgesIn work t) ≡ length es
-      many = ap length near-is
+  outcome-as work g same edges are [] e = sym (copied-is sc w i (sym e))
+  outcome-as work g same edges are (j ∷ js) e = cut-is sc w i work g same (edgesIn work edges) are j js (sym e)
 
-      go : (b : Bool) → ltb (t .first) (length (nearEdgesIn work t)) ≡ b
-          → cond b (cutOutcome (outlineIn (sc .coords) work g (cellOf sc w i))
-          (tableIn (sc .coords) work g (nearEdgesIn work t) (candidatesOf (sc .coords) work t) (cellOf sc w i))) (copiedOutcome (cellOf sc w i))
-          ≡ outcomeOf sc w i
-      go true h = cut-is sc w i k at work g same (omega (arith, ltb-true (t .first) (length (nearEdgesIn work t)) h, many, first-is)) t near-is box-is first-is
-      go false h = sym (copied-is sc w i k at (omega (arith, ltb-false (t .first) (length (nearEdgesIn work t)) h, many, first-is)))
-
-  kind-as : cond (ltb k (length es)) 11 (getD (netOf sc w .kinds) i 0) ≡ kindOf sc w i
+  kind-as : (js : List ℕ) → js ≡ candidates (sc .coords) (netOf sc (other w) .edges) (boxOf (sc .coords) (cellOf sc w i))
+      → cond (ltb 0 (length js)) 11 (getD (netOf sc w .kinds) i 0) ≡ kindOf sc w i
   unfolding treated nearOf
-  kind-as = go (ltb k (length es)) refl
-    where
-      go : (t : Bool) → ltb k (length es) ≡ t → cond t 11 (getD (netOf sc w .kinds) i 0) ≡ treatedBy sc w i (candidates (sc .coords) es box) .kind
-      go true h = sym (ap (λ (js : List ℕ). treatedBy sc w i js .kind) (from-first (sc .coords) es box k at (ltb-true k (length es) h) .1))
-      go false h = sym (ap (λ (js : List ℕ). treatedBy sc w i js .kind) (none-near (sc .coords) es box k at (ltb-false k (length es) h)))
+  kind-as [] e = ap (λ (l : List ℕ). treatedBy sc w i l .kind) e
+  kind-as (j ∷ js) e =
+      ap (λ (b : Bool). cond b 11 (getD (netOf sc w .kinds) i 0)) (lt-ltb 0 (length (j ∷ js)) (omega arith)) ∙ ap (λ (l : List ℕ). treatedBy sc w i l .kind) e
 
 -- ---- cell i
 
 module _ (op : ℕ) (sc : Scene) (w : Side) (coords : List Float) (work : List ℕ) (g : Regions) (o : MeshRuns) (ends : List ℕ) (scene : SceneIn sc w coords work g o ends)
     (i number : ℕ) (cell : List ℕ) (this : cellOf sc w i ≡ cell) where
-  abbrev t : Near
-  t = Yields.nearOf coords work g o ends cell
+  abbrev near : List ℕ
+  near = Yields.nearOf coords work g o ends cell
 
   abbrev y : Yield
   y = yieldOf coords work g o ends (keepOf op w) number cell
@@ -99,13 +81,13 @@ module _ (op : ℕ) (sc : Scene) (w : Side) (coords : List Float) (work : List �
   abbrev pub tagIn : ℕ
   tagIn = 2 * number + bit (isCut coords work g o ends cell)
 
-  first-at : t .first ≡ first (meets (sc .coords) (netOf sc (other w) .edges) (boxOf (sc .coords) (cellOf sc w i))) 0 (length (netOf sc (other w) .edges))
-  first-at = sym (λ s. first (meets (scene .points s) (scene .nearEdges s) (boxOf (scene .points s) (this s))) 0 (length (scene .nearEdges s)))
+  near-is : near ≡ candidates (sc .coords) (netOf sc (other w) .edges) (boxOf (sc .coords) (cellOf sc w i))
+  near-is = sym (λ s. candidates (scene .points s) (scene .nearEdges s) (boxOf (scene .points s) (this s)))
 
-  outcome-is : outcomeBy coords work g t cell ≡ outcomeOf sc w i
+  outcome-is : outcomeBy coords work g (o .edges) near cell ≡ outcomeOf sc w i
   outcome-is =
-      sym (λ s. outcomeBy (scene .points s) work g t (this s))
-      ∙ outcome-as sc w i (t .first) first-at work g (scene .nodesAre) t (sym (scene .nearEdges)) (sym (λ s. boxOf (scene .points s) (this s))) refl
+      sym (λ s. outcomeBy (scene .points s) work g (o .edges) near (this s))
+      ∙ outcome-as sc w i work g (scene .nodesAre) (o .edges) (sym (scene .nearEdges)) near near-is
 
   abbrev these : List Piece
   these = kept sc w op i
@@ -157,7 +139,7 @@ module _ (op : ℕ) (sc : Scene) (w : Side) (coords : List Float) (work : List �
     pub kind-is : kindBy sk ck tagIn ≡ kindOf sc w i
     kind-is =
         go (isCut coords work g o ends cell)
-        ∙ ap₂ (λ (n v : ℕ). cond (ltb (t .first) n) 11 v) (sym (ap length (scene .nearEdges))) kind ∙ kind-as sc w i (t .first) first-at
+        ∙ ap (λ (v : ℕ). cond (ltb 0 (length near)) 11 v) kind ∙ kind-as sc w i near near-is
       where
         go : (b : Bool) → kindBy sk ck (2 * number + bit b) ≡ cond b 11 (getD (sk ++ ck) number 0)
         go true =

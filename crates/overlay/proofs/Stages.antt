@@ -5,7 +5,7 @@ use Prim.Native.Nat.{ℕ, _+_, _*_, _-_, _/_, _^_, _≤_, _<_, min}
 use native.Mathlib.Omega.{arith}
 use lib.ListN.{length, take, drop}
 use lib.Ieee.{Float}
-use Rattle.lists.specs.Regions.{front, zeros}
+use Rattle.lists.specs.Regions.{front, put, zeros}
 use Rattle.entry.specs.Mesh.{Mesh}
 use Rattle.entry.specs.Passed.{Passed}
 use Rattle.rules.specs.Mesh.{Side, theSubject, theCutter}
@@ -15,6 +15,8 @@ use Rattle.rules.specs.Operations.{sceneFor}
 use Rattle.rules.specs.Refusals.{firstRefusal}
 use Rattle.rules.specs.Overlay.{lentLists, result, stateOf, answered}
 use Rattle.regions.specs.declared.Regions.{Regions}
+use Rattle.regions.specs.declared.Indexes.{Indexes}
+use Rattle.indexing.specs.Indexes.{indexes, indexesAt, Asks}
 use Rattle.pieces.specs.declared.Listed.{Listed}
 use Rattle.pieces.specs.Pieces.{Yield, placing, placedBehind}
 use Rattle.finding.specs.declared.stages.Found.{Found}
@@ -28,7 +30,7 @@ use Rattle.cutting_cells.proofs.Meshes.{meshes-steady}
 use Rattle.passes.specs.Tags.{kindBy, familyBy}
 use Rattle.overlay.proofs.Yielded.{ofSide, MeshesIn, meshes-events, meshes-pieces, meshes-kinds, meshes-families}
 use Rattle.overlay.proofs.Whole.{found-refused, cells-state, count-low, tags-fit, cells-answered, points-are}
-use Rattle.overlay.proofs.Found.{coords-long, placed, next-is, next-long, points-in, lists-hold, lists-ready}
+use Rattle.overlay.proofs.Found.{coords-long, placed, next-is, next-long, points-in, asks-index, lists-hold, lists-ready}
 
 module _ (op m : ℕ) (s c : Mesh) (oc : List Float) (on oe ok of w : List ℕ) (pa : Passed op m s c (length w)) (x : Found) (oc₁ : List Float) (w₁ : List ℕ)
     (told : leaves x oc₁ w₁ ≡ foundOf op m (bare s) (bare c) oc w) where
@@ -59,9 +61,9 @@ module _ (op m : ℕ) (s c : Mesh) (oc : List Float) (on oe ok of w : List ℕ) 
     passed : firstRefusal m (length oc / 2) (room) (length on) (foundEvents op s c) ≡ 0
     passed = sym (told-all (room) (length on)) ∙ z
 
-    -- what `cut_meshes` asks
-    pub asked : MeshesReady op w₁ (x .regions) (s .ends) (c .ends)
-    asked = lists-ready op m s c w pa oc oc₁ w₁ x told z
+    -- what `index_meshes` asks
+    pub index-asked : Asks w₁ (x .regions) (s .ends) (c .ends)
+    index-asked = asks-index op m s c w pa oc oc₁ w₁ x told z
 
     pub points-fit : 2 * x .next ≤ length oc₁
     points-fit = points-in op m s c w pa oc oc₁ w₁ x told z
@@ -73,79 +75,86 @@ module _ (op m : ℕ) (s c : Mesh) (oc : List Float) (on oe ok of w : List ℕ) 
         let few = met-few op m s c (length oc / 2) (room) (length on) passed in
         (omega (arith, l, k .1, pa .subject .even, pa .cutter .even), omega (arith, l, k .1, k .2, few, pa .most, pa .subject .mostNodes, pa .cutter .mostNodes))
 
-    abbrev g : Regions
-    g = x .regions
+    -- the indexes stand in the working list
+    module _ (i : Indexes) (w₂ : List ℕ) (built : (i ≡ indexesAt (take (2 * x .next) oc₁) w₁ (x .regions) (s .ends) (c .ends))
+        × (w₂ ≡ put w₁ (x .regions .links .end) (indexes (take (2 * x .next) oc₁) w₁ (x .regions) (s .ends) (c .ends)))) where
+      abbrev g : Regions
+      g = x .regions
 
-    abbrev coords : List Float
-    coords = take (2 * x .next) oc₁
+      abbrev coords : List Float
+      coords = take (2 * x .next) oc₁
 
-    ins : MeshesIn sc coords w₁ g (s .ends) (c .ends)
-    ins = lists-hold op m s c w pa oc oc₁ w₁ x told z
+      ins : MeshesIn sc coords w₂ g (s .ends) (c .ends)
+      ins = lists-hold op m s c w pa oc oc₁ w₁ x told z i w₂ built
 
-    -- what the cells yield
-    abbrev y : Yield
-    y = meshesYield op coords w₁ g (s .ends) (c .ends)
+      -- what `cut_meshes` asks
+      pub asked : MeshesReady op (take (2 * x .next) oc₁) w₂ (x .regions) i (s .ends) (c .ends)
+      asked = lists-ready op m s c w pa oc oc₁ w₁ x told z i w₂ built
 
-    kinds-stand : (v : Side) → netOf sc v .kinds ≡ ofSide (s .kinds) (c .kinds) v
-    unfolding sceneOf subjectNet cutterNet
-    kinds-stand theSubject = refl
-    kinds-stand theCutter = refl
+      -- what the cells yield
+      abbrev y : Yield
+      y = meshesYield op coords w₂ g (s .ends) (c .ends)
 
-    families-stand : (v : Side) → netOf sc v .families ≡ ofSide (s .families) (c .families) v
-    unfolding sceneOf subjectNet cutterNet
-    families-stand theSubject = refl
-    families-stand theCutter = refl
+      kinds-stand : (v : Side) → netOf sc v .kinds ≡ ofSide (s .kinds) (c .kinds) v
+      unfolding sceneOf subjectNet cutterNet
+      kinds-stand theSubject = refl
+      kinds-stand theCutter = refl
 
-    -- the lists of ends and of families, cut to the room, as the cells leave them
-    module _ (top : ℕ) (most : top ≡ room) (r : Listed) (on′ oe′ of′ : List ℕ)
-        (told-cut : (placing r on′ oe′ of′ ≡ placedBehind noneYet y on (take top oe) (take top of)) × Few (length (s .ends) + length (c .ends)) noneYet r) where
-      got : (placing r on′ oe′ of′ ≡ placedBehind noneYet y on (take room oe) (take room of)) × Few (length (s .ends) + length (c .ends)) noneYet r
-      got = (told-cut .0 ∙ ap (λ (n : ℕ). placedBehind noneYet y on (take n oe) (take n of)) most, told-cut .1)
+      families-stand : (v : Side) → netOf sc v .families ≡ ofSide (s .families) (c .families) v
+      unfolding sceneOf subjectNet cutterNet
+      families-stand theSubject = refl
+      families-stand theCutter = refl
 
-      state-is : r .code ≡ stateOf op m s c (lentLists oc on oe ok of w)
-      state-is =
-          let f = found-passes op s c m (length oc / 2) room (length on) passed in
-          cells-state op m s c oc on oe ok of w (foundEvents op s c) (course-is op s c) (f .0) (f .1) (f .2) y (meshes-steady op coords w₁ g (s .ends) (c .ends))
-          (meshes-events op sc coords w₁ g (s .ends) (c .ends) ins) r on′ oe′ of′ (got .0)
+      -- the lists of ends and of families, cut to the room, as the cells leave them
+      module _ (top : ℕ) (most : top ≡ room) (r : Listed) (on′ oe′ of′ : List ℕ)
+          (told-cut : (placing r on′ oe′ of′ ≡ placedBehind noneYet y on (take top oe) (take top of)) × Few (length (s .ends) + length (c .ends)) noneYet r) where
+        got : (placing r on′ oe′ of′ ≡ placedBehind noneYet y on (take room oe) (take room of)) × Few (length (s .ends) + length (c .ends)) noneYet r
+        got = (told-cut .0 ∙ ap (λ (n : ℕ). placedBehind noneYet y on (take n oe) (take n of)) most, told-cut .1)
 
-      pub stops-cut : (r .code ≡ 0 → ⊥) → (a p q d : ℕ) → a ≡ r .code → (oc₂ : List Float) (on₂ oe₂ ok₂ of₂ : List ℕ) → Ran a p q d oc₂ on₂ oe₂ ok₂ of₂
-      stops-cut n a p q d e oc₂ on₂ oe₂ ok₂ of₂ = (e ∙ state-is, λ t. absurd (n (sym e ∙ t)))
-
-      module _ (t : r .code ≡ 0) where
-        -- the pieces have their places
-        pub count-fits : (r .count ≤ room) × (r .count < 2 ^ 32) × (r .count ≤ length (of′ ++ drop top of))
-        count-fits =
+        state-is : r .code ≡ stateOf op m s c (lentLists oc on oe ok of w)
+        state-is =
             let f = found-passes op s c m (length oc / 2) room (length on) passed in
-            let steady = meshes-steady op coords w₁ g (s .ends) (c .ends) in
-            let events = meshes-events op sc coords w₁ g (s .ends) (c .ends) ins in
-            let pieces = meshes-pieces op sc coords w₁ g (s .ends) (c .ends) ins in (
-              count-low op m s c oc on oe ok of w (foundEvents op s c) (course-is op s c) (f .0) (f .1) (f .2) y steady events r on′ oe′ of′ (got .0) t pieces,
-              omega (arith, got .1 .pieces, pa .subject .mostCells, pa .cutter .mostCells),
-              subst (λ (n : ℕ). r .count ≤ length (of′ ++ drop n of)) (sym most)
-                  (tags-fit op m s c oc on oe ok of w (foundEvents op s c) (course-is op s c) (f .0) (f .1) (f .2) y steady events r on′ oe′ of′ (got .0) t pieces),
-            )
+            cells-state op m s c oc on oe ok of w (foundEvents op s c) (course-is op s c) (f .0) (f .1) (f .2) y (meshes-steady op coords w₂ g (s .ends) (c .ends))
+            (meshes-events op sc coords w₂ g (s .ends) (c .ends) ins) r on′ oe′ of′ (got .0)
 
-        ran-room : (ok′ fs : List ℕ) → ok′ ≡ front ok (map (kindBy (s .kinds) (c .kinds)) (take (r .count) (of′ ++ drop room of)))
-            → fs ≡ map (familyBy (s .families) (c .families)) (take (r .count) (of′ ++ drop room of))
-            → Ran 0 (r .count) (x .next - (length (s .coords) + length (c .coords)) / 2) 0 oc₁ on′ (oe′ ++ drop room oe) ok′ (fs ++ drop (r .count) (of′ ++ drop room of))
-        ran-room ok′ fs ek ef =
-            let f = found-passes op s c m (length oc / 2) room (length on) passed in
-            let half : length (s .coords) + length (c .coords) ≡ 2 * ((length (s .coords) + length (c .coords)) / 2) = omega (arith, pa .subject .even, pa .cutter .even) in (
-              sym t ∙ state-is,
-              λ _. cells-answered op m s c oc on oe ok of w (foundEvents op s c) (course-is op s c) (f .0) (f .1) (f .2) y (meshes-steady op coords w₁ g (s .ends) (c .ends))
-                  (meshes-events op sc coords w₁ g (s .ends) (c .ends) ins) r on′ oe′ of′ (got .0) t (meshes-pieces op sc coords w₁ g (s .ends) (c .ends) ins)
-                  (meshes-kinds op sc coords w₁ g (s .ends) (c .ends) ins (s .kinds) (c .kinds) (pa .subject .kindsLong) kinds-stand)
-                  (meshes-families op sc coords w₁ g (s .ends) (c .ends) ins (s .families) (c .families) (pa .subject .familiesLong) families-stand)
-                  ok′ fs ek ef oc₁ (placed op m s c w pa oc oc₁ w₁ x told z)
-                  (x .next - (length (s .coords) + length (c .coords)) / 2)
-                  (points-are op s c (x .next) ((length (s .coords) + length (c .coords)) / 2) half (next-is op m s c w pa oc oc₁ w₁ x told z)),
-            )
+        pub stops-cut : (r .code ≡ 0 → ⊥) → (a p q d : ℕ) → a ≡ r .code → (oc₂ : List Float) (on₂ oe₂ ok₂ of₂ : List ℕ) → Ran a p q d oc₂ on₂ oe₂ ok₂ of₂
+        stops-cut n a p q d e oc₂ on₂ oe₂ ok₂ of₂ = (e ∙ state-is, λ t. absurd (n (sym e ∙ t)))
 
-        pub ran : (ok′ fs : List ℕ) → ok′ ≡ front ok (map (kindBy (s .kinds) (c .kinds)) (take (r .count) (of′ ++ drop top of)))
-            → fs ≡ map (familyBy (s .families) (c .families)) (take (r .count) (of′ ++ drop top of))
-            → Ran 0 (r .count) (x .next - (length (s .coords) + length (c .coords)) / 2) 0 oc₁ on′ (oe′ ++ drop top oe) ok′ (fs ++ drop (r .count) (of′ ++ drop top of))
-        ran ok′ fs ek ef =
-            subst (λ (n : ℕ). Ran 0 (r .count) (x .next - (length (s .coords) + length (c .coords)) / 2) 0 oc₁ on′ (oe′ ++ drop n oe) ok′
-            (fs ++ drop (r .count) (of′ ++ drop n of))) (sym most)
-            (ran-room ok′ fs (ek ∙ ap (λ (n : ℕ). front ok (map (kindBy (s .kinds) (c .kinds)) (take (r .count) (of′ ++ drop n of)))) most)
-            (ef ∙ ap (λ (n : ℕ). map (familyBy (s .families) (c .families)) (take (r .count) (of′ ++ drop n of))) most))
+        module _ (t : r .code ≡ 0) where
+          -- the pieces have their places
+          pub count-fits : (r .count ≤ room) × (r .count < 2 ^ 32) × (r .count ≤ length (of′ ++ drop top of))
+          count-fits =
+              let f = found-passes op s c m (length oc / 2) room (length on) passed in
+              let steady = meshes-steady op coords w₂ g (s .ends) (c .ends) in
+              let events = meshes-events op sc coords w₂ g (s .ends) (c .ends) ins in
+              let pieces = meshes-pieces op sc coords w₂ g (s .ends) (c .ends) ins in (
+                count-low op m s c oc on oe ok of w (foundEvents op s c) (course-is op s c) (f .0) (f .1) (f .2) y steady events r on′ oe′ of′ (got .0) t pieces,
+                omega (arith, got .1 .pieces, pa .subject .mostCells, pa .cutter .mostCells),
+                subst (λ (n : ℕ). r .count ≤ length (of′ ++ drop n of)) (sym most)
+                    (tags-fit op m s c oc on oe ok of w (foundEvents op s c) (course-is op s c) (f .0) (f .1) (f .2) y steady events r on′ oe′ of′ (got .0) t pieces),
+              )
+
+          ran-room : (ok′ fs : List ℕ) → ok′ ≡ front ok (map (kindBy (s .kinds) (c .kinds)) (take (r .count) (of′ ++ drop room of)))
+              → fs ≡ map (familyBy (s .families) (c .families)) (take (r .count) (of′ ++ drop room of))
+              → Ran 0 (r .count) (x .next - (length (s .coords) + length (c .coords)) / 2) 0 oc₁ on′ (oe′ ++ drop room oe) ok′ (fs ++ drop (r .count) (of′ ++ drop room of))
+          ran-room ok′ fs ek ef =
+              let f = found-passes op s c m (length oc / 2) room (length on) passed in
+              let half : length (s .coords) + length (c .coords) ≡ 2 * ((length (s .coords) + length (c .coords)) / 2) = omega (arith, pa .subject .even, pa .cutter .even) in (
+                sym t ∙ state-is,
+                λ _. cells-answered op m s c oc on oe ok of w (foundEvents op s c) (course-is op s c) (f .0) (f .1) (f .2) y (meshes-steady op coords w₂ g (s .ends) (c .ends))
+                    (meshes-events op sc coords w₂ g (s .ends) (c .ends) ins) r on′ oe′ of′ (got .0) t (meshes-pieces op sc coords w₂ g (s .ends) (c .ends) ins)
+                    (meshes-kinds op sc coords w₂ g (s .ends) (c .ends) ins (s .kinds) (c .kinds) (pa .subject .kindsLong) kinds-stand)
+                    (meshes-families op sc coords w₂ g (s .ends) (c .ends) ins (s .families) (c .families) (pa .subject .familiesLong) families-stand)
+                    ok′ fs ek ef oc₁ (placed op m s c w pa oc oc₁ w₁ x told z)
+                    (x .next - (length (s .coords) + length (c .coords)) / 2)
+                    (points-are op s c (x .next) ((length (s .coords) + length (c .coords)) / 2) half (next-is op m s c w pa oc oc₁ w₁ x told z)),
+              )
+
+          pub ran : (ok′ fs : List ℕ) → ok′ ≡ front ok (map (kindBy (s .kinds) (c .kinds)) (take (r .count) (of′ ++ drop top of)))
+              → fs ≡ map (familyBy (s .families) (c .families)) (take (r .count) (of′ ++ drop top of))
+              → Ran 0 (r .count) (x .next - (length (s .coords) + length (c .coords)) / 2) 0 oc₁ on′ (oe′ ++ drop top oe) ok′ (fs ++ drop (r .count) (of′ ++ drop top of))
+          ran ok′ fs ek ef =
+              subst (λ (n : ℕ). Ran 0 (r .count) (x .next - (length (s .coords) + length (c .coords)) / 2) 0 oc₁ on′ (oe′ ++ drop n oe) ok′
+              (fs ++ drop (r .count) (of′ ++ drop n of))) (sym most)
+              (ran-room ok′ fs (ek ∙ ap (λ (n : ℕ). front ok (map (kindBy (s .kinds) (c .kinds)) (take (r .count) (of′ ++ drop n of)))) most)
+              (ef ∙ ap (λ (n : ℕ). map (familyBy (s .families) (c .families)) (take (r .count) (of′ ++ drop n of))) most))

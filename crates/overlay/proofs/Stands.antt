@@ -5,7 +5,7 @@ use mathlib.Core.List.{List, _++_}
 use Prim.Native.Nat.{ℕ}
 use native.Mathlib.Omega.{arith}
 use lib.Dec.{eqb}
-use lib.ListN.{length, getD, length-map}
+use lib.ListN.{length, getD}
 use lib.Ieee.{Float}
 use borrow.Author.Tests.{eqb-true, ne-eqb}
 use Rattle.cutting.specs.Edges.{Edge}
@@ -20,7 +20,9 @@ use Rattle.rules.specs.Meetings.{Scene, sceneOf}
 use Rattle.rules.specs.Nodes.{collected, sortedNodes, crowded}
 use Rattle.rules.specs.Operations.{cuts, sceneFor}
 use Rattle.regions.specs.declared.Regions.{Regions}
+use Rattle.regions.specs.declared.Indexes.{Indexes}
 use Rattle.regions.specs.Runs.{runIn, meshEdges}
+use Rattle.indexing.specs.Indexes.{MeshIndexed}
 use Rattle.edge_nodes.specs.Lent.{collectedIn, sortedIn, collectedOn, nodesOn}
 use Rattle.edge_nodes.specs.Stored.{noMet, Stored}
 use Rattle.edge_nodes.proofs.Scene.{numbers-stored, collected-is, sorted-is}
@@ -114,22 +116,21 @@ module _ (op : ℕ) (s c : Mesh) (g : Regions) (w : List ℕ) (h : Holds op s c 
     few : AllFew w g (sc .subject .edges) × AllFew w g (sc .cutter .edges)
     few = not-crowded sc w g (holds-linked op s c g w h) collected-are calm
 
-    pub meshes-ready : MeshesReady op w g (s .ends) (c .ends)
-    meshes-ready =
-        let sl = ap length (h .subject-entries) in
-        let cl = ap length (h .cutter-entries) ∙ length-map (c .nodes) (λ k. getD (weld s c) k 0) in
+    pub meshes-ready : (coords : List Float) (x : Indexes) → MeshIndexed coords w (g .subject) (s .ends) (x .subject) → MeshIndexed coords w (g .cutter) (c .ends) (x .cutter)
+        → MeshesReady op coords w g x (s .ends) (c .ends)
+    meshes-ready coords x is ic =
         record {
           subject = record {
             edges = h .lies .subjectEdges;
             entries = h .lies .subjectEntries;
             few = few-of (meshEdges w (g .subject)) (sc .subject .edges) (sym subject-edges) (few .0);
-            rise = λ i l. (omega (arith, ok .subject .rises i l), omega (arith, ok .subject .within i l, sl));
+            indexed = is;
           };
           cutter = record {
             edges = h .lies .cutterEdges;
             entries = h .lies .cutterEntries;
             few = few-of (meshEdges w (g .cutter)) (sc .cutter .edges) (sym cutter-edges) (few .1);
-            rise = λ i l. (omega (arith, ok .cutter .rises i l), omega (arith, ok .cutter .within i l, cl));
+            indexed = ic;
           };
           subjectCells = cells-ready w g (runIn w (g .subject .entries)) (s .ends)
               (few-of (computeDescending (runsOf (runIn w (g .subject .entries)) (s .ends))) (sc .subject .edges) subject-own (few .0)) (ok .subject .cellMost);

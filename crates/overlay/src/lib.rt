@@ -2,6 +2,7 @@
 use cutting_cells::cut_meshes;
 use entry::entry;
 use finding::find;
+use indexing::index_meshes;
 use lists::zero_f64;
 use lists::zero_u8;
 use lists::zero_u32;
@@ -90,12 +91,14 @@ fn run(
     let next = f.next;
     let k = 2 * next;
     let g = f.regions;
+    let x = index_meshes(&oc[..k], work, g, se, ce);
     let room = least(oe.len(), ok.len(), of.len());
     let r = cut_meshes(
         op,
         &oc[..k],
         work,
         g,
+        x,
         se,
         ce,
         on,

@@ -10,7 +10,7 @@ use Rattle.entry.specs.Mesh.{Mesh, mesh}
 use Rattle.entry.specs.Passed.{Passed}
 use Rattle.entry.proofs.Passed.{passed}
 use Rattle.finding.proofs.Passed.{ready}
-use Rattle.overlay.proofs.Stages.{stops-found, asked, points-fit, next-range, stops-cut, count-fits, ran}
+use Rattle.overlay.proofs.Stages.{stops-found, index-asked, asked, points-fit, next-range, stops-cut, count-fits, ran}
 use borrow.Author.Needs.{needs}
 use Rattle.overlay.proofs.run.Statement.{statement}
 use Rattle.overlay.proofs.run.Tie as tie
@@ -28,8 +28,23 @@ find-of-plain c = c .before .before .before .before .before .before
 abbrev find-of-else : tie.Else1 → tie.After-find
 find-of-else c = c .before .before .before .before .before
 
+abbrev else-of-g : tie.After-g → tie.Else1
+else-of-g c = c .before
+
+abbrev else-of-coords : tie.After-index-meshes-arg → tie.Else1
+else-of-coords c = c .before .before
+
+abbrev else-of-index : tie.After-index-meshes-arg2 → tie.Else1
+else-of-index c = c .before .before .before
+
+abbrev else-of-built : tie.After-index-meshes → tie.Else1
+else-of-built c = c .before .before .before .before
+
+abbrev built : tie.After-least → tie.After-index-meshes
+built c = c .before .before .before
+
 abbrev else-of-least : tie.After-least → tie.Else1
-else-of-least c = c .before .before
+else-of-least c = c .before .before .before .before .before .before .before
 
 abbrev least-of-oc : tie.After-cut-meshes-arg → tie.After-least
 least-of-oc c = c .before
@@ -58,19 +73,19 @@ else-of-tags c = c .before
 abbrev else-of-kinds : tie.After-write-kinds-arg2 → tie.Else2
 else-of-kinds c = c .before .before
 
-abbrev else-of-written : tie.After-slice-known12 → tie.Else2
+abbrev else-of-written : tie.After-slice-known13 → tie.Else2
 else-of-written c = c .before .before .before .before .before
 
 abbrev else-of-families : tie.After-write-families-arg → tie.Else2
 else-of-families c = c .before .before .before .before .before .before
 
-abbrev kinds : tie.After-slice-known13 → tie.After-write-kinds
+abbrev kinds : tie.After-slice-known14 → tie.After-write-kinds
 kinds c = c .before .before .before .before .before .before
 
-abbrev families : tie.After-slice-known13 → tie.After-write-families
+abbrev families : tie.After-slice-known14 → tie.After-write-families
 families c = c .before .before
 
-abbrev else-of-end : tie.After-slice-known13 → tie.Else2
+abbrev else-of-end : tie.After-slice-known14 → tie.Else2
 else-of-end c = c .before .before .before .before .before .before .before .before .before
 
 -- the meshes, which passed the entry
@@ -90,15 +105,19 @@ oc₁ f = f .find .last .1 .1 .1 .1 .1 .1 .1 .1 .0
 abbrev w₁ : tie.After-find → List ℕ
 w₁ f = f .find .last .1 .1 .1 .1 .1 .1 .1 .1 .1 .0
 
+-- with the indexes
+abbrev w₂ : tie.After-least → List ℕ
+w₂ l = built l .index-meshes .last .1 .0
+
 -- and those that `cut_meshes` leaves
 abbrev on′ : tie.After-cut-meshes → List ℕ
-on′ k = k .cut-meshes .last .1 .1 .1 .1 .1 .1 .0
+on′ k = k .cut-meshes .last .1 .1 .1 .1 .1 .1 .1 .0
 
 abbrev oe′ : tie.After-cut-meshes → List ℕ
-oe′ k = k .cut-meshes .last .1 .1 .1 .1 .1 .1 .1 .0
+oe′ k = k .cut-meshes .last .1 .1 .1 .1 .1 .1 .1 .1 .0
 
 abbrev of′ : tie.After-cut-meshes → List ℕ
-of′ k = k .cut-meshes .last .1 .1 .1 .1 .1 .1 .1 .1 .0
+of′ k = k .cut-meshes .last .1 .1 .1 .1 .1 .1 .1 .1 .1 .0
 
 find-requires : tie.Need-find-requires
 find-requires c κs =
@@ -127,6 +146,22 @@ points e =
     let f = find-of-else e in
     let p = start f in
     points-fit (p .args .op) (p .args .m) (subject p) (cutter p) (p .args .oc .now) (p .args .on .now) (p .args .oe .now) (p .args .ok .now)
+    (p .args .of .now) (p .args .work .now) (pa p) (f .find .result) (oc₁ f) (w₁ f) (f .find .ensures) (e .if1 .left)
+
+slice-reshare-prefix-index-meshes : tie.Need-slice-reshare-prefix-index-meshes
+slice-reshare-prefix-index-meshes c = points (else-of-g c)
+
+slice-aggregate-index-meshes : tie.Need-slice-aggregate-index-meshes
+slice-aggregate-index-meshes c =
+    let e = else-of-coords c in
+    sym (length-take-le (2 * find-of-else e .find .result .next) (oc₁ (find-of-else e)) (points e))
+
+index-meshes-requires : tie.Need-index-meshes-requires
+index-meshes-requires c κs =
+    let e = else-of-index c in
+    let f = find-of-else e in
+    let p = start f in
+    index-asked (p .args .op) (p .args .m) (subject p) (cutter p) (p .args .oc .now) (p .args .on .now) (p .args .oe .now) (p .args .ok .now)
     (p .args .of .now) (p .args .work .now) (pa p) (f .find .result) (oc₁ f) (w₁ f) (f .find .ensures) (e .if1 .left)
 
 slice-reshare-prefix-cut-meshes : tie.Need-slice-reshare-prefix-cut-meshes
@@ -160,7 +195,8 @@ cut-meshes-requires c κs =
     let f = find-of-else e in
     let p = start f in (
       asked (p .args .op) (p .args .m) (subject p) (cutter p) (p .args .oc .now) (p .args .on .now) (p .args .oe .now) (p .args .ok .now)
-    (p .args .of .now) (p .args .work .now) (pa p) (f .find .result) (oc₁ f) (w₁ f) (f .find .ensures) (e .if1 .left),
+          (p .args .of .now) (p .args .work .now) (pa p) (f .find .result) (oc₁ f) (w₁ f) (f .find .ensures) (e .if1 .left)
+          (built l .index-meshes .result) (w₂ l) (built l .index-meshes .ensures),
       omega (arith, length-take-le (room l) (p .args .oe .now) (in-ends l), length-take-le (room l) (p .args .of .now) (in-families l)),
     )
 
@@ -173,7 +209,7 @@ returns-2 c =
     let p = start f in
     let r = c .plain2 .result in
     stops-cut (p .args .op) (p .args .m) (subject p) (cutter p) (p .args .oc .now) (p .args .on .now) (p .args .oe .now) (p .args .ok .now)
-    (p .args .of .now) (p .args .work .now) (pa p) (f .find .result) (oc₁ f) (w₁ f) (f .find .ensures) (e .if1 .left)
+    (p .args .of .now) (p .args .work .now) (pa p) (f .find .result) (oc₁ f) (w₁ f) (f .find .ensures) (e .if1 .left) (built l .index-meshes .result) (w₂ l) (built l .index-meshes .ensures)
     (room l) (l .least .ensures) (k .cut-meshes .result) (on′ k) (oe′ k) (of′ k) (k .cut-meshes .ensures) (then-of-plain c .if2 .taken)
     (r .code) (r .pieces) (r .points) (r .doubled) (c .plain2 .ensures .0) (oc₁ f) (on′ k) _ (p .args .ok .now) _
 
@@ -193,7 +229,7 @@ fits t =
     let f = find-of-else e in
     let p = start f in
     let low = count-fits (p .args .op) (p .args .m) (subject p) (cutter p) (p .args .oc .now) (p .args .on .now) (p .args .oe .now) (p .args .ok .now)
-    (p .args .of .now) (p .args .work .now) (pa p) (f .find .result) (oc₁ f) (w₁ f) (f .find .ensures) (e .if1 .left)
+    (p .args .of .now) (p .args .work .now) (pa p) (f .find .result) (oc₁ f) (w₁ f) (f .find .ensures) (e .if1 .left) (built l .index-meshes .result) (w₂ l) (built l .index-meshes .ensures)
     (room l) (l .least .ensures) (k .cut-meshes .result) (on′ k) (oe′ k) (of′ k) (k .cut-meshes .ensures) (t .if2 .left) in
     (omega (arith, low .0, l .least .ensures), low .1, low .2)
 
@@ -214,16 +250,16 @@ slice-relend-prefix-write-families c = fits (else-of-written c) .2
 slice-aggregate-write-families : tie.Need-slice-aggregate-write-families
 slice-aggregate-write-families c = let t = else-of-families c in sym (length-take-le (count t) (tagged t) (fits t .2))
 
-cast-t53 : tie.Need-cast-t53
-cast-t53 c = omega (arith, fits (else-of-end c) .1)
+cast-t58 : tie.Need-cast-t58
+cast-t58 c = omega (arith, fits (else-of-end c) .1)
 
-add-t34 : tie.Need-add-t34
-add-t34 c =
+add-t39 : tie.Need-add-t39
+add-t39 c =
     let h = pa (start (find-of-else (else-of-least (least-of-cut (cut-of-else (else-of-end c)))))) in
     omega (arith, h .subject .even, h .subject .mostNodes, h .cutter .even, h .cutter .mostNodes)
 
-sub-t55 : tie.Need-sub-t55
-sub-t55 c =
+sub-t60 : tie.Need-sub-t60
+sub-t60 c =
     let e = else-of-least (least-of-cut (cut-of-else (else-of-end c))) in
     let f = find-of-else e in
     let p = start f in
@@ -231,8 +267,8 @@ sub-t55 c =
     (p .args .of .now) (p .args .work .now) (pa p) (f .find .result) (oc₁ f) (w₁ f) (f .find .ensures) (e .if1 .left) in
     omega (arith, range .0)
 
-cast-t56 : tie.Need-cast-t56
-cast-t56 c =
+cast-t61 : tie.Need-cast-t61
+cast-t61 c =
     let e = else-of-least (least-of-cut (cut-of-else (else-of-end c))) in
     let f = find-of-else e in
     let p = start f in
@@ -249,14 +285,40 @@ returns-3 c =
     let f = find-of-else e in
     let p = start f in
     ran (p .args .op) (p .args .m) (subject p) (cutter p) (p .args .oc .now) (p .args .on .now) (p .args .oe .now) (p .args .ok .now)
-    (p .args .of .now) (p .args .work .now) (pa p) (f .find .result) (oc₁ f) (w₁ f) (f .find .ensures) (e .if1 .left)
+    (p .args .of .now) (p .args .work .now) (pa p) (f .find .result) (oc₁ f) (w₁ f) (f .find .ensures) (e .if1 .left) (built l .index-meshes .result) (w₂ l) (built l .index-meshes .ensures)
     (room l) (l .least .ensures) (k .cut-meshes .result) (on′ k) (oe′ k) (of′ k) (k .cut-meshes .ensures) (t .if2 .left)
     (kinds c .write-kinds .last .1 .1 .1 .0) (families c .write-families .last .1 .1 .0) (kinds c .write-kinds .ensures) (families c .write-families .ensures)
 
+-- the lists are as long as they were
+oc-kept : (e : tie.Else1) → length (oc₁ (find-of-else e)) ≡ length (start (find-of-else e) .args .oc .now)
+oc-kept e = find-of-else e .find .kept .1 .1 .1 .1 .1 .1 .1 .1 .0
+
+work-kept : (l : tie.After-least) → length (w₂ l) ≡ length (start (find-of-else (else-of-least l)) .args .work .now)
+work-kept l = built l .index-meshes .kept .1 .0 ∙ find-of-else (else-of-least l) .find .kept .1 .1 .1 .1 .1 .1 .1 .1 .1 .0
+
+same-length-3 : tie.Need-same-length-3
+same-length-3 c = oc-kept (else-of-least (least-of-cut (cut-of-plain c)))
+
+same-length-4 : tie.Need-same-length-4
+same-length-4 c = cut-of-plain c .cut-meshes .kept .1 .1 .1 .1 .1 .1 .1 .0
+
+same-length-7 : tie.Need-same-length-7
+same-length-7 c = work-kept (least-of-cut (cut-of-plain c))
+
+same-length-8 : tie.Need-same-length-8
+same-length-8 c = oc-kept (else-of-least (least-of-cut (cut-of-else (else-of-end c))))
+
+same-length-9 : tie.Need-same-length-9
+same-length-9 c = cut-of-else (else-of-end c) .cut-meshes .kept .1 .1 .1 .1 .1 .1 .1 .0
+
+same-length-13 : tie.Need-same-length-13
+same-length-13 c = work-kept (least-of-cut (cut-of-else (else-of-end c)))
+
 pub run-spec : {M : Type 1} → statement M
-run-spec = tie.close (tie.spec find-requires (λ c κs. search needs) (λ c. search needs) (λ c. search needs) returns mul-k (λ c κs. search needs)
-    slice-reshare-prefix-cut-meshes slice-aggregate-cut-meshes (λ c. search needs) slice-aggregate-cut-meshes-2 (λ c. search needs) slice-aggregate-cut-meshes-3
-    cut-meshes-requires (λ c κs. search needs) (λ c. search needs) (λ c. search needs) (λ c. search needs) (λ c. search needs) (λ c. search needs) returns-2
+run-spec = tie.close (tie.spec find-requires (λ c κs. search needs) (λ c. search needs) (λ c. search needs) returns mul-k
+    slice-reshare-prefix-index-meshes slice-aggregate-index-meshes index-meshes-requires (λ c κs. search needs) slice-reshare-prefix-cut-meshes
+    slice-aggregate-cut-meshes (λ c. search needs) slice-aggregate-cut-meshes-2 (λ c. search needs) slice-aggregate-cut-meshes-3
+    cut-meshes-requires (λ c κs. search needs) same-length-3 same-length-4 (λ c. search needs) (λ c. search needs) same-length-7 returns-2
     slice-reshare-prefix-write-kinds slice-aggregate-write-kinds write-kinds-requires slice-relend-prefix-write-families slice-aggregate-write-families
-    (λ c κs. search needs) cast-t53 add-t34 sub-t55 cast-t56 (λ c. search needs) (λ c. search needs) (λ c. search needs) (λ c. search needs) (λ c. search needs)
-    (λ c. search needs) returns-3)
+    (λ c κs. search needs) cast-t58 add-t39 sub-t60 cast-t61 same-length-8 same-length-9 (λ c. search needs) (λ c. search needs) (λ c. search needs)
+    same-length-13 returns-3)
