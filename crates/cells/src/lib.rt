@@ -283,19 +283,7 @@ fn cut_outlined(
     }
     let n = outline.len();
     let near = part(w, edges);
-    let slots = near_darts(
-        coords,
-        w,
-        g,
-        near,
-        js,
-        outline,
-        nodes,
-        src,
-        dst,
-        marks,
-        n,
-    );
+    let slots = near_darts(coords, w, g, near, js, outline, nodes, src, dst, marks, n);
     if 1024 < slots {
         return refused(10, runs, stops);
     }

@@ -133,10 +133,27 @@ fn overlay_cell(
     let edges = t.other.edges;
     let near = part(w, edges);
     let bounds = bounds2(coords, cell);
-    let n = gather(coords, near, &ends[..0], part(w, t.index.edges), bounds, 0, found);
+    let n = gather(
+        coords,
+        near,
+        &ends[..0],
+        part(w, t.index.edges),
+        bounds,
+        0,
+        found,
+    );
     let mut runs = [0u32; 1024];
     let mut stops = [0u32; 1024];
-    let r = outcome_of(coords, w, g, edges, &found[..n], cell, &mut runs, &mut stops);
+    let r = outcome_of(
+        coords,
+        w,
+        g,
+        edges,
+        &found[..n],
+        cell,
+        &mut runs,
+        &mut stops,
+    );
     let code = r.code;
     if code != 0 {
         return refuse(code, on, oe, ot);

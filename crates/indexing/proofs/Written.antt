@@ -42,8 +42,10 @@ module _ (coords : List Float) (w : List ℕ) (r : Run) (ends : List ℕ) (at : 
     ok .lies .fits,
     ok .room,
     ok .few,
-    λ i h. (ok .rising i h .0,
-        omega (arith, ok .rising i h .1, run-long w r (record { rises = ok .lies .rises; fits = omega (arith, ok .lies .fits, ok .room) }))),
+    λ i h. (
+      ok .rising i h .0,
+      omega (arith, ok .rising i h .1, run-long w r (record { rises = ok .lies .rises; fits = omega (arith, ok .lies .fits, ok .room) })),
+    ),
   )
 
   pub things-end : (n size : ℕ) (w′ : List ℕ) → n ≡ thingCount (runIn w r) ends → size ≡ indexSize n
@@ -161,8 +163,8 @@ module _ (coords : List Float) (w : List ℕ) (g : Regions) (se ce : List ℕ) (
     meshes-end y w₂ two =
         let here : y ≡ meshIndexAt coords w (g .cutter) ce (meshIndexAt coords w (g .subject) se at₀ .cells .end) =
         two .0 ∙ (λ i. let e : List ℕ = indexOf coords (edges-kept i) [] in
-            let middle : ℕ = one .0 i .cells .end + length e in
-            record { edges = record { from = one .0 i .cells .end; end = middle }; cells = record { from = middle; end = middle + length (indexOf coords (entries-kept i) ce) } }) in (
+        let middle : ℕ = one .0 i .cells .end + length e in
+        record { edges = record { from = one .0 i .cells .end; end = middle }; cells = record { from = middle; end = middle + length (indexOf coords (entries-kept i) ce) } }) in (
           (λ i. record { subject = one .0 i; cutter = here i }),
           two .1 ∙ (λ i. put (one .1 i) (end₁ i) (indexOf coords (edges-kept i) [] ++ indexOf coords (entries-kept i) ce))
               ∙ put-append w at₀ low ixs (meshIndex coords w (g .cutter) ce) (omega (arith, ok .room, subject-long)),

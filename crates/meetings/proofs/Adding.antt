@@ -18,7 +18,7 @@ use Rattle.cutting.specs.Edges.{Edge}
 use Rattle.rules.specs.Meetings.{Met, nodeOf, segmentOf, recorded, addedBy}
 use Rattle.rules.specs.Refusals.{Event, ofMeeting, firstRefusal}
 use Rattle.rules.proofs.Course.{refused-first}
-use Rattle.spatial_index.proofs.Stores.{first-store, next-store}
+use Rattle.meetings.proofs.Stores.{first-store, next-store}
 use Rattle.meetings.specs.declared.Found.{Found}
 use Rattle.meetings.specs.Booked.{bookOf, booked}
 use Rattle.meetings.specs.Steps.{metOf, Grown, Answered}

@@ -135,8 +135,8 @@ module _ (op : ℕ) (sc : Scene) (coords : List Float) (work : List ℕ) (g : Re
     meshes-kinds =
         part-meshes (λ y. map (kindBy sk ck) (y .tags)) (λ y z. map-append (kindBy sk ck) (y .tags) (z .tags)) refl (λ w i. map (λ p. p .kind) (kept sc w op i))
         (λ w i h. ap (map (kindBy sk ck)) (tags-at w i)
-            ∙ kinds-are op sc w coords work g (runsOn g (other w)) (stopsOf (other w)) (cut-by w) i (number w i) (cell w i) (this w i) sk ck
-            (counted sk ck long w i h ∙ ap (λ (l : List ℕ). getD l i 0) (sym (kinds w))))
+        ∙ kinds-are op sc w coords work g (runsOn g (other w)) (stopsOf (other w)) (cut-by w) i (number w i) (cell w i) (this w i) sk ck
+        (counted sk ck long w i h ∙ ap (λ (l : List ℕ). getD l i 0) (sym (kinds w))))
         ∙ sym (map-both (λ (p : Piece). p .kind) op sc (λ w. kept sc w op))
 
   module _ (sf cf : List ℕ) (long : length sf ≡ length se) (families : (w : Side) → netOf sc w .families ≡ ofSide sf cf w) where
@@ -144,6 +144,6 @@ module _ (op : ℕ) (sc : Scene) (coords : List Float) (work : List ℕ) (g : Re
     meshes-families =
         part-meshes (λ y. map (familyBy sf cf) (y .tags)) (λ y z. map-append (familyBy sf cf) (y .tags) (z .tags)) refl (λ w i. map (λ p. p .family) (kept sc w op i))
         (λ w i h. ap (map (familyBy sf cf)) (tags-at w i)
-            ∙ families-are op sc w coords work g (runsOn g (other w)) (stopsOf (other w)) (cut-by w) i (number w i) (cell w i) (this w i) sf cf
-            (counted sf cf long w i h ∙ ap (λ (l : List ℕ). getD l i 0) (sym (families w))))
+        ∙ families-are op sc w coords work g (runsOn g (other w)) (stopsOf (other w)) (cut-by w) i (number w i) (cell w i) (this w i) sf cf
+        (counted sf cf long w i h ∙ ap (λ (l : List ℕ). getD l i 0) (sym (families w))))
         ∙ sym (map-both (λ (p : Piece). p .family) op sc (λ w. kept sc w op))

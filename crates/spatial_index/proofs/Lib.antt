@@ -1,6 +1,3 @@
-pub mod Blocks
 pub mod Candidates
-pub mod Covered
-pub mod Stores
 pub mod Turns
-pub mod Wider
+pub mod FloatLe

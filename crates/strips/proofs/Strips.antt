@@ -6,7 +6,7 @@ use Prim.Native.Nat.{ℕ, zero, suc, _+_, _-_, _/_, _≤_, _<_}
 use native.Mathlib.Omega.{arith}
 use lib.ListN.{length, getD}
 use lib.Ieee.{Float, le}
-use Rattle.spatial_index.proofs.Wider.{le-trans}
+use Rattle.spatial_index.proofs.FloatLe.{le-trans}
 use Rattle.strips.specs.Squares.{coordinateOf, strip, stripOf}
 
 pub strip-from : (f : ℕ) (t : ℕ → Float) (v : Float) (lo n : ℕ) → lo ≤ strip f t v lo n

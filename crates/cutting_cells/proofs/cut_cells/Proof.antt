@@ -105,9 +105,10 @@ part-requires c κs =
 loop-holds : tie.Need-loop-holds Inv-loop μ-loop
 loop-holds c =
     let p = start c in
-    let a = p .args in
-    (start₀ (length (a .stops .now)) (yield p) (steady p) (a .stops .now) (a .p) (p .pre .calm) (a .on .now) (a .oe .now) (a .ot .now) (p .pre .space),
-    length-replicate {A = ℕ} 65536 0)
+    let a = p .args in (
+      start₀ (length (a .stops .now)) (yield p) (steady p) (a .stops .now) (a .p) (p .pre .calm) (a .on .now) (a .oe .now) (a .ot .now) (p .pre .space),
+      length-replicate {A = ℕ} 65536 0,
+    )
 
 mul-e : tie.Need-mul-e Inv-loop μ-loop
 mul-e c =

@@ -27,16 +27,24 @@ mul-end c =
     let e = edges-of-end c in
     let p = entry e in
     let a = p .args in
-    omega (arith, p .good .1 .1 .1 .1 .1 .1 .1 .1 .0, places-low (a .lines) (a .sc .now) (a .cc .now) (a .sn .now) (a .se .now) (a .cn .now) (a .ce .now) (p .pre .0) (p .pre .1)
-    (a .w .now) (p .pre .2) (a .coords .now) (p .pre .3) (e .edges .result) (e .edges .last .1 .1 .1 .1 .1 .1 .1 .0) (e .edges .ensures))
+    omega (
+      arith,
+      p .good .1 .1 .1 .1 .1 .1 .1 .1 .0,
+      places-low (a .lines) (a .sc .now) (a .cc .now) (a .sn .now) (a .se .now) (a .cn .now) (a .ce .now) (p .pre .0) (p .pre .1)
+          (a .w .now) (p .pre .2) (a .coords .now) (p .pre .3) (e .edges .result) (e .edges .last .1 .1 .1 .1 .1 .1 .1 .0) (e .edges .ensures),
+    )
 
 add-end : tie.Need-add-end
 add-end c =
     let e = edges-of-end c in
     let p = entry e in
     let a = p .args in
-    omega (arith, p .good .1 .1 .1 .1 .1 .1 .1 .1 .0, places-low (a .lines) (a .sc .now) (a .cc .now) (a .sn .now) (a .se .now) (a .cn .now) (a .ce .now) (p .pre .0) (p .pre .1)
-    (a .w .now) (p .pre .2) (a .coords .now) (p .pre .3) (e .edges .result) (e .edges .last .1 .1 .1 .1 .1 .1 .1 .0) (e .edges .ensures))
+    omega (
+      arith,
+      p .good .1 .1 .1 .1 .1 .1 .1 .1 .0,
+      places-low (a .lines) (a .sc .now) (a .cc .now) (a .sn .now) (a .se .now) (a .cn .now) (a .ce .now) (p .pre .0) (p .pre .1)
+          (a .w .now) (p .pre .2) (a .coords .now) (p .pre .3) (e .edges .result) (e .edges .last .1 .1 .1 .1 .1 .1 .1 .0) (e .edges .ensures),
+    )
 
 build-requires : tie.Need-build-requires
 build-requires c κs =

@@ -1,7 +1,7 @@
 -- Stores into a list, one right behind the other. Assumes nothing.
-use mathlib.Core.Path.{_≡_, refl, sym, ap₂, _∙_}
+use mathlib.Core.Path.{_≡_, sym, ap₂, _∙_}
 use mathlib.Core.List.{List, [], _∷_, _++_}
-use Prim.Native.Nat.{ℕ, _+_, _≤_, _<_}
+use Prim.Native.Nat.{ℕ, _+_, _<_}
 use native.Mathlib.Omega.{arith}
 use lib.ListN.{length, set}
 use Rattle.lists.specs.Regions.{put}
@@ -15,10 +15,3 @@ module _ {A : Type 0} (w : List A) (at : ℕ) (d : A) where
 
   pub next-store : (xs : List A) (k : ℕ) (l : List A) (v : A) → length xs ≡ k → at + k < length w → l ≡ put w at xs → set l (at + k) v ≡ put w at (xs ++ v ∷ [])
   next-store xs k l v n h e = ap₂ (λ (s : List A) (i : ℕ). set s (at + i) v) e (sym n) ∙ put-store w at (omega arith) xs v d (omega arith)
-
-pub four : {A : Type 0} (w : List A) (at : ℕ) (a b c d : A) → at + 4 ≤ length w → set (set (set (set w at a) (at + 1) b) (at + 2) c) (at + 3) d ≡ put w at (a ∷ b ∷ c ∷ d ∷ [])
-four w at a b c d h =
-    next-store w at a (a ∷ b ∷ c ∷ []) 3 _ d refl (omega arith)
-    (next-store w at a (a ∷ b ∷ []) 2 _ c refl (omega arith)
-    (next-store w at a (a ∷ []) 1 _ b refl (omega arith)
-    (first-store w at a a (omega arith))))
