@@ -18,7 +18,7 @@ use Rattle.regions.specs.Runs.{Within, runIn}
 use Rattle.strips.specs.Things.{thingCount}
 use Rattle.strips.specs.Index.{indexSize, indexOf, Indexed}
 use Rattle.strips.proofs.IndexAt.{length-index}
-use Rattle.indexing.specs.Indexes.{edgeIndex, cellIndex, meshIndex, meshIndexAt, indexes, indexesAt, MeshIndexed, ThingsAsk, meshSize, MeshAsks, Asks}
+use Rattle.indexing.specs.Indexes.{edgeIndex, cellIndex, meshIndex, meshIndexAt, indexes, indexesAt, MeshIndexed, meshSize, MeshAsks, Asks}
 
 -- ---- regions before what is written
 
@@ -31,31 +31,32 @@ pub run-long : (w : List ℕ) (r : Run) → Within r (length w) → length (runI
 unfolding runIn
 run-long w r i = length-run w (r .from) (r .end - r .from) (omega (arith, i .rises, i .fits))
 
--- ---- `index_things`
+-- what `build` asks for the things of the run r that end at `ends`
+abbrev pub BuildAsks : List ℕ → Run → List ℕ → ℕ → Type 0
+BuildAsks w r ends at =
+    (r .from ≤ r .end) × (r .end ≤ at) × (at + indexSize (thingCount (run w (r .from) (r .end - r .from)) ends) ≤ length w)
+    × (thingCount (run w (r .from) (r .end - r .from)) ends ≤ 65536) × Rising ends (r .end - r .from)
 
-module _ (coords : List Float) (w : List ℕ) (r : Run) (ends : List ℕ) (at : ℕ) (ok : ThingsAsk w r ends at) where
-  pub build-asked : (r .from ≤ r .end) × (r .end ≤ at) × (at + indexSize (thingCount (run w (r .from) (r .end - r .from)) ends) ≤ length w)
-      × (thingCount (run w (r .from) (r .end - r .from)) ends ≤ 65536) × Rising ends (r .end - r .from)
-  unfolding runIn
-  build-asked = (
-    ok .lies .rises,
-    ok .lies .fits,
-    ok .room,
-    ok .few,
-    λ i h. (
-      ok .rising i h .0,
-      omega (arith, ok .rising i h .1, run-long w r (record { rises = ok .lies .rises; fits = omega (arith, ok .lies .fits, ok .room) })),
-    ),
-  )
+build-asked : (w : List ℕ) (r : Run) (ends : List ℕ) (at : ℕ) → Within r at → Rising ends (length (runIn w r)) → thingCount (runIn w r) ends ≤ 65536
+    → at + indexSize (thingCount (runIn w r) ends) ≤ length w → BuildAsks w r ends at
+unfolding runIn
+build-asked w r ends at lies up few room = (
+  lies .rises,
+  lies .fits,
+  room,
+  few,
+  λ i h. (up i h .0, omega (arith, up i h .1, run-long w r (record { rises = lies .rises; fits = omega (arith, lies .fits, room) }))),
+)
 
-  pub things-end : (n size : ℕ) (w′ : List ℕ) → n ≡ thingCount (runIn w r) ends → size ≡ indexSize n
-      → w′ ≡ put w at (indexOf coords (run w (r .from) (r .end - r .from)) ends)
-      → (at + size ≡ at + length (indexOf coords (runIn w r) ends)) × (w′ ≡ put w at (indexOf coords (runIn w r) ends))
-  unfolding runIn
-  things-end n size w′ en es ew = (
-    ap (λ (k : ℕ). at + k) (es ∙ ap indexSize en ∙ sym (length-index coords (runIn w r) ends)),
-    ew,
-  )
+-- what it leaves
+abbrev pub Built : List Float → List ℕ → Run → List ℕ → ℕ → ℕ → List ℕ → Type 0
+Built coords w r ends at e w′ =
+    (e ≡ at + indexSize (thingCount (run w (r .from) (r .end - r .from)) ends)) × (w′ ≡ put w at (indexOf coords (run w (r .from) (r .end - r .from)) ends))
+
+built-is : (coords : List Float) (w : List ℕ) (r : Run) (ends : List ℕ) (at e : ℕ) (w′ : List ℕ) → Built coords w r ends at e w′
+    → (e ≡ at + length (indexOf coords (runIn w r) ends)) × (w′ ≡ put w at (indexOf coords (runIn w r) ends))
+unfolding runIn
+built-is coords w r ends at e w′ h = (h .0 ∙ ap (λ (k : ℕ). at + k) (sym (length-index coords (runIn w r) ends)), h .1)
 
 -- ---- `index_mesh`
 
@@ -72,41 +73,38 @@ module _ (coords : List Float) (w : List ℕ) (m : MeshRuns) (ends : List ℕ) (
   at-low : at ≤ length w
   at-low = omega (arith, ok .room)
 
-  pub edges-asked : ThingsAsk w (m .edges) [] at
-  edges-asked =
-      record {
-        lies = ok .edges;
-        rising = λ i h. absurd (omega (arith, h));
-        few = ok .fewEdges;
-        room = omega (arith, ok .room);
-      }
+  pub edges-asked : BuildAsks w (m .edges) [] at
+  edges-asked = build-asked w (m .edges) [] at (ok .edges) (λ i h. absurd (omega (arith, h))) (ok .fewEdges) (omega (arith, ok .room))
 
-  module _ (e : ℕ) (w₁ : List ℕ) (one : (e ≡ at + length (indexOf coords (runIn w (m .edges)) [])) × (w₁ ≡ put w at (indexOf coords (runIn w (m .edges)) []))) where
+  module _ (e : ℕ) (w₁ : List ℕ) (first : Built coords w (m .edges) [] at e w₁) where
+    one : (e ≡ at + length (indexOf coords (runIn w (m .edges)) [])) × (w₁ ≡ put w at (indexOf coords (runIn w (m .edges)) []))
+    one = built-is coords w (m .edges) [] at e w₁ first
+
     kept : runIn w₁ (m .entries) ≡ runIn w (m .entries)
     kept = ap (λ (v : List ℕ). runIn v (m .entries)) (one .1) ∙ run-kept w ix at at-low (m .entries) (ok .entries)
 
     long : length w₁ ≡ length w
     long = ap length (one .1) ∙ length-put w at at-low ix (omega (arith, ok .room, edges-size))
 
-    pub cells-asked : ThingsAsk w₁ (m .entries) ends e
+    pub cells-asked : BuildAsks w₁ (m .entries) ends e
     cells-asked =
-        record {
-          lies = record { rises = ok .entries .rises; fits = omega (arith, ok .entries .fits, one .0) };
-          rising = subst (λ (l : List ℕ). Rising ends (length l)) (sym kept) (ok .rising);
-          few = subst (λ (l : List ℕ). thingCount l ends ≤ 65536) (sym kept) (ok .fewCells);
-          room = subst (λ (l : List ℕ). e + indexSize (thingCount l ends) ≤ length w₁) (sym kept) (omega (arith, one .0, edges-size, ok .room, long));
-        }
+        build-asked w₁ (m .entries) ends e (record { rises = ok .entries .rises; fits = omega (arith, ok .entries .fits, one .0) })
+        (subst (λ (l : List ℕ). Rising ends (length l)) (sym kept) (ok .rising))
+        (subst (λ (l : List ℕ). thingCount l ends ≤ 65536) (sym kept) (ok .fewCells))
+        (subst (λ (l : List ℕ). e + indexSize (thingCount l ends) ≤ length w₁) (sym kept) (omega (arith, one .0, edges-size, ok .room, long)))
 
-    pub mesh-end : (c : ℕ) (w₂ : List ℕ)
-        → (c ≡ e + length (indexOf coords (runIn w₁ (m .entries)) ends)) × (w₂ ≡ put w₁ e (indexOf coords (runIn w₁ (m .entries)) ends))
+    pub mesh-end : (c : ℕ) (w₂ : List ℕ) → Built coords w₁ (m .entries) ends e c w₂
         → (record { edges = record { from = at; end = e }; cells = record { from = e; end = c } } ≡ meshIndexAt coords w m ends at)
         × (w₂ ≡ put w at (meshIndex coords w m ends))
-    mesh-end c w₂ two = (
+    mesh-end c w₂ second = (
       (λ i. record { edges = record { from = at; end = one .0 i }; cells = record { from = one .0 i; end = end-is i } }),
       two .1 ∙ (λ i. put (one .1 i) (one .0 i) (indexOf coords (kept i) ends))
           ∙ put-append w at at-low ix (cellIndex coords w m ends) (omega (arith, ok .room, edges-size)),
     )
       where
+        two : (c ≡ e + length (indexOf coords (runIn w₁ (m .entries)) ends)) × (w₂ ≡ put w₁ e (indexOf coords (runIn w₁ (m .entries)) ends))
+        two = built-is coords w₁ (m .entries) ends e c w₂ second
+
         end-is : c ≡ at + length ix + length (cellIndex coords w m ends)
         end-is = two .0 ∙ (λ i. one .0 i + length (indexOf coords (kept i) ends))
 

@@ -4,7 +4,6 @@ use Prim.Native.Nat.{ℕ, _+_, _≤_}
 use lib.ListN.{length}
 use lib.Ieee.{Float}
 use Rattle.entry.specs.Mesh.{Rising}
-use Rattle.regions.specs.declared.Run.{Run}
 use Rattle.regions.specs.declared.MeshRuns.{MeshRuns}
 use Rattle.regions.specs.declared.Regions.{Regions}
 use Rattle.regions.specs.declared.MeshIndex.{MeshIndex}
@@ -48,13 +47,6 @@ pub record MeshIndexed (coords : List Float) (w : List ℕ) (m : MeshRuns) (ends
   pub cells : Indexed coords (runIn w (m .entries)) ends (runIn w (x .cells))
 
 -- ---- what is asked
-
--- for things: they stand before `at`, and there is room behind it
-pub record ThingsAsk (w : List ℕ) (r : Run) (ends : List ℕ) (at : ℕ) : Type 0 where
-  pub lies : Within r at
-  pub rising : Rising ends (length (runIn w r))
-  pub few : thingCount (runIn w r) ends ≤ 65536
-  pub room : at + indexSize (thingCount (runIn w r) ends) ≤ length w
 
 -- how many numbers the indexes of a mesh take
 abbrev pub meshSize : List ℕ → MeshRuns → List ℕ → ℕ

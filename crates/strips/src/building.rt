@@ -241,19 +241,29 @@ fn link_things(
     levels
 }
 
-// Writes the index of the things whose nodes stand from `from` up to `end`, from `at` on.
-pub fn build(coords: &[f64], w: &mut [u32], from: usize, end: usize, ends: &[u32], at: usize)
+// Writes the index of the things whose nodes stand from `from` up to `end`, from `at` on. Answers where it ends.
+pub fn build(
+    coords: &[f64],
+    w: &mut [u32],
+    from: usize,
+    end: usize,
+    ends: &[u32],
+    at: usize,
+) -> usize
     requires { ⌜ (from ≤ end) × (end ≤ at) × (at + indexSize (thingCount (run (now w) from (end - from)) (now ends)) ≤ length (now w))
         × (thingCount (run (now w) from (end - from)) (now ends) ≤ 65536) × Rising (now ends) (end - from) ⌝ }
-    ensures { λ _. ⌜ now (w .exit) ≡ put (now (w .entry)) at (indexOf (now (coords .entry)) (run (now (w .entry)) from (end - from)) (now (ends .entry))) ⌝ }
+    ensures { λ r. ⌜ (r ≡ at + indexSize (thingCount (run (now (w .entry)) from (end - from)) (now (ends .entry))))
+        × (now (w .exit) ≡ put (now (w .entry)) at (indexOf (now (coords .entry)) (run (now (w .entry)) from (end - from)) (now (ends .entry)))) ⌝ }
 {
     let n = thing_count(&w[from..end], ends);
     let side = side_of(n);
     let bounds = at + 2;
     let heads = bounds + 2 * side;
+    let stop = heads + chain_count(n) + n;
     bounding(coords, w, from, end, ends, 0, side, bounds, heads);
     bounding(coords, w, from, end, ends, 1, side, bounds + side, heads);
     let levels = link_things(coords, w, from, end, ends, bounds, side, n);
     w[at] = side as u32;
     w[at + 1] = levels as u32;
+    stop
 }

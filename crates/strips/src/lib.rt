@@ -8,4 +8,3 @@ mod things;
 pub use building::build;
 pub use building::index_size;
 pub use gathering::gather;
-pub use things::thing_count;

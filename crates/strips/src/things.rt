@@ -19,7 +19,7 @@ pub(crate) fn number_at(xs: &[u32], i: usize) -> u32
 }
 
 // How many things there are.
-pub fn thing_count(nodes: &[u32], ends: &[u32]) -> usize
+pub(crate) fn thing_count(nodes: &[u32], ends: &[u32]) -> usize
     ensures { λ r. ⌜ r ≡ thingCount (now (nodes .entry)) (now (ends .entry)) ⌝ }
 {
     if ends.len() == 0 {

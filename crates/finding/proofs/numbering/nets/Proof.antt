@@ -63,7 +63,7 @@ returns c =
     let a = p .args in
     nets-end (a .lines) (a .sc .now) (a .cc .now) (a .sn .now) (a .se .now) (a .cn .now) (a .ce .now) (p .pre .0) (p .pre .1)
     (a .w .now) (p .pre .2) (a .coords .now) (p .pre .3) (e .edges .result) (e .edges .last .1 .1 .1 .1 .1 .1 .1 .0) (e .edges .ensures) _ refl
-    (b .build .last .1 .0) (b .build .ensures)
+    (b .build .last .1 .0) (b .build .ensures .1)
 
 pub nets-spec : {M : Type 1} → statement M
 nets-spec = tie.close (tie.spec (λ c κs. search needs) mul-end add-end (λ c. search needs) build-requires (λ c. search needs) returns)

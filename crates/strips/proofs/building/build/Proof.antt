@@ -1,12 +1,12 @@
-use mathlib.Core.Path.{sym, ap, _∙_}
+use mathlib.Core.Path.{ap₂, sym, ap, _∙_}
 use Rattle.strips.proofs.Making.{nodes-counted, room-counted, index-counted}
 use mathlib.Core.List.{List}
-use Prim.Native.Nat.{ℕ, _+_, _-_}
+use Prim.Native.Nat.{ℕ, _+_, _*_, _-_, _≤_}
 use native.Mathlib.Omega.{arith}
 use lib.ListN.{set, length-set}
 use Rattle.lists.specs.Regions.{run}
 use Rattle.strips.specs.Things.{thingCount}
-use Rattle.strips.specs.Index.{sideOf}
+use Rattle.strips.specs.Index.{sideOf, chainCount}
 use Rattle.strips.proofs.Samples.{part-run}
 use borrow.Author.Needs.{needs}
 use Rattle.strips.proofs.building.build.Statement.{statement}
@@ -26,10 +26,13 @@ abbrev thing-count-of-side-of : tie.After-side-of → tie.After-thing-count
 thing-count-of-side-of c = c .before
 
 abbrev side-of-at-bounding-requires : tie.After-bounding-arg → tie.After-side-of
-side-of-at-bounding-requires c = c .before
+side-of-at-bounding-requires c = c .before .before
+
+abbrev counted-of : tie.After-bounding → tie.After-chain-count
+counted-of c = c .before .before
 
 abbrev side-of-of-bounding : tie.After-bounding → tie.After-side-of
-side-of-of-bounding c = c .before .before
+side-of-of-bounding c = c .before .before .before
 
 abbrev bounding-at-bounding-requires-2 : tie.After-bounding-arg2 → tie.After-bounding
 bounding-at-bounding-requires-2 c = c .before .before .before
@@ -46,6 +49,26 @@ bounding2-of-link-things c = c .before .before .before .before
 abbrev link-things-at-mul-w : tie.After-slice-known4 → tie.After-link-things
 link-things-at-mul-w c = c .before .before
 
+-- how many things there are
+few : (c : tie.After-side-of) → thing-count-of-side-of c .thing-count .result ≤ 65536
+few c =
+    let t = thing-count-of-side-of c in
+    let a = entry t .args in
+    omega (arith, entry t .pre .3, t .thing-count .ensures, ap (λ (u : List ℕ). thingCount u (a .ends .now)) (part-run (a .w .now) (a .from) (a .end)))
+
+chain-count-requires : tie.Need-chain-count-requires
+chain-count-requires c κs = few c
+
+add-stop : tie.Need-add-stop
+add-stop c =
+    let d = c .before in
+    omega (arith, few d, c .chain-count .ensures, d .side-of .ensures, entry (thing-count-of-side-of d) .pre .2, entry (thing-count-of-side-of d) .good)
+
+add-stop-2 : tie.Need-add-stop-2
+add-stop-2 c =
+    let d = c .before in
+    omega (arith, few d, c .chain-count .ensures, d .side-of .ensures, entry (thing-count-of-side-of d) .pre .2, entry (thing-count-of-side-of d) .good)
+
 bounding-requires : tie.Need-bounding-requires
 bounding-requires c κs =
     let at-thing-count = thing-count-of-side-of (side-of-at-bounding-requires c) in
@@ -54,7 +77,7 @@ bounding-requires c κs =
     let p = at-entry .pre in
     let nodes = run (a .w .now) (a .from) (a .end - a .from) in
     let n-is = at-thing-count .thing-count .ensures ∙ ap (λ (u : List ℕ). thingCount u (a .ends .now)) (part-run (a .w .now) (a .from) (a .end)) in
-    let s-is = c .before .side-of .ensures .0 ∙ ap sideOf n-is in
+    let s-is = side-of-at-bounding-requires c .side-of .ensures .0 ∙ ap sideOf n-is in
     (omega arith, p .0, omega (arith, p .1), omega arith, omega (arith, p .2, s-is), p .3, s-is)
 
 bounding-requires-2 : tie.Need-bounding-requires-2
@@ -156,11 +179,14 @@ returns c =
     let nodes = run (a .w .now) (a .from) (a .end - a .from) in
     let n-is = at-thing-count .thing-count .ensures ∙ ap (λ (u : List ℕ). thingCount u (a .ends .now)) (part-run (a .w .now) (a .from) (a .end)) in
     let s-is = at-side-of .side-of .ensures .0 ∙ ap sideOf n-is in
-    index-counted (a .coords .now) (a .ends .now) (a .from) (a .end) (a .at) (a .w .now) _ (p .0) (p .1) (p .2) (at-thing-count .thing-count .result)
-    (at-side-of .side-of .result) n-is s-is _ _ _ (at-bounding .bounding .ensures)
-    (bounding2-of-link-things at-link-things .bounding2 .ensures) (at-link-things .link-things .ensures .0) (at-link-things .link-things .ensures .1)
+    let stop = ap₂ (λ (side n : ℕ). a .at + (2 + 2 * side + chainCount n + n)) s-is n-is in (
+      omega (arith, counted-of at-bounding .chain-count .ensures) ∙ stop,
+      index-counted (a .coords .now) (a .ends .now) (a .from) (a .end) (a .at) (a .w .now) _ (p .0) (p .1) (p .2) (at-thing-count .thing-count .result)
+          (at-side-of .side-of .result) n-is s-is _ _ _ (at-bounding .bounding .ensures)
+          (bounding2-of-link-things at-link-things .bounding2 .ensures) (at-link-things .link-things .ensures .0) (at-link-things .link-things .ensures .1),
+    )
 
 pub build-spec : {M : Type 1} → statement M
 build-spec = tie.close (tie.spec (λ c. search needs) (λ c. search needs) (λ c. search needs) (λ c. search needs) (λ c κs. search needs) (λ c κs. search needs)
-    (λ c. search needs) (λ c. search needs) (λ c. search needs) bounding-requires (λ c. search needs) bounding-requires-2 link-things-requires
-    (λ c. search needs) mul-w slice-write-w (λ c. search needs) add-w mul-w-2 slice-write-w-2 same-length returns)
+    (λ c. search needs) (λ c. search needs) (λ c. search needs) chain-count-requires add-stop add-stop-2 bounding-requires (λ c. search needs) bounding-requires-2
+    link-things-requires (λ c. search needs) mul-w slice-write-w (λ c. search needs) add-w mul-w-2 slice-write-w-2 same-length returns)
