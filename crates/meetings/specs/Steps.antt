@@ -8,6 +8,8 @@ use Rattle.lists.specs.Gather.{joined}
 use Rattle.lists.specs.Regions.{put}
 use Rattle.segments.specs.Meet.{meeting}
 use Rattle.cutting.specs.Edges.{Edge}
+use Rattle.rules.specs.SpatialIndex.{edgeBox}
+use Rattle.spatial_index.specs.Candidates.{placesFrom, meets}
 use Rattle.rules.specs.Meetings.{Met, segmentOf, recorded, addedBy}
 use Rattle.rules.specs.Refusals.{Event, ofMeeting, firstRefusal}
 use Rattle.meetings.specs.declared.Found.{Found}
@@ -16,6 +18,10 @@ use Rattle.meetings.specs.Booked.{booked}
 -- edge i of those that stand as pairs of numbers from `at` on
 abbrev pub edgeIn : List ℕ → ℕ → ℕ → Edge
 edgeIn w at i = (getD w (at + 2 * i) 0, getD w (at + 2 * i + 1) 0)
+
+-- the numbers from `from` on of the edges es whose boxes meet that of the edge e, rising
+abbrev pub candidatesFrom : List Float → List Edge → Edge → ℕ → List ℕ
+candidatesFrom coords es e from = placesFrom (meets coords es (edgeBox coords e)) from (length es)
 
 -- the meeting of the edge e, number i, with the edge f, number j; none where they are apart
 abbrev pub metOf : List Float → ℕ → ℕ → ℕ → Edge → Edge → List Met

@@ -7,12 +7,11 @@ ghost use lib.ListN.{length, take};
 ghost use Rattle.lists.specs.Regions.{run, put};
 ghost use Rattle.segments.specs.Meet.{meeting};
 ghost use Rattle.rules.specs.Meetings.{nodeOf, segmentOf};
-ghost use Rattle.rules.specs.SpatialIndex.{edgeBox, candidates};
 ghost use Rattle.strips.specs.Index.{Indexed};
 ghost use Rattle.strips.specs.Meeting.{FrontIs};
 ghost use Rattle.meetings.specs.Booked.{edgesIn, meetingsAt};
 ghost use Rattle.meetings.specs.MeetingsFound.{MeetingsRoom, CutterIndexed, meetingsFound};
-ghost use Rattle.meetings.specs.Steps.{edgeIn, metOf, metWith, StandBefore, Ready, Answered};
+ghost use Rattle.meetings.specs.Steps.{edgeIn, candidatesFrom, metOf, metWith, StandBefore, Ready, Answered};
 use lists::zero_f64;
 use lists::zero_u32;
 use plane::point_at;
@@ -187,7 +186,7 @@ fn add_intersection(
 }
 
 // Adds those of the subject's edge i with the cutter's edges js.
-fn of_edge(
+fn of_places(
     oc: &mut [f64],
     w: &mut [u32],
     js: &[u32],
@@ -216,8 +215,8 @@ fn of_edge(
     g
 }
 
-// Writes the candidates of the subject's edge i among the cutter's cn edges to the front of `found`, rising. Answers how many they are. The edges' index
-// stands from `ix` up to `end`.
+// Writes the candidates of the subject's edge i among the cutter's cn edges, from number `from` on, to the front of `found`, rising, as many as have a
+// place there. Answers how many they are. The edges' index stands from `ix` up to `end`.
 fn gather_near(
     coords: &[f64],
     w: &[u32],
@@ -228,17 +227,59 @@ fn gather_near(
     ix: usize,
     end: usize,
     i: usize,
+    from: usize,
 ) -> usize
     requires { ⌜ (se + 2 * i + 2 ≤ length (now w)) × (ce + 2 * cn ≤ length (now w)) × (ix ≤ end) × (end ≤ length (now w)) × (i < 65536) × (cn ≤ 65536)
-        × (cn ≤ length (now found)) × (Indexed (now coords) (run (now w) ce (2 * cn)) [] (run (now w) ix (end - ix))) ⌝ }
-    ensures { λ r. ⌜ FrontIs (candidates (now (coords .entry)) (edgesIn (now (w .entry)) ce cn) (edgeBox (now (coords .entry)) (edgeIn (now (w .entry)) se i)))
+        × (Indexed (now coords) (run (now w) ce (2 * cn)) [] (run (now w) ix (end - ix))) ⌝ }
+    ensures { λ r. ⌜ FrontIs
+        (take (length (now (found .entry))) (candidatesFrom (now (coords .entry)) (edgesIn (now (w .entry)) ce cn) (edgeIn (now (w .entry)) se i) from))
         (now (found .entry)) r (now (found .exit)) ⌝ }
 {
     let a = w[se + 2 * i];
     let b = w[se + 2 * i + 1];
     let bounds = edge_bounds(coords, a, b);
     let edges = &w[ce..ce + 2 * cn];
-    gather(coords, edges, &w[..0], &w[ix..end], bounds, 0, found)
+    gather(coords, edges, &w[..0], &w[ix..end], bounds, from, found)
+}
+
+// Adds those of the subject's edge i with all its candidates to those found: as many at a time as `found` has places.
+fn of_edge(
+    oc: &mut [f64],
+    w: &mut [u32],
+    found: &mut [u32],
+    placed: usize,
+    se: usize,
+    ce: usize,
+    cn: usize,
+    ix: usize,
+    base: usize,
+    m: usize,
+    i: usize,
+    f: Found,
+) -> Found
+    requires { ⌜ (Ready (now oc) (now w) placed base m (f .met) (f .next)) × (f .code ≡ 0) × (se + 2 * i + 2 ≤ base) × (i < 65536) × (ce + 2 * cn ≤ base)
+        × (cn ≤ 65536) × (CutterIndexed (take placed (now oc)) (now w) ce cn ix base) × (0 < length (now found)) ⌝ }
+    ensures { λ r. ⌜ Answered m base (now (oc .entry)) (now (w .entry)) (f .met) (f .next)
+        (metWith (take placed (now (oc .entry))) i (edgeIn (now (w .entry)) se i) (edgeIn (now (w .entry)) ce) (f .next)
+        (candidatesFrom (take placed (now (oc .entry))) (edgesIn (now (w .entry)) ce cn) (edgeIn (now (w .entry)) se i) 0))
+        (now (oc .exit)) (now (w .exit)) r ⌝ }
+{
+    let end = ix + index_size(cn);
+    let mut g = f;
+    let mut from: usize = 0;
+    while from < cn {
+        let k = gather_near(&oc[..placed], w, found, se, ce, cn, ix, end, i, from);
+        let js = &found[..k];
+        g = of_places(oc, w, js, placed, se, ce, base, m, i, g.met, g.next);
+        if g.code != 0 {
+            return g;
+        }
+        if k < found.len() {
+            return g;
+        }
+        from = found[k - 1] as usize + 1;
+    }
+    g
 }
 
 // Those of all the subject's edges.
@@ -256,20 +297,17 @@ fn of_edges(
     m: usize,
 ) -> Found
     requires { ⌜ MeetingsRoom (length (now oc)) (length (now w)) placed se sn ce cn base m × CutterIndexed (take placed (now oc)) (now w) ce cn ix base
-        × (cn ≤ length (now found)) ⌝ }
+        × (0 < length (now found)) ⌝ }
     ensures { λ r. ⌜ Answered m base (now (oc .entry)) (now (w .entry)) 0 (placed / 2) (meetingsAt (now (oc .entry)) (now (w .entry)) placed se sn ce cn)
         (now (oc .exit)) (now (w .exit)) r ⌝ }
 {
-    let end = ix + index_size(cn);
     let mut f = Found {
         code: 0,
         met: 0,
         next: placed / 2,
     };
     for i in 0..sn {
-        let k = gather_near(&oc[..placed], w, found, se, ce, cn, ix, end, i);
-        let js = &found[..k];
-        f = of_edge(oc, w, js, placed, se, ce, base, m, i, f.met, f.next);
+        f = of_edge(oc, w, found, placed, se, ce, cn, ix, base, m, i, f);
         if f.code != 0 {
             return f;
         }
@@ -296,7 +334,7 @@ pub fn compute_intersections(
     ensures { λ r. ⌜ record { answer = r; coords = now (oc .exit); work = now (w .exit) }
         ≡ meetingsFound m placed se sn ce cn base (now (oc .entry)) (now (w .entry)) ⌝ }
 {
-    let mut found = [0u32; 65536];
+    let mut found = [0u32; 1024];
     let f = of_edges(oc, w, &mut found, placed, se, sn, ce, cn, ix, base, m);
     let code = f.code;
     if code != 0 {

@@ -1,4 +1,4 @@
--- `meetings::compute_intersections` meets its contract: the local list has a place for each of the cutter's edges. Assumes nothing.
+-- `meetings::compute_intersections` meets its contract. Assumes nothing.
 use Rattle.meetings.proofs.Loops.{all-found, one-refused}
 use borrow.Author.Needs.{needs}
 use Rattle.meetings.proofs.compute_intersections.Statement.{statement}

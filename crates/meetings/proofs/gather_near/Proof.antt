@@ -21,7 +21,7 @@ gather-requires : tie.Need-gather-requires
 gather-requires c κs =
     let p = entry (edge-bounds-of-lent c) in
     let a = p .args in
-    indexed-lent (a .coords .now) (a .w .now) (a .ce) (a .cn) (a .ix) (a .end) (p .pre .7)
+    indexed-lent (a .coords .now) (a .w .now) (a .ce) (a .cn) (a .ix) (a .end) (p .pre .6)
 
 returns : tie.Need-returns
 returns c =
@@ -29,8 +29,8 @@ returns c =
     let at-bounds = edge-bounds (gathered c) in
     let p = entry at-bounds in
     let a = p .args in
-    near-found (a .coords .now) (a .w .now) (a .ce) (a .cn) (at-bounds .edge-bounds .result) _ (a .found .now) (x .result) (x .last .1 .1 .1 .1 .1 .1 .0)
-    (p .pre .1) (p .pre .6) (at-bounds .edge-bounds .ensures) (x .ensures)
+    near-found (a .coords .now) (a .w .now) (a .ce) (a .cn) (at-bounds .edge-bounds .result) _ (a .from) (a .found .now) (x .result)
+    (x .last .1 .1 .1 .1 .1 .1 .0) (at-bounds .edge-bounds .ensures) (x .ensures)
 
 pub gather-near-spec : {M : Type 1} → statement M
 gather-near-spec = tie.close (tie.spec (λ c. search needs) (λ c. search needs) (λ c. search needs) (λ c. search needs) (λ c. search needs) (λ c. search needs)
