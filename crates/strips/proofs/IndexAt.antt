@@ -9,7 +9,7 @@ use lib.Ieee.{Float}
 use Rattle.lists.specs.Gather.{each}
 use Rattle.lists.proofs.Gather.{length-each, getD-each}
 use Rattle.strips.specs.Things.{thingCount}
-use Rattle.strips.specs.Index.{sideOf, chainCount, indexSize, sampleCount, samplesOf, picked, boundsOf, headAt, nextAt, linksOf, chainAt, levelCount, indexOf}
+use Rattle.strips.specs.Index.{stripCount, chainCount, indexSize, sampleCount, samplesOf, picked, boundsOf, headAt, nextAt, linksOf, chainAt, levelCount, indexOf}
 
 -- ---- heads and next ones
 
@@ -35,7 +35,7 @@ module _ (coords : List Float) (nodes ends : List ℕ) where
   n = thingCount nodes ends
 
   abbrev side : ℕ
-  side = sideOf (thingCount nodes ends)
+  side = stripCount (thingCount nodes ends)
 
   abbrev h : ℕ
   h = chainCount (thingCount nodes ends)
@@ -49,11 +49,11 @@ module _ (coords : List Float) (nodes ends : List ℕ) where
   abbrev L : List ℕ
   L = linksOf (chainAt coords nodes ends) (thingCount nodes ends) (chainCount (thingCount nodes ends))
 
-  pub length-bounds : (axis : ℕ) → length (boundsOf coords nodes ends axis) ≡ sideOf (thingCount nodes ends)
+  pub length-bounds : (axis : ℕ) → length (boundsOf coords nodes ends axis) ≡ stripCount (thingCount nodes ends)
   unfolding boundsOf picked
   length-bounds axis = length-each side (λ t. getD (samplesOf coords nodes ends axis (sampleCount n)) (t * sampleCount n / side) 0)
 
-  pub index-side : getD (indexOf coords nodes ends) 0 0 ≡ sideOf (thingCount nodes ends)
+  pub index-side : getD (indexOf coords nodes ends) 0 0 ≡ stripCount (thingCount nodes ends)
   unfolding indexOf
   index-side = refl
 
@@ -69,13 +69,13 @@ module _ (coords : List Float) (nodes ends : List ℕ) where
   behind-x = sym (drop-drop side 2 (indexOf coords nodes ends)) ∙ ap (drop side) behind-header ∙ drop-at X (Y ++ L) side (length-bounds 0)
 
   -- the parts
-  pub index-x : take (sideOf (thingCount nodes ends)) (drop 2 (indexOf coords nodes ends)) ≡ boundsOf coords nodes ends 0
+  pub index-x : take (stripCount (thingCount nodes ends)) (drop 2 (indexOf coords nodes ends)) ≡ boundsOf coords nodes ends 0
   index-x = ap (take side) behind-header ∙ take-at X (Y ++ L) side (length-bounds 0)
 
-  pub index-y : take (sideOf (thingCount nodes ends)) (drop (2 + sideOf (thingCount nodes ends)) (indexOf coords nodes ends)) ≡ boundsOf coords nodes ends 1
+  pub index-y : take (stripCount (thingCount nodes ends)) (drop (2 + stripCount (thingCount nodes ends)) (indexOf coords nodes ends)) ≡ boundsOf coords nodes ends 1
   index-y = ap (take side) behind-x ∙ take-at Y L side (length-bounds 1)
 
-  pub index-links : drop (2 + sideOf (thingCount nodes ends) + sideOf (thingCount nodes ends)) (indexOf coords nodes ends)
+  pub index-links : drop (2 + stripCount (thingCount nodes ends) + stripCount (thingCount nodes ends)) (indexOf coords nodes ends)
       ≡ linksOf (chainAt coords nodes ends) (thingCount nodes ends) (chainCount (thingCount nodes ends))
   index-links = sym (drop-drop side (2 + side) (indexOf coords nodes ends)) ∙ ap (drop side) behind-x ∙ drop-at Y L side (length-bounds 1)
 
@@ -89,13 +89,13 @@ module _ (coords : List Float) (nodes ends : List ℕ) where
   from : (k i : ℕ) (l : List ℕ) → drop k (indexOf coords nodes ends) ≡ l → getD (indexOf coords nodes ends) (k + i) 0 ≡ getD l i 0
   from k i l e = sym (getD-drop k (indexOf coords nodes ends) i 0) ∙ ap (λ (u : List ℕ). getD u i 0) e
 
-  pub index-x-at : (t : ℕ) → t < sideOf (thingCount nodes ends) → getD (indexOf coords nodes ends) (2 + t) 0 ≡ getD (boundsOf coords nodes ends 0) t 0
+  pub index-x-at : (t : ℕ) → t < stripCount (thingCount nodes ends) → getD (indexOf coords nodes ends) (2 + t) 0 ≡ getD (boundsOf coords nodes ends 0) t 0
   index-x-at t l = from 2 t (X ++ (Y ++ L)) behind-header ∙ List·getD-append X (Y ++ L) 0 t (omega (arith, length-bounds 0))
 
-  pub index-y-at : (t : ℕ) → t < sideOf (thingCount nodes ends)
-      → getD (indexOf coords nodes ends) (2 + sideOf (thingCount nodes ends) + t) 0 ≡ getD (boundsOf coords nodes ends 1) t 0
+  pub index-y-at : (t : ℕ) → t < stripCount (thingCount nodes ends)
+      → getD (indexOf coords nodes ends) (2 + stripCount (thingCount nodes ends) + t) 0 ≡ getD (boundsOf coords nodes ends 1) t 0
   index-y-at t l = from (2 + side) t (Y ++ L) behind-x ∙ List·getD-append Y L 0 t (omega (arith, length-bounds 1))
 
-  pub index-link-at : (i : ℕ) → getD (indexOf coords nodes ends) (2 + sideOf (thingCount nodes ends) + sideOf (thingCount nodes ends) + i) 0
+  pub index-link-at : (i : ℕ) → getD (indexOf coords nodes ends) (2 + stripCount (thingCount nodes ends) + stripCount (thingCount nodes ends) + i) 0
       ≡ getD (linksOf (chainAt coords nodes ends) (thingCount nodes ends) (chainCount (thingCount nodes ends))) i 0
   index-link-at i = from (2 + side + side) i L index-links

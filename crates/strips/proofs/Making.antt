@@ -11,7 +11,7 @@ use Rattle.lists.specs.Regions.{run, put}
 use Rattle.lists.proofs.Regions.{length-put, put-before, put-in, put-behind, getD-run}
 use Rattle.entry.specs.Mesh.{Rising}
 use Rattle.strips.specs.Things.{thingCount}
-use Rattle.strips.specs.Index.{sideOf, chainCount, indexSize, boundsOf, spanBy, chainBy, above, linksOf, chainAt, levelCount, indexOf}
+use Rattle.strips.specs.Index.{stripCount, chainCount, indexSize, boundsOf, spanBy, chainBy, above, linksOf, chainAt, levelCount, indexOf}
 use Rattle.strips.specs.Made.{Bounded, Chained, Room}
 use Rattle.strips.proofs.Sizes.{side-range}
 use Rattle.strips.proofs.OnChains.{same-run}
@@ -26,7 +26,7 @@ module _ (coords : List Float) (ends : List ℕ) (from end at : ℕ) (w₀ w₁ 
   n = thingCount nodes ends
 
   abbrev side : ℕ
-  side = sideOf n
+  side = stripCount n
 
   abbrev heads : ℕ
   heads = at + 2 + 2 * side
@@ -162,7 +162,7 @@ module _ (coords : List Float) (ends : List ℕ) (from end at : ℕ) (w₀ w₁ 
             other i (λ z. omega (arith, z)) (λ z. omega (arith, z)) ∙ third .behind i past ∙ kept₂ ∙ kept₁
             ∙ sym (put-behind w₀ at (omega (arith, fits)) ix i 0 (omega (arith, length-index coords nodes ends)))
 
-        pub index-made : set (set w₃ at (sideOf n)) (at + 1) levels ≡ put w₀ at (indexOf coords nodes ends)
+        pub index-made : set (set w₃ at (stripCount n)) (at + 1) levels ≡ put w₀ at (indexOf coords nodes ends)
         index-made =
             ext-getD 0 w₄ (put w₀ at ix) (long₄ ∙ sym (length-put w₀ at (omega (arith, fits)) ix (omega (arith, fits, length-index coords nodes ends))))
             (λ i l. every-place i (decLt i at) (decLt i (at + indexSize n)))
@@ -171,7 +171,7 @@ module _ (coords : List Float) (ends : List ℕ) (from end at : ℕ) (w₀ w₁ 
 
 module _ (coords : List Float) (ends : List ℕ) (from end at : ℕ) (w₀ w₁ : List ℕ) (rises : from ≤ end) (apart : end ≤ at)
     (fits : at + indexSize (thingCount (run w₀ from (end - from)) ends) ≤ length w₀) (n′ s : ℕ) (n-is : n′ ≡ thingCount (run w₀ from (end - from)) ends)
-    (s-is : s ≡ sideOf (thingCount (run w₀ from (end - from)) ends)) where
+    (s-is : s ≡ stripCount (thingCount (run w₀ from (end - from)) ends)) where
   abbrev First : ℕ → Type 0
   First k = Bounded (boundsOf coords (run w₀ from (end - from)) ends 0) (at + 2) (at + 2 + 2 * k) (thingCount (run w₀ from (end - from)) ends) w₀ w₁
 

@@ -18,7 +18,7 @@ use Rattle.lists.proofs.Sort.{insertAt-is, length-insert, length-sorted, sorted
 use Rattle.lists.proofs.Regions.{length-front, run-put, run-before, run-behind, put-none, put-put, put-store, put-before, put-behind, length-put, part-back}
 use Rattle.strips.specs.Things.{thingCount, startOf}
 use Rattle.strips.specs.Squares.{coordinateOf}
-use Rattle.strips.specs.Index.{sideOf, isBefore, sampleCount, sampleNode, samplesOf, picked, boundsOf}
+use Rattle.strips.specs.Index.{stripCount, isBefore, sampleCount, sampleNode, samplesOf, picked, boundsOf}
 use Rattle.strips.specs.Made.{Bounded}
 
 -- ---- one sample
@@ -161,7 +161,7 @@ module _ (w₀ : List ℕ) (scratch k to side : ℕ) where
 -- ---- the nodes at which the strips of one axis begin
 
 module _ (coords : List Float) (nodes ends : List ℕ) (axis n side k to scratch : ℕ) (w₀ w₁ w₂ : List ℕ)
-    (n-is : n ≡ thingCount nodes ends) (side-is : side ≡ sideOf n) (k-is : k ≡ min (4 * side) n) (k-low : k ≤ n)
+    (n-is : n ≡ thingCount nodes ends) (side-is : side ≡ stripCount n) (k-is : k ≡ min (4 * side) n) (k-low : k ≤ n)
     (apart : to + side ≤ scratch) (fits : scratch + n ≤ length w₀)
     (one : w₁ ≡ put w₀ scratch (samplesOf coords nodes ends axis k)) (two : w₂ ≡ put w₁ to (picked side k (run w₁ scratch k))) where
   abbrev S : List ℕ
@@ -184,8 +184,8 @@ module _ (coords : List Float) (nodes ends : List ℕ) (axis n side k to scratch
       let there : run w₁ scratch k ≡ S = ap (λ (u : List ℕ). run u scratch k) one ∙ run-put w₀ scratch (omega arith) S k length-S in
       let m : n ≡ thingCount nodes ends = n-is in
       let count : k ≡ sampleCount n = k-is ∙ ap (λ (s : ℕ). min (4 * s) n) side-is in
-      ap (picked side k) there ∙ ap (λ (s : ℕ). picked s k S) side-is ∙ ap (λ (j : ℕ). picked (sideOf n) j (samplesOf coords nodes ends axis j)) count
-      ∙ ap (λ (j : ℕ). picked (sideOf j) (sampleCount j) (samplesOf coords nodes ends axis (sampleCount j))) m
+      ap (picked side k) there ∙ ap (λ (s : ℕ). picked s k S) side-is ∙ ap (λ (j : ℕ). picked (stripCount n) j (samplesOf coords nodes ends axis j)) count
+      ∙ ap (λ (j : ℕ). picked (stripCount j) (sampleCount j) (samplesOf coords nodes ends axis (sampleCount j))) m
 
   long₁ : length w₁ ≡ length w₀
   long₁ = ap length one ∙ length-put w₀ scratch (omega arith) S (omega (arith, length-S))

@@ -14,7 +14,7 @@ use Rattle.rules.specs.declared.Bounds.{Bounds}
 use Rattle.strips.specs.declared.squares.Span.{Span}
 use Rattle.strips.specs.Things.{thingCount, thingBox, thingMeets}
 use Rattle.strips.specs.Squares.{spanOf, halved, isWide, narrowed, squareChain}
-use Rattle.strips.specs.Index.{sideOf, chainCount, indexSize, boundsOf, spanBy, chainBy, onChain, linksOf, above, chainAt, levelCount, Indexed}
+use Rattle.strips.specs.Index.{stripCount, chainCount, indexSize, boundsOf, spanBy, chainBy, onChain, linksOf, above, chainAt, levelCount, Indexed}
 use Rattle.strips.specs.Meeting.{thingsMeeting}
 use Rattle.strips.specs.Gathering.{withThings, isWanted, onChains, inRow, inLevel, inLevels, Chains}
 use Rattle.strips.proofs.Sizes.{side-range}
@@ -123,27 +123,27 @@ module _ (coords : List Float) (nodes ends : List ℕ) where
     pub index-long : length ix ≡ indexSize (thingCount nodes ends)
     index-long = ap length (indexed .is) ∙ length-index coords nodes ends
 
-    pub side-read : getD ix 0 0 ≡ sideOf (thingCount nodes ends)
+    pub side-read : getD ix 0 0 ≡ stripCount (thingCount nodes ends)
     side-read = ap (λ (l : List ℕ). getD l 0 0) (indexed .is) ∙ index-side coords nodes ends
 
     pub levels-read : getD ix 1 0 ≡ levelCount coords nodes ends
     levels-read = ap (λ (l : List ℕ). getD l 1 0) (indexed .is) ∙ index-levels coords nodes ends
 
-    module _ (s : ℕ) (s-is : s ≡ sideOf (thingCount nodes ends)) where
+    module _ (s : ℕ) (s-is : s ≡ stripCount (thingCount nodes ends)) where
       pub xs-read : take (2 + s - 2) (drop 2 ix) ≡ boundsOf coords nodes ends 0
       xs-read =
-          let z : 2 + s - 2 ≡ sideOf n = omega (arith, s-is) in
+          let z : 2 + s - 2 ≡ stripCount n = omega (arith, s-is) in
           ap₂ (λ (k : ℕ) (l : List ℕ). take k (drop 2 l)) z (indexed .is) ∙ index-x coords nodes ends
 
       pub ys-read : take (2 + s + s - (2 + s)) (drop (2 + s) ix) ≡ boundsOf coords nodes ends 1
       ys-read =
-          let z : 2 + s + s - (2 + s) ≡ sideOf n = omega (arith, s-is) in
-          let y : 2 + s ≡ 2 + sideOf n = omega (arith, s-is) in
-          ap₂ (λ (k i : ℕ). take k (drop i ix)) z y ∙ ap (λ (l : List ℕ). take (sideOf n) (drop (2 + sideOf n) l)) (indexed .is) ∙ index-y coords nodes ends
+          let z : 2 + s + s - (2 + s) ≡ stripCount n = omega (arith, s-is) in
+          let y : 2 + s ≡ 2 + stripCount n = omega (arith, s-is) in
+          ap₂ (λ (k i : ℕ). take k (drop i ix)) z y ∙ ap (λ (l : List ℕ). take (stripCount n) (drop (2 + stripCount n) l)) (indexed .is) ∙ index-y coords nodes ends
 
       links-read : take (length ix - (2 + s + s)) (drop (2 + s + s) ix) ≡ linksOf (chainAt coords nodes ends) n (chainCount n)
       links-read =
-          let y : 2 + s + s ≡ 2 + sideOf n + sideOf n = omega (arith, s-is) in
+          let y : 2 + s + s ≡ 2 + stripCount n + stripCount n = omega (arith, s-is) in
           take-all (length ix - (2 + s + s)) (drop (2 + s + s) ix) (omega (arith, length-drop (2 + s + s) ix)) ∙ ap₂ drop y (indexed .is) ∙ index-links coords nodes ends
 
       pub chains-read : (h : ℕ) → h ≡ chainCount (thingCount nodes ends) → Chains coords nodes ends (take (length ix - (2 + s + s)) (drop (2 + s + s) ix)) h

@@ -9,7 +9,7 @@ use lib.Dec.{ltb}
 use borrow.Author.Tests.{lt-ltb, le-ltb, ltb-false}
 use Rattle.lists.specs.Search.{first}
 use Rattle.lists.proofs.Search.{first-on, first-here, first-end, first-none, first-from, first-le}
-use Rattle.strips.specs.Index.{sideOf, indexSize}
+use Rattle.strips.specs.Index.{stripCount, indexSize}
 
 -- n is below the square of the next number
 abbrev below : ℕ → ℕ → Bool
@@ -18,11 +18,11 @@ below n s = ltb n ((s + 1) * (s + 1))
 -- ---- the loop of `side_of`
 
 abbrev pub Rooting : ℕ → ℕ → Type 0
-Rooting n s = (1 ≤ s) × (s ≤ 256) × (first (below n) s 256 ≡ sideOf n)
+Rooting n s = (1 ≤ s) × (s ≤ 256) × (first (below n) s 256 ≡ stripCount n)
 
 module _ (n : ℕ) where
   pub root-start : Rooting n 1
-  unfolding sideOf
+  unfolding stripCount
   root-start = (omega arith, omega arith, refl)
 
   pub root-small : (s : ℕ) → s < 256 → (s + 1) * (s + 1) ≤ 65536
@@ -31,41 +31,41 @@ module _ (n : ℕ) where
   pub root-turn : (s : ℕ) → Rooting n s → s < 256 → (s + 1) * (s + 1) ≤ n → Rooting n (s + 1)
   root-turn s inv h l = (omega arith, omega arith, first-on (below n) s 256 h (le-ltb n ((s + 1) * (s + 1)) l) ∙ inv .2)
 
-  pub root-here : (s : ℕ) → Rooting n s → s < 256 → n < (s + 1) * (s + 1) → (s ≡ sideOf n) × (1 ≤ s) × (s ≤ 256)
+  pub root-here : (s : ℕ) → Rooting n s → s < 256 → n < (s + 1) * (s + 1) → (s ≡ stripCount n) × (1 ≤ s) × (s ≤ 256)
   root-here s inv h l = (sym (first-here (below n) s 256 h (lt-ltb n ((s + 1) * (s + 1)) l)) ∙ inv .2, inv .0, inv .1)
 
-  pub root-end : (s : ℕ) → Rooting n s → 256 ≤ s → (s ≡ sideOf n) × (1 ≤ s) × (s ≤ 256)
+  pub root-end : (s : ℕ) → Rooting n s → 256 ≤ s → (s ≡ stripCount n) × (1 ≤ s) × (s ≤ 256)
   root-end s inv h = (sym (first-end (below n) s 256 h) ∙ inv .2, inv .0, inv .1)
 
   -- ---- how large
 
-  pub side-range : (1 ≤ sideOf n) × (sideOf n ≤ 256)
-  unfolding sideOf
+  pub side-range : (1 ≤ stripCount n) × (stripCount n ≤ 256)
+  unfolding stripCount
   side-range = (first-from (below n) 1 256, first-le (below n) 1 256 (omega arith))
 
   -- no more strips than things, but one
-  pub side-low : sideOf n ≤ n + 1
-  unfolding sideOf
-  side-low = go (decLe (sideOf n) 1)
+  pub side-low : stripCount n ≤ n + 1
+  unfolding stripCount
+  side-low = go (decLe (stripCount n) 1)
     where
-      go : Dec (sideOf n ≤ 1) → sideOf n ≤ n + 1
+      go : Dec (stripCount n ≤ 1) → stripCount n ≤ n + 1
       go (yes h) = omega arith
       go (no h) =
-          let s : ℕ = sideOf n - 1 in
-          let e : s + 1 ≡ sideOf n = omega (arith, h) in
+          let s : ℕ = stripCount n - 1 in
+          let e : s + 1 ≡ stripCount n = omega (arith, h) in
           let not : ltb n ((s + 1) * (s + 1)) ≡ false = first-none (below n) 1 256 s (omega (arith, h)) (omega (arith, side-range .1, h)) (omega (arith, h)) in
           omega (arith, e, ltb-false n ((s + 1) * (s + 1)) not, le-mul-of-pos-right {m = s + 1} (s + 1) (omega arith))
 
   -- twice as many
-  pub sides-low : 2 * sideOf n ≤ n + 2
-  unfolding sideOf
-  sides-low = go (decLe (sideOf n) 1)
+  pub sides-low : 2 * stripCount n ≤ n + 2
+  unfolding stripCount
+  sides-low = go (decLe (stripCount n) 1)
     where
-      go : Dec (sideOf n ≤ 1) → 2 * sideOf n ≤ n + 2
+      go : Dec (stripCount n ≤ 1) → 2 * stripCount n ≤ n + 2
       go (yes h) = omega arith
       go (no h) =
-          let s : ℕ = sideOf n - 1 in
-          let e : s + 1 ≡ sideOf n = omega (arith, h) in
+          let s : ℕ = stripCount n - 1 in
+          let e : s + 1 ≡ stripCount n = omega (arith, h) in
           let not : ltb n ((s + 1) * (s + 1)) ≡ false = first-none (below n) 1 256 s (omega (arith, h)) (omega (arith, side-range .1, h)) (omega (arith, h)) in
           omega (arith, e, ltb-false n ((s + 1) * (s + 1)) not, mul-le-mul {n₁ = 2} {m₁ = s + 1} {n₂ = s + 1} {m₂ = s + 1} (omega (arith, h)) (omega arith))
 

@@ -17,8 +17,8 @@ use Rattle.strips.specs.Squares.{coordinateOf, spanOf, narrowed, squareC
 -- ---- how large it is
 
 -- How many strips there are by x, and by y: the root of n, at least 1 and at most 256. Any number would do.
-unfoldable pub sideOf : ℕ → ℕ
-sideOf n = first (λ s. ltb n ((s + 1) * (s + 1))) 1 256
+unfoldable pub stripCount : ℕ → ℕ
+stripCount n = first (λ s. ltb n ((s + 1) * (s + 1))) 1 256
 
 -- how many chains: about as many as there are squares on all levels
 abbrev pub chainCount : ℕ → ℕ
@@ -26,7 +26,7 @@ chainCount n = n + n / 2 + 8
 
 -- how many numbers the index of n things takes
 abbrev pub indexSize : ℕ → ℕ
-indexSize n = 2 + 2 * sideOf n + chainCount n + n
+indexSize n = 2 + 2 * stripCount n + chainCount n + n
 
 -- ---- the nodes at which strips begin
 
@@ -34,7 +34,7 @@ abbrev pub isBefore : List Float → ℕ → ℕ → ℕ → Bool
 isBefore coords axis v u = lt (coordinateOf coords axis v) (coordinateOf coords axis u)
 
 abbrev pub sampleCount : ℕ → ℕ
-sampleCount n = min (4 * sideOf n) n
+sampleCount n = min (4 * stripCount n) n
 
 -- sample i of k: the first node of a thing
 unfoldable pub sampleNode : List ℕ → List ℕ → ℕ → ℕ → ℕ
@@ -52,7 +52,7 @@ picked side k xs = each side (λ t. getD xs (t * k / side) 0)
 unfoldable pub boundsOf : List Float → List ℕ → List ℕ → ℕ → List ℕ
 boundsOf coords nodes ends axis =
     let n = thingCount nodes ends in
-    picked (sideOf n) (sampleCount n) (samplesOf coords nodes ends axis (sampleCount n))
+    picked (stripCount n) (sampleCount n) (samplesOf coords nodes ends axis (sampleCount n))
 
 -- ---- the chains
 
@@ -103,7 +103,7 @@ module _ (coords : List Float) (nodes ends : List ℕ) where
   -- how many strips and levels there are, where the strips begin, and the chains
   unfoldable pub indexOf : List ℕ
   indexOf =
-      (sideOf (thingCount nodes ends) ∷ levelCount ∷ []) ++ (boundsOf coords nodes ends 0 ++ (boundsOf coords nodes ends 1
+      (stripCount (thingCount nodes ends) ∷ levelCount ∷ []) ++ (boundsOf coords nodes ends 0 ++ (boundsOf coords nodes ends 1
       ++ linksOf chainAt (thingCount nodes ends) (chainCount (thingCount nodes ends))))
 
 -- The list `ix` is the index of these things.

@@ -17,7 +17,7 @@ ghost use Rattle.lists.specs.Sort.{insert};
 ghost use Rattle.lists.specs.Regions.{run, put};
 ghost use Rattle.entry.specs.Mesh.{Rising};
 ghost use Rattle.strips.specs.Things.{thingCount};
-ghost use Rattle.strips.specs.Index.{sideOf, chainCount, indexSize, isBefore, sampleNode, samplesOf, picked, boundsOf, spanBy, chainBy, above, indexOf};
+ghost use Rattle.strips.specs.Index.{stripCount, chainCount, indexSize, isBefore, sampleNode, samplesOf, picked, boundsOf, spanBy, chainBy, above, indexOf};
 ghost use Rattle.strips.specs.Made.{Bounded, headed, Chained, Room};
 
 fn lesser(a: usize, b: usize) -> usize
@@ -34,7 +34,7 @@ fn greater(a: usize, b: usize) -> usize
 
 // How many strips there are for n things: the root of n, at least 1 and at most 256.
 fn side_of(n: usize) -> usize
-    ensures { λ r. ⌜ (r ≡ sideOf n) × (1 ≤ r) × (r ≤ 256) ⌝ }
+    ensures { λ r. ⌜ (r ≡ stripCount n) × (1 ≤ r) × (r ≤ 256) ⌝ }
 {
     let mut s: usize = 1;
     while s < 256 {
@@ -156,7 +156,7 @@ fn bounding(
 )
     requires { ⌜ (axis < 2) × (from ≤ end) × (end ≤ to) × (to + side ≤ scratch)
         × (scratch + thingCount (run (now w) from (end - from)) (now ends) ≤ length (now w)) × (thingCount (run (now w) from (end - from)) (now ends) ≤ 65536)
-        × (side ≡ sideOf (thingCount (run (now w) from (end - from)) (now ends))) ⌝ }
+        × (side ≡ stripCount (thingCount (run (now w) from (end - from)) (now ends))) ⌝ }
     ensures { λ _. ⌜ Bounded (boundsOf (now (coords .entry)) (run (now (w .entry)) from (end - from)) (now (ends .entry)) axis) to scratch
         (thingCount (run (now (w .entry)) from (end - from)) (now (ends .entry))) (now (w .entry)) (now (w .exit)) ⌝ }
 {

@@ -6,7 +6,7 @@ use native.Mathlib.Omega.{arith}
 use lib.ListN.{set, length-set}
 use Rattle.lists.specs.Regions.{run}
 use Rattle.strips.specs.Things.{thingCount}
-use Rattle.strips.specs.Index.{sideOf, chainCount}
+use Rattle.strips.specs.Index.{stripCount, chainCount}
 use Rattle.strips.proofs.Samples.{part-run}
 use borrow.Author.Needs.{needs}
 use Rattle.strips.proofs.building.build.Statement.{statement}
@@ -77,7 +77,7 @@ bounding-requires c κs =
     let p = at-entry .pre in
     let nodes = run (a .w .now) (a .from) (a .end - a .from) in
     let n-is = at-thing-count .thing-count .ensures ∙ ap (λ (u : List ℕ). thingCount u (a .ends .now)) (part-run (a .w .now) (a .from) (a .end)) in
-    let s-is = side-of-at-bounding-requires c .side-of .ensures .0 ∙ ap sideOf n-is in
+    let s-is = side-of-at-bounding-requires c .side-of .ensures .0 ∙ ap stripCount n-is in
     (omega arith, p .0, omega (arith, p .1), omega arith, omega (arith, p .2, s-is), p .3, s-is)
 
 bounding-requires-2 : tie.Need-bounding-requires-2
@@ -91,11 +91,11 @@ bounding-requires-2 c κs =
     let p = at-entry .pre in
     let nodes = run (a .w .now) (a .from) (a .end - a .from) in
     let n-is = at-thing-count .thing-count .ensures ∙ ap (λ (u : List ℕ). thingCount u (a .ends .now)) (part-run (a .w .now) (a .from) (a .end)) in
-    let s-is = at-side-of .side-of .ensures .0 ∙ ap sideOf n-is in
+    let s-is = at-side-of .side-of .ensures .0 ∙ ap stripCount n-is in
     let same = nodes-counted (a .coords .now) (a .ends .now) (a .from) (a .end) (a .at) (a .w .now) _ (p .0) (p .1) (p .2)
     (at-thing-count .thing-count .result) (at-side-of .side-of .result) n-is s-is (at-bounding .bounding .ensures) in
     let count = ap (λ (u : List ℕ). thingCount u (a .ends .now)) same in
-    (omega arith, p .0, omega (arith, p .1), omega arith, omega (arith, p .2, s-is, count, w-kept), omega (arith, p .3, count), s-is ∙ ap sideOf (sym count))
+    (omega arith, p .0, omega (arith, p .1), omega arith, omega (arith, p .2, s-is, count, w-kept), omega (arith, p .3, count), s-is ∙ ap stripCount (sym count))
 
 link-things-requires : tie.Need-link-things-requires
 link-things-requires c κs =
@@ -107,7 +107,7 @@ link-things-requires c κs =
     let p = at-entry .pre in
     let nodes = run (a .w .now) (a .from) (a .end - a .from) in
     let n-is = at-thing-count .thing-count .ensures ∙ ap (λ (u : List ℕ). thingCount u (a .ends .now)) (part-run (a .w .now) (a .from) (a .end)) in
-    let s-is = at-side-of .side-of .ensures .0 ∙ ap sideOf n-is in
+    let s-is = at-side-of .side-of .ensures .0 ∙ ap stripCount n-is in
     room-counted (a .coords .now) (a .ends .now) (a .from) (a .end) (a .at) (a .w .now) _ (p .0) (p .1) (p .2) (at-thing-count .thing-count .result)
     (at-side-of .side-of .result) n-is s-is _ (at-bounding .bounding .ensures)
     (bounding2-at-link-things-requires c .bounding2 .ensures) (p .3) (p .4)
@@ -178,7 +178,7 @@ returns c =
     let p = at-entry .pre in
     let nodes = run (a .w .now) (a .from) (a .end - a .from) in
     let n-is = at-thing-count .thing-count .ensures ∙ ap (λ (u : List ℕ). thingCount u (a .ends .now)) (part-run (a .w .now) (a .from) (a .end)) in
-    let s-is = at-side-of .side-of .ensures .0 ∙ ap sideOf n-is in
+    let s-is = at-side-of .side-of .ensures .0 ∙ ap stripCount n-is in
     let stop = ap₂ (λ (side n : ℕ). a .at + (2 + 2 * side + chainCount n + n)) s-is n-is in (
       omega (arith, counted-of at-bounding .chain-count .ensures) ∙ stop,
       index-counted (a .coords .now) (a .ends .now) (a .from) (a .end) (a .at) (a .w .now) _ (p .0) (p .1) (p .2) (at-thing-count .thing-count .result)
