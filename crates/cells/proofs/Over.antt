@@ -3,13 +3,11 @@ use mathlib.Core.Path.{_≡_, refl, sym, ap, ap₂, _∙_, subst}
 use mathlib.Core.Bool.{Bool, true, false, _||_}
 use mathlib.Core.List.{List, [], _∷_, _++_, map}
 use Prim.Native.Nat.{ℕ, zero, suc, _+_, _≤_, _<_}
-use native.Mathlib.Numerals.{add-one}
 use native.Mathlib.Omega.{arith}
 use lib.Dec.{eqb}
 use lib.ListN.{length, getD, take, drop, length-append, length-map}
-use lib.Seq.{drop-cons}
 use lib.Ieee.{Float}
-use Rattle.cutting.specs.Edges.{Edge, edgeAt, key, hops, ring}
+use Rattle.cutting.specs.Edges.{Edge, key, ring}
 use Rattle.cutting.specs.Cell.{Laid, ownDarts, outlineDarts, among, repeats}
 use Rattle.cutting.specs.Lent.{flatEdges, pairs}
 use Rattle.dart_table.proofs.Adds.{darts-length}
@@ -24,37 +22,10 @@ use Rattle.lists.proofs.Gather.{length-slim}
 use Rattle.lists.proofs.Regions.{take-front-of}
 use Rattle.lists.proofs.Sort.{length-sorted}
 use Rattle.rules.specs.Nodes.{Projected, projected, byProjection, alongEdge}
+use Rattle.rules.proofs.Rings.{side, length-ring, ring-at, ring-from}
 use Rattle.edge_nodes.specs.Lent.{collectedOn, unlessNone, sortedIn, nodesOn, Few}
 use Rattle.regions.specs.declared.Regions.{Regions}
 use Rattle.cells.specs.Cells.{laidIn, outlineIn, AllFew, outlineFrom, LaidIn}
-use Rattle.cells.proofs.Own.{sidesFrom, sides-all, sides-next}
-
--- ---- the edges of a cell, from one on
-
-length-hops : (x : ℕ) (ys : List ℕ) → length (hops x ys) ≡ length ys
-unfolding hops
-length-hops x [] = refl
-length-hops x (y ∷ ys) = ap suc (length-hops y ys)
-
-length-ring : (cell : List ℕ) → length (ring cell) ≡ length cell
-unfolding ring
-length-ring [] = refl
-length-ring (x ∷ xs) = omega (arith, length-hops x (xs ++ x ∷ []), length-append xs (x ∷ []))
-
--- the same heads and tails
-both-parts : (x y : Edge) (xs ys : List Edge) → x ∷ xs ≡ y ∷ ys → (x ≡ y) × (xs ≡ ys)
-both-parts x y xs ys e = (cc, cc)
-
--- where the edges from corner j on are known, so are edge j and those behind it
-parts-of : (cell : List ℕ) (j : ℕ) → j < length cell → drop j (ring cell) ≡ sidesFrom cell j
-    → (edgeAt (ring cell) j ≡ (getD cell j 0, nextCorner cell j)) × (drop (suc j) (ring cell) ≡ sidesFrom cell (j + 1))
-parts-of cell j h known =
-    both-parts (edgeAt (ring cell) j) (getD cell j 0, nextCorner cell j) (drop (suc j) (ring cell)) (sidesFrom cell (j + 1))
-    (sym (drop-cons (ring cell) j (0, 0) (omega (arith, h, length-ring cell))) ∙ known ∙ sides-next cell j h)
-
-sides-drop : (cell : List ℕ) (j : ℕ) → j ≤ length cell → drop j (ring cell) ≡ sidesFrom cell j
-sides-drop cell zero h = sym (sides-all cell)
-sides-drop cell (suc j) h = parts-of cell j (omega (arith, h)) (sides-drop cell j (omega (arith, h))) .1 ∙ ap (sidesFrom cell) (add-one j)
 
 -- ---- `lay_own`
 
@@ -124,18 +95,15 @@ module _ (coords : List Float) (work : List ℕ) (g : Regions) (cell : List ℕ)
     abbrev e : Edge
     e = (getD cell j 0, b)
 
-    edge-is : edgeAt (ring cell) j ≡ e
-    edge-is = parts-of cell j h (sides-drop cell j (omega (arith, h))) .0 ∙ ap (λ (c : ℕ). (getD cell j 0, c)) (sym eb)
+    e-is : side cell j ≡ e
+    e-is = ap (λ (c : ℕ). (getD cell j 0, c)) (sym eb)
 
     pub from-few : AllFew work g (ring cell) → Few work g e
-    from-few u = subst (λ (f : Edge). Few work g f) edge-is (u j (omega (arith, h, length-ring cell)))
+    from-few u = subst (λ (f : Edge). Few work g f) (ring-at cell j h ∙ e-is) (u j (omega (arith, h, length-ring cell)))
 
     from-next : from j ≡ ownDarts (laid e) ++ from (j + 1)
     unfolding outlineFrom outlineDarts joined
-    from-next =
-        let next : drop j (ring cell) ≡ e ∷ drop (j + 1) (ring cell) =
-        drop-cons (ring cell) j (0, 0) (omega (arith, h, length-ring cell)) ∙ ap₂ (λ (f : Edge) (k : ℕ). f ∷ drop k (ring cell)) edge-is (sym (add-one j)) in
-        ap (λ (es : List Edge). outlineDarts (map laid es)) next
+    from-next = ap (λ (es : List Edge). outlineDarts (map laid es)) (ring-from cell j h ∙ ap (λ (f : Edge). f ∷ drop (j + 1) (ring cell)) e-is)
 
     module _ (ds : List Edge) (t : Bool) (et : t ≡ edgesMeet ds (ownDarts (laid e))) where
       both-meet : edgesMeet ds (from j) ≡ t || edgesMeet ds (from (j + 1))

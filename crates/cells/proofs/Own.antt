@@ -1,57 +1,24 @@
 -- A cell's own edges, one after the other. Assumes nothing.
-use mathlib.Core.Path.{_≡_, refl, sym, ap, ap₂, _∙_, subst}
-use mathlib.Core.List.{List, [], _∷_, _++_, map, map-append, append-nil, append-assoc}
+use mathlib.Core.Path.{_≡_, refl, sym, ap, _∙_, subst}
+use mathlib.Core.List.{List, [], _∷_, _++_, map, map-append}
 use Prim.Native.Nat.{ℕ, _+_, _*_, _≤_, _<_}
 use native.Mathlib.Nat.{le-antisymm}
-use native.Mathlib.Numerals.{add-one}
 use native.Mathlib.Omega.{arith}
 use lib.ListN.{length, getD, take, drop, length-append}
-use lib.Seq.{drop-cons, drop-length}
 use lib.Ieee.{Float}
 use Rattle.lists.specs.Gather.{gathered, joined}
 use Rattle.lists.specs.Sort.{sortOnto, sorted}
-use Rattle.lists.proofs.Gather.{joined-snoc}
+use Rattle.lists.proofs.Gather.{each-more, joined-snoc}
 use Rattle.corners.specs.Corners.{nextCorner}
-use Rattle.cutting.specs.Edges.{Edge, edgeAt, hops, ring}
+use Rattle.cutting.specs.Edges.{Edge, ring}
 use Rattle.cutting.specs.Cell.{Laid, ownDarts, outlineDarts, edgeSlots, standsBefore, cellTable}
 use Rattle.cutting.specs.Lent.{slotsOf, flatEdges}
 use Rattle.dart_table.specs.Table.{Added, Outlined}
 use Rattle.dart_table.proofs.Joins.{outline-more, none-near, own-turn, own-full}
+use Rattle.rules.proofs.Rings.{side, sides, ring-each, length-ring, ring-at, sides-next}
 use Rattle.edge_nodes.specs.Lent.{Few}
 use Rattle.regions.specs.declared.Regions.{Regions}
 use Rattle.cells.specs.Cells.{laidIn, outlineIn, AllFew, Held}
-
--- ---- round the corners
-
--- the edges from the corners cs on, and from the last of them to the corner x
-abbrev around : ℕ → List ℕ → List Edge
-around x [] = []
-around x (y ∷ ys) = hops y (ys ++ x ∷ [])
-
-abbrev pub sidesFrom : List ℕ → ℕ → List Edge
-sidesFrom cell i = around (getD cell 0 0) (drop i cell)
-
-pub sides-all : (cell : List ℕ) → sidesFrom cell 0 ≡ ring cell
-unfolding ring
-sides-all [] = refl
-sides-all (x ∷ xs) = refl
-
-pub sides-next : (cell : List ℕ) (i : ℕ) → i < length cell → sidesFrom cell i ≡ (getD cell i 0, nextCorner cell i) ∷ sidesFrom cell (i + 1)
-unfolding nextCorner hops
-sides-next cell i h =
-    let next : drop i cell ≡ getD cell i 0 ∷ drop (i + 1) cell = drop-cons cell i 0 h ∙ ap (λ (k : ℕ). getD cell i 0 ∷ drop k cell) (sym (add-one i)) in
-    ap (around (getD cell 0 0)) next ∙ go (getD cell i 0) (drop (i + 1) cell)
-  where
-    go : (y : ℕ) (d : List ℕ) → hops y (d ++ getD cell 0 0 ∷ []) ≡ (y, getD (d ++ cell) 0 0) ∷ around (getD cell 0 0) d
-    go y [] = refl
-    go y (z ∷ zs) = refl
-
-pub sides-end : (cell : List ℕ) (i : ℕ) → i ≡ length cell → sidesFrom cell i ≡ []
-sides-end cell i e = ap (around (getD cell 0 0)) (ap (λ (k : ℕ). drop k cell) e ∙ drop-length cell)
-
-pub edge-behind : (es : List Edge) (e : Edge) (fs : List Edge) → edgeAt (es ++ e ∷ fs) (length es) ≡ e
-edge-behind [] e fs = refl
-edge-behind (d ∷ es) e fs = edge-behind es e fs
 
 -- ---- `add_own`
 
@@ -72,12 +39,9 @@ pub record Outlining (coords : List Float) (work : List ℕ) (g : Regions) (cell
   pub same-marks : length marks ≡ length marks₀
   pub low : i ≤ length cell
   pub small : n ≤ 1024
-  pub done : List Edge
-  pub counted : length done ≡ i
-  pub left : done ++ sidesFrom cell i ≡ ring cell
-  pub count : n ≡ 2 * length (outlineDarts (map (laidIn coords work g) done))
-  pub outlined : take n outline ≡ flatEdges (outlineDarts (map (laidIn coords work g) done))
-  pub held : slotsOf src dst marks n ≡ sorted (standsBefore coords) (edgeSlots 1 (outlineDarts (map (laidIn coords work g) done)))
+  pub count : n ≡ 2 * length (outlineDarts (map (laidIn coords work g) (sides cell i)))
+  pub outlined : take n outline ≡ flatEdges (outlineDarts (map (laidIn coords work g) (sides cell i)))
+  pub held : slotsOf src dst marks n ≡ sorted (standsBefore coords) (edgeSlots 1 (outlineDarts (map (laidIn coords work g) (sides cell i))))
 
 module _ (coords : List Float) (work : List ℕ) (g : Regions) (cell outline₀ src₀ dst₀ marks₀ : List ℕ) where
   abbrev laid : Edge → Laid
@@ -95,33 +59,33 @@ module _ (coords : List Float) (work : List ℕ) (g : Regions) (cell outline₀ 
     same-marks = refl;
     low = omega arith;
     small = omega arith;
-    done = [];
-    counted = refl;
-    left = sides-all cell;
     count = refl;
     outlined = refl;
     held = refl;
   }
 
   module _ (outline src dst marks : List ℕ) (n i : ℕ) (v : Outlining₀ outline src dst marks n i) where
+    abbrev done : List Edge
+    done = sides cell i
+
     abbrev ls : List Laid
-    ls = map laid (v .done)
+    ls = map laid done
 
     module _ (b : ℕ) (h : i < length cell) (eb : b ≡ nextCorner cell i) where
       abbrev e : Edge
       e = (getD cell i 0, b)
 
-      split : v .done ++ e ∷ sidesFrom cell (i + 1) ≡ ring cell
-      split = ap (λ (c : ℕ). v .done ++ (getD cell i 0, c) ∷ sidesFrom cell (i + 1)) eb ∙ ap (λ (es : List Edge). v .done ++ es) (sym (sides-next cell i h)) ∙ v .left
+      abbrev rest : List Edge
+      rest = drop (i + 1) (ring cell)
+
+      e-is : e ≡ side cell i
+      e-is = ap (λ (c : ℕ). (getD cell i 0, c)) eb
 
       pub own-few : AllFew work g (ring cell) → Few work g e
-      own-few u =
-          let at : edgeAt (ring cell) i ≡ e = ap₂ edgeAt (sym split) (sym (v .counted)) ∙ edge-behind (v .done) e (sidesFrom cell (i + 1)) in
-          let below : i < length (ring cell) = omega (arith, v .counted, ap length split, length-append (v .done) (e ∷ sidesFrom cell (i + 1))) in
-          subst (λ (f : Edge). Few work g f) at (u i below)
+      own-few u = subst (λ (f : Edge). Few work g f) (ring-at cell i h ∙ sym e-is) (u i (omega (arith, h, length-ring cell)))
 
-      laid-split : ls ++ laid e ∷ map laid (sidesFrom cell (i + 1)) ≡ map laid (ring cell)
-      laid-split = sym (map-append laid (v .done) (e ∷ sidesFrom cell (i + 1))) ∙ ap (map laid) split
+      laid-split : ls ++ laid e ∷ map laid rest ≡ map laid (ring cell)
+      laid-split = sym (map-append laid done (e ∷ rest)) ∙ ap (map laid) (ap (λ (f : Edge). done ++ f ∷ rest) e-is ∙ sides-next cell i h)
 
       module _ (r : ℕ) (outline′ src′ dst′ marks′ : List ℕ) (got : Added coords 1 (ownDarts (laid e)) n r src dst marks src′ dst′ marks′ × Outlined
           (ownDarts (laid e)) n r outline outline′) where
@@ -129,7 +93,8 @@ module _ (coords : List Float) (work : List ℕ) (g : Regions) (cell outline₀ 
             → length marks′ ≡ length marks → Outlining₀ outline′ src′ dst′ marks′ r (i + 1)
         unfolding outlineDarts
         outline-turn few room lo ls′ ld lm =
-            let more : map laid (v .done ++ e ∷ []) ≡ ls ++ laid e ∷ [] = map-append laid (v .done) (e ∷ []) in
+            let more : map laid (sides cell (i + 1)) ≡ ls ++ laid e ∷ [] =
+            ap (map laid) (each-more i (side cell) ∙ ap (λ (f : Edge). done ++ f ∷ []) (sym e-is)) ∙ map-append laid done (e ∷ []) in
             let fits : n ≤ length outline = omega (arith, v .small, v .same-outline) in
             let put-in : take (n + 2 * length (ownDarts (laid e))) outline′ ≡ flatEdges (outlineDarts (ls ++ laid e ∷ [])) = outline-more outline outline′ n ls
             (laid e) fits (v .outlined) (got .1 .grows few) in
@@ -142,9 +107,6 @@ module _ (coords : List Float) (work : List ℕ) (g : Regions) (cell outline₀ 
               same-marks = lm ∙ v .same-marks;
               low = omega arith;
               small = few;
-              done = v .done ++ e ∷ [];
-              counted = omega (arith, length-append (v .done) (e ∷ []), v .counted);
-              left = append-assoc (v .done) (e ∷ []) (sidesFrom cell (i + 1)) ∙ split;
               count = omega (arith, got .0 .count, v .count, darts, ap (λ (l : List Laid). length (outlineDarts l)) more);
               outlined = ap (λ (k : ℕ). take k outline′) (got .0 .count) ∙ put-in ∙ ap (λ (l : List Laid). flatEdges (outlineDarts l)) (sym more);
               held = own-turn coords src dst marks src′ dst′ marks′ n r ls (laid e) (got .0) few (v .held) ∙ ap
@@ -156,8 +118,8 @@ module _ (coords : List Float) (work : List ℕ) (g : Regions) (cell outline₀ 
             (r ≤ 1024 → take r outline′ ≡ flatEdges (outlineIn coords work g cell))
         unfolding outlineIn
         outline-over many =
-            let all : 1024 < length (cellTable coords (outlineDarts (ls ++ laid e ∷ map laid (sidesFrom cell (i + 1)))) []) = own-full coords src dst marks
-            src′ dst′ marks′ n r ls (laid e) (map laid (sidesFrom cell (i + 1))) [] (got .0) many (v .count) in (
+            let all : 1024 < length (cellTable coords (outlineDarts (ls ++ laid e ∷ map laid rest)) []) = own-full coords src dst marks
+            src′ dst′ marks′ n r ls (laid e) (map laid rest) [] (got .0) many (v .count) in (
               record {
                 fits = λ few. absurd (omega (arith, few, many));
                 over = λ _. omega (arith, all, ap (λ (l : List Laid). length (cellTable coords (outlineDarts l) [])) laid-split);
@@ -170,7 +132,7 @@ module _ (coords : List Float) (work : List ℕ) (g : Regions) (cell outline₀ 
     unfolding outlineIn
     outline-end past =
         let at : i ≡ length cell = le-antisymm (v .low) past in
-        let all : v .done ≡ ring cell = sym (append-nil (v .done)) ∙ ap (λ (es : List Edge). v .done ++ es) (sym (sides-end cell i at)) ∙ v .left in (
+        let all : done ≡ ring cell = ap (sides cell) at ∙ sym (ring-each cell) in (
           record {
             fits = λ few. v .held ∙ ap (λ (es : List Edge). sorted (standsBefore coords) (edgeSlots 1 (outlineDarts (map laid es)))) all ∙ none-near coords
                 (outlineDarts (map laid (ring cell)));

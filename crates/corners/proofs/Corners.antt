@@ -1,15 +1,14 @@
 -- Lists read backwards, and the steps from corner to corner. Assumes nothing.
 use mathlib.Core.Path.{_≡_, refl, sym, ap, _∙_, subst}
 use mathlib.Core.Bool.{Bool, true, false, cond, false≢true}
-use mathlib.Core.List.{List, [], _∷_, _++_, reverseAux}
-use Prim.Native.Nat.{ℕ, zero, suc, _+_, _-_, _%_, _≤_, _<_}
-use native.Mathlib.Nat.{le-antisymm, zero-add, mod-eq-of-lt, mod-self, add-mod-right}
+use mathlib.Core.List.{List, [], _∷_, reverseAux}
+use Prim.Native.Nat.{ℕ, zero, suc, _+_, _≤_, _<_}
+use native.Mathlib.Nat.{zero-add}
 use native.Mathlib.Omega.{arith}
-use lib.Dec.{ltb, eqb}
-use lib.ListN.{length, getD, drop, length-reverse}
-use lib.Seq.{drop-cons, drop-length}
-use borrow.Author.Tests.{ltb-true, ltb-false, le-ltb, ne-eqb}
-use Rattle.corners.specs.Corners.{cornerAfter, cornerBefore, nextCorner, oriented}
+use lib.Dec.{ltb}
+use lib.ListN.{length, getD, length-reverse}
+use borrow.Author.Tests.{ltb-true, le-ltb}
+use Rattle.corners.specs.Corners.{cornerAfter, oriented}
 use Rattle.plane.proofs.Laws.{getD-over}
 
 behind : {A : Type 0} (l r : List A) (j : ℕ) (d : A) → getD (reverseAux l r) (length l + j) d ≡ getD r j d
@@ -47,13 +46,10 @@ pub after-over : (n i : ℕ) → n ≤ i → 0 ≡ cornerAfter n i
 unfolding cornerAfter
 after-over n i h = rw (le-ltb (i + 1) n (omega arith)) refl
 
--- the corner after corner i, inside the list and at its end
-pub next-inside : (cell : List ℕ) (i : ℕ) → i + 1 < length cell → getD cell (i + 1) 0 ≡ nextCorner cell i
-unfolding nextCorner
-next-inside cell i h = ap (λ (d : List ℕ). getD (d ++ cell) 0 0) (sym (drop-cons cell (i + 1) 0 h))
-
-pub next-last : (cell : List ℕ) (i : ℕ) → i < length cell → length cell ≤ i + 1 → getD cell 0 0 ≡ nextCorner cell i
-unfolding nextCorner
-next-last cell i h past =
-    let at : length cell ≡ i + 1 = le-antisymm past (omega arith) in
-    ap (λ (d : List ℕ). getD (d ++ cell) 0 0) (sym (drop-length cell) ∙ ap (λ (k : ℕ). drop k cell) at)
+pub after-inside : (n i : ℕ) → i < n → cornerAfter n i < n
+unfolding cornerAfter
+after-inside n i h = go (ltb (i + 1) n) refl
+  where
+    go : (b : Bool) → ltb (i + 1) n ≡ b → cond b (i + 1) 0 < n
+    go true e = omega (arith, ltb-true (i + 1) n e)
+    go false e = omega (arith, h)

@@ -1,4 +1,5 @@
 pub mod Corners
+pub mod Remainders
 pub mod Steps
 pub mod Tables
 pub mod Cases

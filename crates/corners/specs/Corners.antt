@@ -1,9 +1,9 @@
 -- The corners of a polygon, a run of node numbers; its signed area, and the turn to counter-clockwise: document 01, module 2. Assumes nothing.
 use mathlib.Core.Bool.{Bool, true, false, cond}
-use mathlib.Core.List.{List, _++_, reverse}
+use mathlib.Core.List.{List, reverse}
 use Prim.Native.Nat.{ℕ, zero, suc, _+_, _-_}
 use lib.Dec.{ltb, eqb}
-use lib.ListN.{length, getD, drop}
+use lib.ListN.{length, getD}
 use lib.Ieee.{Float, lt}
 use Rattle.plane.specs.Plane.{_⊕_, _⊖_, _⊗_, _⊘_, zeroF, twoF, pointAt}
 use Rattle.plane.specs.declared.Point.{Point}
@@ -21,7 +21,7 @@ cornerBefore n i = cond (eqb i 0) (n - 1) (i - 1)
 
 -- the node of the corner after corner i
 unfoldable pub nextCorner : List ℕ → ℕ → ℕ
-nextCorner cell i = getD (drop (i + 1) cell ++ cell) 0 0
+nextCorner cell i = getD cell (cornerAfter (length cell) i) 0
 
 -- the corners as they stand, or backwards
 unfoldable pub oriented : Bool → List ℕ → List ℕ

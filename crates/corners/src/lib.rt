@@ -25,6 +25,7 @@ pub fn corner_at(coords: &[f64], corners: &[u32], back: bool, i: usize) -> Point
     point_at(coords, corner(corners, back, i))
 }
 
+// The corner after corner i of n: one on, and from the last to the first. Every step along a ring is this one.
 pub fn after(n: usize, i: usize) -> usize
     ensures { λ r. ⌜ r ≡ cornerAfter n i ⌝ }
 {
@@ -50,16 +51,13 @@ pub fn previous(n: usize, i: usize) -> usize
     i - 1
 }
 
-// The node of the corner after corner i; after the last comes the first.
+// The node of the corner after corner i.
 pub fn next_corner(cell: &[u32], i: usize) -> u32
     requires { ⌜ i < length (now cell) ⌝ }
     ensures { λ r. ⌜ r ≡ nextCorner (now (cell .entry)) i ⌝ }
 {
-    let j = i + 1;
-    if j < cell.len() {
-        return cell[j];
-    }
-    cell[0]
+    let j = after(cell.len(), i);
+    cell[j]
 }
 
 fn term(coords: &[f64], corners: &[u32], i: usize) -> f64

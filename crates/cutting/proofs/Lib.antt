@@ -11,6 +11,7 @@ pub mod Once
 pub mod Onward
 pub mod Orders
 pub mod Pairs
+pub mod Remainders
 pub mod Repeats
 pub mod Rounds
 pub mod Runs

@@ -2,43 +2,40 @@
 use mathlib.Core.Path.{_≡_, refl, sym, ap, ap₂, _∙_}
 use mathlib.Core.Bool.{Bool, true, false, cond}
 use mathlib.Core.List.{List, [], _∷_, _++_, append-nil, append-assoc}
-use Prim.Native.Nat.{ℕ, _+_, _*_, _/_, _≤_, _<_}
+use Prim.Native.Nat.{ℕ, _+_, _*_, _≤_, _<_}
 use native.Mathlib.Nat.{zero-add, le-antisymm}
 use native.Mathlib.Omega.{arith}
-use lib.Dec.{ltb}
-use lib.ListN.{length, getD, set, take, replicate, length-append, length-set, length-replicate}
+use lib.ListN.{length, getD, set, take, replicate, length-set, length-replicate}
 use lib.Ieee.{Float}
-use Rattle.lists.specs.Gather.{joined}
+use Rattle.lists.specs.Gather.{gathered, joined}
 use Rattle.lists.specs.Regions.{front, copied}
+use Rattle.lists.proofs.Gather.{each-more}
 use Rattle.lists.proofs.Regions.{front-store, copied-fits, front-put, put-none}
-use Rattle.cutting.specs.Edges.{Edge, ring}
+use Rattle.cutting.specs.Edges.{ring}
 use Rattle.cutting.specs.Cell.{repeats}
 use Rattle.cutting.specs.Outcome as Outcome
 use Rattle.cutting.specs.Outcome.{Outcome, refusal, pieces, copiedOutcome, flat}
 use Rattle.cutting.specs.Lent.{flatEdges, pairs}
 use Rattle.cutting.proofs.Runs.{take-push}
-use Rattle.cutting.proofs.Pairs.{ends-append, pairs-ends, pairs-length}
+use Rattle.cutting.proofs.Pairs.{ends-append, pairs-ends}
 use Rattle.regions.specs.declared.Regions.{Regions}
 use Rattle.regions.specs.declared.Run.{Run}
 use Rattle.corners.specs.Corners.{nextCorner}
 use Rattle.cells.specs.Cells.{Cut, cut, cutAs, cutBy, cutCell}
-use Rattle.cells.proofs.Own.{sidesFrom, sides-all, sides-next, sides-end}
+use Rattle.rules.proofs.Rings.{side, sides, ring-each}
 use Rattle.cutting_cells.specs.Yields.{outcomeBy}
 
 -- ---- the edges of a cell in a flat list
 
 -- those of the first i corners stand in front
 pub record Sided (cell list : List ℕ) (i : ℕ) : Type 0 where
-  pub done : List Edge
-  pub left : done ++ sidesFrom cell i ≡ ring cell
-  pub counted : length done ≡ i
   pub within : i ≤ length cell
   pub long : length list ≡ 512
-  pub held : take (2 * i) list ≡ flatEdges done
+  pub held : take (2 * i) list ≡ flatEdges (sides cell i)
 
 pub sided-none : (cell : List ℕ) → Sided cell (replicate 512 0) 0
-unfolding flatEdges joined
-sided-none cell = record { done = []; left = sides-all cell; counted = refl; within = omega arith; long = length-replicate {A = ℕ} 512 0; held = refl }
+unfolding flatEdges joined gathered
+sided-none cell = record { within = omega arith; long = length-replicate {A = ℕ} 512 0; held = refl }
 
 two-more : (xs : List ℕ) (i a b : ℕ) → 2 * i + 1 < length xs → take (2 * (i + 1)) (set (set xs (2 * i) a) (2 * i + 1) b) ≡ take (2 * i) xs ++ a ∷ b ∷ []
 two-more xs i a b h =
@@ -55,22 +52,19 @@ pub sided-more : (cell list : List ℕ) (i b : ℕ) → length cell ≤ 256 → 
     → Sided cell (set (set list (2 * i) (getD cell i 0)) (2 * i + 1) b) (i + 1)
 sided-more cell list i b small v h eb =
     let a : ℕ = getD cell i 0 in
-    let e : Edge = (a, b) in
-    let split : sidesFrom cell i ≡ e ∷ sidesFrom cell (i + 1) = sides-next cell i h ∙ ap (λ (x : ℕ). (a, x) ∷ sidesFrom cell (i + 1)) (sym eb) in
+    let more : sides cell (i + 1) ≡ sides cell i ++ (a, b) ∷ [] = each-more i (side cell) ∙ ap (λ (x : ℕ). sides cell i ++ (a, x) ∷ []) (sym eb) in
     record {
-      done = v .done ++ e ∷ [];
-      left = append-assoc (v .done) (e ∷ []) (sidesFrom cell (i + 1)) ∙ ap (λ (es : List Edge). v .done ++ es) (sym split) ∙ v .left;
-      counted = length-append (v .done) (e ∷ []) ∙ ap (λ (k : ℕ). k + 1) (v .counted);
       within = omega (arith, h);
       long = length-set (set list (2 * i) a) (2 * i + 1) b ∙ length-set list (2 * i) a ∙ v .long;
-      held = two-more list i a b (omega (arith, h, small, v .long)) ∙ ap₂ (λ (x y : List ℕ). x ++ y) (v .held) (sym (ends-one a b)) ∙ sym (ends-append (v .done) (e ∷ []));
+      held = two-more list i a b (omega (arith, h, small, v .long)) ∙ ap₂ (λ (x y : List ℕ). x ++ y) (v .held) (sym (ends-one a b))
+          ∙ sym (ends-append (sides cell i) ((a, b) ∷ [])) ∙ ap flatEdges (sym more);
     }
 
 pub sided-all : (cell list : List ℕ) (i : ℕ) (r : Bool) → Sided cell list i → length cell ≤ i → r ≡ repeats (pairs (take (2 * length cell) list)) → r ≡ repeats (ring cell)
 sided-all cell list i r v h e =
     let at : i ≡ length cell = le-antisymm (v .within) h in
-    let all : v .done ≡ ring cell = sym (append-nil (v .done)) ∙ ap (λ (es : List Edge). v .done ++ es) (sym (sides-end cell i at)) ∙ v .left in
-    e ∙ ap (λ (k : ℕ). repeats (pairs (take (2 * k) list))) (sym at) ∙ ap (λ (l : List ℕ). repeats (pairs l)) (v .held) ∙ ap repeats (pairs-ends (v .done) ∙ all)
+    let all : sides cell i ≡ ring cell = ap (sides cell) at ∙ sym (ring-each cell) in
+    e ∙ ap (λ (k : ℕ). repeats (pairs (take (2 * k) list))) (sym at) ∙ ap (λ (l : List ℕ). repeats (pairs l)) (v .held) ∙ ap repeats (pairs-ends (sides cell i) ∙ all)
 
 -- ---- the cell as its one piece
 

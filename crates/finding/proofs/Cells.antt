@@ -15,7 +15,8 @@ use Rattle.cutting.proofs.Pairs.{pairs-length, pairs-at}
 use Rattle.entry.specs.Mesh.{mesh, prior, cellSize, Rising}
 use Rattle.rules.specs.Mesh.{cellAt, cellsOf}
 use Rattle.rules.specs.Neighbours.{descendingTo, computeDescending, lineEdges}
-use Rattle.neighbours.proofs.Edges.{side, ring-each, length-addedAll}
+use Rattle.rules.proofs.Rings.{length-ring}
+use Rattle.neighbours.proofs.Edges.{length-addedAll}
 
 abbrev pub cellsIn : List ℕ → List ℕ → List (List ℕ)
 cellsIn nodes ends = cellsOf (mesh [] nodes ends [] [])
@@ -59,7 +60,7 @@ module _ (nodes ends : List ℕ) (up : Rising ends (length nodes)) where
   unfolding cellsOf cellAt
   cell-size i h =
       let cell : List ℕ = getD (cellsIn nodes ends) i [] in
-      ap length (ring-each cell) ∙ length-each (length cell) (side cell) ∙ ap length (getD-each (length ends) (cellAt (mesh [] nodes ends [] [])) i [] h)
+      length-ring cell ∙ ap length (getD-each (length ends) (cellAt (mesh [] nodes ends [] [])) i [] h)
       ∙ length-run nodes (prior ends i) (cellSize ends i) (omega (arith, up i h))
 
   few-to : (i : ℕ) → i ≤ length ends → length (descendingTo i (cellsIn nodes ends)) ≤ prior ends i

@@ -386,6 +386,27 @@ places-at p (suc n) k h = go (p n) refl (λ l. places-at p n k l) h
         let s : getD (places p n ++ []) k 0 ≡ getD (places p n) k 0 = ap (λ (m : List ℕ). getD m k 0) q in
         (omega (arith, r .0, s), ap p s ∙ r .1)
 
+-- each that passes is one of them
+pub places-has : (p : ℕ → Bool) (n i : ℕ) → i < n → p i ≡ true → (k : ℕ) × (k < length (places p n)) × (getD (places p n) k 0 ≡ i)
+unfolding gathered
+places-has p zero i h e = absurd (not-suc-le-zero h)
+places-has p (suc n) i h e = go (decLt i n) (λ l. places-has p n i l e)
+  where
+    ps : List ℕ
+    ps = places p n
+
+    more : List ℕ
+    more = cond (p n) (n ∷ []) []
+
+    go : Dec (i < n) → (i < n → (k : ℕ) × (k < length ps) × (getD ps k 0 ≡ i)) → (k : ℕ) × (k < length (ps ++ more)) × (getD (ps ++ more) k 0 ≡ i)
+    go (yes l) before =
+        let found = before l in
+        (found .0, omega (arith, found .1, length-append ps more), List·getD-append ps more 0 (found .0) (found .1) ∙ found .2)
+    go (no l) before =
+        let at : i ≡ n = omega (arith, h, l) in
+        let one : more ≡ n ∷ [] = ap (λ (t : Bool). cond t (n ∷ []) []) (ap p (sym at) ∙ e) in
+        (length ps, omega (arith, length-append ps more, ap length one), ap (λ (l : List ℕ). getD (ps ++ l) (length ps) 0) one ∙ getD-at ps n [] 0 (length ps) refl ∙ sym at)
+
 -- and they rise
 pub places-rise : (p : ℕ → Bool) (n j k : ℕ) → j < k → k < length (places p n) → getD (places p n) j 0 < getD (places p n) k 0
 unfolding gathered

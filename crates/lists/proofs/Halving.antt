@@ -2,24 +2,10 @@
 use mathlib.Core.Path.{_≡_, refl, sym, ap, _∙_}
 use mathlib.Core.Bool.{Bool, true, false, true≢false}
 use Prim.Native.Nat.{ℕ, _+_, _-_, _/_, _≤_, _<_}
-use native.Mathlib.Nat.{le-antisymm}
-use native.Mathlib.Decide.{decLt, ℕ-discrete}
+use native.Mathlib.Decide.{ℕ-discrete}
 use native.Mathlib.Omega.{arith}
 use Rattle.lists.specs.Search.{first}
-use Rattle.lists.proofs.Search.{first-hit, first-some, first-le}
-
--- the first that passes is where the test turns
-first-turn : (p : ℕ → Bool) (m n : ℕ) → m ≤ n → ((i : ℕ) → i < m → p i ≡ false) → (m < n → p m ≡ true) → m ≡ first p 0 n
-first-turn p m n h below turns =
-    le-antisymm {n = m} {m = first p 0 n} (not-below (decLt (first p 0 n) m)) (up (decLt m n))
-  where
-    not-below : Dec (first p 0 n < m) → m ≤ first p 0 n
-    not-below (yes l) = absurd (true≢false (sym (first-hit p 0 n (omega arith)) ∙ below (first p 0 n) l))
-    not-below (no l) = omega arith
-
-    up : Dec (m < n) → first p 0 n ≤ m
-    up (yes l) = first-some p 0 n m (omega arith) l (turns l)
-    up (no l) = omega (arith, first-le p 0 n (omega arith))
+use Rattle.lists.proofs.Search.{first-turn}
 
 -- all those behind a passed one pass
 abbrev pub Turns : (ℕ → Bool) → ℕ → Type 0
@@ -59,4 +45,4 @@ module _ (p : ℕ → Bool) (n : ℕ) where
         at i h (no d) true q = absurd (true≢false (sym (turns i (middle lo hi) (omega arith) (omega (arith, b .within)) q) ∙ e))
 
   pub between-end : (lo hi : ℕ) → Between p n lo hi → hi ≤ lo → (lo ≡ first p 0 n) × (lo ≤ n)
-  between-end lo hi b h = (first-turn p lo n (omega (arith, b .order, b .within)) (b .fail) (λ l. b .pass lo h l), omega (arith, b .order, b .within))
+  between-end lo hi b h = (first-turn p 0 lo n (omega arith) (omega (arith, b .order, b .within)) (λ i _ l. b .fail i l) (λ l. b .pass lo h l), omega (arith, b .order, b .within))

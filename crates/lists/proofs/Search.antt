@@ -169,6 +169,18 @@ pub first-from : (p : ℕ → Bool) (k n : ℕ) → k ≤ first p k n
 unfolding first
 first-from p k n = seek-range p k (n - k) .0
 
+-- it is where the test turns
+pub first-turn : (p : ℕ → Bool) (k m n : ℕ) → k ≤ m → m ≤ n → ((i : ℕ) → k ≤ i → i < m → p i ≡ false) → (m < n → p m ≡ true) → m ≡ first p k n
+first-turn p k m n from h below turns = le-antisymm {n = m} {m = first p k n} (not-below (decLt (first p k n) m)) (up (decLt m n))
+  where
+    not-below : Dec (first p k n < m) → m ≤ first p k n
+    not-below (yes l) = absurd (true≢false (sym (first-hit p k n (omega arith)) ∙ below (first p k n) (first-from p k n) l))
+    not-below (no l) = omega arith
+
+    up : Dec (m < n) → first p k n ≤ m
+    up (yes l) = first-some p k n m from l (turns l)
+    up (no l) = omega (arith, first-le p k n (omega arith))
+
 -- only the indices below the end count
 pub first-ext : (p q : ℕ → Bool) (n : ℕ) → ((i : ℕ) → i < n → p i ≡ q i) → first p 0 n ≡ first q 0 n
 first-ext p q n same =

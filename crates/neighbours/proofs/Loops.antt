@@ -12,16 +12,18 @@ use Rattle.lists.specs.Gather.{gathered}
 use Rattle.lists.specs.Regions.{run, put, zeros}
 use Rattle.lists.proofs.Gather.{length-each, getD-each}
 use Rattle.lists.proofs.Regions.{put-store, length-put, put-run, length-run, getD-run, run-run, run-put, run-before, run-behind}
+use Rattle.corners.specs.Corners.{cornerAfter, nextCorner}
+use Rattle.corners.proofs.Corners.{after-inside}
 use Rattle.cutting.specs.Edges.{Edge, ring}
 use Rattle.cutting.specs.Lent.{pairs, flatEdges}
 use Rattle.cutting.proofs.Pairs.{pairs-length, ends-length}
 use Rattle.entry.specs.Mesh.{mesh, prior, Rising}
 use Rattle.rules.specs.Mesh.{cellAt, cellsOf}
 use Rattle.rules.specs.Neighbours.{added, addedAll, descendingTo, computeDescending}
-use Rattle.neighbours.specs.Cells.{next}
 use Rattle.keys.specs.Chains.{edgeChain}
 use Rattle.neighbours.specs.Chains.{Chained, linked, Threaded}
-use Rattle.neighbours.proofs.Edges.{side, addedTo, addedTo-more, addedTo-end, length-added, length-addedAll, ends-snoc, ends-pairs, ring-each}
+use Rattle.rules.proofs.Rings.{side, length-ring}
+use Rattle.neighbours.proofs.Edges.{addedTo, addedTo-more, addedTo-end, length-added, length-addedAll, ends-snoc, ends-pairs}
 use Rattle.neighbours.proofs.Chains.{keyAt, length-linked, chained-more}
 use Rattle.neighbours.proofs.Threads.{part-is, part-put, threaded-none, read-before, read-one, read-edges, ready, threaded-on, zeroed, cleared-around}
 
@@ -171,14 +173,16 @@ module _ (w₀ : List ℕ) (at m base k scratch h n : ℕ) (h₁ : at + m ≤ ba
     corner : (c : ℕ) → c < m → getD w (at + c) 0 ≡ getD cs c 0
     corner c l = read-one h n base scratch w₀ h₃ fs w (inv .4) room (at + c) (omega arith) ∙ sym (getD-run w₀ at m c 0 l)
 
-    pub cell-turn : (j r′ : ℕ) (w′ : List ℕ) → i < m → (j ≡ next m i) × (j < m) → length w′ ≡ length w
+    pub cell-turn : (j r′ : ℕ) (w′ : List ℕ) → i < m → j ≡ cornerAfter m i → length w′ ≡ length w
         → (r′ ≡ length (added (pairs (run w base (2 * r))) (getD w (at + i) 0, getD w (at + j) 0)))
         × Threaded h n base scratch w (added (pairs (run w base (2 * r))) (getD w (at + i) 0, getD w (at + j) 0)) w′
         → Filled w₀ at m base k scratch h n w′ r′ (i + 1)
-    cell-turn j r′ w′ more nx long got =
+    unfolding nextCorner
+    cell-turn j r′ w′ more after long got =
         let gs : List Edge = addedTo (i + 1) cs es₀ in
         let n-is : length cs ≡ m = length-run w₀ at m (omega arith) in
-        let b-is : getD w (at + j) 0 ≡ getD cs (next (length cs) i) 0 = corner j (nx .1) ∙ ap (λ (c : ℕ). getD cs c 0) (nx .0 ∙ ap (λ (c : ℕ). next c i) (sym n-is)) in
+        let b-is : getD w (at + j) 0 ≡ nextCorner cs i = corner j (omega (arith, after, after-inside m i more))
+        ∙ ap (λ (c : ℕ). getD cs c 0) (after ∙ ap (λ (c : ℕ). cornerAfter c i) (sym n-is)) in
         let now-is : added (pairs (run w base (2 * r))) (getD w (at + i) 0, getD w (at + j) 0) ≡ gs =
         rw (read-edges h n base scratch w₀ h₃ fs w (inv .4) room r (inv .3), corner i more, b-is) (sym (addedTo-more i cs es₀)) in
         let grows = length-added fs (side cs i) in
@@ -256,7 +260,7 @@ module _ (w₀ cells : List ℕ) (at total base scratch h n : ℕ) (h₁ : at + 
         ap₂ (λ (l : List Edge) (q : List ℕ). addedAll l (ring q)) (read-edges h n base scratch w₀ h₃ ds w (inv .6) space k (inv .5)) (cell ∙ sym (cell-is i more))
         ∙ sym (descending-more i (cellsIn nodes cells)) in
         let corners : length (ring (run nodes s c)) ≡ c =
-        ap length (ring-each (run nodes s c)) ∙ length-each (length (run nodes s c)) (side (run nodes s c)) ∙ length-run nodes s c
+        length-ring (run nodes s c) ∙ length-run nodes s c
         (omega (arith, length-run w₀ at total (omega arith))) in
         let g = length-addedAll (ring (run nodes s c)) ds in
         let gl : length gs ≡ length (addedAll ds (ring (run nodes s c))) =

@@ -1,5 +1,6 @@
 // The edges of cells (document 01, module 5), in a region of the working list. An edge takes two numbers there. While they are written, they are on
 // chains in a second region, so that one with the same key is found without a scan of all.
+use corners::after;
 use keys::edge_chain;
 use keys::same_key;
 use lists::zero_u32;
@@ -14,7 +15,6 @@ ghost use Rattle.cutting.specs.Lent.{pairs, flatEdges};
 ghost use Rattle.entry.specs.Mesh.{mesh, Rising};
 ghost use Rattle.rules.specs.Mesh.{cellsOf};
 ghost use Rattle.rules.specs.Neighbours.{added, addedAll, computeDescending};
-ghost use Rattle.neighbours.specs.Cells.{next};
 ghost use Rattle.keys.specs.Chains.{edgeChain};
 ghost use Rattle.neighbours.specs.Chains.{Chained, linked, Threaded};
 
@@ -73,17 +73,6 @@ fn add_edge(
     k + 1
 }
 
-// The corner after corner i, of n.
-fn next(n: usize, i: usize) -> usize
-    requires { ⌜ i < n ⌝ }
-    ensures { λ r. ⌜ (r ≡ next n i) × (r < n) ⌝ }
-{
-    if i + 1 == n {
-        return 0;
-    }
-    i + 1
-}
-
 // Adds the edges of the cell whose m corners stand at `at` to the k edges at `base`.
 fn cell_edges(
     w: &mut [u32],
@@ -103,7 +92,7 @@ fn cell_edges(
     let mut r = k;
     let mut i: usize = 0;
     while i < m {
-        let j = next(m, i);
+        let j = after(m, i);
         let a = w[at + i];
         let b = w[at + j];
         r = add_edge(w, base, r, a, b, scratch, h, n);

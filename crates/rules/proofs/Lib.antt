@@ -5,6 +5,7 @@ pub mod Parts
 pub mod Once
 pub mod Lengths
 pub mod ReadBack
+pub mod Rings
 pub mod Closing
 pub mod Demand3
 pub mod Kept

@@ -1,6 +1,6 @@
 -- Numbers that rise, and one put among them. Assumes nothing.
 use mathlib.Core.Path.{_≡_, refl, sym, ap, ap₂, _∙_}
-use mathlib.Core.Bool.{Bool, true, false, cond, _&&_, true≢false}
+use mathlib.Core.Bool.{Bool, true, false, cond, _&&_}
 use mathlib.Core.List.{List, [], _∷_, _++_}
 use Prim.Native.Nat.{ℕ, zero, suc, _+_, _-_, _≤_, _<_}
 use native.Mathlib.Nat.{le-antisymm, min-le-left, min-le-right}
@@ -12,27 +12,13 @@ use lib.Seq.{take-all, take-at, take-take, getD-take, length-take-le}
 use borrow.Author.Tests.{ltb-true, ltb-false, eqb-false, lt-ltb, le-ltb, le-leb, lt-leb}
 use Rattle.lists.specs.Search.{seek, first}
 use Rattle.lists.specs.Regions.{front, putIn, insertAt}
-use Rattle.lists.proofs.Search.{first-hit, first-some, first-le, first-here, first-shift}
+use Rattle.lists.proofs.Search.{first-le, first-turn, first-here, first-shift}
 use Rattle.lists.proofs.Insert.{insertAt-fits, length-putIn}
 use Rattle.lists.proofs.Regions.{front-take, front-front, length-front, take-front-of}
 use Rattle.strips.specs.Meeting.{FrontIs}
 use Rattle.strips.specs.Gathering.{Rises, putRising}
 
 -- ---- where it goes
-
--- the first that passes is where the test turns
-first-turn : (p : ℕ → Bool) (m n : ℕ) → m ≤ n → ((i : ℕ) → i < m → p i ≡ false) → (m < n → p m ≡ true) → first p 0 n ≡ m
-first-turn p m n h below turns =
-    let low : m ≤ first p 0 n = not-below (decLt (first p 0 n) m) in
-    le-antisymm {n = first p 0 n} {m = m} (up (decLt m n)) low
-  where
-    not-below : Dec (first p 0 n < m) → m ≤ first p 0 n
-    not-below (yes l) = absurd (true≢false (sym (first-hit p 0 n (omega arith)) ∙ below (first p 0 n) l))
-    not-below (no l) = omega arith
-
-    up : Dec (m < n) → first p 0 n ≤ m
-    up (yes l) = first-some p 0 n m (omega arith) l (turns l)
-    up (no l) = omega (arith, first-le p 0 n (omega arith))
 
 module _ (xs : List ℕ) (v : ℕ) where
   -- those from i on are no lower than v
@@ -48,7 +34,7 @@ module _ (xs : List ℕ) (v : ℕ) where
   -- all before it are below v
   pub passed-here : (i : ℕ) → Rises xs → Passed i → 0 < i → getD xs (i - 1) 0 < v
       → (i ≡ first (λ k. leb v (getD xs k 0)) 0 (length xs)) × (i ≤ length xs)
-  passed-here i rise inv h l = (sym (first-turn (λ k. leb v (getD xs k 0)) i (length xs) (inv .0) (λ k m. lt-leb v (getD xs k 0) (low k m (decLt k (i - 1)))) (inv .1)), inv .0)
+  passed-here i rise inv h l = (first-turn (λ k. leb v (getD xs k 0)) 0 i (length xs) (omega arith) (inv .0) (λ k _ m. lt-leb v (getD xs k 0) (low k m (decLt k (i - 1)))) (inv .1), inv .0)
     where
       low : (k : ℕ) → k < i → Dec (k < i - 1) → getD xs k 0 < v
       low k m (yes a) = omega (arith, rise k (i - 1) a (omega (arith, inv .0, h)), l)
@@ -57,7 +43,7 @@ module _ (xs : List ℕ) (v : ℕ) where
           omega (arith, ap (λ (j : ℕ). getD xs j 0) z, l)
 
   pub passed-end : (i : ℕ) → Passed i → i ≤ 0 → (i ≡ first (λ k. leb v (getD xs k 0)) 0 (length xs)) × (i ≤ length xs)
-  passed-end i inv h = (sym (first-turn (λ k. leb v (getD xs k 0)) i (length xs) (inv .0) (λ k m. absurd (omega arith)) (inv .1)), inv .0)
+  passed-end i inv h = (first-turn (λ k. leb v (getD xs k 0)) 0 i (length xs) (omega arith) (inv .0) (λ k _ m. absurd (omega arith)) (inv .1), inv .0)
 
 -- ---- put in at its place
 

@@ -9,11 +9,11 @@ use Rattle.corners.proofs.after.Tie as tie
 
 returns : tie.Need-returns
 unfolding cornerAfter
-returns c = simp (lt-ltb _ _ (c .if2 .taken), lt-ltb _ _ (c .before .if1 .taken))
+returns c = simp (lt-ltb _ _ (c .if2 .taken))
 
 returns-2 : tie.Need-returns-2
 unfolding cornerAfter
-returns-2 c = simp (le-ltb _ _ (c .if2 .left), lt-ltb _ _ (c .before .if1 .taken))
+returns-2 c = simp (le-ltb _ _ (c .if2 .left))
 
 returns-3 : tie.Need-returns-3
 returns-3 c = after-over _ _ (c .if1 .left)

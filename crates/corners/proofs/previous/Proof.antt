@@ -12,7 +12,7 @@ returns c = simp (c .if2 .taken, eq-eqb _ _ (c .before .if1 .taken))
 
 returns-2 : tie.Need-returns-2
 unfolding cornerBefore
-returns-2 c = simp (ne-eqb _ _ (c .if2 .left), eq-eqb _ _ (c .before .if1 .taken))
+returns-2 c = simp (eq-eqb _ _ (c .before .if1 .taken))
 
 returns-3 : tie.Need-returns-3
 unfolding cornerBefore

@@ -1,5 +1,7 @@
-use Prim.Native.Nat.{_-_}
+use Prim.Native.Nat.{_+_, _-_, _<_}
 use native.Mathlib.Omega.{arith}
+use lib.ListN.{length}
+use Rattle.corners.proofs.Corners.{after-inside}
 use Rattle.neighbours.proofs.Loops.{Filled, cell-start, cell-ready, cell-turn, cell-end}
 use borrow.Author.Needs.{needs}
 use Rattle.neighbours.proofs.cell_edges.Statement.{statement}
@@ -7,7 +9,7 @@ use Rattle.neighbours.proofs.cell_edges.Tie as tie
 use Rattle.neighbours.proofs.cell_edges.Reads as reads
 use Rattle.neighbours.proofs.cell_edges.Lts as lts
 use Rattle.neighbours.proofs.add_edge.Reads as add-edge-reads
-use Rattle.neighbours.proofs.next.Reads as next-reads
+use Rattle.corners.proofs.after.Reads as after-reads
 
 abbrev Inv-loop : tie.InvT-loop
 Inv-loop w₀ at m base k scratch h n r₀ i₀ w r i = Filled w₀ at m base k scratch h n w r i
@@ -25,14 +27,20 @@ loop-at-returns c = c .before
 abbrev loop-of-in-loop : tie.In-loop Inv-loop μ-loop → tie.At-loop Inv-loop μ-loop
 loop-of-in-loop c = c .before
 
-abbrev in-loop : tie.After-next Inv-loop μ-loop → tie.In-loop Inv-loop μ-loop
+abbrev in-loop : tie.After-after Inv-loop μ-loop → tie.In-loop Inv-loop μ-loop
 in-loop c = c .before
 
-abbrev next-at-add-edge-requires : tie.After-add-edge-arg Inv-loop μ-loop → tie.After-next Inv-loop μ-loop
-next-at-add-edge-requires c = c .before .before .before
+abbrev after-at-add-b : tie.After-slice-known2 Inv-loop μ-loop → tie.After-after Inv-loop μ-loop
+after-at-add-b c = c .before
 
-abbrev next-of-add-edge : tie.After-add-edge Inv-loop μ-loop → tie.After-next Inv-loop μ-loop
-next-of-add-edge c = c .before .before .before .before
+abbrev after-at-slice-read-b : tie.After-slice-known3 Inv-loop μ-loop → tie.After-after Inv-loop μ-loop
+after-at-slice-read-b c = c .before .before
+
+abbrev after-at-add-edge-requires : tie.After-add-edge-arg Inv-loop μ-loop → tie.After-after Inv-loop μ-loop
+after-at-add-edge-requires c = c .before .before .before
+
+abbrev after-of-add-edge : tie.After-add-edge Inv-loop μ-loop → tie.After-after Inv-loop μ-loop
+after-of-add-edge c = c .before .before .before .before
 
 abbrev add-edge-at-loop-again : tie.After-slice-known4 Inv-loop μ-loop → tie.After-add-edge Inv-loop μ-loop
 add-edge-at-loop-again c = c .before .before
@@ -42,9 +50,26 @@ loop-holds c =
     cell-start (c .before .args .w .now) (c .before .args .at) (c .before .args .m) (c .before .args .base) (c .before .args .k) (c .before .args .scratch)
     (c .before .args .h) (c .before .args .n) (c .before .pre .0) (c .before .pre .1) (c .before .pre .2) (c .before .pre .6)
 
+-- the corner after one of the cell stands in the list
+read-b : (c : tie.After-after Inv-loop μ-loop) → entry (loop-of-in-loop (in-loop c)) .args .at + c .after .result < length (loop-of-in-loop (in-loop c) .loop .w)
+read-b c =
+    let at-loop = loop-of-in-loop (in-loop c) in
+    let at-entry = entry at-loop in
+    let inside = after-inside (at-entry .args .m) (at-loop .loop .i) (in-loop c .loop-test .taken) in
+    omega (arith, c .after .ensures, inside, at-entry .pre .0, at-entry .pre .1, at-entry .pre .2, at-loop .loop .inv .2)
+
+add-b : tie.Need-add-b Inv-loop μ-loop
+add-b c = omega (arith, read-b (after-at-add-b c))
+
+mul-b : tie.Need-mul-b Inv-loop μ-loop
+mul-b c = omega (arith, read-b (after-at-add-b c))
+
+slice-read-b : tie.Need-slice-read-b Inv-loop μ-loop
+slice-read-b c = read-b (after-at-slice-read-b c)
+
 add-edge-requires : tie.Need-add-edge-requires Inv-loop μ-loop
 add-edge-requires c κs =
-    let at-loop = loop-of-in-loop (in-loop (next-at-add-edge-requires c)) in
+    let at-loop = loop-of-in-loop (in-loop (after-at-add-edge-requires c)) in
     let at-entry = entry at-loop in
     let l = at-loop .loop in (
       omega arith,
@@ -58,14 +83,14 @@ add-edge-requires c κs =
 
 loop-again : tie.Need-loop-again Inv-loop μ-loop
 loop-again c =
-    let at-next = next-of-add-edge (add-edge-at-loop-again c) in
-    let at-loop = loop-of-in-loop (in-loop at-next) in
+    let at-after = after-of-add-edge (add-edge-at-loop-again c) in
+    let at-loop = loop-of-in-loop (in-loop at-after) in
     let at-entry = entry at-loop in
     let l = at-loop .loop in
     let add = add-edge-at-loop-again c .add-edge in
     cell-turn (at-entry .args .w .now) (at-entry .args .at) (at-entry .args .m) (at-entry .args .base) (at-entry .args .k) (at-entry .args .scratch)
     (at-entry .args .h) (at-entry .args .n) (at-entry .pre .0) (at-entry .pre .1) (at-entry .pre .2) (at-entry .pre .6) (l .w) (l .r) (l .i) (l .inv)
-    (at-next .next .result) (add .result) (add .last .0) (in-loop at-next .loop-test .taken) (at-next .next .ensures) (add .kept .0) (add .ensures)
+    (at-after .after .result) (add .result) (add .last .0) (in-loop at-after .loop-test .taken) (at-after .after .ensures) (add .kept .0) (add .ensures)
 
 returns : tie.Need-returns Inv-loop μ-loop
 returns c =
@@ -76,4 +101,4 @@ returns c =
 
 pub cell-edges-spec : {M : Type 1} → statement M
 cell-edges-spec = tie.close (tie.spec Inv-loop μ-loop loop-holds (λ c κs. search needs) (λ c. search needs) (λ c. search needs) (λ c. search needs)
-    (λ c. search needs) (λ c. search needs) (λ c. search needs) add-edge-requires (λ c. search needs) (λ c. search needs) loop-again (λ c. search needs) returns)
+    add-b mul-b slice-read-b add-edge-requires (λ c. search needs) (λ c. search needs) loop-again (λ c. search needs) returns)
