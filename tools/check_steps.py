@@ -89,7 +89,7 @@ def check_source(bodies, calls):
 
 def check_library(library, bodies, calls):
     counts = compiled(library)
-    origin = {one: {key for key in bodies if key[1] == one.split("::")[-1]} for one in counts}
+    origin = {one: {key for key in bodies if key[1] == one.split("::")[-1] and key[0] == (one.split("::")[0] if "::" in one else key[0])} for one in counts}
     holding = sorted(one for one in counts if reached(origin[one], calls) & STEPS)
     print(f"{library.name}: {len(counts)} functions, {sum(n for n, _ in counts.values()):,} instructions; a step is or may be called in " + ", ".join(holding))
     faults = [] if holding else [f"{library.name}: no function takes a step"]

@@ -1,13 +1,12 @@
 -- Lists read backwards, and the steps from corner to corner. Assumes nothing.
 use mathlib.Core.Path.{_≡_, refl, sym, ap, _∙_, subst}
-use mathlib.Core.Bool.{Bool, true, false, cond, false≢true}
+use mathlib.Core.Bool.{Bool, true, false, false≢true}
 use mathlib.Core.List.{List, [], _∷_, reverseAux}
-use Prim.Native.Nat.{ℕ, zero, suc, _+_, _≤_, _<_}
+use Prim.Native.Nat.{ℕ, zero, suc, _+_, _≤_}
 use native.Mathlib.Nat.{zero-add}
 use native.Mathlib.Omega.{arith}
-use lib.Dec.{ltb}
 use lib.ListN.{length, getD, length-reverse}
-use borrow.Author.Tests.{ltb-true, le-ltb}
+use borrow.Author.Tests.{le-ltb}
 use Rattle.corners.specs.Corners.{cornerAfter, oriented}
 use Rattle.plane.proofs.Laws.{getD-over}
 
@@ -45,11 +44,3 @@ no-corner b ps i h = sym (getD-over (oriented b ps) i 0 (subst (λ (n : ℕ). n 
 pub after-over : (n i : ℕ) → n ≤ i → 0 ≡ cornerAfter n i
 unfolding cornerAfter
 after-over n i h = rw (le-ltb (i + 1) n (omega arith)) refl
-
-pub after-inside : (n i : ℕ) → i < n → cornerAfter n i < n
-unfolding cornerAfter
-after-inside n i h = go (ltb (i + 1) n) refl
-  where
-    go : (b : Bool) → ltb (i + 1) n ≡ b → cond b (i + 1) 0 < n
-    go true e = omega (arith, ltb-true (i + 1) n e)
-    go false e = omega (arith, h)

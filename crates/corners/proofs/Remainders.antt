@@ -1,8 +1,8 @@
--- The steps from corner to corner without a remainder, and the published code's with one. Assumes nothing.
+-- The steps from corner to corner go by one and start again at the end; the published code's go by a remainder. Both are the same. Assumes nothing.
 use mathlib.Core.Path.{_≡_, refl, sym, ap, _∙_}
 use mathlib.Core.Bool.{Bool, true, false, cond}
 use Prim.Native.Nat.{ℕ, _+_, _-_, _%_, _<_}
-use native.Mathlib.Nat.{mod-eq-of-lt, mod-self, add-mod-right}
+use native.Mathlib.Nat.{mod-eq-of-lt, mod-lt, mod-self, add-mod-right}
 use native.Mathlib.Omega.{arith}
 use lib.Dec.{ltb, eqb}
 use borrow.Author.Tests.{ltb-true, ltb-false, eqb-true, eqb-false}
@@ -17,6 +17,10 @@ after-remainder n i h = go (ltb (i + 1) n) refl
     go false e =
         let whole : i + 1 ≡ n = omega (arith, ltb-false (i + 1) n e) in
         sym (ap (λ (k : ℕ). k % n) whole ∙ mod-self n)
+
+-- so the corner after one that there is is there
+pub after-inside : (n i j : ℕ) → i < n → j ≡ cornerAfter n i → j < n
+after-inside n i j h at = omega (arith, at ∙ after-remainder n i h, mod-lt (i + 1) {m = n} (omega (arith, h)))
 
 pub before-remainder : (n i : ℕ) → i < n → cornerBefore n i ≡ (i + n - 1) % n
 unfolding cornerBefore

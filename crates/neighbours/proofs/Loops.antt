@@ -13,7 +13,7 @@ use Rattle.lists.specs.Regions.{run, put, zeros}
 use Rattle.lists.proofs.Gather.{length-each, getD-each}
 use Rattle.lists.proofs.Regions.{put-store, length-put, put-run, length-run, getD-run, run-run, run-put, run-before, run-behind}
 use Rattle.corners.specs.Corners.{cornerAfter, nextCorner}
-use Rattle.corners.proofs.Corners.{after-inside}
+use Rattle.corners.proofs.Remainders.{after-inside}
 use Rattle.cutting.specs.Edges.{Edge, ring}
 use Rattle.cutting.specs.Lent.{pairs, flatEdges}
 use Rattle.cutting.proofs.Pairs.{pairs-length, ends-length}
@@ -181,7 +181,7 @@ module _ (w₀ : List ℕ) (at m base k scratch h n : ℕ) (h₁ : at + m ≤ ba
     cell-turn j r′ w′ more after long got =
         let gs : List Edge = addedTo (i + 1) cs es₀ in
         let n-is : length cs ≡ m = length-run w₀ at m (omega arith) in
-        let b-is : getD w (at + j) 0 ≡ nextCorner cs i = corner j (omega (arith, after, after-inside m i more))
+        let b-is : getD w (at + j) 0 ≡ nextCorner cs i = corner j (after-inside m i j more after)
         ∙ ap (λ (c : ℕ). getD cs c 0) (after ∙ ap (λ (c : ℕ). cornerAfter c i) (sym n-is)) in
         let now-is : added (pairs (run w base (2 * r))) (getD w (at + i) 0, getD w (at + j) 0) ≡ gs =
         rw (read-edges h n base scratch w₀ h₃ fs w (inv .4) room r (inv .3), corner i more, b-is) (sym (addedTo-more i cs es₀)) in

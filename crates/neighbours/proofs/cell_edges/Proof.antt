@@ -1,7 +1,6 @@
-use Prim.Native.Nat.{_+_, _-_, _<_}
+use Prim.Native.Nat.{_-_}
 use native.Mathlib.Omega.{arith}
-use lib.ListN.{length}
-use Rattle.corners.proofs.Corners.{after-inside}
+use Rattle.corners.proofs.Remainders.{after-inside}
 use Rattle.neighbours.proofs.Loops.{Filled, cell-start, cell-ready, cell-turn, cell-end}
 use borrow.Author.Needs.{needs}
 use Rattle.neighbours.proofs.cell_edges.Statement.{statement}
@@ -50,22 +49,29 @@ loop-holds c =
     cell-start (c .before .args .w .now) (c .before .args .at) (c .before .args .m) (c .before .args .base) (c .before .args .k) (c .before .args .scratch)
     (c .before .args .h) (c .before .args .n) (c .before .pre .0) (c .before .pre .1) (c .before .pre .2) (c .before .pre .6)
 
--- the corner after one of the cell stands in the list
-read-b : (c : tie.After-after Inv-loop μ-loop) → entry (loop-of-in-loop (in-loop c)) .args .at + c .after .result < length (loop-of-in-loop (in-loop c) .loop .w)
-read-b c =
-    let at-loop = loop-of-in-loop (in-loop c) in
-    let at-entry = entry at-loop in
-    let inside = after-inside (at-entry .args .m) (at-loop .loop .i) (in-loop c .loop-test .taken) in
-    omega (arith, c .after .ensures, inside, at-entry .pre .0, at-entry .pre .1, at-entry .pre .2, at-loop .loop .inv .2)
-
 add-b : tie.Need-add-b Inv-loop μ-loop
-add-b c = omega (arith, read-b (after-at-add-b c))
+add-b c =
+    let at-in-loop = in-loop (after-at-add-b c) in
+    let at-loop = loop-of-in-loop at-in-loop in
+    let at-entry = entry at-loop in
+    let inside = after-inside (at-entry .args .m) (at-loop .loop .i) (c .before .after .result) (at-in-loop .loop-test .taken) (c .before .after .ensures) in
+    omega (arith, inside, at-entry .pre .0, at-entry .pre .1, at-entry .pre .2, at-loop .loop .inv .2)
 
 mul-b : tie.Need-mul-b Inv-loop μ-loop
-mul-b c = omega (arith, read-b (after-at-add-b c))
+mul-b c =
+    let at-in-loop = in-loop (after-at-add-b c) in
+    let at-loop = loop-of-in-loop at-in-loop in
+    let at-entry = entry at-loop in
+    let inside = after-inside (at-entry .args .m) (at-loop .loop .i) (c .before .after .result) (at-in-loop .loop-test .taken) (c .before .after .ensures) in
+    omega (arith, inside, at-entry .pre .0, at-entry .pre .1, at-entry .pre .2, at-loop .loop .inv .2)
 
 slice-read-b : tie.Need-slice-read-b Inv-loop μ-loop
-slice-read-b c = read-b (after-at-slice-read-b c)
+slice-read-b c =
+    let at-after = after-at-slice-read-b c in
+    let at-loop = loop-of-in-loop (in-loop at-after) in
+    let at-entry = entry at-loop in
+    let inside = after-inside (at-entry .args .m) (at-loop .loop .i) (at-after .after .result) (in-loop at-after .loop-test .taken) (at-after .after .ensures) in
+    omega (arith, inside, at-entry .pre .0, at-entry .pre .1, at-entry .pre .2, at-loop .loop .inv .2)
 
 add-edge-requires : tie.Need-add-edge-requires Inv-loop μ-loop
 add-edge-requires c κs =
@@ -100,5 +106,5 @@ returns c =
     (at-entry .args .h) (at-entry .args .n) (at-entry .pre .0) (at-entry .pre .1) (at-entry .pre .2) (at-entry .pre .6) (l .w) (l .r) (l .i) (l .inv) (c .loop-test .left)
 
 pub cell-edges-spec : {M : Type 1} → statement M
-cell-edges-spec = tie.close (tie.spec Inv-loop μ-loop loop-holds (λ c κs. search needs) (λ c. search needs) (λ c. search needs) (λ c. search needs)
-    add-b mul-b slice-read-b add-edge-requires (λ c. search needs) (λ c. search needs) loop-again (λ c. search needs) returns)
+cell-edges-spec = tie.close (tie.spec Inv-loop μ-loop loop-holds (λ c κs. search needs) (λ c. search needs) (λ c. search needs) (λ c. search needs) add-b mul-b
+    slice-read-b add-edge-requires (λ c. search needs) (λ c. search needs) loop-again (λ c. search needs) returns)
