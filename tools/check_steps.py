@@ -14,7 +14,7 @@ import sys
 
 ROOT = pathlib.Path(__file__).resolve().parent.parent
 STEPS = {("corners", "after"), ("corners", "previous"), ("corners", "next_corner"), ("dart_walk", "first_open"), ("dart_walk", "next_open")}
-FUNCTION = re.compile(r'^( *)(?:pub )?(?:extern "C" )?fn (\w+)')
+FUNCTION = re.compile(r'^( *)(?:pub(?:\(crate\))? )?(?:extern "C" )?fn (\w+)')
 CALL = re.compile(r"((?:\w+::)*)(\w+)\(")
 WHOLE_DIVISION = re.compile(r"i?div[bwlq]?$")  # not divsd, divpd: a division of floats
 
@@ -91,7 +91,7 @@ def check_library(library, bodies, calls):
     counts = compiled(library)
     origin = {one: {key for key in bodies if key[1] == one.split("::")[-1] and key[0] == (one.split("::")[0] if "::" in one else key[0])} for one in counts}
     holding = sorted(one for one in counts if reached(origin[one], calls) & STEPS)
-    print(f"{library.name}: {len(counts)} functions, {sum(n for n, _ in counts.values()):,} instructions; a step is or may be called in " + ", ".join(holding))
+    print(f"{library.name}: {len(counts)} functions, {sum(n for n, _ in counts.values()):,} instructions; calls lead to a step from " + ", ".join(holding))
     faults = [] if holding else [f"{library.name}: no function takes a step"]
     for one, (_, divisions) in sorted(counts.items()):
         if divisions and one in holding:
@@ -116,7 +116,7 @@ def main():
         for library in libraries(sys.argv[1:]):
             faults += check_library(library, bodies, calls)
     except (OSError, subprocess.CalledProcessError) as error:
-        print(f"check_steps: {error}", file=sys.stderr)
+        print(f"check_steps: {error}\n{getattr(error, 'stderr', None) or ''}", file=sys.stderr)
         return 2
     print("\n".join(faults) if faults else "no step holds a division or a remainder")
     return 1 if faults else 0
