@@ -78,6 +78,12 @@ def compiled(library):
     return counts
 
 
+def sources(symbol, bodies):
+    """the functions of the source that a symbol can be: `crate::module::name`, or the bare name of an exported one"""
+    *way, name = symbol.split("::")
+    return {one for one in bodies if one[1] == name and way[:1] in ([], [one[0]])}
+
+
 def check_source(bodies, calls):
     faults = [f"{crate}::{name}: no such function" for crate, name in sorted(STEPS - bodies.keys())]
     takers = {one for one in bodies if one in STEPS or calls[one] & STEPS}
@@ -89,8 +95,7 @@ def check_source(bodies, calls):
 
 def check_library(library, bodies, calls):
     counts = compiled(library)
-    origin = {one: {key for key in bodies if key[1] == one.split("::")[-1] and key[0] == (one.split("::")[0] if "::" in one else key[0])} for one in counts}
-    holding = sorted(one for one in counts if reached(origin[one], calls) & STEPS)
+    holding = sorted(one for one in counts if reached(sources(one, bodies), calls) & STEPS)
     print(f"{library.name}: {len(counts)} functions, {sum(n for n, _ in counts.values()):,} instructions; calls lead to a step from " + ", ".join(holding))
     faults = [] if holding else [f"{library.name}: no function takes a step"]
     for one, (_, divisions) in sorted(counts.items()):

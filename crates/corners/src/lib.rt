@@ -39,6 +39,7 @@ pub fn after(n: usize, i: usize) -> usize
     0
 }
 
+// The corner before corner i of n; before the first comes the last.
 pub fn previous(n: usize, i: usize) -> usize
     ensures { λ r. ⌜ r ≡ cornerBefore n i ⌝ }
 {

@@ -108,6 +108,15 @@ module _ (p : ℕ → Bool) (n r : ℕ) (h : r < n) where
 abbrev pub slotsAt : ℕ → List ℕ → ℕ → List ℕ
 slotsAt n src a = places (λ i. eqb (getD src i 0) a) n
 
+-- The slot that the published walk finds after the one at place q of that vector: the first unmarked one of the places `(last_opposed_dart_pos + i) % n`,
+-- i in 1..n, with the vector's length for n; where the walk may turn back, also i = n. n, here the table's length, where there is none.
+abbrev pub publishedNext : Bool → ℕ → List ℕ → List ℕ → ℕ → ℕ → ℕ
+publishedNext turning n src marks a q =
+    let v = slotsAt n src a in
+    let end = length v + bit turning in
+    let k = first (λ i. eqb (getD marks (getD v ((q + i) % length v) 0) 0) 0) 1 end in
+    orElse (ltb k end) (getD v ((q + k) % length v) 0) n
+
 module _ (n : ℕ) (src marks : List ℕ) (a : ℕ) where
   abbrev vector : List ℕ
   vector = slotsAt n src a
@@ -180,8 +189,6 @@ module _ (n : ℕ) (src marks : List ℕ) (a : ℕ) where
             sym (first-turn isOpen x y y x≤y (omega arith)
             (none-before y (omega arith) (λ j _ _ m _. omega (arith, m, ltb-false place e e′))) (λ l. absurd (omega (arith, l))))
 
-  -- The next slot after the one at place q of its node's vector is the one that the published code finds, `(last_opposed_dart_pos + i) % n` for i in 1..n;
-  -- where the walk may turn back, also for i = n.
   module _ (turning : Bool) (q : ℕ) (h : q < size) where
     abbrev end : ℕ
     end = size + bit turning
@@ -193,7 +200,7 @@ module _ (n : ℕ) (src marks : List ℕ) (a : ℕ) where
     abbrev slotOf : ℕ → ℕ
     slotOf j = orElse (ltb j size) (nth j) n
 
-    published : slotOf (byRemainder free size q end) ≡ orElse (ltb steps end) (nth ((q + steps) % size)) n
+    published : slotOf (byRemainder free size q end) ≡ publishedNext turning n src marks a q
     published = go (ltb steps end)
       where
         go : (t : Bool) → slotOf (orElse t ((q + steps) % size) size) ≡ orElse t (nth ((q + steps) % size)) n
@@ -255,5 +262,9 @@ module _ (n : ℕ) (src marks : List ℕ) (a : ℕ) where
             (orElse (ltb (orElse (ltb s q) (nth s) (nth q)) (nth q)) (orElse (ltb s q) (nth s) (nth q)) (orElse (turning && free q) (nth q) n)))
             (le-ltb n n (omega arith)) ∙ go-early (ltb s q) refl
 
-    pub next-remainder : nextOpen turning n src marks a (nth q) ≡ orElse (ltb steps end) (nth ((q + steps) % size)) n
-    next-remainder = by-places ∙ ap slotOf (round-remainder free size q h turning) ∙ published
+-- the next slot after one of its node's is the one that the published walk finds
+pub next-remainder : (turning : Bool) (n : ℕ) (src marks : List ℕ) (a q : ℕ) → q < length (slotsAt n src a)
+    → nextOpen turning n src marks a (getD (slotsAt n src a) q 0) ≡ publishedNext turning n src marks a q
+next-remainder turning n src marks a q h =
+    by-places n src marks a turning q h ∙ ap (slotOf n src marks a turning q h)
+    (round-remainder (free n src marks a) (length (slotsAt n src a)) q h turning) ∙ published n src marks a turning q h

@@ -1,4 +1,5 @@
--- K1's cell, K10's cell, a cell with an edge traced again, also by document 01 alone, and one whose outline repeats, by computation; exact areas. Assumes nothing.
+-- K1's cell, K10's cell, a cell with an edge traced again, also by document 01 alone, and one whose outline repeats, by computation; the next slot; exact areas.
+-- Assumes nothing.
 use mathlib.Core.Path.{_≡_, refl}
 use mathlib.Core.Bool.{Bool, true, false}
 use mathlib.Core.List.{List, [], _∷_}
@@ -6,7 +7,7 @@ use Prim.Native.Nat.{ℕ, _*_, _^_}
 use lib.IntN.{pos, negℤ}
 use lib.Ieee.{Float, binary64, ofBits, sub}
 use Rattle.lists.specs.Search.{seek, first}
-use Rattle.lists.specs.Gather.{all, passing, joined, tally}
+use Rattle.lists.specs.Gather.{gathered, all, passing, joined, tally}
 use Rattle.lists.specs.Sort.{insert, sortOnto}
 use Rattle.exact.specs.Angle.{angles}
 use Rattle.exact.specs.Exact.{coord, mag, sign, ordered}
@@ -32,6 +33,7 @@ use Rattle.cutting.specs.Cell.{
   doubled,
 }
 use Rattle.cutting.specs.Walk.{slot, nextOpen, begin, rest, onward, arrive, follow, step, walkSteps, starts, walkFrom, walkWith}
+use Rattle.cutting.proofs.Remainders.{slotsAt, publishedNext}
 use Rattle.cutting.specs.Areas.{doubledArea}
 use Rattle.cutting.specs.Outcome.{Outcome, refusal, pieces, closesUp, tooMany, cutOutcomeWith}
 
@@ -97,6 +99,23 @@ turned : _≡_ {A = List Edge × List Edge}
     ((8, 0) ∷ (1, 8) ∷ [], (4, 8) ∷ (4, 5) ∷ [])
 unfolding outlineDarts ownDarts dartsAlong joined hops isNew newTo tally table edgeSlots nearDarts innerWith
 turned = refl
+
+-- Slots 0, 2, 3 and 5 are at node 8, the others at 9. The next one of node 8: one on, past the others; past a marked one; from the last to the first; all
+-- others marked, back to itself where the walk may turn back, else none. Each again by the published code's remainder.
+next : List ℕ
+next =
+    let src : List ℕ = 8 ∷ 9 ∷ 8 ∷ 8 ∷ 9 ∷ 8 ∷ [] in
+    let fresh : List ℕ = 0 ∷ 0 ∷ 0 ∷ 0 ∷ 0 ∷ 0 ∷ [] in
+    let walked : List ℕ = 1 ∷ 0 ∷ 0 ∷ 1 ∷ 0 ∷ 1 ∷ [] in
+    nextOpen true 6 src fresh 8 3 ∷ nextOpen true 6 src (0 ∷ 0 ∷ 0 ∷ 1 ∷ 0 ∷ 0 ∷ []) 8 2 ∷ nextOpen true 6 src fresh 8 5
+    ∷ nextOpen true 6 src walked 8 2 ∷ nextOpen false 6 src walked 8 2
+    ∷ publishedNext true 6 src fresh 8 2 ∷ publishedNext true 6 src (0 ∷ 0 ∷ 0 ∷ 1 ∷ 0 ∷ 0 ∷ []) 8 1 ∷ publishedNext true 6 src fresh 8 3
+    ∷ publishedNext true 6 src walked 8 1 ∷ publishedNext false 6 src walked 8 1
+    ∷ slotsAt 6 src 8
+
+rounds : next ≡ 5 ∷ 5 ∷ 0 ∷ 2 ∷ 6 ∷ 5 ∷ 5 ∷ 0 ∷ 2 ∷ 6 ∷ 0 ∷ 2 ∷ 3 ∷ 5 ∷ []
+unfolding next nextOpen first seek gathered
+rounds = refl
 
 -- 1,024 slots pass, 1,026 don't
 limit : _≡_ {A = Bool × Bool} (tooMany 1024, tooMany 1026) (false, true)

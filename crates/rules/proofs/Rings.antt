@@ -7,7 +7,7 @@ use native.Mathlib.Numerals.{add-one}
 use native.Mathlib.Omega.{arith}
 use lib.Dec.{ltb}
 use lib.ListN.{length, getD, drop, length-append, List·getD-append}
-use lib.Seq.{drop-cons}
+use lib.Seq.{drop-cons, getD-at}
 use borrow.Author.Tests.{ltb-true, ltb-false}
 use Rattle.lists.specs.Gather.{gathered, each}
 use Rattle.lists.proofs.Gather.{each-head, each-ext, length-each, getD-each}
@@ -28,11 +28,7 @@ hops-each x [] = refl
 hops-each x (y ∷ ys) =
     ap (λ (es : List Edge). (x, y) ∷ es) (hops-each y ys) ∙ sym (each-head (length ys) (λ i. (getD (x ∷ y ∷ ys) i 0, getD (x ∷ y ∷ ys) (suc i) 0)))
 
-last : (xs : List ℕ) (x : ℕ) → getD (xs ++ x ∷ []) (length xs) 0 ≡ x
-last [] x = refl
-last (y ∷ ys) x = last ys x
-
--- behind the first corner the first one comes again after the last
+-- the nodes behind a first corner, it again behind the last, are the corners after each
 after-first : (x : ℕ) (xs : List ℕ) (i : ℕ) → i < suc (length xs) → getD (xs ++ x ∷ []) i 0 ≡ nextCorner (x ∷ xs) i
 unfolding nextCorner cornerAfter
 after-first x xs i h = go (ltb (i + 1) (suc (length xs))) refl
@@ -42,8 +38,8 @@ after-first x xs i h = go (ltb (i + 1) (suc (length xs))) refl
         let below : i < length xs = omega (arith, ltb-true (i + 1) (suc (length xs)) e) in
         List·getD-append xs (x ∷ []) 0 i below ∙ ap (λ (k : ℕ). getD (x ∷ xs) k 0) (sym (add-one i))
     go false e =
-        let at : i ≡ length xs = omega (arith, ltb-false (i + 1) (suc (length xs)) e) in
-        ap (λ (k : ℕ). getD (xs ++ x ∷ []) k 0) at ∙ last xs x
+        let at : length xs ≡ i = omega (arith, ltb-false (i + 1) (suc (length xs)) e) in
+        getD-at xs x [] 0 i at
 
 pub ring-each : (cell : List ℕ) → ring cell ≡ sides cell (length cell)
 unfolding ring gathered
