@@ -154,11 +154,13 @@ lines k =
     (each n (λ j. 2 * j + 2)) (replicate n 1) (replicate n 0)
 
 -- lists with 5 in each place and 2.0 for each coordinate; and all zero
-abbrev fives : ℕ → ℕ → ℕ → ℕ → ℕ → ℕ → Lists
-fives c n e k f w = onLists (replicate c ii) (replicate n 5) (replicate e 5) (replicate k 5) (replicate f 5) (replicate w 5)
+abbrev fives : ℕ → ℕ → ℕ → ℕ → ℕ → ℕ → ℕ → ℕ → Lists
+fives c n e k f m j w =
+    onLists (replicate c ii) (replicate n 5) (replicate e 5) (replicate k 5) (replicate f 5) (replicate m 5) (replicate j 5) (replicate w 5)
 
-abbrev noughts : ℕ → ℕ → ℕ → ℕ → ℕ → ℕ → Lists
-noughts c n e k f w = onLists (replicate c 0) (replicate n 0) (replicate e 0) (replicate k 0) (replicate f 0) (replicate w 0)
+abbrev noughts : ℕ → ℕ → ℕ → ℕ → ℕ → ℕ → ℕ → ℕ → Lists
+noughts c n e k f m j w =
+    onLists (replicate c 0) (replicate n 0) (replicate e 0) (replicate k 0) (replicate f 0) (replicate m 0) (replicate j 0) (replicate w 0)
 
 abbrev refused : ℕ → Lists → Result
 refused r l = result r 0 0 0 l
@@ -174,8 +176,8 @@ cut-coords = square-coords ++ i ∷ -i ∷ iii ∷ -i ∷ iii ∷ iii ∷ i ∷ 
 rows : List Row
 rows =
     -- K1, with one place more in each list than its answer takes
-    overlay (case 0 9 square strip (fives 21 9 3 3 3 500) (result 0 2 2 0
-    (onLists (cut-coords ++ ii ∷ []) (3 ∷ 0 ∷ 8 ∷ 9 ∷ 9 ∷ 8 ∷ 1 ∷ 2 ∷ 5 ∷ []) (4 ∷ 8 ∷ 5 ∷ []) (11 ∷ 11 ∷ 5 ∷ []) (7 ∷ 7 ∷ 5 ∷ []) (replicate 500 0))))
+    overlay (case 0 9 square strip (fives 21 9 3 3 3 3 3 500) (result 0 2 2 0
+    (onLists (cut-coords ++ ii ∷ []) (3 ∷ 0 ∷ 8 ∷ 9 ∷ 9 ∷ 8 ∷ 1 ∷ 2 ∷ 5 ∷ []) (4 ∷ 8 ∷ 5 ∷ []) (11 ∷ 11 ∷ 5 ∷ []) (7 ∷ 7 ∷ 5 ∷ []) (0 ∷ 0 ∷ 5 ∷ []) (0 ∷ 0 ∷ 5 ∷ []) (replicate 500 0))))
     -- its areas, in units of 2^-2148: the outline's is 8, each piece's 4; clockwise they are below 0
     ∷ areas-of square strip (0 ∷ (8 * 2 ^ 2148) ∷ 0 ∷ (4 * 2 ^ 2148) ∷ 0 ∷ (4 * 2 ^ 2148) ∷ [])
     ∷ areas-of clockwise away (1 ∷ (8 * 2 ^ 2148) ∷ 1 ∷ (8 * 2 ^ 2148) ∷ [])
@@ -192,9 +194,9 @@ rows =
     -- K9
     ∷ inner-of (o ∷ ii ∷ o ∷ o ∷ i ∷ o ∷ i ∷ ii ∷ []) (0 ∷ 1 ∷ 2 ∷ 3 ∷ []) (1 ∷ half ∷ i ∷ [])
     -- K10: the walk turns back at the line's end; by document 01 alone, refusal 11
-    ∷ overlay (case 5 9 square line (fives 15 8 2 2 2 500) (result 0 1 1 0 (onLists
-    (square-coords ++ i ∷ -i ∷ i ∷ i ∷ i ∷ o ∷ ii ∷ []) (3 ∷ 0 ∷ 6 ∷ 5 ∷ 6 ∷ 1 ∷ 2 ∷ 5 ∷ []) (7 ∷ 5 ∷ []) (11 ∷ 5 ∷ []) (7 ∷ 5 ∷ []) (replicate 500 0))))
-    ∷ set-to base (case 5 9 square line (fives 15 8 2 2 2 500) (refused 11 (noughts 15 8 2 2 2 500)))
+    ∷ overlay (case 5 9 square line (fives 15 8 2 2 2 2 2 500) (result 0 1 1 0 (onLists
+    (square-coords ++ i ∷ -i ∷ i ∷ i ∷ i ∷ o ∷ ii ∷ []) (3 ∷ 0 ∷ 6 ∷ 5 ∷ 6 ∷ 1 ∷ 2 ∷ 5 ∷ []) (7 ∷ 5 ∷ []) (11 ∷ 5 ∷ []) (7 ∷ 5 ∷ []) (0 ∷ 5 ∷ []) (0 ∷ 5 ∷ []) (replicate 500 0))))
+    ∷ set-to base (case 5 9 square line (fives 15 8 2 2 2 2 2 500) (refused 11 (noughts 15 8 2 2 2 2 2 500)))
     -- tempting: a piece closes when its first node returns, not its first dart
     ∷ pieces-of (o ∷ o ∷ i ∷ -i ∷ i ∷ i ∷ -i ∷ i ∷ -i ∷ -i ∷ []) ((1, 2) ∷ (2, 0) ∷ (0, 3) ∷ (3, 4) ∷ (4, 0) ∷ (0, 1) ∷ []) (0 ∷ 1 ∷ 2 ∷ 4 ∷ 0 ∷ 3 ∷ []) (3 ∷ 6 ∷ [])
     -- the key's second node isn't sorted with the others
@@ -212,63 +214,71 @@ rows =
     ∷ crowded-by 256 false
     ∷ crowded-by 257 true
     -- K1 with a working list too short
-    ∷ overlay (case 0 2 square strip (fives 20 8 2 2 2 351) (refused 7 (fives 20 8 2 2 2 351)))
+    ∷ overlay (case 0 2 square strip (fives 20 8 2 2 2 2 2 351) (refused 7 (fives 20 8 2 2 2 2 2 351)))
     -- the order of refusals: a meeting beyond M comes before its point that has no place
-    ∷ overlay (case 0 1 square strip (fives 18 0 0 0 0 352) (refused 8 (noughts 18 0 0 0 0 352)))
+    ∷ overlay (case 0 1 square strip (fives 18 0 0 0 0 0 0 352) (refused 8 (noughts 18 0 0 0 0 0 0 352)))
     -- K1 with room for it and no more
-    ∷ overlay (case 0 2 square strip (fives 20 8 2 2 2 352) (result 0 2 2 0
-    (onLists cut-coords (3 ∷ 0 ∷ 8 ∷ 9 ∷ 9 ∷ 8 ∷ 1 ∷ 2 ∷ []) (4 ∷ 8 ∷ []) (11 ∷ 11 ∷ []) (7 ∷ 7 ∷ []) (replicate 352 0))))
+    ∷ overlay (case 0 2 square strip (fives 20 8 2 2 2 2 2 352) (result 0 2 2 0
+    (onLists cut-coords (3 ∷ 0 ∷ 8 ∷ 9 ∷ 9 ∷ 8 ∷ 1 ∷ 2 ∷ []) (4 ∷ 8 ∷ []) (11 ∷ 11 ∷ []) (7 ∷ 7 ∷ []) (0 ∷ 0 ∷ []) (0 ∷ 0 ∷ []) (replicate 352 0))))
     -- a line twice: lines aren't made unique, but an edge is in a table once; by document 01 alone the cell is doubled
-    ∷ overlay (case 5 9 square twice (fives 20 8 1 1 1 500) (result 0 1 4 0 (onLists
-    (square-coords ++ i ∷ -i ∷ i ∷ iii ∷ i ∷ o ∷ i ∷ o ∷ i ∷ ii ∷ i ∷ ii ∷ []) (3 ∷ 0 ∷ 6 ∷ 7 ∷ 1 ∷ 2 ∷ 8 ∷ 9 ∷ []) (8 ∷ []) (11 ∷ []) (7 ∷ []) (replicate 500 0))))
-    ∷ set-to base (case 5 9 square twice (fives 20 8 1 1 1 500) (result 0 1 4 1 (onLists
-    (square-coords ++ i ∷ -i ∷ i ∷ iii ∷ i ∷ o ∷ i ∷ o ∷ i ∷ ii ∷ i ∷ ii ∷ []) (3 ∷ 0 ∷ 6 ∷ 7 ∷ 1 ∷ 2 ∷ 8 ∷ 9 ∷ []) (8 ∷ []) (11 ∷ []) (7 ∷ []) (replicate 500 0))))
+    ∷ overlay (case 5 9 square twice (fives 20 8 1 1 1 1 1 500) (result 0 1 4 0 (onLists
+    (square-coords ++ i ∷ -i ∷ i ∷ iii ∷ i ∷ o ∷ i ∷ o ∷ i ∷ ii ∷ i ∷ ii ∷ []) (3 ∷ 0 ∷ 6 ∷ 7 ∷ 1 ∷ 2 ∷ 8 ∷ 9 ∷ []) (8 ∷ []) (11 ∷ []) (7 ∷ []) (0 ∷ []) (0 ∷ []) (replicate 500 0))))
+    ∷ set-to base (case 5 9 square twice (fives 20 8 1 1 1 1 1 500) (result 0 1 4 1 (onLists
+    (square-coords ++ i ∷ -i ∷ i ∷ iii ∷ i ∷ o ∷ i ∷ o ∷ i ∷ ii ∷ i ∷ ii ∷ []) (3 ∷ 0 ∷ 6 ∷ 7 ∷ 1 ∷ 2 ∷ 8 ∷ 9 ∷ []) (8 ∷ []) (11 ∷ []) (7 ∷ []) (0 ∷ []) (0 ∷ []) (replicate 500 0))))
     -- two cells, both cut
-    ∷ overlay (case 0 9 squares strip (fives 28 16 4 4 4 572) (result 0 4 4 0 (onLists
+    ∷ overlay (case 0 9 squares strip (fives 28 16 4 4 4 4 4 572) (result 0 4 4 0 (onLists
     (o ∷ o ∷ ii ∷ o ∷ iv ∷ o ∷ iv ∷ ii ∷ ii ∷ ii ∷ o ∷ ii ∷ i ∷ -i ∷ iii ∷ -i ∷ iii ∷ iii ∷ i ∷ iii ∷ i ∷ o ∷ i ∷ ii ∷ iii ∷ o ∷ iii ∷ ii ∷ [])
-    (5 ∷ 0 ∷ 10 ∷ 11 ∷ 11 ∷ 10 ∷ 1 ∷ 4 ∷ 4 ∷ 1 ∷ 12 ∷ 13 ∷ 13 ∷ 12 ∷ 2 ∷ 3 ∷ []) (4 ∷ 8 ∷ 12 ∷ 16 ∷ []) (11 ∷ 11 ∷ 11 ∷ 11 ∷ []) (7 ∷ 7 ∷ 9 ∷ 9 ∷ []) (replicate 572 0))))
+    (5 ∷ 0 ∷ 10 ∷ 11 ∷ 11 ∷ 10 ∷ 1 ∷ 4 ∷ 4 ∷ 1 ∷ 12 ∷ 13 ∷ 13 ∷ 12 ∷ 2 ∷ 3 ∷ []) (4 ∷ 8 ∷ 12 ∷ 16 ∷ []) (11 ∷ 11 ∷ 11 ∷ 11 ∷ []) (7 ∷ 7 ∷ 9 ∷ 9 ∷ [])
+    (0 ∷ 0 ∷ 0 ∷ 0 ∷ []) (0 ∷ 0 ∷ 1 ∷ 1 ∷ []) (replicate 572 0))))
     -- K1's meshes under Union, Difference, Intersection and SymmetricDifference
-    ∷ overlay (case 1 9 square strip (fives 20 16 3 3 3 500) (result 0 3 2 0
-    (onLists cut-coords (3 ∷ 0 ∷ 8 ∷ 9 ∷ 9 ∷ 8 ∷ 1 ∷ 2 ∷ 7 ∷ 9 ∷ 2 ∷ 1 ∷ 8 ∷ 4 ∷ 5 ∷ 6 ∷ []) (4 ∷ 8 ∷ 16 ∷ []) (11 ∷ 11 ∷ 11 ∷ []) (7 ∷ 7 ∷ 0 ∷ []) (replicate 500 0))))
-    ∷ overlay (case 3 9 square strip (fives 20 4 1 1 1 500) (result 0 1 2 0 (onLists cut-coords (3 ∷ 0 ∷ 8 ∷ 9 ∷ []) (4 ∷ []) (11 ∷ []) (7 ∷ []) (replicate 500 0))))
-    ∷ overlay (case 2 9 square strip (fives 20 4 1 1 1 500) (result 0 1 2 0 (onLists cut-coords (9 ∷ 8 ∷ 1 ∷ 2 ∷ []) (4 ∷ []) (11 ∷ []) (7 ∷ []) (replicate 500 0))))
-    ∷ overlay (case 4 9 square strip (fives 20 12 2 2 2 500) (result 0 2 2 0
-    (onLists cut-coords (3 ∷ 0 ∷ 8 ∷ 9 ∷ 7 ∷ 9 ∷ 2 ∷ 1 ∷ 8 ∷ 4 ∷ 5 ∷ 6 ∷ []) (4 ∷ 12 ∷ []) (11 ∷ 11 ∷ []) (7 ∷ 0 ∷ []) (replicate 500 0))))
+    ∷ overlay (case 1 9 square strip (fives 20 16 3 3 3 3 3 500) (result 0 3 2 0
+    (onLists cut-coords (3 ∷ 0 ∷ 8 ∷ 9 ∷ 9 ∷ 8 ∷ 1 ∷ 2 ∷ 7 ∷ 9 ∷ 2 ∷ 1 ∷ 8 ∷ 4 ∷ 5 ∷ 6 ∷ []) (4 ∷ 8 ∷ 16 ∷ []) (11 ∷ 11 ∷ 11 ∷ []) (7 ∷ 7 ∷ 0 ∷ [])
+    (0 ∷ 0 ∷ 1 ∷ []) (0 ∷ 0 ∷ 0 ∷ []) (replicate 500 0))))
+    ∷ overlay (case 3 9 square strip (fives 20 4 1 1 1 1 1 500) (result 0 1 2 0 (onLists cut-coords (3 ∷ 0 ∷ 8 ∷ 9 ∷ []) (4 ∷ []) (11 ∷ []) (7 ∷ []) (0 ∷ []) (0 ∷ []) (replicate 500 0))))
+    ∷ overlay (case 2 9 square strip (fives 20 4 1 1 1 1 1 500) (result 0 1 2 0 (onLists cut-coords (9 ∷ 8 ∷ 1 ∷ 2 ∷ []) (4 ∷ []) (11 ∷ []) (7 ∷ []) (0 ∷ []) (0 ∷ []) (replicate 500 0))))
+    ∷ overlay (case 4 9 square strip (fives 20 12 2 2 2 2 2 500) (result 0 2 2 0
+    (onLists cut-coords (3 ∷ 0 ∷ 8 ∷ 9 ∷ 7 ∷ 9 ∷ 2 ∷ 1 ∷ 8 ∷ 4 ∷ 5 ∷ 6 ∷ []) (4 ∷ 12 ∷ []) (11 ∷ 11 ∷ []) (7 ∷ 0 ∷ []) (0 ∷ 1 ∷ []) (0 ∷ 0 ∷ []) (replicate 500 0))))
     -- a cell copied
-    ∷ overlay (case 1 9 square away (fives 14 7 2 2 2 500) (result 0 2 0 0
+    ∷ overlay (case 1 9 square away (fives 14 7 2 2 2 2 2 500) (result 0 2 0 0
     (onLists (o ∷ o ∷ ii ∷ o ∷ ii ∷ ii ∷ o ∷ ii ∷ iii ∷ iii ∷ iv ∷ iii ∷ iv ∷ iv ∷ []) (0 ∷ 1 ∷ 2 ∷ 3 ∷ 4 ∷ 5 ∷ 6 ∷ []) (4 ∷ 7 ∷ []) (8 ∷ 5 ∷ [])
-    (7 ∷ 3 ∷ []) (replicate 500 0))))
+    (7 ∷ 3 ∷ []) (0 ∷ 1 ∷ []) (0 ∷ 0 ∷ []) (replicate 500 0))))
+    -- the cutter's cells are counted in their own mesh
+    ∷ overlay (case 1 9 away squares (fives 18 11 3 3 3 3 3 528) (result 0 3 0 0 (onLists
+    (iii ∷ iii ∷ iv ∷ iii ∷ iv ∷ iv ∷ o ∷ o ∷ ii ∷ o ∷ iv ∷ o ∷ iv ∷ ii ∷ ii ∷ ii ∷ o ∷ ii ∷ []) (0 ∷ 1 ∷ 2 ∷ 3 ∷ 4 ∷ 7 ∷ 8 ∷ 4 ∷ 5 ∷ 6 ∷ 7 ∷ [])
+    (3 ∷ 7 ∷ 11 ∷ []) (5 ∷ 8 ∷ 8 ∷ []) (3 ∷ 7 ∷ 9 ∷ []) (0 ∷ 1 ∷ 1 ∷ []) (0 ∷ 0 ∷ 1 ∷ []) (replicate 528 0))))
     -- K1 with one number, one node entry, or one place for a piece less than its answer takes
-    ∷ overlay (case 0 2 square strip (fives 19 8 2 2 2 352) (refused 12 (noughts 19 8 2 2 2 352)))
-    ∷ overlay (case 0 2 square strip (fives 20 7 2 2 2 352) (refused 12 (noughts 20 7 2 2 2 352)))
-    ∷ overlay (case 0 2 square strip (fives 20 8 1 2 2 352) (refused 12 (noughts 20 8 1 2 2 352)))
+    ∷ overlay (case 0 2 square strip (fives 19 8 2 2 2 2 2 352) (refused 12 (noughts 19 8 2 2 2 2 2 352)))
+    ∷ overlay (case 0 2 square strip (fives 20 7 2 2 2 2 2 352) (refused 12 (noughts 20 7 2 2 2 2 2 352)))
+    ∷ overlay (case 0 2 square strip (fives 20 8 1 2 2 2 2 352) (refused 12 (noughts 20 8 1 2 2 2 2 352)))
+    ∷ overlay (case 0 2 square strip (fives 20 8 2 2 2 1 2 352) (refused 12 (noughts 20 8 2 2 2 1 2 352)))
+    ∷ overlay (case 0 2 square strip (fives 20 8 2 2 2 2 1 352) (refused 12 (noughts 20 8 2 2 2 2 1 352)))
     -- the order of refusals again: a piece of the first cell comes before what the second cell's walk comes to, and that before a place for another piece
-    ∷ overlay (case 1 9 corner wedge (fives 14 7 1 1 1 500) (refused 12 (noughts 14 7 1 1 1 500)))
-    ∷ overlay (case 1 9 corner wedge (fives 14 7 2 2 2 500) (refused 11 (noughts 14 7 2 2 2 500)))
-    ∷ overlay (case 4 9 corner wedge (fives 14 7 2 2 2 500) (refused 11 (noughts 14 7 2 2 2 500)))
+    ∷ overlay (case 1 9 corner wedge (fives 14 7 1 1 1 1 1 500) (refused 12 (noughts 14 7 1 1 1 1 1 500)))
+    ∷ overlay (case 1 9 corner wedge (fives 14 7 2 2 2 2 2 500) (refused 11 (noughts 14 7 2 2 2 2 2 500)))
+    ∷ overlay (case 4 9 corner wedge (fives 14 7 2 2 2 2 2 500) (refused 11 (noughts 14 7 2 2 2 2 2 500)))
     -- of these the wedge isn't forward; both meshes of K1 are
     ∷ forward-of corner wedge theSubject true
     ∷ forward-of corner wedge theCutter false
     ∷ forward-of square strip theSubject true
     ∷ forward-of square strip theCutter true
     -- a ditch with a bend and an end; one with a fork, where the walk turns back twice; one that reaches no side is never walked
-    ∷ overlay (case 5 9 square bent (fives 16 9 1 1 1 500) (result 0 1 1 0 (onLists
-    (square-coords ++ i ∷ -i ∷ i ∷ i ∷ half ∷ i ∷ i ∷ o ∷ []) (3 ∷ 0 ∷ 7 ∷ 5 ∷ 6 ∷ 5 ∷ 7 ∷ 1 ∷ 2 ∷ []) (9 ∷ []) (11 ∷ []) (7 ∷ []) (replicate 500 0))))
-    ∷ overlay (case 5 9 square forked (fives 18 11 1 1 1 500) (result 0 1 1 0 (onLists
-    (square-coords ++ i ∷ -i ∷ i ∷ i ∷ half ∷ i ∷ i-half ∷ i ∷ i ∷ o ∷ []) (3 ∷ 0 ∷ 8 ∷ 5 ∷ 6 ∷ 5 ∷ 7 ∷ 5 ∷ 8 ∷ 1 ∷ 2 ∷ []) (11 ∷ []) (11 ∷ []) (7 ∷ []) (replicate 500 0))))
-    ∷ overlay (case 5 9 square inner-line (fives 12 4 1 1 1 500) (result 0 1 0 0 (onLists
-    (square-coords ++ half ∷ i ∷ i ∷ i ∷ []) (3 ∷ 0 ∷ 1 ∷ 2 ∷ []) (4 ∷ []) (11 ∷ []) (7 ∷ []) (replicate 500 0))))
+    ∷ overlay (case 5 9 square bent (fives 16 9 1 1 1 1 1 500) (result 0 1 1 0 (onLists
+    (square-coords ++ i ∷ -i ∷ i ∷ i ∷ half ∷ i ∷ i ∷ o ∷ []) (3 ∷ 0 ∷ 7 ∷ 5 ∷ 6 ∷ 5 ∷ 7 ∷ 1 ∷ 2 ∷ []) (9 ∷ []) (11 ∷ []) (7 ∷ []) (0 ∷ []) (0 ∷ []) (replicate 500 0))))
+    ∷ overlay (case 5 9 square forked (fives 18 11 1 1 1 1 1 500) (result 0 1 1 0 (onLists
+    (square-coords ++ i ∷ -i ∷ i ∷ i ∷ half ∷ i ∷ i-half ∷ i ∷ i ∷ o ∷ []) (3 ∷ 0 ∷ 8 ∷ 5 ∷ 6 ∷ 5 ∷ 7 ∷ 5 ∷ 8 ∷ 1 ∷ 2 ∷ []) (11 ∷ []) (11 ∷ []) (7 ∷ []) (0 ∷ []) (0 ∷ []) (replicate 500 0))))
+    ∷ overlay (case 5 9 square inner-line (fives 12 4 1 1 1 1 1 500) (result 0 1 0 0 (onLists
+    (square-coords ++ half ∷ i ∷ i ∷ i ∷ []) (3 ∷ 0 ∷ 1 ∷ 2 ∷ []) (4 ∷ []) (11 ∷ []) (7 ∷ []) (0 ∷ []) (0 ∷ []) (replicate 500 0))))
     -- a triangle whose first edge welding left from a node to itself: it isn't added to the square's table; as an outline it gives 19, and gave pieces of
     -- one and two corners before W14
-    ∷ overlay (case 0 9 square welded (fives 14 6 1 1 1 500) (result 0 1 0 0 (onLists
-    (square-coords ++ 0x3d61_9799_812d_ea11 ∷ o ∷ o ∷ 0x3d61_9799_812d_ea11 ∷ i ∷ i ∷ []) (3 ∷ 0 ∷ 6 ∷ 0 ∷ 1 ∷ 2 ∷ []) (6 ∷ []) (11 ∷ []) (7 ∷ []) (replicate 500 0))))
-    ∷ overlay (case 1 9 square welded (fives 14 6 1 1 1 500) (refused 19 (noughts 14 6 1 1 1 500)))
-    ∷ set-to (record { turning = true; once = false }) (case 1 9 square welded (fives 14 9 3 3 3 500) (result 0 3 0 2 (onLists
+    ∷ overlay (case 0 9 square welded (fives 14 6 1 1 1 1 1 500) (result 0 1 0 0 (onLists
+    (square-coords ++ 0x3d61_9799_812d_ea11 ∷ o ∷ o ∷ 0x3d61_9799_812d_ea11 ∷ i ∷ i ∷ []) (3 ∷ 0 ∷ 6 ∷ 0 ∷ 1 ∷ 2 ∷ []) (6 ∷ []) (11 ∷ []) (7 ∷ []) (0 ∷ []) (0 ∷ []) (replicate 500 0))))
+    ∷ overlay (case 1 9 square welded (fives 14 6 1 1 1 1 1 500) (refused 19 (noughts 14 6 1 1 1 1 1 500)))
+    ∷ set-to (record { turning = true; once = false }) (case 1 9 square welded (fives 14 9 3 3 3 3 3 500) (result 0 3 0 2 (onLists
     (square-coords ++ 0x3d61_9799_812d_ea11 ∷ o ∷ o ∷ 0x3d61_9799_812d_ea11 ∷ i ∷ i ∷ [])
-    (3 ∷ 0 ∷ 6 ∷ 0 ∷ 1 ∷ 2 ∷ 0 ∷ 6 ∷ 0 ∷ []) (6 ∷ 8 ∷ 9 ∷ []) (11 ∷ 11 ∷ 11 ∷ []) (7 ∷ 3 ∷ 3 ∷ []) (replicate 500 0))))
+    (3 ∷ 0 ∷ 6 ∷ 0 ∷ 1 ∷ 2 ∷ 0 ∷ 6 ∷ 0 ∷ []) (6 ∷ 8 ∷ 9 ∷ []) (11 ∷ 11 ∷ 11 ∷ []) (7 ∷ 3 ∷ 3 ∷ []) (0 ∷ 1 ∷ 1 ∷ []) (0 ∷ 0 ∷ 0 ∷ []) (replicate 500 0))))
     -- the limits, last since they take longest: 256 nodes on an edge pass, so that the next thing is that the first triangle has no place; 257 give 9
-    ∷ overlay (case 5 130 triangles (lines 4) (fives 28 0 0 0 0 3872) (refused 12 (noughts 28 0 0 0 0 3872)))
-    ∷ overlay (case 5 131 triangles (lines 5) (fives 30 0 0 0 0 3920) (refused 9 (noughts 30 0 0 0 0 3920)))
+    ∷ overlay (case 5 130 triangles (lines 4) (fives 28 0 0 0 0 0 0 3872) (refused 12 (noughts 28 0 0 0 0 0 0 3872)))
+    ∷ overlay (case 5 131 triangles (lines 5) (fives 30 0 0 0 0 0 0 3920) (refused 9 (noughts 30 0 0 0 0 0 0 3920)))
     -- 1,024 slots pass, 1,026 give 10
     ∷ slots 1024 []
     ∷ slots 1026 (10 ∷ [])

@@ -23,7 +23,7 @@ use Rattle.rules.specs.Nodes.{crowded}
 use Rattle.rules.specs.Cell.{dartsOf, nearEdges, nearOf, treatedBy, treated, outcomeWith, tableWith, cellOf, kindOf}
 use Rattle.rules.specs.Operations.{cuts, keeps, sceneFor, Piece, pieceWith, keptWith, liesInside, overCells, listingWith, outcomePieces, doubledCells}
 use Rattle.rules.specs.Refusals.{Event, meeting, point, piece, stop, ofMeeting, ofCell, courseWith, firstRefusal}
-use Rattle.rules.specs.Overlay.{Lists, Result, result, cleared, written, answeredWith, stateWith, overlayWith, overlayOf}
+use Rattle.rules.specs.Overlay.{Lists, Result, result, cleared, pieceRoom, written, answeredWith, stateWith, overlayWith, overlayOf}
 use Rattle.rules.specs.Demand3.{AcceptedWith}
 use Rattle.rules.proofs.Endings.{Ending, input, state-met, success, ending, input-refused, state-refused, succeeds, no-refusal}
 use Rattle.rules.proofs.Accepts.{Made, all-made, accepted}
@@ -86,7 +86,7 @@ module _ (u v : Setting) (op m : ℕ) (s c : Mesh) (l : Lists) where
 
     state-as : stateWith u op m s c l ≡ stateWith v op m s c l
     unfolding stateWith
-    state-as = ap (firstRefusal m (length (l .coords) / 2) (min (length (l .ends)) (min (length (l .kinds)) (length (l .families)))) (length (l .nodes))) course-as
+    state-as = ap (firstRefusal m (length (l .coords) / 2) (pieceRoom l) (length (l .nodes))) course-as
 
     overlay-as : third u ≡ third v → overlayWith u op m s c l ≡ overlayWith v op m s c l
     unfolding overlayWith

@@ -15,14 +15,14 @@ use Rattle.cutting.specs.Edges.{edgeAt, Edge}
 use Rattle.cutting.specs.Outcome.{Outcome, refusal, pieces, flat, stops}
 use Rattle.cutting.specs.Setting.{ours}
 use Rattle.entry.specs.Mesh.{Mesh}
-use Rattle.rules.specs.Mesh.{Side, theSubject, theCutter}
+use Rattle.rules.specs.Mesh.{Side, theSubject, theCutter, sideNumber}
 use Rattle.rules.specs.Neighbours.{Net, subjectNet, cutterNet}
 use Rattle.rules.specs.Meetings.{Met, Scene, netOf, segmentOf, addedBy, recorded, metPair, metAll, meetingsTo, meetings, sceneOf}
 use Rattle.rules.specs.Nodes.{crowded}
 use Rattle.rules.specs.Cell.{outcomeOf}
 use Rattle.rules.specs.Operations.{cuts, sceneFor, Piece, kept, overCells, listing, listingWith}
 use Rattle.rules.specs.Refusals.{Event, point, piece, stop, ofMeeting, ofCell, course, courseWith, firstRefusal}
-use Rattle.rules.specs.Overlay.{Lists, Result, cleared, written, answered, answeredWith, stateWith, overlayOf}
+use Rattle.rules.specs.Overlay.{Lists, Result, cleared, pieceRoom, written, answered, answeredWith, stateWith, overlayOf}
 use Rattle.rules.specs.Demand3.{Accepted}
 use Rattle.lists.proofs.Regions.{length-front}
 use Rattle.entry.proofs.Passed.{passed}
@@ -255,6 +255,8 @@ pub record SameLengths (l l′ : Lists) : Type 0 where
   pub ends : length (l .ends) ≡ length (l′ .ends)
   pub kinds : length (l .kinds) ≡ length (l′ .kinds)
   pub families : length (l .families) ≡ length (l′ .families)
+  pub meshes : length (l .meshes) ≡ length (l′ .meshes)
+  pub cells : length (l .cells) ≡ length (l′ .cells)
   pub work : length (l .work) ≡ length (l′ .work)
 
 length-stops : (k : ℕ) (ps : List (List ℕ)) → length (stops k ps) ≡ length ps
@@ -270,6 +272,8 @@ cleared-lengths l = record {
   ends = length-replicate _ _;
   kinds = length-replicate _ _;
   families = length-replicate _ _;
+  meshes = length-replicate _ _;
+  cells = length-replicate _ _;
   work = length-replicate _ _;
 }
 
@@ -280,6 +284,8 @@ pub record Fits (op : ℕ) (s c : Mesh) (l : Lists) : Type 0 where
   pub ends : length (listing op s c) ≤ length (l .ends)
   pub kinds : length (listing op s c) ≤ length (l .kinds)
   pub families : length (listing op s c) ≤ length (l .families)
+  pub meshes : length (listing op s c) ≤ length (l .meshes)
+  pub cells : length (listing op s c) ≤ length (l .cells)
 
 scene-coords : (lines : Bool) (s c : Mesh) → length (sceneOf lines s c .coords) ≡ length (s .coords ++ c .coords) + length (addedBy (sceneOf lines s c .met))
 unfolding sceneOf
@@ -299,11 +305,8 @@ accepted-fits op m s c l h =
     let t = accepted ours op m s c l h in
     let calm = calm-course ours op s c m l h in
     let entry = passed op m s c (length (l .work)) (t .entry) in
-    let q = min (length (l .ends)) (min (length (l .kinds)) (length (l .families))) in
-    let r = room (course op s c) m (length (l .coords) / 2) q (length (l .nodes)) calm (t .state) in
+    let r = room (course op s c) m (length (l .coords) / 2) (pieceRoom l) (length (l .nodes)) calm (t .state) in
     let takes = course-takes op s c calm in
-    let left = min-le-left (length (l .ends)) (min (length (l .kinds)) (length (l .families))) in
-    let right = min-le-right (length (l .ends)) (min (length (l .kinds)) (length (l .families))) in
     let sum = length-append (s .coords) (c .coords) in
     let points = met-points (sceneFor op s c .met) (scene-pairs (eqb op 5) s c) in
     record {
@@ -317,9 +320,11 @@ accepted-fits op m s c l h =
             (course op s c)) sum (course-points op s c)) (r .0),
       );
       nodes = omega (arith, r .2, takes .nodes);
-      ends = omega (arith, r .1, takes .places, left);
-      kinds = omega (arith, r .1, takes .places, right, min-le-left (length (l .kinds)) (length (l .families)));
-      families = omega (arith, r .1, takes .places, right, min-le-right (length (l .kinds)) (length (l .families)));
+      ends = omega (arith, r .1, takes .places);
+      kinds = omega (arith, r .1, takes .places);
+      families = omega (arith, r .1, takes .places);
+      meshes = omega (arith, r .1, takes .places);
+      cells = omega (arith, r .1, takes .places);
     }
 
 answered-lengths : (op : ℕ) (s c : Mesh) (l : Lists) → Fits op s c l → SameLengths (answered op s c l .lists) l
@@ -333,11 +338,15 @@ answered-lengths op s c l f =
       ends = length-front (l .ends) (stops 0 runs) (omega (arith, f .ends, length-stops 0 runs, many));
       kinds = length-front (l .kinds) (map (λ (p : Piece). p .kind) (listing op s c)) (omega (arith, f .kinds, length-map (listing op s c) (λ (p : Piece). p .kind)));
       families = length-front (l .families) (map (λ (p : Piece). p .family) (listing op s c)) (omega (arith, f .families, length-map (listing op s c) (λ (p : Piece). p .family)));
+      meshes =
+          length-front (l .meshes) (map (λ (p : Piece). sideNumber (p .mesh)) (listing op s c))
+          (omega (arith, f .meshes, length-map (listing op s c) (λ (p : Piece). sideNumber (p .mesh))));
+      cells = length-front (l .cells) (map (λ (p : Piece). p .cell) (listing op s c)) (omega (arith, f .cells, length-map (listing op s c) (λ (p : Piece). p .cell)));
       work = length-replicate _ _;
     }
 
 same-lengths : (l : Lists) → SameLengths l l
-same-lengths l = record { coords = refl; nodes = refl; ends = refl; kinds = refl; families = refl; work = refl }
+same-lengths l = record { coords = refl; nodes = refl; ends = refl; kinds = refl; families = refl; meshes = refl; cells = refl; work = refl }
 
 -- For every operation, meeting limit, meshes and lists, accepted or refused.
 pub lengths-kept : (op m : ℕ) (s c : Mesh) (l : Lists) → SameLengths (overlayOf op m s c l .lists) l

@@ -7,6 +7,8 @@ pub mod Lengths
 pub mod ReadBack
 pub mod Rings
 pub mod Closing
+pub mod Distinct
+pub mod Rows
 pub mod Demand3
 pub mod Kept
 pub mod Rounds

@@ -8,7 +8,7 @@ use native.Mathlib.Omega.{arith}
 use lib.ListN.{length, getD}
 use Rattle.lists.specs.Gather.{gathered, each, passing}
 use Rattle.entry.specs.Mesh.{Mesh}
-use Rattle.rules.specs.Mesh.{Side, theSubject, theCutter}
+use Rattle.rules.specs.Mesh.{Side, theSubject, theCutter, sideNumber}
 use Rattle.rules.specs.Meetings.{Scene, netOf}
 use Rattle.rules.specs.Operations.{cuts, keeps, sceneFor, Piece, piecesOf, pieceAt, pieceWith, liesInside, kept, keptWith, overCells, listing, listingWith}
 use Rattle.rules.specs.Demand3.{ListedAt, SamePiece}
@@ -100,13 +100,8 @@ module _ (sc : Scene) (op : ℕ) (w : Side) where
   of-over true p m = let r = gathered-at (length (netOf sc w .cells)) (kept sc w op) p m in of-kept (r .0) p (r .2) .0
   of-over false p m = absurd (List·Memᴰ·not-nil m)
 
-side-number : Side → ℕ
-side-number theSubject = 0
-side-number theCutter = 1
-
 two-meshes : theSubject ≡ theCutter → ⊥
-unfolding side-number
-two-meshes e = let z : _≡_ {A = ℕ} 0 1 = ap side-number e in omega (arith, z)
+two-meshes e = let z : _≡_ {A = ℕ} 0 1 = ap sideNumber e in omega (arith, z)
 
 module _ (op : ℕ) (s c : Mesh) where
   abbrev sc : Scene

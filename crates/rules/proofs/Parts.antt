@@ -86,7 +86,7 @@ module _ (op : ℕ) (s c : Mesh) where
 alike : (sc : Scene) (op op′ : ℕ) (p q : Piece) → Kept sc op p → Kept sc op′ q → SamePiece q p → q ≡ p
 alike sc op op′ p q a b e = b .same ∙ (λ t. pieceAt sc (e .mesh t) (e .cell t) (e .place t)) ∙ sym (a .same)
 
-not-both : (t : Bool) → t ≡ true → not t ≡ true → ⊥
+pub not-both : (t : Bool) → t ≡ true → not t ≡ true → ⊥
 not-both true e f = true≢false (sym f)
 not-both false e f = true≢false (sym e)
 

@@ -9,7 +9,7 @@ use Rattle.lists.specs.Regions.{front, run}
 use Rattle.cutting.specs.Outcome.{flat, stops}
 use Rattle.cutting.specs.Setting.{ours}
 use Rattle.entry.specs.Mesh.{Mesh, prior}
-use Rattle.rules.specs.Mesh.{cellAt}
+use Rattle.rules.specs.Mesh.{cellAt, sideNumber}
 use Rattle.rules.specs.Operations.{Piece, listing}
 use Rattle.rules.specs.Overlay.{Lists, overlayOf, answered, answeredWith, written}
 use Rattle.rules.specs.Demand3.{Accepted, WrittenAt}
@@ -72,6 +72,8 @@ module _ (op : ℕ) (s c : Mesh) (l : Lists) where
     below = h;
     kind = field-back (λ p. p .kind) ps (l .kinds) k d 0 h;
     family = field-back (λ p. p .family) ps (l .families) k d 0 h;
+    mesh = field-back (λ p. sideNumber (p .mesh)) ps (l .meshes) k d 0 h;
+    cell = field-back (λ p. p .cell) ps (l .cells) k d 0 h;
     nodes =
         ap (λ (a : ℕ). take (getD ends k 0 - a) (drop a nodes)) (prior-start ends k)
         ∙ ap (λ (a : ℕ). take (getD ends k 0 - start 0 ends k) (drop a nodes)) zero-off

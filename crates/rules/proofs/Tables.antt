@@ -58,8 +58,8 @@ floats bits = map (ofBits binary64) bits
 abbrev pub lent : List ℕ → List ℕ → List ℕ → List ℕ → List ℕ → Mesh
 lent c n e k f = mesh (floats c) n e k f
 
-abbrev pub onLists : List ℕ → List ℕ → List ℕ → List ℕ → List ℕ → List ℕ → Lists
-onLists c n e k f w = lentLists (floats c) n e k f w
+abbrev pub onLists : List ℕ → List ℕ → List ℕ → List ℕ → List ℕ → List ℕ → List ℕ → List ℕ → Lists
+onLists c n e k f m i w = lentLists (floats c) n e k f m i w
 
 -- operation, meeting limit, meshes, the lists at entry, and the result with the lists at exit
 pub data Case : Type 0 where
@@ -80,7 +80,8 @@ unfoldable pub sameLists : Lists → Lists → Bool
 sameLists l l′ =
     both (same (map (toBits binary64) (l .coords)) (map (toBits binary64) (l′ .coords)))
     (both (same (l .nodes) (l′ .nodes)) (both (same (l .ends) (l′ .ends))
-    (both (same (l .kinds) (l′ .kinds)) (both (same (l .families) (l′ .families)) (same (l .work) (l′ .work))))))
+    (both (same (l .kinds) (l′ .kinds)) (both (same (l .families) (l′ .families))
+    (both (same (l .meshes) (l′ .meshes)) (both (same (l .cells) (l′ .cells)) (same (l .work) (l′ .work))))))))
 
 unfoldable pub sameResult : Result → Result → Bool
 sameResult r r′ =

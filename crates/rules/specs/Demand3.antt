@@ -8,7 +8,7 @@ use lib.ListN.{length, getD}
 use Rattle.cutting.specs.Setting.{Setting}
 use Rattle.cutting.specs.Areas.{ClosesUp}
 use Rattle.entry.specs.Mesh.{Mesh, mesh}
-use Rattle.rules.specs.Mesh.{cellAt, Side}
+use Rattle.rules.specs.Mesh.{cellAt, Side, sideNumber}
 use Rattle.rules.specs.Meetings.{Scene, netOf}
 use Rattle.rules.specs.Cell.{outlineOf}
 use Rattle.rules.specs.Operations.{cuts, keeps, Piece, piecesOf, pieceAt, liesInside, listing}
@@ -47,7 +47,7 @@ pub record ListedAt (p : Piece) (k op : ℕ) (s c : Mesh) : Type 0 where
 abbrev pub Listed : Piece → ℕ → Mesh → Mesh → Type 0
 Listed p op s c = (k : ℕ) × ListedAt p k op s c
 
--- cell k that a result's lists hold, read as a lent mesh's cells are, has the piece's kind, family and node numbers
+-- cell k that a result's lists hold, read as a lent mesh's cells are, has the piece's kind, family and node numbers; W2: and its parent
 abbrev pub answerMesh : Lists → Mesh
 answerMesh l = mesh (l .coords) (l .nodes) (l .ends) (l .kinds) (l .families)
 
@@ -55,6 +55,8 @@ pub record WrittenAt (r : Result) (k : ℕ) (p : Piece) : Type 0 where
   pub below : k < r .pieces
   pub kind : getD (r .lists .kinds) k 0 ≡ p .kind
   pub family : getD (r .lists .families) k 0 ≡ p .family
+  pub mesh : getD (r .lists .meshes) k 0 ≡ sideNumber (p .mesh)
+  pub cell : getD (r .lists .cells) k 0 ≡ p .cell
   pub nodes : cellAt (answerMesh (r .lists)) k ≡ p .nodes
 
 -- ---- (b) each piece in exactly one of two answers
@@ -79,3 +81,22 @@ Unlisted p op s c = (q : Piece) → Listed q op s c → SamePiece q p → ⊥
 -- "one lists it .., and the other doesn't list it"
 abbrev pub InExactlyOne : Piece → Mesh → Mesh → (op : ℕ) → Result → (op′ : ℕ) → Result → Type 0
 InExactlyOne p s c op r op′ r′ = (ListedIn r op s c p × Unlisted p op′ s c) ⊎ (ListedIn r′ op′ s c p × Unlisted p op s c)
+
+-- ---- (b) by the lists alone, since they hold each piece's parent (W2)
+
+-- piece j of the answer r′ has the kind, family, parent and node numbers of piece k of r
+pub record SameRow (r : Result) (k : ℕ) (r′ : Result) (j : ℕ) : Type 0 where
+  pub below : j < r′ .pieces
+  pub kind : getD (r′ .lists .kinds) j 0 ≡ getD (r .lists .kinds) k 0
+  pub family : getD (r′ .lists .families) j 0 ≡ getD (r .lists .families) k 0
+  pub mesh : getD (r′ .lists .meshes) j 0 ≡ getD (r .lists .meshes) k 0
+  pub cell : getD (r′ .lists .cells) j 0 ≡ getD (r .lists .cells) k 0
+  pub nodes : cellAt (answerMesh (r′ .lists)) j ≡ cellAt (answerMesh (r .lists)) k
+
+-- r′ holds piece k of r
+abbrev pub Holds : Result → Result → ℕ → Type 0
+Holds r′ r k = (j : ℕ) × SameRow r k r′ j
+
+-- one of two answers holds it, and the other doesn't
+abbrev pub OneHolds : Result → Result → Result → ℕ → Type 0
+OneHolds r₁ r₂ r k = (Holds r₁ r k × (Holds r₂ r k → ⊥)) ⊎ (Holds r₂ r k × (Holds r₁ r k → ⊥))

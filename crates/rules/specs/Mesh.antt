@@ -27,3 +27,8 @@ other theCutter = theSubject
 abbrev pub lentMesh : Mesh → Mesh → Side → Mesh
 lentMesh s c theSubject = s
 lentMesh s c theCutter = c
+
+-- W2: "0 for subject or 1 for cutter"
+abbrev pub sideNumber : Side → ℕ
+sideNumber theSubject = 0
+sideNumber theCutter = 1

@@ -41,7 +41,7 @@ sceneFor op s c = sceneOf (eqb op 5) s c
 
 -- ---- pieces
 
--- "A piece is known by its cell and its place among that cell's pieces before any are dropped"; what is written of it is its kind, family and nodes
+-- "A piece is known by its cell and its place among that cell's pieces before any are dropped"; what is written of it is all but its place
 pub record Piece : Type 0 where
   pub mesh : Side
   pub cell : ℕ

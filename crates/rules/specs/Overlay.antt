@@ -10,17 +10,21 @@ use Rattle.cutting.specs.Setting.{Setting, ours}
 use Rattle.cutting.specs.Outcome.{flat, stops}
 use Rattle.entry.specs.Mesh.{Mesh}
 use Rattle.entry.specs.Refused.{entryOf}
+use Rattle.rules.specs.Mesh.{sideNumber}
 use Rattle.rules.specs.Meetings.{addedBy}
 use Rattle.rules.specs.Operations.{sceneFor, Piece, listingWith, doubledCells}
 use Rattle.rules.specs.Refusals.{courseWith, firstRefusal}
 
--- the five output lists and the working list
+-- The output lists and the working list. W2: "Each piece gets two more numbers in the output: 0 for subject or 1 for cutter, and the index of its cell
+-- there".
 pub record Lists : Type 0 where
   pub coords : List Float
   pub nodes : List ℕ
   pub ends : List ℕ
   pub kinds : List ℕ
   pub families : List ℕ
+  pub meshes : List ℕ
+  pub cells : List ℕ
   pub work : List ℕ
 
 -- the refusal's number or 0; the counts of pieces, new points and doubled cells; the lists at exit
@@ -31,8 +35,8 @@ pub record Result : Type 0 where
   pub doubled : ℕ
   pub lists : Lists
 
-abbrev pub lentLists : List Float → List ℕ → List ℕ → List ℕ → List ℕ → List ℕ → Lists
-lentLists c n e k f w = record { coords = c; nodes = n; ends = e; kinds = k; families = f; work = w }
+abbrev pub lentLists : List Float → List ℕ → List ℕ → List ℕ → List ℕ → List ℕ → List ℕ → List ℕ → Lists
+lentLists c n e k f m i w = record { coords = c; nodes = n; ends = e; kinds = k; families = f; meshes = m; cells = i; work = w }
 
 abbrev pub result : ℕ → ℕ → ℕ → ℕ → Lists → Result
 result r p q d l = record { code = r; pieces = p; points = q; doubled = d; lists = l }
@@ -41,11 +45,16 @@ result r p q d l = record { code = r; pieces = p; points = q; doubled = d; lists
 
 unfoldable pub cleared : Lists → Lists
 cleared l =
-    lentLists (fzeros (length (l .coords))) (zeros (length (l .nodes))) (zeros (length (l .ends))) (zeros (length (l .kinds))) (zeros (length (l .families))) (zeros (length (l .work)))
+    lentLists (fzeros (length (l .coords))) (zeros (length (l .nodes))) (zeros (length (l .ends))) (zeros (length (l .kinds)))
+    (zeros (length (l .families))) (zeros (length (l .meshes))) (zeros (length (l .cells))) (zeros (length (l .work)))
 
--- Its number, or 0. A point takes two numbers of the coordinates; a piece takes its node entries, and a place in each of ends, kinds and families.
+-- A piece takes a place in each of ends, kinds and families; W2: "Refusal 12 covers the added lists".
+abbrev pub pieceRoom : Lists → ℕ
+pieceRoom l = min (length (l .ends)) (min (length (l .kinds)) (min (length (l .families)) (min (length (l .meshes)) (length (l .cells)))))
+
+-- Its number, or 0. A point takes two numbers of the coordinates; a piece takes its node entries besides.
 unfoldable pub stateWith : Setting → ℕ → ℕ → Mesh → Mesh → Lists → ℕ
-stateWith v op m s c l = firstRefusal m (length (l .coords) / 2) (min (length (l .ends)) (min (length (l .kinds)) (length (l .families)))) (length (l .nodes)) (courseWith v op s c)
+stateWith v op m s c l = firstRefusal m (length (l .coords) / 2) (pieceRoom l) (length (l .nodes)) (courseWith v op s c)
 
 abbrev pub stateOf : ℕ → ℕ → Mesh → Mesh → Lists → ℕ
 stateOf op m s c l = stateWith ours op m s c l
@@ -57,7 +66,8 @@ unfoldable pub written : List Float → List Piece → Lists → Lists
 written coords ps l =
     let runs = map (λ p. p .nodes) ps in
     lentLists (front (l .coords) coords) (front (l .nodes) (flat runs)) (front (l .ends) (stops 0 runs))
-    (front (l .kinds) (map (λ p. p .kind) ps)) (front (l .families) (map (λ p. p .family) ps)) (zeros (length (l .work)))
+    (front (l .kinds) (map (λ p. p .kind) ps)) (front (l .families) (map (λ p. p .family) ps))
+    (front (l .meshes) (map (λ p. sideNumber (p .mesh)) ps)) (front (l .cells) (map (λ p. p .cell) ps)) (zeros (length (l .work)))
 
 -- "The answer also counts pieces, new points and doubled cells"; "new points are all coordinates added". W14: "The third count is 0 ever after", since
 -- no table of an accepted cell names a neighbour twice (`never-doubled`, proofs/Demand3.antt).
