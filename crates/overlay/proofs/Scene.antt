@@ -2,22 +2,22 @@
 use mathlib.Core.Path.{_≡_, refl, sym, ap, ap₂, _∙_}
 use mathlib.Core.Bool.{Bool, true, false, cond}
 use mathlib.Core.List.{List, [], _∷_, _++_, map}
-use Prim.Native.Nat.{ℕ, zero, suc, _+_, _*_, _/_}
+use Prim.Native.Nat.{ℕ, zero, suc, _+_, _-_, _*_, _/_, _<_}
 use native.Mathlib.Omega.{arith}
 use lib.Dec.{eqb, ltb}
 use lib.ListN.{length, getD, replicate, length-map}
 use lib.Ieee.{Float}
-use borrow.Author.Tests.{lt-ltb, eq-eqb, ne-eqb}
+use borrow.Author.Tests.{lt-ltb, le-ltb, eq-eqb, ne-eqb}
 use Rattle.lists.specs.Search.{bit}
 use Rattle.lists.specs.Gather.{passing}
 use Rattle.cutting.specs.Edges.{Edge}
 use Rattle.cutting.specs.Outcome.{Outcome, refusal, pieces}
-use Rattle.rules.specs.Mesh.{Side, other}
+use Rattle.rules.specs.Mesh.{Side, theSubject, theCutter, other, sideNumber}
 use Rattle.rules.specs.SpatialIndex.{boxOf, candidates}
 use Rattle.rules.specs.Meetings.{Scene, netOf}
 use Rattle.rules.specs.Nodes.{sortedNodes}
 use Rattle.rules.specs.Cell.{cellOf, nearOf, outcomeOf, treatedBy, treated, kindOf}
-use Rattle.rules.specs.Operations.{Piece, outcomePieces, kept}
+use Rattle.rules.specs.Operations.{Piece, outcomePieces, pieceAt, pieceWith, kept}
 use Rattle.rules.specs.Refusals.{Event, ofCell}
 use Rattle.regions.specs.declared.Run.{Run}
 use Rattle.regions.specs.declared.MeshRuns.{MeshRuns}
@@ -27,10 +27,10 @@ use Rattle.edge_nodes.specs.Lent.{nodesOn}
 use Rattle.cells.specs.Cells.{edgesIn}
 use Rattle.cells.proofs.Scene.{cut-is, copied-is}
 use Rattle.pieces.specs.Pieces.{runsOf, keepOf, isKept, events, Yield}
-use Rattle.pieces.proofs.Listing.{kept-nodes, kept-kinds, kept-families, events-nodes}
+use Rattle.pieces.proofs.Listing.{kept-nodes, kept-alike, events-nodes}
 use Rattle.cutting_cells.specs.Yields as Yields
 use Rattle.cutting_cells.specs.Yields.{outcomeBy, isCut, yieldBy, yieldOf}
-use Rattle.passes.specs.Tags.{kindBy, familyBy}
+use Rattle.passes.specs.Tags.{kindBy, familyBy, meshBy, cellBy}
 
 -- What the cells of the mesh w are cut by: the coordinates, the sorted nodes of edges, and the other mesh's edges and cells.
 pub record SceneIn (sc : Scene) (w : Side) (coords : List Float) (work : List ℕ) (g : Regions) (o : MeshRuns) (ends : List ℕ) : Type 0 where
@@ -101,7 +101,8 @@ module _ (op : ℕ) (sc : Scene) (w : Side) (coords : List Float) (work : List �
   unfolding yieldOf
   by-outcome = ap (yieldBy coords work g o ends (keepOf op w) tagIn) outcome-is
 
-  pieces-by : (x : Outcome) → yieldBy coords work g o ends (keepOf op w) tagIn x .pieces ≡ passing (isKept (keepOf op w) coords (runsOf (runIn work (o .entries)) ends)) (outcomePieces x)
+  pieces-by : (x : Outcome) → yieldBy coords work g o ends (keepOf op w) tagIn x .pieces ≡ passing
+      (isKept (keepOf op w) coords (runsOf (runIn work (o .entries)) ends)) (outcomePieces x)
   unfolding passing
   pieces-by (refusal r) = refl
   pieces-by (pieces ps) = refl
@@ -135,8 +136,13 @@ module _ (op : ℕ) (sc : Scene) (w : Side) (coords : List Float) (work : List �
       go true = omega arith
       go false = omega arith
 
+  -- a number that its tag says of a piece
+  module _ (by : ℕ → ℕ) (part : Piece → ℕ) where
+    said : (v : ℕ) → by tagIn ≡ v → ((j : ℕ) → part (pieceAt sc w i j) ≡ v) → map by (replicate (length these) tagIn) ≡ map part these
+    said v e h = map-replicate by (length these) tagIn ∙ ap (replicate (length these)) e ∙ sym (kept-alike sc op w i part v h)
+
   module _ (sk ck : List ℕ) (kind : getD (sk ++ ck) number 0 ≡ getD (netOf sc w .kinds) i 0) where
-    pub kind-is : kindBy sk ck tagIn ≡ kindOf sc w i
+    kind-is : kindBy sk ck tagIn ≡ kindOf sc w i
     kind-is =
         go (isCut coords work g o ends cell)
         ∙ ap (λ (v : ℕ). cond (ltb 0 (length near)) 11 v) kind ∙ kind-as sc w i near near-is
@@ -150,10 +156,38 @@ module _ (op : ℕ) (sc : Scene) (w : Side) (coords : List Float) (work : List �
             ∙ ap (λ (k : ℕ). getD (sk ++ ck) k 0) half
 
     pub kinds-are : map (kindBy sk ck) (replicate (length these) tagIn) ≡ map (λ p. p .kind) these
-    kinds-are = map-replicate (kindBy sk ck) (length these) tagIn ∙ ap (replicate (length these)) kind-is ∙ sym (kept-kinds sc op w i)
+    unfolding pieceWith
+    kinds-are = said (kindBy sk ck) (λ p. p .kind) (kindOf sc w i) kind-is (λ j. refl)
 
   module _ (sf cf : List ℕ) (family : getD (sf ++ cf) number 0 ≡ getD (netOf sc w .families) i 0) where
     pub families-are : map (familyBy sf cf) (replicate (length these) tagIn) ≡ map (λ p. p .family) these
+    unfolding pieceWith
     families-are =
-        map-replicate (familyBy sf cf) (length these) tagIn ∙ ap (λ (k : ℕ). replicate (length these) (getD (sf ++ cf) k 0)) number-back
-        ∙ ap (replicate (length these)) family ∙ sym (kept-families sc op w i)
+        said (familyBy sf cf) (λ p. p .family) (getD (netOf sc w .families) i 0) (ap (λ (k : ℕ). getD (sf ++ cf) k 0) number-back ∙ family) (λ j. refl)
+
+  -- the parent, where the subject has n cells
+  module _ (n : ℕ) (counted : number ≡ cond (eqb (sideNumber w) 0) i (n + i)) (below : eqb (sideNumber w) 0 ≡ true → i < n) where
+    at-number : (f : Bool → ℕ → ℕ) (v : ℕ) → f (ltb number n) number ≡ v → f (ltb (tagIn / 2) n) (tagIn / 2) ≡ v
+    at-number f v e = ap (λ (k : ℕ). f (ltb k n) k) number-back ∙ e
+
+    mesh-is : meshBy n tagIn ≡ sideNumber w
+    mesh-is = at-number (λ b k. cond b 0 1) (sideNumber w) (go w counted below)
+      where
+        go : (v : Side) → number ≡ cond (eqb (sideNumber v) 0) i (n + i) → (eqb (sideNumber v) 0 ≡ true → i < n) → cond (ltb number n) 0 1 ≡ sideNumber v
+        go theSubject e h = ap (λ (b : Bool). cond b 0 1) (lt-ltb number n (omega (arith, e, h refl)))
+        go theCutter e h = ap (λ (b : Bool). cond b 0 1) (le-ltb number n (omega (arith, e)))
+
+    cell-is : cellBy n tagIn ≡ i
+    cell-is = at-number (λ b k. cond b k (k - n)) i (go w counted below)
+      where
+        go : (v : Side) → number ≡ cond (eqb (sideNumber v) 0) i (n + i) → (eqb (sideNumber v) 0 ≡ true → i < n) → cond (ltb number n) number (number - n) ≡ i
+        go theSubject e h = ap (λ (b : Bool). cond b number (number - n)) (lt-ltb number n (omega (arith, e, h refl))) ∙ e
+        go theCutter e h = ap (λ (b : Bool). cond b number (number - n)) (le-ltb number n (omega (arith, e))) ∙ omega (arith, e)
+
+    pub parent-meshes-are : map (meshBy n) (replicate (length these) tagIn) ≡ map (λ p. sideNumber (p .mesh)) these
+    unfolding pieceWith
+    parent-meshes-are = said (meshBy n) (λ p. sideNumber (p .mesh)) (sideNumber w) mesh-is (λ j. refl)
+
+    pub parent-cells-are : map (cellBy n) (replicate (length these) tagIn) ≡ map (λ p. p .cell) these
+    unfolding pieceWith
+    parent-cells-are = said (cellBy n) (λ p. p .cell) i cell-is (λ j. refl)

@@ -13,7 +13,7 @@ use Rattle.rules.specs.Neighbours.{subjectNet, cutterNet}
 use Rattle.rules.specs.Meetings.{Scene, netOf, sceneOf}
 use Rattle.rules.specs.Operations.{sceneFor}
 use Rattle.rules.specs.Refusals.{firstRefusal}
-use Rattle.rules.specs.Overlay.{lentLists, result, stateOf, answered}
+use Rattle.rules.specs.Overlay.{Lists, lentLists, result, pieceRoom, stateOf, answered}
 use Rattle.regions.specs.declared.Regions.{Regions}
 use Rattle.regions.specs.declared.Indexes.{Indexes}
 use Rattle.indexing.specs.Indexes.{indexes, indexesAt, Asks}
@@ -27,32 +27,58 @@ use Rattle.finding.proofs.Result.{met-few, code-is}
 use Rattle.finding.proofs.Scenes.{course-is, found-passes}
 use Rattle.cutting_cells.specs.Yields.{meshesYield, noneYet, Few, MeshesReady}
 use Rattle.cutting_cells.proofs.Meshes.{meshes-steady}
-use Rattle.passes.specs.Tags.{kindBy, familyBy}
-use Rattle.overlay.proofs.Yielded.{ofSide, MeshesIn, meshes-events, meshes-pieces, meshes-kinds, meshes-families}
+use Rattle.passes.specs.Tags.{kindBy, familyBy, meshBy, cellBy}
+use Rattle.overlay.proofs.Yielded.{ofSide, MeshesIn, meshes-events, meshes-pieces, meshes-kinds, meshes-families, meshes-parent-meshes, meshes-parent-cells}
 use Rattle.overlay.proofs.Whole.{found-refused, cells-state, count-low, tags-fit, cells-answered, points-are}
 use Rattle.overlay.proofs.Found.{coords-long, placed, next-is, next-long, points-in, asks-index, lists-hold, lists-ready}
 
-module _ (op m : ℕ) (s c : Mesh) (oc : List Float) (on oe ok of w : List ℕ) (pa : Passed op m s c (length w)) (x : Found) (oc₁ : List Float) (w₁ : List ℕ)
-    (told : leaves x oc₁ w₁ ≡ foundOf op m (bare s) (bare c) oc w) where
+module _ (op m : ℕ) (s c : Mesh) (l : Lists) (pa : Passed op m s c (length (l .work))) (x : Found) (oc₁ : List Float) (w₁ : List ℕ)
+    (told : leaves x oc₁ w₁ ≡ foundOf op m (bare s) (bare c) (l .coords) (l .work)) where
   abbrev sc : Scene
   sc = sceneFor op s c
 
-  -- how many pieces have a place in each of ends, kinds and families
+  -- its lists
+  abbrev oc : List Float
+  oc = l .coords
+
+  abbrev on : List ℕ
+  on = l .nodes
+
+  abbrev oe : List ℕ
+  oe = l .ends
+
+  abbrev ok : List ℕ
+  ok = l .kinds
+
+  abbrev of : List ℕ
+  of = l .families
+
+  abbrev om : List ℕ
+  om = l .meshes
+
+  abbrev oi : List ℕ
+  oi = l .cells
+
+  abbrev w : List ℕ
+  w = l .work
+
+  -- how many pieces have their places
   abbrev room : ℕ
-  room = min (length oe) (min (length ok) (length of))
+  room = pieceRoom l
 
   -- what `run` ensures
-  abbrev pub Ran : (code pieces points doubled : ℕ) (oc₂ : List Float) (on₂ oe₂ ok₂ of₂ : List ℕ) → Type 0
-  Ran code pieces points doubled oc₂ on₂ oe₂ ok₂ of₂ =
-      (code ≡ stateOf op m s c (lentLists oc on oe ok of w))
-      × (code ≡ 0 → result 0 pieces points doubled (lentLists oc₂ on₂ oe₂ ok₂ of₂ (zeros (length w))) ≡ answered op s c (lentLists oc on oe ok of w))
+  abbrev pub Ran : (code pieces points doubled : ℕ) (oc₂ : List Float) (on₂ oe₂ ok₂ of₂ om₂ oi₂ : List ℕ) → Type 0
+  Ran code pieces points doubled oc₂ on₂ oe₂ ok₂ of₂ om₂ oi₂ =
+      (code ≡ stateOf op m s c l)
+      × (code ≡ 0 → result 0 pieces points doubled (lentLists oc₂ on₂ oe₂ ok₂ of₂ om₂ oi₂ (zeros (length w))) ≡ answered op s c l)
 
   told-all : (q n : ℕ) → x .code ≡ firstRefusal m (length oc / 2) q n (foundEvents op s c)
   told-all = code-is op m s c w (ready op m s c (length w) pa) oc oc₁ w₁ x told
 
-  pub stops-found : (x .code ≡ 0 → ⊥) → (a p q d : ℕ) → a ≡ x .code → (oc₂ : List Float) (on₂ oe₂ ok₂ of₂ : List ℕ) → Ran a p q d oc₂ on₂ oe₂ ok₂ of₂
-  stops-found n a p q d e oc₂ on₂ oe₂ ok₂ of₂ = (
-    e ∙ found-refused op m s c oc on oe ok of w (foundEvents op s c) (course-is op s c) (x .code) n
+  pub stops-found : (x .code ≡ 0 → ⊥) → (a p q d : ℕ) → a ≡ x .code → (oc₂ : List Float) (on₂ oe₂ ok₂ of₂ om₂ oi₂ : List ℕ)
+      → Ran a p q d oc₂ on₂ oe₂ ok₂ of₂ om₂ oi₂
+  stops-found n a p q d e oc₂ on₂ oe₂ ok₂ of₂ om₂ oi₂ = (
+    e ∙ found-refused op m s c l (foundEvents op s c) (course-is op s c) (x .code) n
         told-all,
     λ z. absurd (n (sym e ∙ z)),
   )
@@ -71,9 +97,9 @@ module _ (op m : ℕ) (s c : Mesh) (oc : List Float) (on oe ok of w : List ℕ) 
     pub next-range : ((length (s .coords) + length (c .coords)) / 2 ≤ x .next) × (x .next < 2 ^ 32)
     next-range =
         let k = coords-long op s c (pa .subject .even) (pa .cutter .even) in
-        let l = next-long op m s c w pa oc oc₁ w₁ x told z in
+        let long = next-long op m s c w pa oc oc₁ w₁ x told z in
         let few = met-few op m s c (length oc / 2) (room) (length on) passed in
-        (omega (arith, l, k .1, pa .subject .even, pa .cutter .even), omega (arith, l, k .1, k .2, few, pa .most, pa .subject .mostNodes, pa .cutter .mostNodes))
+        (omega (arith, long, k .1, pa .subject .even, pa .cutter .even), omega (arith, long, k .1, k .2, few, pa .most, pa .subject .mostNodes, pa .cutter .mostNodes))
 
     -- the indexes stand in the working list
     module _ (i : Indexes) (w₂ : List ℕ) (built : (i ≡ indexesAt (take (2 * x .next) oc₁) w₁ (x .regions) (s .ends) (c .ends))
@@ -111,14 +137,15 @@ module _ (op m : ℕ) (s c : Mesh) (oc : List Float) (on oe ok of w : List ℕ) 
         got : (placing r on′ oe′ of′ ≡ placedBehind noneYet y on (take room oe) (take room of)) × Few (length (s .ends) + length (c .ends)) noneYet r
         got = (told-cut .0 ∙ ap (λ (n : ℕ). placedBehind noneYet y on (take n oe) (take n of)) most, told-cut .1)
 
-        state-is : r .code ≡ stateOf op m s c (lentLists oc on oe ok of w)
+        state-is : r .code ≡ stateOf op m s c l
         state-is =
             let f = found-passes op s c m (length oc / 2) room (length on) passed in
-            cells-state op m s c oc on oe ok of w (foundEvents op s c) (course-is op s c) (f .0) (f .1) (f .2) y (meshes-steady op coords w₂ g (s .ends) (c .ends))
+            cells-state op m s c l (foundEvents op s c) (course-is op s c) (f .0) (f .1) (f .2) y (meshes-steady op coords w₂ g (s .ends) (c .ends))
             (meshes-events op sc coords w₂ g (s .ends) (c .ends) ins) r on′ oe′ of′ (got .0)
 
-        pub stops-cut : (r .code ≡ 0 → ⊥) → (a p q d : ℕ) → a ≡ r .code → (oc₂ : List Float) (on₂ oe₂ ok₂ of₂ : List ℕ) → Ran a p q d oc₂ on₂ oe₂ ok₂ of₂
-        stops-cut n a p q d e oc₂ on₂ oe₂ ok₂ of₂ = (e ∙ state-is, λ t. absurd (n (sym e ∙ t)))
+        pub stops-cut : (r .code ≡ 0 → ⊥) → (a p q d : ℕ) → a ≡ r .code → (oc₂ : List Float) (on₂ oe₂ ok₂ of₂ om₂ oi₂ : List ℕ)
+            → Ran a p q d oc₂ on₂ oe₂ ok₂ of₂ om₂ oi₂
+        stops-cut n a p q d e oc₂ on₂ oe₂ ok₂ of₂ om₂ oi₂ = (e ∙ state-is, λ t. absurd (n (sym e ∙ t)))
 
         module _ (t : r .code ≡ 0) where
           -- the pieces have their places
@@ -128,33 +155,47 @@ module _ (op m : ℕ) (s c : Mesh) (oc : List Float) (on oe ok of w : List ℕ) 
               let steady = meshes-steady op coords w₂ g (s .ends) (c .ends) in
               let events = meshes-events op sc coords w₂ g (s .ends) (c .ends) ins in
               let pieces = meshes-pieces op sc coords w₂ g (s .ends) (c .ends) ins in (
-                count-low op m s c oc on oe ok of w (foundEvents op s c) (course-is op s c) (f .0) (f .1) (f .2) y steady events r on′ oe′ of′ (got .0) t pieces,
+                count-low op m s c l (foundEvents op s c) (course-is op s c) (f .0) (f .1) (f .2) y steady events r on′ oe′ of′ (got .0) t pieces,
                 omega (arith, got .1 .pieces, pa .subject .mostCells, pa .cutter .mostCells),
                 subst (λ (n : ℕ). r .count ≤ length (of′ ++ drop n of)) (sym most)
-                    (tags-fit op m s c oc on oe ok of w (foundEvents op s c) (course-is op s c) (f .0) (f .1) (f .2) y steady events r on′ oe′ of′ (got .0) t pieces),
+                    (tags-fit op m s c l (foundEvents op s c) (course-is op s c) (f .0) (f .1) (f .2) y steady events r on′ oe′ of′ (got .0) t pieces),
               )
 
-          ran-room : (ok′ fs : List ℕ) → ok′ ≡ front ok (map (kindBy (s .kinds) (c .kinds)) (take (r .count) (of′ ++ drop room of)))
-              → fs ≡ map (familyBy (s .families) (c .families)) (take (r .count) (of′ ++ drop room of))
-              → Ran 0 (r .count) (x .next - (length (s .coords) + length (c .coords)) / 2) 0 oc₁ on′ (oe′ ++ drop room oe) ok′ (fs ++ drop (r .count) (of′ ++ drop room of))
-          ran-room ok′ fs ek ef =
+          -- what the passes read
+          abbrev tags : ℕ → List ℕ
+          tags k = take (r .count) (of′ ++ drop k of)
+
+          -- what they leave
+          record Passes (k : ℕ) (ok′ fs om′ oi′ : List ℕ) : Type 0 where
+            kinds : ok′ ≡ front ok (map (kindBy (s .kinds) (c .kinds)) (tags k))
+            families : fs ≡ map (familyBy (s .families) (c .families)) (tags k)
+            meshes : om′ ≡ front om (map (meshBy (length (s .ends))) (tags k))
+            cells : oi′ ≡ front oi (map (cellBy (length (s .ends))) (tags k))
+
+          -- what `run` comes to with them
+          abbrev Passed-by : (k : ℕ) (ok′ fs om′ oi′ : List ℕ) → Type 0
+          Passed-by k ok′ fs om′ oi′ =
+              Ran 0 (r .count) (x .next - (length (s .coords) + length (c .coords)) / 2) 0 oc₁ on′ (oe′ ++ drop k oe) ok′ (fs ++ drop (r .count) (of′ ++ drop k of)) om′ oi′
+
+          ran-room : (ok′ fs om′ oi′ : List ℕ) → Passes room ok′ fs om′ oi′ → Passed-by room ok′ fs om′ oi′
+          ran-room ok′ fs om′ oi′ e =
               let f = found-passes op s c m (length oc / 2) room (length on) passed in
               let half : length (s .coords) + length (c .coords) ≡ 2 * ((length (s .coords) + length (c .coords)) / 2) = omega (arith, pa .subject .even, pa .cutter .even) in (
                 sym t ∙ state-is,
-                λ _. cells-answered op m s c oc on oe ok of w (foundEvents op s c) (course-is op s c) (f .0) (f .1) (f .2) y (meshes-steady op coords w₂ g (s .ends) (c .ends))
+                λ _. cells-answered op m s c l (foundEvents op s c) (course-is op s c) (f .0) (f .1) (f .2) y (meshes-steady op coords w₂ g (s .ends) (c .ends))
                     (meshes-events op sc coords w₂ g (s .ends) (c .ends) ins) r on′ oe′ of′ (got .0) t (meshes-pieces op sc coords w₂ g (s .ends) (c .ends) ins)
                     (meshes-kinds op sc coords w₂ g (s .ends) (c .ends) ins (s .kinds) (c .kinds) (pa .subject .kindsLong) kinds-stand)
                     (meshes-families op sc coords w₂ g (s .ends) (c .ends) ins (s .families) (c .families) (pa .subject .familiesLong) families-stand)
-                    ok′ fs ek ef oc₁ (placed op m s c w pa oc oc₁ w₁ x told z)
+                    (meshes-parent-meshes op sc coords w₂ g (s .ends) (c .ends) ins) (meshes-parent-cells op sc coords w₂ g (s .ends) (c .ends) ins)
+                    ok′ fs om′ oi′ (e .kinds) (e .families) (e .meshes) (e .cells) oc₁ (placed op m s c w pa oc oc₁ w₁ x told z)
                     (x .next - (length (s .coords) + length (c .coords)) / 2)
                     (points-are op s c (x .next) ((length (s .coords) + length (c .coords)) / 2) half (next-is op m s c w pa oc oc₁ w₁ x told z)),
               )
 
-          pub ran : (ok′ fs : List ℕ) → ok′ ≡ front ok (map (kindBy (s .kinds) (c .kinds)) (take (r .count) (of′ ++ drop top of)))
-              → fs ≡ map (familyBy (s .families) (c .families)) (take (r .count) (of′ ++ drop top of))
-              → Ran 0 (r .count) (x .next - (length (s .coords) + length (c .coords)) / 2) 0 oc₁ on′ (oe′ ++ drop top oe) ok′ (fs ++ drop (r .count) (of′ ++ drop top of))
-          ran ok′ fs ek ef =
-              subst (λ (n : ℕ). Ran 0 (r .count) (x .next - (length (s .coords) + length (c .coords)) / 2) 0 oc₁ on′ (oe′ ++ drop n oe) ok′
-              (fs ++ drop (r .count) (of′ ++ drop n of))) (sym most)
-              (ran-room ok′ fs (ek ∙ ap (λ (n : ℕ). front ok (map (kindBy (s .kinds) (c .kinds)) (take (r .count) (of′ ++ drop n of)))) most)
-              (ef ∙ ap (λ (n : ℕ). map (familyBy (s .families) (c .families)) (take (r .count) (of′ ++ drop n of))) most))
+          pub ran : (ok′ fs om′ oi′ : List ℕ) → ok′ ≡ front ok (map (kindBy (s .kinds) (c .kinds)) (tags top))
+              → fs ≡ map (familyBy (s .families) (c .families)) (tags top)
+              → (om′ ≡ front om (map (meshBy (length (s .ends))) (tags top))) × (oi′ ≡ front oi (map (cellBy (length (s .ends))) (tags top)))
+              → Passed-by top ok′ fs om′ oi′
+          ran ok′ fs om′ oi′ ek ef (em, ei) =
+              subst (λ (k : ℕ). Passed-by k ok′ fs om′ oi′) (sym most)
+              (ran-room ok′ fs om′ oi′ (subst (λ (k : ℕ). Passes k ok′ fs om′ oi′) most (record { kinds = ek; families = ef; meshes = em; cells = ei })))

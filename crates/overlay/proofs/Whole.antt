@@ -15,18 +15,18 @@ use Rattle.lists.proofs.Regions.{front-put, take-front-of}
 use Rattle.cutting.specs.Outcome.{Outcome, refusal, pieces, flat, stops}
 use Rattle.cutting.proofs.Runs.{stops-length}
 use Rattle.entry.specs.Mesh.{Mesh}
-use Rattle.rules.specs.Mesh.{Side, theSubject, theCutter}
+use Rattle.rules.specs.Mesh.{Side, theSubject, theCutter, sideNumber}
 use Rattle.rules.specs.Meetings.{Scene, netOf, addedBy, sceneOf}
 use Rattle.rules.specs.Cell.{outcomeOf}
 use Rattle.rules.specs.Operations.{Piece, cuts, sceneFor, kept, overCells, listingWith}
 use Rattle.rules.specs.Refusals.{Event, meeting, point, piece, stop, ofCell, course, firstRefusal}
-use Rattle.rules.specs.Overlay.{Lists, lentLists, result, written, stateOf, stateWith, answered, answeredWith}
+use Rattle.rules.specs.Overlay.{Lists, lentLists, result, pieceRoom, written, stateOf, stateWith, answered, answeredWith}
 use Rattle.pieces.specs.declared.Listed.{Listed}
 use Rattle.pieces.specs.Pieces.{Yield, placing, placedBehind}
 use Rattle.pieces.proofs.Room.{refused}
 use Rattle.pieces.proofs.Placing.{Steady, code-met, all-placed, fit}
 use Rattle.cutting_cells.specs.Yields.{noneYet}
-use Rattle.passes.specs.Tags.{kindBy, familyBy}
+use Rattle.passes.specs.Tags.{kindBy, familyBy, meshBy, cellBy}
 use Rattle.overlay.proofs.Scene.{cellEvents, nodesOf}
 use Rattle.overlay.proofs.Yielded.{overBoth}
 
@@ -38,6 +38,11 @@ front-back w xs w′ n e h l =
     ap (λ (v : List _). v ++ drop n w) e ∙ append-assoc xs (drop (length xs) (take n w)) (drop n w)
     ∙ ap (λ (v : List _). xs ++ v)
     (sym (drop-append-le (length xs) (take n w) (drop n w) (omega (arith, h, length-take-le n w l))) ∙ ap (drop (length xs)) (take-append-drop n w))
+
+-- it comes back as long as it was
+pub back-long : {A : Type 0} (w w′ : List A) (n : ℕ) → length w′ ≡ length (take n w) → length (w′ ++ drop n w) ≡ length w
+back-long w w′ n e =
+    omega (arith, e, length-append w′ (drop n w), length-append (take n w) (drop n w), ap length (take-append-drop n w))
 
 -- as many elements take the place of a front
 front-over : {A : Type 0} (w xs ys : List A) (n : ℕ) → length xs ≡ n → length ys ≡ n → ys ++ drop n (front w xs) ≡ front w ys
@@ -104,17 +109,39 @@ cells-over op sc = cells-append (one theSubject) (one theCutter) (of theSubject)
 
 -- ---- the refusal of the state, and the answer
 
-module _ (op m : ℕ) (s c : Mesh) (oc : List Float) (on oe ok of w : List ℕ) (found : List Event)
+module _ (op m : ℕ) (s c : Mesh) (l : Lists) (found : List Event)
     (course-is : course op s c ≡ found ++ overBoth op (sceneFor op s c) (cellEvents op (sceneFor op s c))) where
-  abbrev l : Lists
-  l = lentLists oc on oe ok of w
+  -- its lists
+  abbrev oc : List Float
+  oc = l .coords
+
+  abbrev on : List ℕ
+  on = l .nodes
+
+  abbrev oe : List ℕ
+  oe = l .ends
+
+  abbrev ok : List ℕ
+  ok = l .kinds
+
+  abbrev of : List ℕ
+  of = l .families
+
+  abbrev om : List ℕ
+  om = l .meshes
+
+  abbrev oi : List ℕ
+  oi = l .cells
+
+  abbrev w : List ℕ
+  w = l .work
 
   abbrev sc₀ : Scene
   sc₀ = sceneFor op s c
 
-  -- how many pieces have a place in each of ends, kinds and families
+  -- how many pieces have their places
   abbrev room : ℕ
-  room = min (length oe) (min (length ok) (length of))
+  room = pieceRoom l
 
   abbrev ps : List Piece
   ps = overBoth op sc₀ (λ v. kept sc₀ v op)
@@ -169,14 +196,22 @@ module _ (op m : ℕ) (s c : Mesh) (oc : List Float) (on oe ok of w : List ℕ) 
       unfolding front
       tags-fit = omega (arith, ap length tagged, length-append (y .tags) (drop (length (y .tags)) of), tags-long)
 
+      -- a list that a pass has written to by the tags
+      passed : (by : ℕ → ℕ) (part : Piece → ℕ) → map by (y .tags) ≡ map part ps
+          → (list list′ : List ℕ) → list′ ≡ front list (map by (take (r .count) of″)) → list′ ≡ front list (map part ps)
+      passed by part are list list′ e = e ∙ ap (λ (ts : List ℕ). front list (map by ts)) tags-read ∙ ap (front list) are
+
       module _ (kinds-are : map (kindBy (s .kinds) (c .kinds)) (y .tags) ≡ map (λ p. p .kind) ps)
-          (families-are : map (familyBy (s .families) (c .families)) (y .tags) ≡ map (λ p. p .family) ps) where
-        pub cells-answered : (ok′ fs : List ℕ) → ok′ ≡ front ok (map (kindBy (s .kinds) (c .kinds)) (take (r .count) of″))
+          (families-are : map (familyBy (s .families) (c .families)) (y .tags) ≡ map (λ p. p .family) ps)
+          (meshes-are : map (meshBy (length (s .ends))) (y .tags) ≡ map (λ p. sideNumber (p .mesh)) ps)
+          (cells-are : map (cellBy (length (s .ends))) (y .tags) ≡ map (λ p. p .cell) ps) where
+        pub cells-answered : (ok′ fs om′ oi′ : List ℕ) → ok′ ≡ front ok (map (kindBy (s .kinds) (c .kinds)) (take (r .count) of″))
             → fs ≡ map (familyBy (s .families) (c .families)) (take (r .count) of″)
+            → om′ ≡ front om (map (meshBy (length (s .ends))) (take (r .count) of″)) → oi′ ≡ front oi (map (cellBy (length (s .ends))) (take (r .count) of″))
             → (oc′ : List Float) → oc′ ≡ front oc (sc₀ .coords) → (points : ℕ) → points ≡ length (addedBy (sc₀ .met)) / 2
-            → result 0 (r .count) points 0 (lentLists oc′ on′ (oe′ ++ drop room oe) ok′ (fs ++ drop (r .count) of″) (zeros (length w))) ≡ answered op s c l
+            → result 0 (r .count) points 0 (lentLists oc′ on′ (oe′ ++ drop room oe) ok′ (fs ++ drop (r .count) of″) om′ oi′ (zeros (length w))) ≡ answered op s c l
         unfolding answeredWith written listingWith
-        cells-answered ok′ fs ek ef oc′ ec points ep =
+        cells-answered ok′ fs om′ oi′ ek ef em ei oc′ ec points ep =
             let a = all-placed noneYet y on (take room oe) (take room of) r on′ oe′ of′ placed z in
             let count : r .count ≡ length ps = count-is ∙ ap length pieces-are ∙ length-map ps (λ p. p .nodes) in
             let corners : on′ ≡ front on (flat (nodesOf ps)) = a .corners ∙ front-put on (flat (y .pieces)) ∙ ap (λ (ks : List (List ℕ)). front on (flat ks)) pieces-are in
@@ -184,12 +219,14 @@ module _ (op m : ℕ) (s c : Mesh) (oc : List Float) (on oe ok of w : List ℕ) 
             front-back oe (stops 0 (y .pieces)) oe′ room (a .ends ∙ front-put (take room oe) (stops 0 (y .pieces)))
             (omega (arith, stops-length 0 (y .pieces), count-is, count-low)) (omega arith)
             ∙ ap (λ (ks : List (List ℕ)). front oe (stops 0 ks)) pieces-are in
-            let kinds : ok′ ≡ front ok (map (λ p. p .kind) ps) = ek ∙ ap (λ (ts : List ℕ). front ok (map (kindBy (s .kinds) (c .kinds)) ts)) tags-read ∙ ap (front ok) kinds-are in
+            let kinds = passed (kindBy (s .kinds) (c .kinds)) (λ p. p .kind) kinds-are ok ok′ ek in
+            let meshes = passed (meshBy (length (s .ends))) (λ p. sideNumber (p .mesh)) meshes-are om om′ em in
+            let cells = passed (cellBy (length (s .ends))) (λ p. p .cell) cells-are oi oi′ ei in
             let fs-are : fs ≡ map (λ p. p .family) ps = ef ∙ ap (map (familyBy (s .families) (c .families))) tags-read ∙ families-are in
             let families : fs ++ drop (r .count) of″ ≡ front of (map (λ p. p .family) ps) =
             ap₂ (λ (u v : List ℕ). u ++ drop (r .count) v) fs-are tagged
             ∙ front-over of (y .tags) (map (λ p. p .family) ps) (r .count) tags-long (length-map ps (λ p. p .family) ∙ sym count) in
-            λ i. result 0 (count i) (ep i) 0 (lentLists (ec i) (corners i) (ends i) (kinds i) (families i) (zeros (length w)))
+            λ i. result 0 (count i) (ep i) 0 (lentLists (ec i) (corners i) (ends i) (kinds i) (families i) (meshes i) (cells i) (zeros (length w)))
 
 -- the points are those that the meetings add
 pub points-are : (op : ℕ) (s c : Mesh) (next k : ℕ) → length (s .coords) + length (c .coords) ≡ 2 * k → next ≡ length (sceneFor op s c .coords) / 2

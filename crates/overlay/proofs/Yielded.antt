@@ -1,16 +1,18 @@
--- What the cells of both meshes yield is what happens in the scene, and its pieces are those of the listing, with their kinds and families. Assumes nothing.
+-- What the cells of both meshes yield is what happens in the scene, and its pieces are those of the listing, with what their tags say of them.
+-- Assumes nothing.
 use mathlib.Core.Path.{_≡_, refl, sym, ap, ap₂, _∙_}
-use mathlib.Core.Bool.{Bool, true, false, cond}
+use mathlib.Core.Bool.{Bool, true, false, cond, false≢true}
 use mathlib.Core.List.{List, [], _++_, map, map-append}
 use Prim.Native.Nat.{ℕ, zero, suc, _+_, _<_}
 use native.Mathlib.Nat.{zero-add}
 use native.Mathlib.Omega.{arith}
+use lib.Dec.{eqb}
 use lib.ListN.{length, getD, replicate, List·getD-append}
 use lib.Seq.{getD-append-add}
 use lib.Ieee.{Float}
 use Rattle.lists.specs.Gather.{gathered}
 use Rattle.lists.proofs.Gather.{gathered-ext}
-use Rattle.rules.specs.Mesh.{Side, theSubject, theCutter, other}
+use Rattle.rules.specs.Mesh.{Side, theSubject, theCutter, other, sideNumber}
 use Rattle.rules.specs.Meetings.{Scene, netOf}
 use Rattle.rules.specs.Operations.{Piece, cuts, kept, overCells}
 use Rattle.rules.specs.Refusals.{Event}
@@ -20,8 +22,8 @@ use Rattle.pieces.specs.Pieces.{runsOf, Yield, nothing, both, allOf}
 use Rattle.pieces.proofs.Runs.{length-runs}
 use Rattle.cutting_cells.specs.Yields.{runsOn, numberedFrom, cellsYield, meshesYield}
 use Rattle.cutting_cells.proofs.Meshes.{cellYield, all-cells}
-use Rattle.passes.specs.Tags.{kindBy, familyBy}
-use Rattle.overlay.proofs.Scene.{SceneIn, cellEvents, nodesOf, pieces-are, events-are, tags-are, kinds-are, families-are, tagIn}
+use Rattle.passes.specs.Tags.{kindBy, familyBy, meshBy, cellBy}
+use Rattle.overlay.proofs.Scene.{SceneIn, cellEvents, nodesOf, pieces-are, events-are, tags-are, kinds-are, families-are, parent-meshes-are, parent-cells-are, tagIn}
 
 -- f for each cell of both meshes, if the operation cuts them
 abbrev pub overBoth : {A : Type 0} → ℕ → Scene → (Side → ℕ → List A) → List A
@@ -130,20 +132,50 @@ module _ (op : ℕ) (sc : Scene) (coords : List Float) (work : List ℕ) (g : Re
   counted xs ys l theSubject i h = ap (λ (k : ℕ). getD (xs ++ ys) k 0) (zero-add i) ∙ List·getD-append xs ys 0 i (omega (arith, h, l))
   counted xs ys l theCutter i h = ap (λ (n : ℕ). getD (xs ++ ys) (n + i) 0) (sym l) ∙ getD-append-add xs ys i 0
 
+  -- what the tags of a cell's pieces say of them
+  abbrev SaidAt : (ℕ → ℕ) → (Piece → ℕ) → Side → ℕ → Type 0
+  SaidAt by part w i =
+      map by (replicate (length (kept sc w op i)) (tagIn op sc w coords work g (runsOn g (other w)) (stopsOf (other w)) (cut-by w) i (number w i) (cell w i) (this w i)))
+      ≡ map part (kept sc w op i)
+
+  by-tags : (by : ℕ → ℕ) (part : Piece → ℕ) → ((w : Side) (i : ℕ) → i < length (stopsOf w) → SaidAt by part w i)
+      → map by (meshesYield op coords work g se ce .tags) ≡ map part (overBoth op sc (λ w. kept sc w op))
+  by-tags by part is =
+      part-meshes (λ y. map by (y .tags)) (λ y z. map-append by (y .tags) (z .tags)) refl (λ w i. map part (kept sc w op i))
+      (λ w i h. ap (map by) (tags-at w i) ∙ is w i h)
+      ∙ sym (map-both part op sc (λ w. kept sc w op))
+
   module _ (sk ck : List ℕ) (long : length sk ≡ length se) (kinds : (w : Side) → netOf sc w .kinds ≡ ofSide sk ck w) where
     pub meshes-kinds : map (kindBy sk ck) (meshesYield op coords work g se ce .tags) ≡ map (λ p. p .kind) (overBoth op sc (λ w. kept sc w op))
     meshes-kinds =
-        part-meshes (λ y. map (kindBy sk ck) (y .tags)) (λ y z. map-append (kindBy sk ck) (y .tags) (z .tags)) refl (λ w i. map (λ p. p .kind) (kept sc w op i))
-        (λ w i h. ap (map (kindBy sk ck)) (tags-at w i)
-        ∙ kinds-are op sc w coords work g (runsOn g (other w)) (stopsOf (other w)) (cut-by w) i (number w i) (cell w i) (this w i) sk ck
+        by-tags (kindBy sk ck) (λ p. p .kind)
+        (λ w i h. kinds-are op sc w coords work g (runsOn g (other w)) (stopsOf (other w)) (cut-by w) i (number w i) (cell w i) (this w i) sk ck
         (counted sk ck long w i h ∙ ap (λ (l : List ℕ). getD l i 0) (sym (kinds w))))
-        ∙ sym (map-both (λ (p : Piece). p .kind) op sc (λ w. kept sc w op))
 
   module _ (sf cf : List ℕ) (long : length sf ≡ length se) (families : (w : Side) → netOf sc w .families ≡ ofSide sf cf w) where
     pub meshes-families : map (familyBy sf cf) (meshesYield op coords work g se ce .tags) ≡ map (λ p. p .family) (overBoth op sc (λ w. kept sc w op))
     meshes-families =
-        part-meshes (λ y. map (familyBy sf cf) (y .tags)) (λ y z. map-append (familyBy sf cf) (y .tags) (z .tags)) refl (λ w i. map (λ p. p .family) (kept sc w op i))
-        (λ w i h. ap (map (familyBy sf cf)) (tags-at w i)
-        ∙ families-are op sc w coords work g (runsOn g (other w)) (stopsOf (other w)) (cut-by w) i (number w i) (cell w i) (this w i) sf cf
+        by-tags (familyBy sf cf) (λ p. p .family)
+        (λ w i h. families-are op sc w coords work g (runsOn g (other w)) (stopsOf (other w)) (cut-by w) i (number w i) (cell w i) (this w i) sf cf
         (counted sf cf long w i h ∙ ap (λ (l : List ℕ). getD l i 0) (sym (families w))))
-        ∙ sym (map-both (λ (p : Piece). p .family) op sc (λ w. kept sc w op))
+
+  -- a cell's number among those of both meshes
+  number-is : (w : Side) (i : ℕ) → number w i ≡ cond (eqb (sideNumber w) 0) i (length se + i)
+  number-is theSubject i = zero-add i
+  number-is theCutter i = refl
+
+  first-below : (w : Side) (i : ℕ) → i < length (stopsOf w) → eqb (sideNumber w) 0 ≡ true → i < length se
+  first-below theSubject i h e = h
+  first-below theCutter i h e = absurd (false≢true e)
+
+  pub meshes-parent-meshes : map (meshBy (length se)) (meshesYield op coords work g se ce .tags) ≡ map (λ p. sideNumber (p .mesh)) (overBoth op sc (λ w. kept sc w op))
+  meshes-parent-meshes =
+      by-tags (meshBy (length se)) (λ p. sideNumber (p .mesh))
+      (λ w i h. parent-meshes-are op sc w coords work g (runsOn g (other w)) (stopsOf (other w)) (cut-by w) i (number w i) (cell w i) (this w i) (length se)
+      (number-is w i) (first-below w i h))
+
+  pub meshes-parent-cells : map (cellBy (length se)) (meshesYield op coords work g se ce .tags) ≡ map (λ p. p .cell) (overBoth op sc (λ w. kept sc w op))
+  meshes-parent-cells =
+      by-tags (cellBy (length se)) (λ p. p .cell)
+      (λ w i h. parent-cells-are op sc w coords work g (runsOn g (other w)) (stopsOf (other w)) (cut-by w) i (number w i) (cell w i) (this w i) (length se)
+      (number-is w i) (first-below w i h))

@@ -8,6 +8,7 @@ use lists::zero_u8;
 use lists::zero_u32;
 use passes::write_families;
 use passes::write_kinds;
+use passes::write_parents;
 ghost use mathlib.Core.Path.{_≡_};
 ghost use Prim.Native.Nat.{min};
 ghost use lib.ListN.{length};
@@ -51,8 +52,8 @@ fn least(a: usize, b: usize, c: usize) -> usize
     c
 }
 
-// The stages behind the entry. The cells' pieces have tags in the list of families; kinds and families are written by them. Where a stage
-// refuses, the lists are to be cleared.
+// The stages behind the entry. The cells' pieces have tags in the list of families; kinds, parents and families are written by them. Where a
+// stage refuses, the lists are to be cleared.
 fn run(
     op: u32,
     m: u32,
@@ -71,17 +72,19 @@ fn run(
     oe: &mut [u32],
     ok: &mut [u8],
     of: &mut [u32],
+    om: &mut [u32],
+    oi: &mut [u32],
     work: &mut [u32],
 ) -> Answer
     requires { ⌜ entryOf op m (mesh (now sc) (now sn) (now se) (now sk) (now sf)) (mesh (now cc) (now cn) (now ce) (now ck) (now cf)) (length (now work)) ≡ 0 ⌝ }
     ensures { λ r. ⌜ (r .code ≡ stateOf op m (mesh (now (sc .entry)) (now (sn .entry)) (now (se .entry)) (now (sk .entry)) (now (sf .entry)))
         (mesh (now (cc .entry)) (now (cn .entry)) (now (ce .entry)) (now (ck .entry)) (now (cf .entry)))
-        (lentLists (now (oc .entry)) (now (on .entry)) (now (oe .entry)) (now (ok .entry)) (now (of .entry)) (now (work .entry))))
+        (lentLists (now (oc .entry)) (now (on .entry)) (now (oe .entry)) (now (ok .entry)) (now (of .entry)) (now (om .entry)) (now (oi .entry)) (now (work .entry))))
         × (r .code ≡ 0 → result 0 (r .pieces) (r .points) (r .doubled)
-        (lentLists (now (oc .exit)) (now (on .exit)) (now (oe .exit)) (now (ok .exit)) (now (of .exit)) (zeros (length (now (work .entry)))))
+        (lentLists (now (oc .exit)) (now (on .exit)) (now (oe .exit)) (now (ok .exit)) (now (of .exit)) (now (om .exit)) (now (oi .exit)) (zeros (length (now (work .entry)))))
         ≡ answered op (mesh (now (sc .entry)) (now (sn .entry)) (now (se .entry)) (now (sk .entry)) (now (sf .entry)))
         (mesh (now (cc .entry)) (now (cn .entry)) (now (ce .entry)) (now (ck .entry)) (now (cf .entry)))
-        (lentLists (now (oc .entry)) (now (on .entry)) (now (oe .entry)) (now (ok .entry)) (now (of .entry)) (now (work .entry)))) ⌝ }
+        (lentLists (now (oc .entry)) (now (on .entry)) (now (oe .entry)) (now (ok .entry)) (now (of .entry)) (now (om .entry)) (now (oi .entry)) (now (work .entry)))) ⌝ }
 {
     let f = find(op, m, sc, sn, se, cc, cn, ce, oc, work);
     let code = f.code;
@@ -92,7 +95,8 @@ fn run(
     let k = 2 * next;
     let g = f.regions;
     let x = index_meshes(&oc[..k], work, g, se, ce);
-    let room = least(oe.len(), ok.len(), of.len());
+    let rest = least(of.len(), om.len(), oi.len());
+    let room = least(oe.len(), ok.len(), rest);
     let r = cut_meshes(
         op,
         &oc[..k],
@@ -111,6 +115,7 @@ fn run(
     }
     let n = r.count;
     write_kinds(&of[..n], sk, ck, ok);
+    write_parents(&of[..n], se.len() as u32, om, oi);
     write_families(sf, cf, &mut of[..n]);
     Answer {
         code: 0,
@@ -127,21 +132,25 @@ fn clear(
     oe: &mut [u32],
     ok: &mut [u8],
     of: &mut [u32],
+    om: &mut [u32],
+    oi: &mut [u32],
     work: &mut [u32],
 )
-    ensures { λ _. ⌜ lentLists (now (oc .exit)) (now (on .exit)) (now (oe .exit)) (now (ok .exit)) (now (of .exit)) (now (work .exit))
-        ≡ cleared (lentLists (now (oc .entry)) (now (on .entry)) (now (oe .entry)) (now (ok .entry)) (now (of .entry)) (now (work .entry))) ⌝ }
+    ensures { λ _. ⌜ lentLists (now (oc .exit)) (now (on .exit)) (now (oe .exit)) (now (ok .exit)) (now (of .exit)) (now (om .exit)) (now (oi .exit)) (now (work .exit))
+        ≡ cleared (lentLists (now (oc .entry)) (now (on .entry)) (now (oe .entry)) (now (ok .entry)) (now (of .entry)) (now (om .entry)) (now (oi .entry)) (now (work .entry))) ⌝ }
 {
     zero_f64(oc);
     zero_u32(on);
     zero_u32(oe);
     zero_u8(ok);
     zero_u32(of);
+    zero_u32(om);
+    zero_u32(oi);
     zero_u32(work);
 }
 
-// Operation, meeting limit M; the subject's and the cutter's coordinates, node numbers, cell ends, kinds and families; the same five output lists; the
-// working list.
+// Operation, meeting limit M; the subject's and the cutter's coordinates, node numbers, cell ends, kinds and families; the same five output lists, and
+// those of the parents' meshes and cells; the working list.
 pub fn overlay(
     op: u32,
     m: u32,
@@ -160,14 +169,16 @@ pub fn overlay(
     oe: &mut [u32],
     ok: &mut [u8],
     of: &mut [u32],
+    om: &mut [u32],
+    oi: &mut [u32],
     work: &mut [u32],
 ) -> Answer
     ensures { λ r. ⌜ result (r .code) (r .pieces) (r .points) (r .doubled)
-        (lentLists (now (oc .exit)) (now (on .exit)) (now (oe .exit)) (now (ok .exit)) (now (of .exit)) (now (work .exit)))
+        (lentLists (now (oc .exit)) (now (on .exit)) (now (oe .exit)) (now (ok .exit)) (now (of .exit)) (now (om .exit)) (now (oi .exit)) (now (work .exit)))
         ≡ overlayOf op m
         (mesh (now (sc .entry)) (now (sn .entry)) (now (se .entry)) (now (sk .entry)) (now (sf .entry)))
         (mesh (now (cc .entry)) (now (cn .entry)) (now (ce .entry)) (now (ck .entry)) (now (cf .entry)))
-        (lentLists (now (oc .entry)) (now (on .entry)) (now (oe .entry)) (now (ok .entry)) (now (of .entry)) (now (work .entry))) ⌝ }
+        (lentLists (now (oc .entry)) (now (on .entry)) (now (oe .entry)) (now (ok .entry)) (now (of .entry)) (now (om .entry)) (now (oi .entry)) (now (work .entry))) ⌝ }
 {
     let bad = entry(op, m, sc, sn, se, sk, sf, cc, cn, ce, ck, cf, work.len());
     if bad != 0 {
@@ -191,11 +202,13 @@ pub fn overlay(
         oe,
         ok,
         of,
+        om,
+        oi,
         work,
     );
     let code = a.code;
     if code != 0 {
-        clear(oc, on, oe, ok, of, work);
+        clear(oc, on, oe, ok, of, om, oi, work);
         return plain(code);
     }
     zero_u32(work);

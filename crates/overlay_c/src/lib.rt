@@ -16,8 +16,8 @@ fn put(counts: &mut [u32], pieces: u32, points: u32, doubled: u32)
     }
 }
 
-// Operation, meeting limit M; the subject's and the cutter's coordinates, node numbers, cell ends, kinds and families; the same five output lists; the
-// working list; the counts of pieces and new points, and 0.
+// Operation, meeting limit M; the subject's and the cutter's coordinates, node numbers, cell ends, kinds and families; the same five output lists, and
+// those of the parents' meshes and cells; the working list; the counts of pieces and new points, and 0.
 #[no_mangle]
 pub extern "C" fn daqwimay_overlay(
     op: u32,
@@ -37,14 +37,16 @@ pub extern "C" fn daqwimay_overlay(
     oe: &mut [u32],
     ok: &mut [u8],
     of: &mut [u32],
+    om: &mut [u32],
+    oi: &mut [u32],
     work: &mut [u32],
     counts: &mut [u32],
 ) -> u32
     ensures { λ r. ⌜ AnswerOf (overlayOf op m
         (mesh (now (sc .entry)) (now (sn .entry)) (now (se .entry)) (now (sk .entry)) (now (sf .entry)))
         (mesh (now (cc .entry)) (now (cn .entry)) (now (ce .entry)) (now (ck .entry)) (now (cf .entry)))
-        (lentLists (now (oc .entry)) (now (on .entry)) (now (oe .entry)) (now (ok .entry)) (now (of .entry)) (now (work .entry)))) (now (counts .entry))
-        r (lentLists (now (oc .exit)) (now (on .exit)) (now (oe .exit)) (now (ok .exit)) (now (of .exit)) (now (work .exit))) (now (counts .exit)) ⌝ }
+        (lentLists (now (oc .entry)) (now (on .entry)) (now (oe .entry)) (now (ok .entry)) (now (of .entry)) (now (om .entry)) (now (oi .entry)) (now (work .entry)))) (now (counts .entry))
+        r (lentLists (now (oc .exit)) (now (on .exit)) (now (oe .exit)) (now (ok .exit)) (now (of .exit)) (now (om .exit)) (now (oi .exit)) (now (work .exit))) (now (counts .exit)) ⌝ }
 {
     let a = overlay(
         op,
@@ -64,6 +66,8 @@ pub extern "C" fn daqwimay_overlay(
         oe,
         ok,
         of,
+        om,
+        oi,
         work,
     );
     put(counts, a.pieces, a.points, a.doubled);

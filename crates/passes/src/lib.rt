@@ -5,7 +5,7 @@ ghost use mathlib.Core.List.{_++_, map};
 ghost use Prim.Native.Nat.{_≤_};
 ghost use lib.ListN.{length, getD};
 ghost use Rattle.lists.specs.Regions.{front};
-ghost use Rattle.passes.specs.Tags.{kindBy, familyBy};
+ghost use Rattle.passes.specs.Tags.{kindBy, familyBy, meshBy, cellBy};
 
 // Entry k of two lists one behind the other, 0 where there is none.
 fn kind_at(a: &[u8], b: &[u8], k: usize) -> u8
@@ -45,6 +45,27 @@ fn kind_by(sk: &[u8], ck: &[u8], tag: u32) -> u8
     11
 }
 
+// Where the subject has n cells: the mesh of the piece's cell, 0 the subject or 1 the cutter,
+fn mesh_by(n: u32, tag: u32) -> u32
+    ensures { λ r. ⌜ r ≡ meshBy n tag ⌝ }
+{
+    if tag / 2 < n {
+        return 0;
+    }
+    1
+}
+
+// and its number there.
+fn cell_by(n: u32, tag: u32) -> u32
+    ensures { λ r. ⌜ r ≡ cellBy n tag ⌝ }
+{
+    let k = tag / 2;
+    if k < n {
+        return k;
+    }
+    k - n
+}
+
 // The kinds of the pieces with these tags, to the front of a list; sk and ck are those of the subject's and the cutter's cells.
 pub fn write_kinds(tags: &[u32], sk: &[u8], ck: &[u8], ok: &mut [u8])
     requires { ⌜ length (now tags) ≤ length (now ok) ⌝ }
@@ -53,6 +74,21 @@ pub fn write_kinds(tags: &[u32], sk: &[u8], ck: &[u8], ok: &mut [u8])
     for i in 0..tags.len() {
         let v = kind_by(sk, ck, tags[i]);
         ok[i] = v;
+    }
+}
+
+// The parents of the pieces with these tags, their meshes and their cells there, to the fronts of two lists; the subject has n cells.
+pub fn write_parents(tags: &[u32], n: u32, om: &mut [u32], oi: &mut [u32])
+    requires { ⌜ (length (now tags) ≤ length (now om)) × (length (now tags) ≤ length (now oi)) ⌝ }
+    ensures { λ _. ⌜ (now (om .exit) ≡ front (now (om .entry)) (map (meshBy n) (now (tags .entry))))
+        × (now (oi .exit) ≡ front (now (oi .entry)) (map (cellBy n) (now (tags .entry)))) ⌝ }
+{
+    for i in 0..tags.len() {
+        let t = tags[i];
+        let mesh = mesh_by(n, t);
+        om[i] = mesh;
+        let cell = cell_by(n, t);
+        oi[i] = cell;
     }
 }
 

@@ -1,4 +1,4 @@
--- The pieces that are placed for a cell are those of the listing, with their kinds, families and events. Assumes nothing.
+-- The pieces that are placed for a cell are those of the listing, with their events. Assumes nothing.
 use mathlib.Core.Path.{_≡_, refl, sym, ap, ap₂, _∙_}
 use mathlib.Core.Bool.{Bool, true, false}
 use mathlib.Core.List.{List, [], _∷_, _++_, map, map-append}
@@ -8,7 +8,6 @@ use Rattle.lists.specs.Gather.{gathered, each, passing}
 use Rattle.lists.proofs.Gather.{length-each, each-head, each-getD}
 use Rattle.rules.specs.Mesh.{Side, other}
 use Rattle.rules.specs.Meetings.{Scene, netOf}
-use Rattle.rules.specs.Cell.{kindOf}
 use Rattle.rules.specs.Inside.{pointInside}
 use Rattle.rules.specs.Operations.{Piece, keeps, piecesOf, pieceAt, pieceWith, liesInside, kept, keptWith}
 use Rattle.rules.specs.Refusals.{Event, piece}
@@ -59,7 +58,7 @@ module _ (sc : Scene) (op : ℕ) (w : Side) (i : ℕ) where
   abbrev all : List Piece
   all = each (length (piecesOf sc w i)) (pieceAt sc w i)
 
-  -- the corners of the pieces of cell i that the operation keeps, their kinds and families
+  -- the corners of the pieces of cell i that the operation keeps
   pub kept-nodes : map (λ p. p .nodes) (kept sc w op i) ≡ passing (isKept (keepOf op w) (sc .coords) (netOf sc (other w) .cells)) (piecesOf sc w i)
   unfolding keptWith liesInside pieceWith
   kept-nodes =
@@ -68,20 +67,13 @@ module _ (sc : Scene) (op : ℕ) (w : Side) (i : ℕ) where
       passing-map (λ (p : Piece). p .nodes) f all ∙ ap (passing f) (map-each (λ (p : Piece). p .nodes) (length ps) (pieceAt sc w i) ∙ each-getD ps [])
       ∙ passing-same f (isKept (keepOf op w) (sc .coords) (netOf sc (other w) .cells)) (λ q. sym (kept-by op w (pointInside (sc .coords) (netOf sc (other w) .cells) q))) ps
 
-  pub kept-kinds : map (λ p. p .kind) (kept sc w op i) ≡ replicate (length (kept sc w op i)) (kindOf sc w i)
-  unfolding keptWith pieceWith
-  kept-kinds =
+  -- a number that all pieces of cell i have
+  pub kept-alike : (g : Piece → ℕ) (v : ℕ) → ((j : ℕ) → g (pieceAt sc w i j) ≡ v) → map g (kept sc w op i) ≡ replicate (length (kept sc w op i)) v
+  unfolding keptWith
+  kept-alike g v h =
       let n : ℕ = length (piecesOf sc w i) in
-      passing-alike (λ (p : Piece). p .kind) (kindOf sc w i) (λ p. keeps op w (liesInside sc w p)) all
-      (each-alike (λ (p : Piece). p .kind) (kindOf sc w i) n (pieceAt sc w i) (λ j. refl) ∙ ap (λ (k : ℕ). replicate k (kindOf sc w i)) (sym (length-each n (pieceAt sc w i))))
-
-  pub kept-families : map (λ p. p .family) (kept sc w op i) ≡ replicate (length (kept sc w op i)) (getD (netOf sc w .families) i 0)
-  unfolding keptWith pieceWith
-  kept-families =
-      let n : ℕ = length (piecesOf sc w i) in
-      let v : ℕ = getD (netOf sc w .families) i 0 in
-      passing-alike (λ (p : Piece). p .family) v (λ p. keeps op w (liesInside sc w p)) all
-      (each-alike (λ (p : Piece). p .family) v n (pieceAt sc w i) (λ j. refl) ∙ ap (λ (k : ℕ). replicate k v) (sym (length-each n (pieceAt sc w i))))
+      passing-alike g v (λ p. keeps op w (liesInside sc w p)) all
+      (each-alike g v n (pieceAt sc w i) h ∙ ap (λ (k : ℕ). replicate k v) (sym (length-each n (pieceAt sc w i))))
 
 -- the events of placing them
 pub events-nodes : (ps : List Piece) → map (λ p. piece (length (p .nodes))) ps ≡ events (map (λ p. p .nodes) ps)
