@@ -12,4 +12,4 @@ meshOf v = mesh (now (v .coords)) (now (v .nodes)) (now (v .ends)) (now (v .kind
 
 -- the output's lists, and the working list w
 abbrev pub listsOf : OutputView → List ℕ → Lists
-listsOf o w = lentLists (now (o .coords)) (now (o .nodes)) (now (o .ends)) (now (o .kinds)) (now (o .families)) w
+listsOf o w = lentLists (now (o .coords)) (now (o .nodes)) (now (o .ends)) (now (o .kinds)) (now (o .families)) (now (o .meshes)) (now (o .cells)) w

@@ -21,7 +21,8 @@ pub fn overlay_views<'a, 'b, 'c, 'd>(
     work: &'d mut [u32],
 ) -> Answer
     ensures { λ r. ⌜ result (r .code) (r .pieces) (r .points) (r .doubled)
-        (lentLists (now (out .exit .0)) (now (out .exit .1 .0)) (now (out .exit .1 .1 .0)) (now (out .exit .1 .1 .1 .0)) (now (out .exit .1 .1 .1 .1 .0)) (now (work .exit)))
+        (lentLists (now (out .exit .0)) (now (out .exit .1 .0)) (now (out .exit .1 .1 .0)) (now (out .exit .1 .1 .1 .0)) (now (out .exit .1 .1 .1 .1 .0))
+        (now (out .exit .1 .1 .1 .1 .1 .0)) (now (out .exit .1 .1 .1 .1 .1 .1 .0)) (now (work .exit)))
         ≡ overlayOf op m (meshOf (subject .entry)) (meshOf (cutter .entry)) (listsOf (out .entry) (now (work .entry))) ⌝ }
 {
     overlay(
@@ -42,6 +43,8 @@ pub fn overlay_views<'a, 'b, 'c, 'd>(
         &mut *out.ends,
         &mut *out.kinds,
         &mut *out.families,
+        &mut *out.meshes,
+        &mut *out.cells,
         work,
     )
 }
@@ -65,21 +68,23 @@ pub fn overlay_lists<'a, 'b, 'c, 'd>(
     oe: &'c mut [u32],
     ok: &'c mut [u8],
     of: &'c mut [u32],
+    om: &'c mut [u32],
+    oi: &'c mut [u32],
     work: &'d mut [u32],
 ) -> Answer
     ensures { λ r. ⌜ result (r .code) (r .pieces) (r .points) (r .doubled)
-        (lentLists (now (oc .exit)) (now (on .exit)) (now (oe .exit)) (now (ok .exit)) (now (of .exit)) (now (work .exit)))
+        (lentLists (now (oc .exit)) (now (on .exit)) (now (oe .exit)) (now (ok .exit)) (now (of .exit)) (now (om .exit)) (now (oi .exit)) (now (work .exit)))
         ≡ overlayOf op m
         (mesh (now (sc .entry)) (now (sn .entry)) (now (se .entry)) (now (sk .entry)) (now (sf .entry)))
         (mesh (now (cc .entry)) (now (cn .entry)) (now (ce .entry)) (now (ck .entry)) (now (cf .entry)))
-        (lentLists (now (oc .entry)) (now (on .entry)) (now (oe .entry)) (now (ok .entry)) (now (of .entry)) (now (work .entry))) ⌝ }
+        (lentLists (now (oc .entry)) (now (on .entry)) (now (oe .entry)) (now (ok .entry)) (now (of .entry)) (now (om .entry)) (now (oi .entry)) (now (work .entry))) ⌝ }
 {
     overlay_views(
         op,
         m,
         view(sc, sn, se, sk, sf),
         view(cc, cn, ce, ck, cf),
-        output(oc, on, oe, ok, of),
+        output(oc, on, oe, ok, of, om, oi),
         work,
     )
 }

@@ -11,13 +11,15 @@ pub struct MeshView<'a> {
     pub families: &'a [u32],
 }
 
-// The lists that the pieces go to.
+// The lists that the pieces go to: those of a mesh, and for each piece its parent, the mesh (0 subject, 1 cutter) and the cell there.
 pub struct OutputView<'a> {
     pub coords: &'a mut [f64],
     pub nodes: &'a mut [u32],
     pub ends: &'a mut [u32],
     pub kinds: &'a mut [u8],
     pub families: &'a mut [u32],
+    pub meshes: &'a mut [u32],
+    pub cells: &'a mut [u32],
 }
 
 pub fn view<'a>(
@@ -44,8 +46,11 @@ pub fn output<'a>(
     ends: &'a mut [u32],
     kinds: &'a mut [u8],
     families: &'a mut [u32],
+    meshes: &'a mut [u32],
+    cells: &'a mut [u32],
 ) -> OutputView<'a>
-    ensures { λ o. ⌜ (o .coords ≡ coords .entry) × (o .nodes ≡ nodes .entry) × (o .ends ≡ ends .entry) × (o .kinds ≡ kinds .entry) × (o .families ≡ families .entry) ⌝ }
+    ensures { λ o. ⌜ (o .coords ≡ coords .entry) × (o .nodes ≡ nodes .entry) × (o .ends ≡ ends .entry) × (o .kinds ≡ kinds .entry)
+        × (o .families ≡ families .entry) × (o .meshes ≡ meshes .entry) × (o .cells ≡ cells .entry) ⌝ }
 {
     OutputView {
         coords,
@@ -53,5 +58,7 @@ pub fn output<'a>(
         ends,
         kinds,
         families,
+        meshes,
+        cells,
     }
 }

@@ -1,8 +1,9 @@
+-- tools/views.py writes this file from the fields of `MeshView` and `OutputView`.
 -- `mesh_view::overlay_views` meets its contract: a walk of its MIR, by hand. The two views and the output are taken apart, and `overlay::overlay` is called
 -- on their lists. All that the proof knows of it is that it meets its contract.
 -- Views are Copy: what each owns is kept for the exit. The output's borrows and the working list's are given to the callee at their own lifetimes and names:
 -- what it says of their last lists is what this function says of them.
--- A lifetime's token is cut in five, one for each list that the callee is lent at it, and mended at exit.
+-- A lifetime's token is cut, one part for each list that the callee is lent at it, and mended at exit.
 -- Assumes nothing.
 use mathlib.Core.Path.{_≡_, refl}
 use Prim.Native.Nat.{ℕ, _+_, _<_, _^_}
@@ -41,7 +42,6 @@ use types.Kit.{
   use1,
   use2,
   split,
-  group,
   learn,
   pick,
   fsplit,
@@ -86,9 +86,9 @@ use Rattle.overlay.proofs.overlay.Met as overlay-thm
 use Rattle.mesh_view.specs.Shown.{meshOf, listsOf}
 use Rattle.views.specs.declared.MeshView.{MeshView}
 use Rattle.views.specs.declared.OutputView.{OutputView}
-use Rattle.views.proofs.Slices.{val}
-use Rattle.mesh_view.proofs.Shares.{s₁, s₂, s₃, s₄, s₅, five, cut, mend}
-use Rattle.views.proofs.Taken.{mut, OwnView, shrs, muts, view-apart, output-apart}
+use Rattle.views.proofs.Slices.{val, mut}
+use Rattle.mesh_view.proofs.Shares.{part, left, tokens, cut, mend}
+use Rattle.views.proofs.Taken.{OwnView, shrs, muts, view-apart, output-apart}
 use Rattle.views.proofs.Held.{output-gave, output-gave-goes}
 use Rattle.views.proofs.MeshView as T
 use Rattle.views.proofs.MeshView.Laws as T′
@@ -150,11 +150,35 @@ module _ {M : Type 1} (𝓤 : URA M) (H : Heap 𝓤) (A : Atoms 𝓤) (W : Given
   Post = walkOf 𝓤 H A views.ended stayed (views.clauses 𝓤 H A mem run) .post ((κs, qs, tt, a, vals), tt)
 
   -- what the callee is passed
-  abbrev κs′ : Lfts 16
-  κs′ = (κ, (κ, (κ, (κ, (κ, (κ′, (κ′, (κ′, (κ′, (κ′, (κ″, (κ″, (κ″, (κ″, (κ″, (κ‴, tt))))))))))))))))
+  abbrev κs′ : Lfts 18
+  κs′ = (κ, (κ, (κ, (κ, (κ, (κ′, (κ′, (κ′, (κ′, (κ′, (κ″, (κ″, (κ″, (κ″, (κ″, (κ″, (κ″, (κ‴, tt))))))))))))))))))
 
-  abbrev qs′ : SharesOf 16
-  qs′ = (s₁ q, (s₂ q, (s₃ q, (s₄ q, (s₅ q, (s₁ q′, (s₂ q′, (s₃ q′, (s₄ q′, (s₅ q′, (s₁ q″, (s₂ q″, (s₃ q″, (s₄ q″, (s₅ q″, (q‴, tt))))))))))))))))
+  abbrev qs′ : SharesOf 18
+  qs′ = (
+    part 0 q,
+    (
+      part 1 q,
+      (
+        part 2 q,
+        (
+          part 3 q,
+          (
+            left 4 q,
+            (
+              part 0 q′,
+              (
+                part 1 q′,
+                (
+                  part 2 q′,
+                  (part 3 q′, (left 4 q′, (part 0 q″, (part 1 q″, (part 2 q″, (part 3 q″, (part 4 q″, (part 5 q″, (left 6 q″, (q‴, tt)))))))))),
+                ),
+              ),
+            ),
+          ),
+        ),
+      ),
+    ),
+  )
 
   abbrev a′ : Args overlay.signature κs′
   a′ = (
@@ -171,7 +195,16 @@ module _ {M : Type 1} (𝓤 : URA M) (H : Heap 𝓤) (A : Atoms 𝓤) (W : Given
               s .kinds,
               (
                 s .families,
-                (c .coords, (c .nodes, (c .ends, (c .kinds, (c .families, (o .coords, (o .nodes, (o .ends, (o .kinds, (o .families, (w, tt))))))))))),
+                (
+                  c .coords,
+                  (
+                    c .nodes,
+                    (
+                      c .ends,
+                      (c .kinds, (c .families, (o .coords, (o .nodes, (o .ends, (o .kinds, (o .families, (o .meshes, (o .cells, (w, tt)))))))))),
+                    ),
+                  ),
+                ),
               ),
             ),
           ),
@@ -205,7 +238,16 @@ module _ {M : Type 1} (𝓤 : URA M) (H : Heap 𝓤) (A : Atoms 𝓤) (W : Given
                         val (c .kinds) ∷ [],
                         (
                           val (c .families) ∷ [],
-                          (val (o .coords) ∷ [], (val (o .nodes) ∷ [], (val (o .ends) ∷ [], (val (o .kinds) ∷ [], (val (o .families) ∷ [], (val w ∷ [], tt)))))),
+                          (
+                            val (o .coords) ∷ [],
+                            (
+                              val (o .nodes) ∷ [],
+                              (
+                                val (o .ends) ∷ [],
+                                (val (o .kinds) ∷ [], (val (o .families) ∷ [], (val (o .meshes) ∷ [], (val (o .cells) ∷ [], (val w ∷ [], tt))))),
+                              ),
+                            ),
+                          ),
                         ),
                       ),
                     ),
@@ -222,21 +264,28 @@ module _ {M : Type 1} (𝓤 : URA M) (H : Heap 𝓤) (A : Atoms 𝓤) (W : Given
   abbrev to : Overlay 𝓤 H A mem run .Ghost
   to = ((κs′, qs′, tt, a′, passed), tt)
 
-  -- the tokens, cut and mended
-  cuts : ent 𝓤 (toks 𝓤 A 4 κs qs) (toks 𝓤 A 16 κs′ qs′)
-  cuts =
-      qed W (‵ (flft κ q) ∷ ‵ (flft κ′ q′) ∷ ‵ (flft κ″ q″) ∷ ‵ (flft κ‴ q‴) ∷ ‵ ftrue ∷ []) ∵
-      use1 W (five 𝓤 κ q) (cut 𝓤 H A W κ q) $ split ! $ frame ! $ split ! $ frame ! $ split ! $ frame ! $ split ! $ frame ! $ frame ! $
-      use1 W (five 𝓤 κ′ q′) (cut 𝓤 H A W κ′ q′) $ split ! $ frame ! $ split ! $ frame ! $ split ! $ frame ! $ split ! $ frame ! $ frame ! $
-      use1 W (five 𝓤 κ″ q″) (cut 𝓤 H A W κ″ q″) $ split ! $ frame ! $ split ! $ frame ! $ split ! $ frame ! $ split ! $ frame ! $ frame ! $ done !
+  -- the tokens, cut and mended, from the right
+  abbrev T₀ : SProp 𝓤
+  T₀ = toks 𝓤 A 1 (κ‴, tt) (q‴, tt)
 
-  mends : ent 𝓤 (toks 𝓤 A 16 κs′ qs′) (toks 𝓤 A 4 κs qs)
+  abbrev T₁ : SProp 𝓤
+  T₁ = tokens 𝓤 H A W κ″ 6 q″ T₀
+
+  abbrev T₂ : SProp 𝓤
+  T₂ = tokens 𝓤 H A W κ′ 4 q′ T₁
+
+  cuts : ent 𝓤 (toks 𝓤 A 4 κs qs) (toks 𝓤 A 18 κs′ qs′)
+  cuts =
+      qed W (‵ (flft κ q) ∷ ‵ (flft κ′ q′) ∷ ‵ (flft κ″ q″) ∷ raw T₀ ∷ []) ∵
+      move ! (2 ∷ 3 ∷ []) $ use2 W (raw T₁) (cut 𝓤 H A W κ″ 6 q″ T₀) $
+      move ! (2 ∷ 0 ∷ []) $ use2 W (raw T₂) (cut 𝓤 H A W κ′ 4 q′ T₁) $
+      move ! (1 ∷ 0 ∷ []) $ use2 W (raw (toks 𝓤 A 18 κs′ qs′)) (cut 𝓤 H A W κ 4 q T₂) $ done !
+
+  mends : ent 𝓤 (toks 𝓤 A 18 κs′ qs′) (toks 𝓤 A 4 κs qs)
   mends =
-      qed W (‵ (flft κ (s₁ q)) ∷ ‵ (flft κ (s₂ q)) ∷ ‵ (flft κ (s₃ q)) ∷ ‵ (flft κ (s₄ q)) ∷ ‵ (flft κ (s₅ q)) ∷ ‵ (flft κ′ (s₁ q′)) ∷ ‵ (flft κ′ (s₂ q′)) ∷ ‵
-      (flft κ′ (s₃ q′)) ∷ ‵ (flft κ′ (s₄ q′)) ∷ ‵ (flft κ′ (s₅ q′)) ∷ ‵ (flft κ″ (s₁ q″)) ∷ ‵ (flft κ″ (s₂ q″)) ∷ ‵ (flft κ″ (s₃ q″)) ∷ ‵ (flft κ″ (s₄ q″))
-      ∷ ‵ (flft κ″ (s₅ q″)) ∷ ‵ (flft κ‴ q‴) ∷ ‵ ftrue ∷ []) ∵
-      group ! 5 $ use1 W (‵ (flft κ q)) (mend 𝓤 H A W κ q) $ frame ! $ group ! 5 $ use1 W (‵ (flft κ′ q′)) (mend 𝓤 H A W κ′ q′) $ frame ! $ group ! 5 $ use1 W
-      (‵ (flft κ″ q″)) (mend 𝓤 H A W κ″ q″) $ frame ! $ done !
+      qed W (raw (toks 𝓤 A 18 κs′ qs′) ∷ []) ∵ use1 W (‵ (flft κ q) ⊛ raw T₂) (mend 𝓤 H A W κ 4 q T₂) $ split ! $
+      frame ! $ use1 W (‵ (flft κ′ q′) ⊛ raw T₁) (mend 𝓤 H A W κ′ 4 q′ T₁) $ split ! $
+      frame ! $ use1 W (‵ (flft κ″ q″) ⊛ raw T₀) (mend 𝓤 H A W κ″ 6 q″ T₀) $ split ! $ frame ! $ done !
 
   -- what the views own, kept
   abbrev α : NamedLft
@@ -256,7 +305,7 @@ module _ {M : Type 1} (𝓤 : URA M) (H : Heap 𝓤) (A : Atoms 𝓤) (W : Given
   Own = owns (typesAt (views.signature .params) κs) a vals
 
   abbrev P₀ : Fml
-  P₀ = fsep (mut (named 15) κ‴ u32 w) ftrue
+  P₀ = fsep (mut (named 17) κ‴ u32 w) ftrue
 
   abbrev P₁ : Fml
   P₁ = muts (λ k. named (10 + k)) κ″ o P₀
@@ -275,7 +324,7 @@ module _ {M : Type 1} (𝓤 : URA M) (H : Heap 𝓤) (A : Atoms 𝓤) (W : Given
 
   apart : ent 𝓤 (onEntry 𝓤 H A views.signature κs qs a vals) (⋆ 𝓤 H A (raw (Overlay 𝓤 H A mem run .pre to) ∷ views-own))
   apart =
-      qed W (raw (toks 𝓤 A 4 κs qs) ∷ ‵ Own ∷ []) ∵ use1 W (raw (toks 𝓤 A 16 κs′ qs′)) cuts $ move ! (1 ∷ []) $
+      qed W (raw (toks 𝓤 A 4 κs qs) ∷ ‵ Own ∷ []) ∵ use1 W (raw (toks 𝓤 A 18 κs′ qs′)) cuts $ move ! (1 ∷ []) $
       fsplit ! $ move ! (1 ∷ []) $ fsplit ! $ move ! (1 ∷ []) $ fsplit ! $ move ! (1 ∷ []) $ fsplit ! $ move ! (1 ∷ []) $ fsplit ! $ move ! (1 ∷ []) $
       -- [the working list; the output; the cutter; the subject; m; op; the tokens]
       use1 W (‵ P₀) (id⊢ 𝓤 _) $ move ! (1 ∷ 0 ∷ []) $ use2 W (‵ P₁) (output-apart 𝓤 H A W α″ (λ k. named (10 + k)) P₀ o) $
@@ -290,27 +339,33 @@ module _ {M : Type 1} (𝓤 : URA M) (H : Heap 𝓤) (A : Atoms 𝓤) (W : Given
   Zs = Lasts overlay.ended κs′ a′
 
   abbrev had : Zs → Fml
-  had zs = fsep (finally f64 (o .coords .name) (zs .1 .1 .1 .1 .1 .1 .1 .1 .1 .1 .1 .1 .0))
+  had zs =
+      fsep (finally f64 (o .coords .name) (zs .1 .1 .1 .1 .1 .1 .1 .1 .1 .1 .1 .1 .0))
       (fsep (finally u32 (o .nodes .name) (zs .1 .1 .1 .1 .1 .1 .1 .1 .1 .1 .1 .1 .1 .0))
       (fsep (finally u32 (o .ends .name) (zs .1 .1 .1 .1 .1 .1 .1 .1 .1 .1 .1 .1 .1 .1 .0))
       (fsep (finally u8 (o .kinds .name) (zs .1 .1 .1 .1 .1 .1 .1 .1 .1 .1 .1 .1 .1 .1 .1 .0))
-      (fsep (finally u32 (o .families .name) (zs .1 .1 .1 .1 .1 .1 .1 .1 .1 .1 .1 .1 .1 .1 .1 .1 .0)) ftrue))))
+      (fsep (finally u32 (o .families .name) (zs .1 .1 .1 .1 .1 .1 .1 .1 .1 .1 .1 .1 .1 .1 .1 .1 .0))
+      (fsep (finally u32 (o .meshes .name) (zs .1 .1 .1 .1 .1 .1 .1 .1 .1 .1 .1 .1 .1 .1 .1 .1 .1 .0))
+      (fsep (finally u32 (o .cells .name) (zs .1 .1 .1 .1 .1 .1 .1 .1 .1 .1 .1 .1 .1 .1 .1 .1 .1 .1 .0)) ftrue))))))
 
   abbrev had-work : Zs → Fml
-  had-work zs = finally u32 (w .name) (zs .1 .1 .1 .1 .1 .1 .1 .1 .1 .1 .1 .1 .1 .1 .1 .1 .1 .0)
+  had-work zs = finally u32 (w .name) (zs .1 .1 .1 .1 .1 .1 .1 .1 .1 .1 .1 .1 .1 .1 .1 .1 .1 .1 .1 .0)
 
   abbrev Long : Zs → Type 0
-  Long zs = (length (zs .1 .1 .1 .1 .1 .1 .1 .1 .1 .1 .1 .1 .0) ≡ length (o .coords .now)) ×
+  Long zs =
+      (length (zs .1 .1 .1 .1 .1 .1 .1 .1 .1 .1 .1 .1 .0) ≡ length (o .coords .now)) ×
       (length (zs .1 .1 .1 .1 .1 .1 .1 .1 .1 .1 .1 .1 .1 .0) ≡ length (o .nodes .now)) ×
       (length (zs .1 .1 .1 .1 .1 .1 .1 .1 .1 .1 .1 .1 .1 .1 .0) ≡ length (o .ends .now)) ×
       (length (zs .1 .1 .1 .1 .1 .1 .1 .1 .1 .1 .1 .1 .1 .1 .1 .0) ≡ length (o .kinds .now)) ×
       (length (zs .1 .1 .1 .1 .1 .1 .1 .1 .1 .1 .1 .1 .1 .1 .1 .1 .0) ≡ length (o .families .now)) ×
-      (length (zs .1 .1 .1 .1 .1 .1 .1 .1 .1 .1 .1 .1 .1 .1 .1 .1 .1 .0) ≡ length (w .now))
+      (length (zs .1 .1 .1 .1 .1 .1 .1 .1 .1 .1 .1 .1 .1 .1 .1 .1 .1 .0) ≡ length (o .meshes .now)) ×
+      (length (zs .1 .1 .1 .1 .1 .1 .1 .1 .1 .1 .1 .1 .1 .1 .1 .1 .1 .1 .0) ≡ length (o .cells .now)) ×
+      (length (zs .1 .1 .1 .1 .1 .1 .1 .1 .1 .1 .1 .1 .1 .1 .1 .1 .1 .1 .1 .0) ≡ length (w .now))
 
   lastly : (zs : Zs) → ent 𝓤 (sem 𝓤 H A (lasts overlay.ended κs′ a′ zs)) (guard 𝓤 (Long zs) (⋆ 𝓤 H A (‵ (had zs) ∷ ‵ (had-work zs) ∷ [])))
   lastly zs =
-      qed W (‵ (lasts overlay.ended κs′ a′ zs) ∷ []) ∵ fsplit ! $ drop ! $ fsplit ! $ drop ! $ fsplit ! $ drop ! $ fsplit ! $ drop ! $ fsplit ! $ drop ! $
-      fsplit ! $ drop ! $ fsplit ! $ drop ! $
+      qed W (‵ (lasts overlay.ended κs′ a′ zs) ∷ []) ∵
+      fsplit ! $ drop ! $ fsplit ! $ drop ! $ fsplit ! $ drop ! $ fsplit ! $ drop ! $ fsplit ! $ drop ! $ fsplit ! $ drop ! $ fsplit ! $ drop ! $
       fsplit ! $ drop ! $ fsplit ! $ drop ! $ fsplit ! $ drop ! $ fsplit ! $ drop ! $ fsplit ! $ drop ! $
       fsplit ! $ fsplit ! $ move ! (1 ∷ []) $ feqL ! (λ l₀. move ! (1 ∷ []) $
       fsplit ! $ fsplit ! $ move ! (1 ∷ []) $ feqL ! (λ l₁. move ! (1 ∷ []) $
@@ -318,15 +373,20 @@ module _ {M : Type 1} (𝓤 : URA M) (H : Heap 𝓤) (A : Atoms 𝓤) (W : Given
       fsplit ! $ fsplit ! $ move ! (1 ∷ []) $ feqL ! (λ l₃. move ! (1 ∷ []) $
       fsplit ! $ fsplit ! $ move ! (1 ∷ []) $ feqL ! (λ l₄. move ! (1 ∷ []) $
       fsplit ! $ fsplit ! $ move ! (1 ∷ []) $ feqL ! (λ l₅. move ! (1 ∷ []) $
-      check ! (l₀, l₁, l₂, l₃, l₄, l₅) $
-      -- [true; the working list's; the families'; the kinds'; the ends'; the nodes'; the coordinates']
-      move ! (2 ∷ 0 ∷ []) $ fjoin ! $ move ! (2 ∷ 0 ∷ []) $ fjoin ! $ move ! (2 ∷ 0 ∷ []) $ fjoin ! $ move ! (2 ∷ 0 ∷ []) $ fjoin ! $ move ! (2 ∷ 0 ∷ []) $ fjoin ! $ done !))))))
+      fsplit ! $ fsplit ! $ move ! (1 ∷ []) $ feqL ! (λ l₆. move ! (1 ∷ []) $
+      fsplit ! $ fsplit ! $ move ! (1 ∷ []) $ feqL ! (λ l₇. move ! (1 ∷ []) $
+      check ! (l₀, l₁, l₂, l₃, l₄, l₅, l₆, l₇) $
+      -- [true; the working list's; the output's, the last first]
+      move ! (2 ∷ 0 ∷ []) $ fjoin ! $ move ! (2 ∷ 0 ∷ []) $ fjoin ! $ move ! (2 ∷ 0 ∷ []) $ fjoin ! $ move ! (2 ∷ 0 ∷ []) $ fjoin ! $
+      move ! (2 ∷ 0 ∷ []) $ fjoin ! $ move ! (2 ∷ 0 ∷ []) $ fjoin ! $ move ! (2 ∷ 0 ∷ []) $ fjoin ! $ done !))))))))
 
   abbrev Said : Answer → Zs → Type 0
   Said r zs =
-      result (r .code) (r .pieces) (r .points) (r .doubled) (lentLists (zs .1 .1 .1 .1 .1 .1 .1 .1 .1 .1 .1 .1 .0)
-      (zs .1 .1 .1 .1 .1 .1 .1 .1 .1 .1 .1 .1 .1 .0) (zs .1 .1 .1 .1 .1 .1 .1 .1 .1 .1 .1 .1 .1 .1 .0) (zs .1 .1 .1 .1 .1 .1 .1 .1 .1 .1 .1 .1 .1 .1 .1 .0)
-      (zs .1 .1 .1 .1 .1 .1 .1 .1 .1 .1 .1 .1 .1 .1 .1 .1 .0) (zs .1 .1 .1 .1 .1 .1 .1 .1 .1 .1 .1 .1 .1 .1 .1 .1 .1 .0))
+      result (r .code) (r .pieces) (r .points) (r .doubled) (lentLists
+      (zs .1 .1 .1 .1 .1 .1 .1 .1 .1 .1 .1 .1 .0) (zs .1 .1 .1 .1 .1 .1 .1 .1 .1 .1 .1 .1 .1 .0) (zs .1 .1 .1 .1 .1 .1 .1 .1 .1 .1 .1 .1 .1 .1 .0)
+      (zs .1 .1 .1 .1 .1 .1 .1 .1 .1 .1 .1 .1 .1 .1 .1 .0) (zs .1 .1 .1 .1 .1 .1 .1 .1 .1 .1 .1 .1 .1 .1 .1 .1 .0)
+      (zs .1 .1 .1 .1 .1 .1 .1 .1 .1 .1 .1 .1 .1 .1 .1 .1 .1 .0) (zs .1 .1 .1 .1 .1 .1 .1 .1 .1 .1 .1 .1 .1 .1 .1 .1 .1 .1 .0)
+      (zs .1 .1 .1 .1 .1 .1 .1 .1 .1 .1 .1 .1 .1 .1 .1 .1 .1 .1 .1 .0))
       ≡ overlayOf op m (meshOf s) (meshOf c) (listsOf o (now w))
 
   abbrev ws : (zs : Zs) → Lasts views.ended κs a
@@ -345,29 +405,40 @@ module _ {M : Type 1} (𝓤 : URA M) (H : Heap 𝓤) (A : Atoms 𝓤) (W : Given
                 zs .1 .1 .1 .1 .1 .1 .1 .1 .1 .1 .1 .1 .1 .0,
                 (
                   zs .1 .1 .1 .1 .1 .1 .1 .1 .1 .1 .1 .1 .1 .1 .0,
-                  (zs .1 .1 .1 .1 .1 .1 .1 .1 .1 .1 .1 .1 .1 .1 .1 .0, (zs .1 .1 .1 .1 .1 .1 .1 .1 .1 .1 .1 .1 .1 .1 .1 .1 .0, tt)),
+                  (
+                    zs .1 .1 .1 .1 .1 .1 .1 .1 .1 .1 .1 .1 .1 .1 .1 .0,
+                    (
+                      zs .1 .1 .1 .1 .1 .1 .1 .1 .1 .1 .1 .1 .1 .1 .1 .1 .0,
+                      (zs .1 .1 .1 .1 .1 .1 .1 .1 .1 .1 .1 .1 .1 .1 .1 .1 .1 .0, (zs .1 .1 .1 .1 .1 .1 .1 .1 .1 .1 .1 .1 .1 .1 .1 .1 .1 .1 .0, tt)),
+                    ),
+                  ),
                 ),
               ),
             ),
-            (zs .1 .1 .1 .1 .1 .1 .1 .1 .1 .1 .1 .1 .1 .1 .1 .1 .1 .0, tt),
+            (zs .1 .1 .1 .1 .1 .1 .1 .1 .1 .1 .1 .1 .1 .1 .1 .1 .1 .1 .1 .0, tt),
           ),
         ),
       ),
     ),
   )
 
+  abbrev out-types : List RattleType
+  out-types =
+      MutSlice (named 2) κ″ f64 ∷ MutSlice (named 2) κ″ u32 ∷ MutSlice (named 2) κ″ u32 ∷ MutSlice (named 2) κ″ u8 ∷ MutSlice (named 2) κ″ u32 ∷
+      MutSlice (named 2) κ″ u32 ∷ MutSlice (named 2) κ″ u32 ∷ []
+
   exits : (r : Answer) (u : Val) (zs : Zs) → Said r zs → Long zs → ent 𝓤
-      (⋆ 𝓤 H A (‵ (R.the-row .own r (u ∷ [])) ∷ raw (toks 𝓤 A 16 κs′ qs′) ∷ ‵ (had zs) ∷ ‵ (had-work zs) ∷ views-own)) (Post u)
+      (⋆ 𝓤 H A (‵ (R.the-row .own r (u ∷ [])) ∷ raw (toks 𝓤 A 18 κs′ qs′) ∷ ‵ (had zs) ∷ ‵ (had-work zs) ∷ views-own)) (Post u)
   exits r u zs e l =
-      qed W (‵ (R.the-row .own r (u ∷ [])) ∷ raw (toks 𝓤 A 16 κs′ qs′) ∷ ‵ (had zs) ∷ ‵ (had-work zs) ∷ views-own) ∵
+      qed W (‵ (R.the-row .own r (u ∷ [])) ∷ raw (toks 𝓤 A 18 κs′ qs′) ∷ ‵ (had zs) ∷ ‵ (had-work zs) ∷ views-own) ∵
       suffices ! _ (ends-at 𝓤 H A views.ended stayed (views.clauses 𝓤 H A mem run) W ((κs, qs, tt, a, vals), tt) u r (ws zs)
-      (tt, (tt, (tt, (tt, ((l .0, (l .1, (l .2, (l .3, (l .4, tt))))), (l .5, tt))))))) $ says ! e $
+      (tt, (tt, (tt, (tt, ((l .0, (l .1, (l .2, (l .3, (l .4, (l .5, (l .6, tt))))))), (l .7, tt))))))) $ says ! e $
       move ! (1 ∷ []) $ use1 W (raw (toks 𝓤 A 4 κs qs)) mends $ nothing ! $ move ! (4 ∷ 0 ∷ []) $ fjoin ! $ move ! (3 ∷ []) $
       -- [the output's last lists; the working list's; the tokens; the result; the subject; the cutter]
-      use1 W (‵ (inStruct (MutSlice (named 2) κ″ f64 ∷ MutSlice (named 2) κ″ u32 ∷ MutSlice (named 2) κ″ u32 ∷ MutSlice (named 2) κ″ u8 ∷ MutSlice (named 2) κ″
-      u32 ∷ []) (O′.lowered o ∷ []) (λ _. had zs))) (makes 𝓤 H A W
-      (MutSlice (named 2) κ″ f64 ∷ MutSlice (named 2) κ″ u32 ∷ MutSlice (named 2) κ″ u32 ∷ MutSlice (named 2) κ″ u8 ∷ MutSlice (named 2) κ″ u32 ∷ [])
-      (λ _. had zs) (val (o .coords) ∷ [], (val (o .nodes) ∷ [], (val (o .ends) ∷ [], (val (o .kinds) ∷ [], (val (o .families) ∷ [], tt)))))) $ fjoin ! $
+      use1 W (‵ (inStruct out-types (O′.lowered o ∷ []) (λ _. had zs))) (makes 𝓤 H A W out-types (λ _. had zs) (
+        val (o .coords) ∷ [],
+        (val (o .nodes) ∷ [], (val (o .ends) ∷ [], (val (o .kinds) ∷ [], (val (o .families) ∷ [], (val (o .meshes) ∷ [], (val (o .cells) ∷ [], tt)))))),
+      )) $ fjoin ! $
       move ! (4 ∷ 0 ∷ []) $ fjoin ! $ move ! (3 ∷ 0 ∷ []) $ fjoin ! $ owned ! u32 (Is u32) (uint-makes 𝓤 H A W w32) m _ (refl, m-fits) $ fjoin ! $
       owned ! u32 (Is u32) (uint-makes 𝓤 H A W w32) op _ (refl, op-fits) $ fjoin ! $
       use1 W (‵ (hasOf κs (views.signature .params) (views.ended .kept) stayed a (ws zs) vals)) (id⊢ 𝓤 _) $ move ! (1 ∷ 0 ∷ []) $ done !
@@ -380,65 +451,84 @@ module _ {M : Type 1} (𝓤 : URA M) (H : Heap 𝓤) (A : Atoms 𝓤) (W : Given
         let wt‴ = mut-slice-lawful 𝓤 H A W (named 3) κ‴ u32 .typed w (val w ∷ []) is‴ .0 in
         qed W (raw (onEntry 𝓤 H A views.signature κs qs a vals) ∷ []) ∵ enter ! C Λ code.function
         (vint w32 op ∷ vint w32 m ∷ T′.lowered s ∷ T′.lowered c ∷ O′.lowered o ∷ val w ∷ []) _ $
-        alloc1 ! (λ l₀. alloc1 ! (λ l₁. alloc1 ! (λ l₂. alloc1 ! (λ l₃. alloc1 !
-        (λ l₄. alloc1 ! (λ l₅. alloc1 ! (λ l₆. alloc1 ! (λ l₇. alloc1 ! (λ l₈. alloc1 ! (λ l₉. alloc1 ! (λ l₁₀.
-        alloc1 ! (λ l₁₁. alloc1 ! (λ l₁₂. alloc1 ! (λ l₁₃. alloc1 ! (λ l₁₄. alloc1 ! (λ l₁₅. alloc1 ! (λ l₁₆. alloc1 ! (λ l₁₇. alloc1 ! (λ l₁₈. alloc1 ! (λ l₁₉. alloc1 ! (λ l₂₀.
-        alloc1 ! (λ l₂₁. alloc1 ! (λ l₂₂. alloc1 ! (λ l₂₃. alloc1 ! (λ l₂₄. alloc1 ! (λ l₂₅. alloc1 ! (λ l₂₆. alloc1 ! (λ l₂₇. alloc1 ! (λ l₂₈. alloc0 ! $ params1 ! $
-        pass1 ! (init ! 54 refl (tt, record { fits = op-fits })) $ pass1 ! (init ! 52 refl (tt, record { fits = m-fits })) $ pass1 ! (init ! 50 refl wt) $
-        pass1 ! (init ! 48 refl wt′) $
-        pass1 ! (init ! 46 refl wt″) $ pass1 ! (init ! 44 refl wt‴) $ pass0 ! $
-        assigns ! (of-opd ! (load ! (from ! (fld ! refl (stop !))) (look-in ! 50 (sub ! 0 refl (whole !))))) (from ! (stop !)) (init ! 42 refl (tt, wt .1 .0)) $
-        assigns ! (of-opd ! (load ! (from ! (fld ! refl (stop !))) (look-in ! 50 (sub ! 1 refl (whole !))))) (from ! (stop !)) (init ! 40 refl (tt, wt .1 .1 .0)) $
-        assigns ! (of-opd ! (load ! (from ! (fld ! refl (stop !))) (look-in ! 50 (sub ! 2 refl (whole !))))) (from ! (stop !)) (init ! 38 refl (tt, wt .1 .1 .1 .0)) $
-        assigns ! (of-opd ! (load ! (from ! (fld ! refl (stop !))) (look-in ! 50 (sub ! 3 refl (whole !))))) (from ! (stop !)) (init ! 36 refl (tt, wt .1 .1 .1 .1 .0)) $
-        assigns ! (of-opd ! (load ! (from ! (fld ! refl (stop !))) (look-in ! 50 (sub ! 4 refl (whole !))))) (from ! (stop !)) (init ! 34 refl (tt, wt .1 .1 .1 .1 .1 .0)) $
-        assigns ! (of-opd ! (load ! (from ! (fld ! refl (stop !))) (look-in ! 48 (sub ! 0 refl (whole !))))) (from ! (stop !)) (init ! 32 refl (tt, wt′ .1 .0)) $
-        assigns ! (of-opd ! (load ! (from ! (fld ! refl (stop !))) (look-in ! 48 (sub ! 1 refl (whole !))))) (from ! (stop !)) (init ! 30 refl (tt, wt′ .1 .1 .0)) $
-        assigns ! (of-opd ! (load ! (from ! (fld ! refl (stop !))) (look-in ! 48 (sub ! 2 refl (whole !))))) (from ! (stop !)) (init ! 28 refl (tt, wt′ .1 .1 .1 .0)) $
-        assigns ! (of-opd ! (load ! (from ! (fld ! refl (stop !))) (look-in ! 48 (sub ! 3 refl (whole !))))) (from ! (stop !)) (init ! 26 refl (tt, wt′ .1 .1 .1 .1 .0)) $
-        assigns ! (of-opd ! (load ! (from ! (fld ! refl (stop !))) (look-in ! 48 (sub ! 4 refl (whole !))))) (from ! (stop !)) (init ! 24 refl (tt, wt′ .1 .1 .1 .1 .1 .0)) $
-        assigns ! (addr ! (from ! (fld ! refl (fld ! refl (hop ! (look-in ! 46 (sub ! 0 refl (sub ! 0 refl (whole !)))) (stop !)))))) (from ! (stop !)) (init ! 22 refl (tt, tt)) $
+        alloc1 ! (λ l₀. alloc1 ! (λ l₁. alloc1 ! (λ l₂. alloc1 ! (λ l₃. alloc1 ! (λ l₄. alloc1 ! (λ l₅. alloc1 ! (λ l₆. alloc1 ! (λ l₇. alloc1 ! (λ l₈.
+        alloc1 ! (λ l₉. alloc1 ! (λ l₁₀. alloc1 ! (λ l₁₁. alloc1 ! (λ l₁₂. alloc1 ! (λ l₁₃. alloc1 ! (λ l₁₄. alloc1 ! (λ l₁₅. alloc1 ! (λ l₁₆. alloc1 ! (λ l₁₇.
+        alloc1 ! (λ l₁₈. alloc1 ! (λ l₁₉. alloc1 ! (λ l₂₀. alloc1 ! (λ l₂₁. alloc1 ! (λ l₂₂. alloc1 ! (λ l₂₃. alloc1 ! (λ l₂₄. alloc1 ! (λ l₂₅.
+        alloc1 ! (λ l₂₆. alloc1 ! (λ l₂₇. alloc1 ! (λ l₂₈. alloc1 ! (λ l₂₉. alloc1 ! (λ l₃₀. alloc1 ! (λ l₃₁. alloc1 ! (λ l₃₂. alloc0 ! $ params1 ! $
+        pass1 ! (init ! 62 refl (tt, record { fits = op-fits })) $ pass1 ! (init ! 60 refl (tt, record { fits = m-fits })) $
+        pass1 ! (init ! 58 refl wt) $ pass1 ! (init ! 56 refl wt′) $
+        pass1 ! (init ! 54 refl wt″) $ pass1 ! (init ! 52 refl wt‴) $ pass0 ! $
+        assigns ! (of-opd ! (load ! (from ! (fld ! refl (stop !))) (look-in ! 58 (sub ! 0 refl (whole !))))) (from ! (stop !)) (init ! 50 refl (tt, wt .1 .0)) $
+        assigns ! (of-opd ! (load ! (from ! (fld ! refl (stop !))) (look-in ! 58 (sub ! 1 refl (whole !))))) (from ! (stop !)) (init ! 48 refl (tt, wt .1 .1 .0)) $
+        assigns ! (of-opd ! (load ! (from ! (fld ! refl (stop !))) (look-in ! 58 (sub ! 2 refl (whole !))))) (from ! (stop !)) (init ! 46 refl (tt, wt .1 .1 .1 .0)) $
+        assigns ! (of-opd ! (load ! (from ! (fld ! refl (stop !))) (look-in ! 58 (sub ! 3 refl (whole !))))) (from ! (stop !)) (init ! 44 refl (tt, wt .1 .1 .1 .1 .0)) $
+        assigns ! (of-opd ! (load ! (from ! (fld ! refl (stop !))) (look-in ! 58 (sub ! 4 refl (whole !))))) (from ! (stop !)) (init ! 42 refl (tt, wt .1 .1 .1 .1 .1 .0)) $
+        assigns ! (of-opd ! (load ! (from ! (fld ! refl (stop !))) (look-in ! 56 (sub ! 0 refl (whole !))))) (from ! (stop !)) (init ! 40 refl (tt, wt′ .1 .0)) $
+        assigns ! (of-opd ! (load ! (from ! (fld ! refl (stop !))) (look-in ! 56 (sub ! 1 refl (whole !))))) (from ! (stop !)) (init ! 38 refl (tt, wt′ .1 .1 .0)) $
+        assigns ! (of-opd ! (load ! (from ! (fld ! refl (stop !))) (look-in ! 56 (sub ! 2 refl (whole !))))) (from ! (stop !)) (init ! 36 refl (tt, wt′ .1 .1 .1 .0)) $
+        assigns ! (of-opd ! (load ! (from ! (fld ! refl (stop !))) (look-in ! 56 (sub ! 3 refl (whole !))))) (from ! (stop !)) (init ! 34 refl (tt, wt′ .1 .1 .1 .1 .0)) $
+        assigns ! (of-opd ! (load ! (from ! (fld ! refl (stop !))) (look-in ! 56 (sub ! 4 refl (whole !))))) (from ! (stop !)) (init ! 32 refl (tt, wt′ .1 .1 .1 .1 .1 .0)) $
+        assigns ! (addr ! (from ! (fld ! refl (fld ! refl (hop ! (look-in ! 54 (sub ! 0 refl (sub ! 0 refl (whole !)))) (stop !))))))
+        (from ! (stop !)) (init ! 30 refl (tt, tt)) $
+        assigns ! (agg ! (and-then ! (load ! (from ! (stop !)) (look ! 30 refl))
+        (and-then ! (load ! (from ! (fld ! refl (fld ! refl (stop !)))) (look-in ! 54 (sub ! 1 refl (sub ! 0 refl (whole !))))) (no-more !))))
+        (from ! (stop !)) (init ! 28 refl (tt, wt″ .1 .0)) $
+        assigns ! (addr ! (from ! (fld ! refl (fld ! refl (hop ! (look-in ! 54 (sub ! 0 refl (sub ! 1 refl (whole !)))) (stop !))))))
+        (from ! (stop !)) (init ! 26 refl (tt, tt)) $
+        assigns ! (agg ! (and-then ! (load ! (from ! (stop !)) (look ! 26 refl))
+        (and-then ! (load ! (from ! (fld ! refl (fld ! refl (stop !)))) (look-in ! 54 (sub ! 1 refl (sub ! 1 refl (whole !))))) (no-more !))))
+        (from ! (stop !)) (init ! 24 refl (tt, wt″ .1 .1 .0)) $
+        assigns ! (addr ! (from ! (fld ! refl (fld ! refl (hop ! (look-in ! 54 (sub ! 0 refl (sub ! 2 refl (whole !)))) (stop !))))))
+        (from ! (stop !)) (init ! 22 refl (tt, tt)) $
         assigns ! (agg ! (and-then ! (load ! (from ! (stop !)) (look ! 22 refl))
-        (and-then ! (load ! (from ! (fld ! refl (fld ! refl (stop !)))) (look-in ! 46 (sub ! 1 refl (sub ! 0 refl (whole !))))) (no-more !))))
-        (from ! (stop !)) (init ! 20 refl (tt, wt″ .1 .0)) $
-        assigns ! (addr ! (from ! (fld ! refl (fld ! refl (hop ! (look-in ! 46 (sub ! 0 refl (sub ! 1 refl (whole !)))) (stop !)))))) (from ! (stop !)) (init ! 18 refl (tt, tt)) $
+        (and-then ! (load ! (from ! (fld ! refl (fld ! refl (stop !)))) (look-in ! 54 (sub ! 1 refl (sub ! 2 refl (whole !))))) (no-more !))))
+        (from ! (stop !)) (init ! 20 refl (tt, wt″ .1 .1 .1 .0)) $
+        assigns ! (addr ! (from ! (fld ! refl (fld ! refl (hop ! (look-in ! 54 (sub ! 0 refl (sub ! 3 refl (whole !)))) (stop !))))))
+        (from ! (stop !)) (init ! 18 refl (tt, tt)) $
         assigns ! (agg ! (and-then ! (load ! (from ! (stop !)) (look ! 18 refl))
-        (and-then ! (load ! (from ! (fld ! refl (fld ! refl (stop !)))) (look-in ! 46 (sub ! 1 refl (sub ! 1 refl (whole !))))) (no-more !))))
-        (from ! (stop !)) (init ! 16 refl (tt, wt″ .1 .1 .0)) $
-        assigns ! (addr ! (from ! (fld ! refl (fld ! refl (hop ! (look-in ! 46 (sub ! 0 refl (sub ! 2 refl (whole !)))) (stop !)))))) (from ! (stop !)) (init ! 14 refl (tt, tt)) $
+        (and-then ! (load ! (from ! (fld ! refl (fld ! refl (stop !)))) (look-in ! 54 (sub ! 1 refl (sub ! 3 refl (whole !))))) (no-more !))))
+        (from ! (stop !)) (init ! 16 refl (tt, wt″ .1 .1 .1 .1 .0)) $
+        assigns ! (addr ! (from ! (fld ! refl (fld ! refl (hop ! (look-in ! 54 (sub ! 0 refl (sub ! 4 refl (whole !)))) (stop !))))))
+        (from ! (stop !)) (init ! 14 refl (tt, tt)) $
         assigns ! (agg ! (and-then ! (load ! (from ! (stop !)) (look ! 14 refl))
-        (and-then ! (load ! (from ! (fld ! refl (fld ! refl (stop !)))) (look-in ! 46 (sub ! 1 refl (sub ! 2 refl (whole !))))) (no-more !))))
-        (from ! (stop !)) (init ! 12 refl (tt, wt″ .1 .1 .1 .0)) $
-        assigns ! (addr ! (from ! (fld ! refl (fld ! refl (hop ! (look-in ! 46 (sub ! 0 refl (sub ! 3 refl (whole !)))) (stop !)))))) (from ! (stop !)) (init ! 10 refl (tt, tt)) $
+        (and-then ! (load ! (from ! (fld ! refl (fld ! refl (stop !)))) (look-in ! 54 (sub ! 1 refl (sub ! 4 refl (whole !))))) (no-more !))))
+        (from ! (stop !)) (init ! 12 refl (tt, wt″ .1 .1 .1 .1 .1 .0)) $
+        assigns ! (addr ! (from ! (fld ! refl (fld ! refl (hop ! (look-in ! 54 (sub ! 0 refl (sub ! 5 refl (whole !)))) (stop !))))))
+        (from ! (stop !)) (init ! 10 refl (tt, tt)) $
         assigns ! (agg ! (and-then ! (load ! (from ! (stop !)) (look ! 10 refl))
-        (and-then ! (load ! (from ! (fld ! refl (fld ! refl (stop !)))) (look-in ! 46 (sub ! 1 refl (sub ! 3 refl (whole !))))) (no-more !))))
-        (from ! (stop !)) (init ! 8 refl (tt, wt″ .1 .1 .1 .1 .0)) $
-        assigns ! (addr ! (from ! (fld ! refl (fld ! refl (hop ! (look-in ! 46 (sub ! 0 refl (sub ! 4 refl (whole !)))) (stop !)))))) (from ! (stop !)) (init ! 6 refl (tt, tt)) $
+        (and-then ! (load ! (from ! (fld ! refl (fld ! refl (stop !)))) (look-in ! 54 (sub ! 1 refl (sub ! 5 refl (whole !))))) (no-more !))))
+        (from ! (stop !)) (init ! 8 refl (tt, wt″ .1 .1 .1 .1 .1 .1 .0)) $
+        assigns ! (addr ! (from ! (fld ! refl (fld ! refl (hop ! (look-in ! 54 (sub ! 0 refl (sub ! 6 refl (whole !)))) (stop !))))))
+        (from ! (stop !)) (init ! 6 refl (tt, tt)) $
         assigns ! (agg ! (and-then ! (load ! (from ! (stop !)) (look ! 6 refl))
-        (and-then ! (load ! (from ! (fld ! refl (fld ! refl (stop !)))) (look-in ! 46 (sub ! 1 refl (sub ! 4 refl (whole !))))) (no-more !))))
-        (from ! (stop !)) (init ! 4 refl (tt, wt″ .1 .1 .1 .1 .1 .0)) $
-        assigns ! (addr ! (from ! (fld ! refl (hop ! (look-in ! 44 (sub ! 0 refl (whole !))) (stop !))))) (from ! (stop !)) (init ! 2 refl (tt, tt)) $
+        (and-then ! (load ! (from ! (fld ! refl (fld ! refl (stop !)))) (look-in ! 54 (sub ! 1 refl (sub ! 6 refl (whole !))))) (no-more !))))
+        (from ! (stop !)) (init ! 4 refl (tt, wt″ .1 .1 .1 .1 .1 .1 .1 .0)) $
+        assigns ! (addr ! (from ! (fld ! refl (hop ! (look-in ! 52 (sub ! 0 refl (whole !))) (stop !))))) (from ! (stop !)) (init ! 2 refl (tt, tt)) $
         assigns ! (agg ! (and-then ! (load ! (from ! (stop !)) (look ! 2 refl))
-        (and-then ! (load ! (from ! (fld ! refl (stop !))) (look-in ! 44 (sub ! 1 refl (whole !)))) (no-more !)))) (from ! (stop !)) (init ! 0 refl (tt, wt‴ .1)) $
-        move ! (58 ∷ []) $ use1 W (raw (Overlay 𝓤 H A mem run .pre to) ⊛ (‵ (OwnView α s) ⊛ ‵ (OwnView α′ c))) apart $ split ! $
-        calls-at ! fm (Overlay 𝓤 H A mem run) known to (and-then ! (load ! (from ! (stop !)) (look ! 56 refl))
-        (and-then ! (load ! (from ! (stop !)) (look ! 54 refl))
+        (and-then ! (load ! (from ! (fld ! refl (stop !))) (look-in ! 52 (sub ! 1 refl (whole !)))) (no-more !)))) (from ! (stop !)) (init ! 0 refl (tt, wt‴ .1)) $
+        move ! (66 ∷ []) $ use1 W (raw (Overlay 𝓤 H A mem run .pre to) ⊛ (‵ (OwnView α s) ⊛ ‵ (OwnView α′ c))) apart $ split ! $
+        calls-at ! fm (Overlay 𝓤 H A mem run) known to
+        (and-then ! (load ! (from ! (stop !)) (look ! 64 refl))
+        (and-then ! (load ! (from ! (stop !)) (look ! 62 refl))
+        (and-then ! (load ! (from ! (stop !)) (look ! 52 refl))
+        (and-then ! (load ! (from ! (stop !)) (look ! 50 refl))
+        (and-then ! (load ! (from ! (stop !)) (look ! 48 refl))
+        (and-then ! (load ! (from ! (stop !)) (look ! 46 refl))
         (and-then ! (load ! (from ! (stop !)) (look ! 44 refl))
         (and-then ! (load ! (from ! (stop !)) (look ! 42 refl))
         (and-then ! (load ! (from ! (stop !)) (look ! 40 refl))
         (and-then ! (load ! (from ! (stop !)) (look ! 38 refl))
         (and-then ! (load ! (from ! (stop !)) (look ! 36 refl))
         (and-then ! (load ! (from ! (stop !)) (look ! 34 refl))
-        (and-then ! (load ! (from ! (stop !)) (look ! 32 refl))
         (and-then ! (load ! (from ! (stop !)) (look ! 30 refl))
-        (and-then ! (load ! (from ! (stop !)) (look ! 28 refl))
         (and-then ! (load ! (from ! (stop !)) (look ! 26 refl))
         (and-then ! (load ! (from ! (stop !)) (look ! 22 refl))
         (and-then ! (load ! (from ! (stop !)) (look ! 18 refl))
         (and-then ! (load ! (from ! (stop !)) (look ! 14 refl))
         (and-then ! (load ! (from ! (stop !)) (look ! 10 refl))
-        (and-then ! (load ! (from ! (stop !)) (look ! 6 refl)) (and-then ! (load ! (from ! (stop !)) (look ! 2 refl)) (no-more !))))))))))))))))))) (λ u.
-        use1 W (later (some (λ (r : Answer). (raw (toks 𝓤 A 16 κs′ qs′) ⊛ ‵ (R.the-row .own r (u ∷ []))) ⊛ raw
+        (and-then ! (load ! (from ! (stop !)) (look ! 6 refl))
+        (and-then ! (load ! (from ! (stop !)) (look ! 2 refl)) (no-more !))))))))))))))))))))) (λ u.
+        use1 W (later (some (λ (r : Answer). (raw (toks 𝓤 A 18 κs′ qs′) ⊛ ‵ (R.the-row .own r (u ∷ []))) ⊛ raw
         (ensured 𝓤 H A overlay.ended (overlay.clauses 𝓤 H A mem run) κs′ a′ tt r)))) (id⊢ 𝓤 _) $
         await ! tt $ pick ! (λ r.
         split ! $ move ! (1 ∷ []) $ use1 W (some (λ (zs : Zs). ‵ (lasts overlay.ended κs′ a′ zs) ⊛ raw (fact 𝓤 (Said r zs)))) (id⊢ 𝓤 _) $ pick ! (λ zs.
@@ -446,20 +536,22 @@ module _ {M : Type 1} (𝓤 : URA M) (H : Heap 𝓤) (A : Atoms 𝓤) (W : Given
         -- [the output's last lists; the working list's; the tokens and the result; the views; the locals]
         move ! (2 ∷ []) $ split ! $ move ! (4 ∷ 1 ∷ 0 ∷ []) $ split ! $ move ! (2 ∷ 3 ∷ 4 ∷ 5 ∷ 0 ∷ 1 ∷ []) $
         peeks ! R.the-row (Is R.the-row) (shows 𝓤 H A R.the-row) r (u ∷ []) (λ is.
-        land ! (from ! (stop !)) (init ! 62 refl (LL.lawful R.the-type R′.the-laws 𝓤 H A W .typed r _ is .0)) $
-        returns ! (look ! 62 refl) $ forget ! 6 refl $ forget ! 8 refl $ forget ! 10 refl $ forget ! 12 refl $ forget ! 14 refl $ forget ! 16 refl $ forget !
-        18 refl $ forget ! 20 refl $
+        land ! (from ! (stop !)) (init ! 70 refl (LL.lawful R.the-type R′.the-laws 𝓤 H A W .typed r _ is .0)) $
+        returns ! (look ! 70 refl) $ forget ! 6 refl $ forget ! 8 refl $ forget ! 10 refl $ forget ! 12 refl $ forget ! 14 refl $ forget ! 16 refl $ forget ! 18 refl $ forget ! 20 refl $
         forget ! 22 refl $ forget ! 24 refl $ forget ! 26 refl $ forget ! 28 refl $ forget ! 30 refl $ forget ! 32 refl $ forget ! 34 refl $ forget ! 36 refl $
-        forget ! 38 refl $ forget ! 40 refl $
-        forget ! 42 refl $ forget ! 44 refl $ forget ! 46 refl $ forget ! 48 refl $ forget ! 50 refl $ forget ! 52 refl $ forget ! 54 refl $ forget ! 56 refl $
-        forget ! 58 refl $ forget ! 60 refl $ forget ! 62 refl $
-        move ! (62 ∷ 63 ∷ []) $ free1 ! $ move ! (60 ∷ 61 ∷ []) $ free1 ! $ move ! (58 ∷ 59 ∷ []) $ free1 ! $ move ! (56 ∷ 57 ∷ []) $ free1 ! $ move ! (54 ∷ 55 ∷ []) $ free1 ! $
-        move ! (52 ∷ 53 ∷ []) $ free1 ! $ move ! (50 ∷ 51 ∷ []) $ free1 ! $ move ! (48 ∷ 49 ∷ []) $ free1 ! $ move ! (46 ∷ 47 ∷ []) $ free1 ! $ move ! (44 ∷ 45 ∷ []) $ free1 ! $
-        move ! (42 ∷ 43 ∷ []) $ free1 ! $ move ! (40 ∷ 41 ∷ []) $ free1 ! $ move ! (38 ∷ 39 ∷ []) $ free1 ! $ move ! (36 ∷ 37 ∷ []) $ free1 ! $ move ! (34 ∷ 35 ∷ []) $ free1 ! $
-        move ! (32 ∷ 33 ∷ []) $ free1 ! $ move ! (30 ∷ 31 ∷ []) $ free1 ! $ move ! (28 ∷ 29 ∷ []) $ free1 ! $ move ! (26 ∷ 27 ∷ []) $ free1 ! $ move ! (24 ∷ 25 ∷ []) $ free1 ! $
-        move ! (22 ∷ 23 ∷ []) $ free1 ! $ move ! (20 ∷ 21 ∷ []) $ free1 ! $ move ! (18 ∷ 19 ∷ []) $ free1 ! $ move ! (16 ∷ 17 ∷ []) $ free1 ! $ move ! (14 ∷ 15 ∷ []) $ free1 ! $
-        move ! (12 ∷ 13 ∷ []) $ free1 ! $ move ! (10 ∷ 11 ∷ []) $ free1 ! $ move ! (8 ∷ 9 ∷ []) $ free1 ! $ move ! (6 ∷ 7 ∷ []) $ free1 ! $ free0 ! $ by !
-        (exits r u zs e l))))))))))))))))))))))))))))))))))))
+        forget ! 38 refl $ forget ! 40 refl $ forget ! 42 refl $ forget ! 44 refl $ forget ! 46 refl $ forget ! 48 refl $ forget ! 50 refl $ forget ! 52 refl $
+        forget ! 54 refl $ forget ! 56 refl $ forget ! 58 refl $ forget ! 60 refl $ forget ! 62 refl $ forget ! 64 refl $ forget ! 66 refl $ forget ! 68 refl $
+        forget ! 70 refl $
+        move ! (70 ∷ 71 ∷ []) $ free1 ! $ move ! (68 ∷ 69 ∷ []) $ free1 ! $ move ! (66 ∷ 67 ∷ []) $ free1 ! $ move ! (64 ∷ 65 ∷ []) $ free1 ! $
+        move ! (62 ∷ 63 ∷ []) $ free1 ! $ move ! (60 ∷ 61 ∷ []) $ free1 ! $ move ! (58 ∷ 59 ∷ []) $ free1 ! $ move ! (56 ∷ 57 ∷ []) $ free1 ! $
+        move ! (54 ∷ 55 ∷ []) $ free1 ! $ move ! (52 ∷ 53 ∷ []) $ free1 ! $ move ! (50 ∷ 51 ∷ []) $ free1 ! $ move ! (48 ∷ 49 ∷ []) $ free1 ! $
+        move ! (46 ∷ 47 ∷ []) $ free1 ! $ move ! (44 ∷ 45 ∷ []) $ free1 ! $ move ! (42 ∷ 43 ∷ []) $ free1 ! $ move ! (40 ∷ 41 ∷ []) $ free1 ! $
+        move ! (38 ∷ 39 ∷ []) $ free1 ! $ move ! (36 ∷ 37 ∷ []) $ free1 ! $ move ! (34 ∷ 35 ∷ []) $ free1 ! $ move ! (32 ∷ 33 ∷ []) $ free1 ! $
+        move ! (30 ∷ 31 ∷ []) $ free1 ! $ move ! (28 ∷ 29 ∷ []) $ free1 ! $ move ! (26 ∷ 27 ∷ []) $ free1 ! $ move ! (24 ∷ 25 ∷ []) $ free1 ! $
+        move ! (22 ∷ 23 ∷ []) $ free1 ! $ move ! (20 ∷ 21 ∷ []) $ free1 ! $ move ! (18 ∷ 19 ∷ []) $ free1 ! $ move ! (16 ∷ 17 ∷ []) $ free1 ! $
+        move ! (14 ∷ 15 ∷ []) $ free1 ! $ move ! (12 ∷ 13 ∷ []) $ free1 ! $ move ! (10 ∷ 11 ∷ []) $ free1 ! $ move ! (8 ∷ 9 ∷ []) $ free1 ! $
+        move ! (6 ∷ 7 ∷ []) $ free1 ! $
+        free0 ! $ by ! (exits r u zs e l))))))))))))))))))))))))))))))))))))))))
 
 module _ {M : Type 1} (𝓤 : URA M) (H : Heap 𝓤) (A : Atoms 𝓤) (W : Given 𝓤 H A) (mem : Memory → SProp 𝓤) (run : Routine → Fun 𝓤) where
   overlay-views-walks : (C : Calls 𝓤 H) (Λ : Loops 𝓤 H) → FmC 𝓤 H (W .laws) C → Triple 𝓤 (C #overlay·overlay) (Overlay 𝓤 H A mem run)

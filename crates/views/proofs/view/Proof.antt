@@ -1,4 +1,5 @@
--- `views::view` meets its contract: a walk of its MIR, by hand. A view is made of the five slices passed.
+-- tools/views.py writes this file from the fields of `MeshView` and `OutputView`.
+-- `views::view` meets its contract: a walk of its MIR, by hand. A view is made of the slices passed.
 -- A view is Copy: what it owns is had twice, once for the slices at exit, and once for the result.
 -- Assumes nothing.
 use mathlib.Core.Path.{refl}
@@ -43,13 +44,17 @@ stayed = (
   stay-none-slice (0 ∷ []) tt (plain (λ _. f64)) yes,
   (
     stay-none-slice (0 ∷ []) tt (plain (λ _. u32)) yes,
-    (stay-none-slice (0 ∷ []) tt (plain (λ _. u32)) yes, (stay-none-slice (0 ∷ []) tt (plain (λ _. u8)) yes, (stay-none-slice (0 ∷ []) tt (plain (λ _. u32)) yes, tt))),
+    (
+      stay-none-slice (0 ∷ []) tt (plain (λ _. u32)) yes,
+      (stay-none-slice (0 ∷ []) tt (plain (λ _. u8)) yes, (stay-none-slice (0 ∷ []) tt (plain (λ _. u32)) yes, tt)),
+    ),
   ),
 )
 
 -- the parameters' types
 abbrev rows : Lft → List RattleType
-rows κ = ShrSlice (named 0) κ f64 ∷ ShrSlice (named 0) κ u32 ∷ ShrSlice (named 0) κ u32 ∷ ShrSlice (named 0) κ u8 ∷ ShrSlice (named 0) κ u32 ∷ []
+rows κ =
+    ShrSlice (named 0) κ f64 ∷ ShrSlice (named 0) κ u32 ∷ ShrSlice (named 0) κ u32 ∷ ShrSlice (named 0) κ u8 ∷ ShrSlice (named 0) κ u32 ∷ []
 
 -- the slices passed are those of the view d
 module _ {M : Type 1} (𝓤 : URA M) (H : Heap 𝓤) (A : Atoms 𝓤) (W : Given 𝓤 H A) (mem : Memory → SProp 𝓤) (run : Routine → Fun 𝓤) (κ : Lft) (q : Share) (d : MeshView) where
@@ -95,11 +100,13 @@ module _ {M : Type 1} (𝓤 : URA M) (H : Heap 𝓤) (A : Atoms 𝓤) (W : Given
         assigns ! (agg ! (and-then ! (load ! (from ! (stop !)) (look ! 8 refl))
         (and-then ! (load ! (from ! (stop !)) (look ! 6 refl))
         (and-then ! (load ! (from ! (stop !)) (look ! 4 refl))
-        (and-then ! (load ! (from ! (stop !)) (look ! 2 refl)) (and-then ! (load ! (from ! (stop !)) (look ! 0 refl)) (no-more !)))))))
+        (and-then ! (load ! (from ! (stop !)) (look ! 2 refl))
+        (and-then ! (load ! (from ! (stop !)) (look ! 0 refl)) (no-more !)))))))
         (from ! (stop !)) (init ! 10 refl (tt, (t₁ .1, (t₂ .1, (t₃ .1, (t₄ .1, (t₅ .1, tt))))))) $
         returns ! (look ! 10 refl) $ forget ! 0 refl $ forget ! 2 refl $ forget ! 4 refl $ forget ! 6 refl $ forget ! 8 refl $ forget ! 10 refl $
-        move ! (10 ∷ 11 ∷ []) $ free1 ! $ move ! (8 ∷ 9 ∷ []) $ free1 ! $ move ! (6 ∷ 7 ∷ []) $ free1 ! $ move ! (4 ∷ 5 ∷ []) $ free1 ! $ move ! (2 ∷ 3 ∷ []) $
-        free1 ! $ free1 ! $ free0 ! $ by ! exits))))))
+        move ! (10 ∷ 11 ∷ []) $ free1 ! $ move ! (8 ∷ 9 ∷ []) $ free1 ! $ move ! (6 ∷ 7 ∷ []) $ free1 ! $ move ! (4 ∷ 5 ∷ []) $ free1 ! $
+        move ! (2 ∷ 3 ∷ []) $ free1 ! $ move ! (0 ∷ 1 ∷ []) $ free1 ! $
+        free0 ! $ by ! exits))))))
 
 module _ {M : Type 1} (𝓤 : URA M) (H : Heap 𝓤) (A : Atoms 𝓤) (W : Given 𝓤 H A) (mem : Memory → SProp 𝓤) (run : Routine → Fun 𝓤) where
   view-walks : (C : Calls 𝓤 H) (Λ : Loops 𝓤 H) → Walks 𝓤 H A view.ended stayed (WpFn 𝓤 H C Λ code.function) (view.clauses 𝓤 H A mem run)
