@@ -10,7 +10,7 @@ fn replay(i: usize) {
     let mut text = [0u8; 65537];
     let k = io::read_full(file, &mut text);
     libc::close(file);
-    let mut out = [0u8; 233524];
+    let mut out = [0u8; 278580];
     let p = program::reply(&text[..k], &mut out);
     io::write_all(1, &out[..p]);
 }

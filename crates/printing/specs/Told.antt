@@ -3,7 +3,7 @@ use Prim.Native.Nat.{ℕ, _*_}
 use mathlib.Core.List.{List, map}
 use lib.ListN.{take}
 use lib.Ieee.{Float, toBits, binary64}
-use Rattle.text.specs.Text.{Bits, Answer, unread, refused, overlay}
+use Rattle.text.specs.Text.{pieceLines, Answer, unread, refused, overlay}
 use Rattle.printing.specs.declared.Answer.{Answer as Given}
 use Rattle.printing.specs.declared.Answer.the-variants as given
 
@@ -11,11 +11,9 @@ use Rattle.printing.specs.declared.Answer.the-variants as given
 unfoldable pub bits : List Float → List ℕ
 bits cs = map (toBits binary64) cs
 
-abbrev pub bitsOf : List Float → List ℕ → List ℕ → List ℕ → List ℕ → Bits
-bitsOf cs ns es ks fs = record { coords = bits cs; nodes = ns; ends = es; kinds = ks; families = fs }
-
--- of an overlay, the first `nodes` nodes and the first `pieces` cells of the lists
-unfoldable pub told : Given → List Float → List ℕ → List ℕ → List ℕ → List ℕ → Answer
-told given.Unread cs ns es ks fs = unread
-told (given.Refused n) cs ns es ks fs = refused n
-told (given.Overlay nodes pieces points doubled) cs ns es ks fs = overlay (bitsOf (take (2 * nodes) cs) ns (take pieces es) ks fs) pieces points doubled
+-- of an overlay, the first `nodes` nodes and the first `pieces` pieces of the lists
+unfoldable pub told : Given → (cs : List Float) (ns es ks fs ms is : List ℕ) → Answer
+told given.Unread cs ns es ks fs ms is = unread
+told (given.Refused n) cs ns es ks fs ms is = refused n
+told (given.Overlay nodes pieces points doubled) cs ns es ks fs ms is =
+    overlay (bits (take (2 * nodes) cs)) (pieceLines 0 ns (take pieces es) ks fs ms is) pieces points doubled

@@ -2,9 +2,9 @@
 ghost use mathlib.Core.Path.{_≡_};
 ghost use Prim.Native.Nat.{_+_, _-_, _*_, _≤_, _<_, min};
 ghost use lib.ListN.{length, take, drop};
-ghost use Rattle.text.specs.Text.{listingText, refusedText, unreadText, answerText};
+ghost use Rattle.text.specs.Text.{pieceLines, listingText, refusedText, unreadText, answerText};
 ghost use Rattle.printing.specs.Page.{page, pageWith, roomFor, laidOver};
-ghost use Rattle.printing.specs.Told.{bitsOf, told};
+ghost use Rattle.printing.specs.Told.{bits, told};
 
 mod digits;
 mod lines;
@@ -27,7 +27,7 @@ pub enum Answer {
     },
 }
 
-fn least(a: usize, b: usize) -> usize
+pub(crate) fn least(a: usize, b: usize) -> usize
     ensures { λ r. ⌜ r ≡ min a b ⌝ }
 {
     if a < b { a } else { b }
@@ -49,17 +49,21 @@ fn put_listing(
     ends: &[u32],
     kinds: &[u8],
     families: &[u32],
+    meshes: &[u32],
+    cells: &[u32],
     pieces: u32,
     points: u32,
     doubled: u32,
 ) -> Put
-    ensures { λ r. ⌜ page r (now (out .exit)) ≡ pageWith (page to (now (out .entry)))
-        (listingText (bitsOf (now (coords .entry)) (now (nodes .entry)) (now (ends .entry)) (now (kinds .entry)) (now (families .entry))) pieces points doubled) ⌝ }
+    ensures { λ r. ⌜ page r (now (out .exit)) ≡ pageWith (page to (now (out .entry))) (listingText (bits (now (coords .entry)))
+        (pieceLines 0 (now (nodes .entry)) (now (ends .entry)) (now (kinds .entry)) (now (families .entry)) (now (meshes .entry)) (now (cells .entry)))
+        pieces points doubled) ⌝ }
 {
     let a = lines::put_bytes(out, to, b"(overlay\n");
-    let b = lines::put_body(out, a, coords, nodes, ends, kinds, families);
-    let c = lines::put_count(out, b, pieces, points, doubled);
-    lines::put_bytes(out, c, b")\n")
+    let b = lines::put_nodes(out, a, coords);
+    let c = lines::put_pieces(out, b, nodes, ends, kinds, families, meshes, cells);
+    let d = lines::put_count(out, c, pieces, points, doubled);
+    lines::put_bytes(out, d, b")\n")
 }
 
 // The text of an answer, from the list's first place on.
@@ -71,11 +75,13 @@ pub fn print_answer(
     ends: &[u32],
     kinds: &[u8],
     families: &[u32],
+    meshes: &[u32],
+    cells: &[u32],
 ) -> Put
-    ensures { λ r. ⌜ (r ≡ roomFor (length (now (out .entry)))
-        (answerText (told answer (now (coords .entry)) (now (nodes .entry)) (now (ends .entry)) (now (kinds .entry)) (now (families .entry)))))
-        × (now (out .exit) ≡ laidOver (now (out .entry)) (answerText
-        (told answer (now (coords .entry)) (now (nodes .entry)) (now (ends .entry)) (now (kinds .entry)) (now (families .entry))))) ⌝ }
+    ensures { λ r. ⌜ (r ≡ roomFor (length (now (out .entry))) (answerText (told answer (now (coords .entry)) (now (nodes .entry))
+        (now (ends .entry)) (now (kinds .entry)) (now (families .entry)) (now (meshes .entry)) (now (cells .entry)))))
+        × (now (out .exit) ≡ laidOver (now (out .entry)) (answerText (told answer (now (coords .entry)) (now (nodes .entry))
+        (now (ends .entry)) (now (kinds .entry)) (now (families .entry)) (now (meshes .entry)) (now (cells .entry))))) ⌝ }
 {
     match answer {
         Answer::Unread => lines::put_bytes(out, Put::At(0), b"(unread)\n"),
@@ -96,6 +102,8 @@ pub fn print_answer(
                 &ends[..k],
                 kinds,
                 families,
+                meshes,
+                cells,
                 pieces,
                 points,
                 doubled,

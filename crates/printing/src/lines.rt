@@ -4,11 +4,12 @@ ghost use mathlib.Core.List.{_++_};
 ghost use Prim.Native.Nat.{_-_};
 ghost use lib.ListN.{take, drop};
 ghost use lib.Ieee.{toBits, binary64};
-ghost use Rattle.text.specs.Text.{space, decimal, hex, nodeText, nodesText, numbersText, cellText, cellsText, bodyText, countText};
+ghost use Rattle.text.specs.Text.{space, decimal, hex, nodeText, nodesText, numbersText, pieceText, piecesText, pieceLines, countText};
 ghost use Rattle.printing.specs.Page.{page, pageWith};
-ghost use Rattle.printing.specs.Told.{bits, bitsOf};
+ghost use Rattle.printing.specs.Told.{bits};
 use crate::Put;
 use crate::digits;
+use crate::least;
 
 pub(crate) fn put_bytes(out: &mut [u8], to: Put, w: &[u8]) -> Put
     ensures { λ r. ⌜ page r (now (out .exit)) ≡ pageWith (page to (now (out .entry))) (now (w .entry)) ⌝ }
@@ -63,7 +64,7 @@ fn put_node(out: &mut [u8], to: Put, x: f64, y: f64) -> Put
     put_bytes(out, d, b")\n")
 }
 
-fn put_nodes(out: &mut [u8], to: Put, coords: &[f64]) -> Put
+pub(crate) fn put_nodes(out: &mut [u8], to: Put, coords: &[f64]) -> Put
     ensures { λ r. ⌜ page r (now (out .exit)) ≡ pageWith (page to (now (out .entry))) (nodesText (bits (now (coords .entry)))) ⌝ }
 {
     let mut p = to;
@@ -91,67 +92,71 @@ fn put_numbers(out: &mut [u8], to: Put, nodes: &[u32], from: usize, end: usize) 
     p
 }
 
-fn put_cell(
+// a piece, its corners the numbers of the list from `from` up to `end`
+fn put_piece(
     out: &mut [u8],
     to: Put,
     kind: u8,
     family: u32,
+    mesh: u32,
+    cell: u32,
     nodes: &[u32],
     from: usize,
     end: usize,
 ) -> Put
-    ensures { λ r. ⌜ page r (now (out .exit)) ≡ pageWith (page to (now (out .entry))) (cellText kind family (take (end - from) (drop from (now (nodes .entry))))) ⌝ }
+    ensures { λ r. ⌜ page r (now (out .exit)) ≡ pageWith (page to (now (out .entry)))
+        (pieceText (record { kind = kind; family = family; mesh = mesh; cell = cell; nodes = take (end - from) (drop from (now (nodes .entry))) })) ⌝ }
 {
     let a = put_bytes(out, to, b"(cell ");
     let b = put_decimal(out, a, kind as u32);
     let c = put_number(out, b, family);
-    let d = put_numbers(out, c, nodes, from, end);
-    put_bytes(out, d, b")\n")
+    let d = put_number(out, c, mesh);
+    let e = put_number(out, d, cell);
+    let f = put_numbers(out, e, nodes, from, end);
+    put_bytes(out, f, b")\n")
 }
 
-fn put_cells(
+// the pieces that the lists hold
+pub(crate) fn put_pieces(
     out: &mut [u8],
     to: Put,
     nodes: &[u32],
     ends: &[u32],
     kinds: &[u8],
     families: &[u32],
+    meshes: &[u32],
+    cells: &[u32],
 ) -> Put
-    ensures { λ r. ⌜ page r (now (out .exit)) ≡ pageWith (page to (now (out .entry))) (cellsText 0 (now (nodes .entry)) (now (ends .entry)) (now (kinds .entry)) (now (families .entry))) ⌝ }
+    ensures { λ r. ⌜ page r (now (out .exit)) ≡ pageWith (page to (now (out .entry))) (piecesText
+        (pieceLines 0 (now (nodes .entry)) (now (ends .entry)) (now (kinds .entry)) (now (families .entry)) (now (meshes .entry)) (now (cells .entry)))) ⌝ }
 {
+    let count = least(
+        ends.len(),
+        least(
+            least(kinds.len(), families.len()),
+            least(meshes.len(), cells.len()),
+        ),
+    );
     let mut p = to;
     let mut from = 0;
     let mut k = 0;
-    while k < ends.len() {
-        if kinds.len() <= k {
-            return p;
-        }
-        if families.len() <= k {
-            return p;
-        }
+    while k < count {
         let end = ends[k] as usize;
-        p = put_cell(out, p, kinds[k], families[k], nodes, from, end);
+        p = put_piece(
+            out,
+            p,
+            kinds[k],
+            families[k],
+            meshes[k],
+            cells[k],
+            nodes,
+            from,
+            end,
+        );
         from = end;
         k += 1;
     }
     p
-}
-
-// the node lines and the cell lines of a mesh
-pub(crate) fn put_body(
-    out: &mut [u8],
-    to: Put,
-    coords: &[f64],
-    nodes: &[u32],
-    ends: &[u32],
-    kinds: &[u8],
-    families: &[u32],
-) -> Put
-    ensures { λ r. ⌜ page r (now (out .exit)) ≡ pageWith (page to (now (out .entry)))
-        (bodyText (bitsOf (now (coords .entry)) (now (nodes .entry)) (now (ends .entry)) (now (kinds .entry)) (now (families .entry)))) ⌝ }
-{
-    let a = put_nodes(out, to, coords);
-    put_cells(out, a, nodes, ends, kinds, families)
 }
 
 pub(crate) fn put_count(out: &mut [u8], to: Put, pieces: u32, points: u32, doubled: u32) -> Put

@@ -39,12 +39,14 @@ pub a-listing : (n code p q d : ℕ) → code ≡ 0 → printed.Overlay (n + q) 
 unfolding printedOf
 a-listing n code p q d h = rw (eq-eqb code 0 h) refl
 
-printed-told : (n code p q d : ℕ) (l : Lists) → told (printedOf n code p q d) (l .coords) (l .nodes) (l .ends) (l .kinds) (l .families) ≡ resultTold n (result code p q d l)
+printed-told : (n code p q d : ℕ) (l : Lists)
+    → told (printedOf n code p q d) (l .coords) (l .nodes) (l .ends) (l .kinds) (l .families) (l .meshes) (l .cells) ≡ resultTold n (result code p q d l)
 unfolding printedOf told resultTold
 printed-told n code p q d l = go (eqb code 0)
   where
     left : Bool → Answer
-    left b = told (cond b (printed.Overlay (n + q) p q d) (printed.Refused code)) (l .coords) (l .nodes) (l .ends) (l .kinds) (l .families)
+    left b =
+        told (cond b (printed.Overlay (n + q) p q d) (printed.Refused code)) (l .coords) (l .nodes) (l .ends) (l .kinds) (l .families) (l .meshes) (l .cells)
 
     go : (b : Bool) → left b ≡ cond b (left true) (left false)
     go true = refl
@@ -53,7 +55,7 @@ printed-told n code p q d l = go (eqb code 0)
 -- ---- the overlay of two meshes, into the program's lists
 
 abbrev lists : Lists
-lists = lentLists (fzeros 4096) (zeros 8192) (zeros 2048) (zeros 2048) (zeros 2048) (zeros 16384)
+lists = lentLists (fzeros 4096) (zeros 8192) (zeros 2048) (zeros 2048) (zeros 2048) (zeros 2048) (zeros 2048) (zeros 16384)
 
 module _ (op m : ℕ) (s c : Mesh) where
   coords-added : length (sceneOf (eqb op 5) s c .coords) ≡ length (s .coords ++ c .coords) + length (addedBy (sceneOf (eqb op 5) s c .met))
@@ -74,19 +76,19 @@ module _ (op m : ℕ) (s c : Mesh) where
       go (state-met e n) = rw (state-refused ours op m s c lists e n) (omega arith)
       go (success e f) = let same = succeeds ours op m s c lists e f in rw same (success-few same)
 
-  module _ (n code p q d : ℕ) (cs : List Float) (ns es ks fs ws : List ℕ)
-      (same : result code p q d (lentLists cs ns es ks fs ws) ≡ overlayOf op m s c
-      (lentLists (fzeros 4096) (zeros 8192) (zeros 2048) (zeros 2048) (zeros 2048) (zeros 16384))) where
+  module _ (n code p q d : ℕ) (cs : List Float) (ns es ks fs ms is ws : List ℕ)
+      (same : result code p q d (lentLists cs ns es ks fs ms is ws) ≡ overlayOf op m s c
+      (lentLists (fzeros 4096) (zeros 8192) (zeros 2048) (zeros 2048) (zeros 2048) (zeros 2048) (zeros 2048) (zeros 16384))) where
     pub nodes-fit : n ≤ 1024 → n + q ≤ 4294967295
     nodes-fit h = omega (arith, h, points-few, ap (λ (r : Result). r .points) same)
 
     pub cut-printed : (g : Printed) (r : Put) (out out₁ : List ℕ) → g ≡ printedOf n code p q d
-        → (r ≡ roomFor (length out) (answerText (told g cs ns es ks fs))) × (out₁ ≡ laidOver out (answerText (told g cs ns es ks fs)))
+        → (r ≡ roomFor (length out) (answerText (told g cs ns es ks fs ms is))) × (out₁ ≡ laidOver out (answerText (told g cs ns es ks fs ms is)))
         → (r ≡ roomFor (length out) (answerText (resultTold n (overlayOf op m s c blank)))) × (out₁ ≡ laidOver out (answerText (resultTold n (overlayOf op m s c blank))))
     unfolding blank
     cut-printed g r out out₁ e (a, b) =
-        let text : told g cs ns es ks fs ≡ resultTold n (overlayOf op m s c lists) =
-        ap (λ x. told x cs ns es ks fs) e ∙ printed-told n code p q d (lentLists cs ns es ks fs ws) ∙ ap (resultTold n) same in
+        let text : told g cs ns es ks fs ms is ≡ resultTold n (overlayOf op m s c lists) =
+        ap (λ x. told x cs ns es ks fs ms is) e ∙ printed-told n code p q d (lentLists cs ns es ks fs ms is ws) ∙ ap (resultTold n) same in
         (a ∙ ap (λ t. roomFor (length out) (answerText t)) text, b ∙ ap (λ t. laidOver out (answerText t)) text)
 
 -- ---- what was read
@@ -106,11 +108,12 @@ module _ (s : List ℕ) where
   answer-read g e = ap (λ x. answerText (answerGiven x)) (e ∙ ap (λ l. inputFrom l l s) most-read)
 
   -- malformed
-  pub unread-printed : (cs : List Float) (ns es ks fs out out₁ : List ℕ) (r : Put) → none ≡ readOf
-      → (r ≡ roomFor (length out) (answerText (told printed.Unread cs ns es ks fs))) × (out₁ ≡ laidOver out (answerText (told printed.Unread cs ns es ks fs)))
+  pub unread-printed : (cs : List Float) (ns es ks fs ms is out out₁ : List ℕ) (r : Put) → none ≡ readOf
+      → (r ≡ roomFor (length out) (answerText (told printed.Unread cs ns es ks fs ms is)))
+      × (out₁ ≡ laidOver out (answerText (told printed.Unread cs ns es ks fs ms is)))
       → (r ≡ roomFor (length out) (answerTo s)) × (out₁ ≡ laidOver out (answerTo s))
   unfolding told answerGiven
-  unread-printed cs ns es ks fs out out₁ r e (a, b) =
+  unread-printed cs ns es ks fs ms is out out₁ r e (a, b) =
       let text = answer-read none e in
       (a ∙ ap (λ t. roomFor (length out) t) text, b ∙ ap (λ t. laidOver out t) text)
 

@@ -6,7 +6,6 @@ use Rattle.text.specs.Text.{
   answerText,
   listingText,
   countText,
-  bodyText,
   nodesText,
   nodeText,
   hex,
@@ -14,7 +13,9 @@ use Rattle.text.specs.Text.{
   glyph,
   decimal,
   decimalTo,
-  cellsText,
+  piecesText,
+  pieceText,
+  pieceLines,
   cellText,
   numbersText,
 }
@@ -26,8 +27,8 @@ use Rattle.program.specs.Answered.{blank, resultTold, answerGiven, answe
 
 -- what is printed for K1 as it was read, by computation through `overlayOf`
 k1-printed : answerText (answerGiven (got (given k1) [])) ≡ k1Printed
-unfolding answerGiven resultTold blank bits read rightBy answerText listingText countText bodyText nodesText nodeText hex hexTo glyph decimal decimalTo cellsText
-    cellText numbersText
+unfolding answerGiven resultTold blank bits read rightBy answerText listingText countText nodesText nodeText hex hexTo glyph decimal decimalTo piecesText
+    pieceText pieceLines cellText numbersText
 k1-printed = refl
 
 -- "K1's input" and "It prints": the program's answer to the one is the other

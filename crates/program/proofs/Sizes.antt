@@ -1,4 +1,4 @@
--- No answer is longer than 233,524 bytes. Assumes nothing.
+-- No answer is longer than 278,580 bytes. Assumes nothing.
 use mathlib.Core.Path.{_≡_, refl, sym, ap, _∙_}
 use mathlib.Core.Bool.{Bool, true, false, cond}
 use mathlib.Core.List.{List, [], _∷_, map}
@@ -21,12 +21,12 @@ use Rattle.rules.specs.Operations.{Piece, listing}
 use Rattle.rules.specs.Overlay.{Result, cleared, written, answered as succeeded, answeredWith, overlayOf}
 use Rattle.rules.proofs.Endings.{Ending, input, state-met, success, ending, input-refused, state-refused, succeeds}
 use Rattle.rules.proofs.Lengths.{accepted-fits, lengths-kept}
-use Rattle.text.specs.Text.{unread, refused, overlay, answerText}
+use Rattle.text.specs.Text.{pieceLines, unread, refused, overlay, answerText}
 use Rattle.text.specs.Read.{inputFrom}
 use Rattle.text.specs.Given.{Given, Parsed, none, got}
 use Rattle.text.proofs.Sizes.{Rising, no-end, end, overlay-size, refused-size}
 use Rattle.printing.specs.Page.{roomFor, laidOver}
-use Rattle.printing.specs.Told.{bits, bitsOf}
+use Rattle.printing.specs.Told.{bits}
 use Rattle.printing.specs.declared.Put.{Put}
 use Rattle.printing.specs.declared.Put.the-variants.{At, Full}
 use Rattle.program.specs.Answered.{readLimits, lent, blank, resultTold, answerGiven, answerTo}
@@ -79,32 +79,32 @@ module _ (op m : ℕ) (s c : Mesh) where
   ends-few k = omega (arith, take-le k (r .lists .ends), lengths-kept op m s c blank .ends)
 
   -- what is printed of an overlay
-  told-size : (n : ℕ) → length (answerText (resultTold n r)) ≤ 233524
+  told-size : (n : ℕ) → length (answerText (resultTold n r)) ≤ 278580
   unfolding resultTold
   told-size n = go (eqb (r .code) 0) refl
     where
       go : (b : Bool) → eqb (r .code) 0 ≡ b → length (answerText (cond b
-          (overlay (bitsOf (take (2 * (n + r .points)) (r .lists .coords)) (r .lists .nodes) (take (r .pieces) (r .lists .ends)) (r .lists .kinds)
-          (r .lists .families)) (r .pieces) (r .points) (r .doubled)) (refused (r .code)))) ≤ 233524
-      go true e = overlay-size _ (r .pieces) (r .points) (r .doubled) (coords-few (2 * (n + r .points))) (ends-few (r .pieces)) (rises (eqb-true (r .code) 0 e))
+          (overlay (bits (take (2 * (n + r .points)) (r .lists .coords))) (pieceLines 0 (r .lists .nodes) (take (r .pieces) (r .lists .ends)) (r .lists .kinds)
+          (r .lists .families) (r .lists .meshes) (r .lists .cells)) (r .pieces) (r .points) (r .doubled)) (refused (r .code)))) ≤ 278580
+      go true e = overlay-size _ _ _ _ _ _ _ (r .pieces) (r .points) (r .doubled) (coords-few (2 * (n + r .points))) (ends-few (r .pieces)) (rises (eqb-true (r .code) 0 e))
       go false e = omega (arith, refused-size (r .code))
 
-unread-size : length (answerText unread) ≤ 233524
+unread-size : length (answerText unread) ≤ 278580
 unfolding answerText
 unread-size = omega arith
 
-answered-size : (g : Parsed Given) → length (answerText (answerGiven g)) ≤ 233524
+answered-size : (g : Parsed Given) → length (answerText (answerGiven g)) ≤ 278580
 unfolding answerGiven
 answered-size none = unread-size
 answered-size (got g t) = told-size (g .first .op) (g .first .m) (lent (g .subject)) (lent (g .cutter)) _
 
 -- every answer
-pub answer-size : (t : List ℕ) → length (answerTo t) ≤ 233524
+pub answer-size : (t : List ℕ) → length (answerTo t) ≤ 278580
 unfolding answerTo
 answer-size t = answered-size (inputFrom readLimits readLimits t)
 
 -- so a list of so many bytes holds it
-pub answer-whole : (t o : List ℕ) → 233524 ≤ length o → roomFor (length o) (answerTo t) ≡ At (length (answerTo t))
+pub answer-whole : (t o : List ℕ) → 278580 ≤ length o → roomFor (length o) (answerTo t) ≡ At (length (answerTo t))
 unfolding roomFor
 answer-whole t o h = rw (le-leb (length (answerTo t)) (length o) (le-trans (answer-size t) h)) refl
 
@@ -122,8 +122,8 @@ laid-front : (t o : List ℕ) → length t ≤ length o → laidOver o t ≡ fro
 unfolding laidOver front
 laid-front t o h = rw (take-all (length o) t h) refl
 
-module _ (t o o₁ : List ℕ) (r : Put) (h : 233524 ≤ length o) (got : (r ≡ roomFor (length o) (answerTo t)) × (o₁ ≡ laidOver o (answerTo t))) where
-  pub reply-at : (p : ℕ) → r ≡ At p → (p ≡ length (answerTo t)) × (o₁ ≡ front o (answerTo t)) × (p ≤ 233524)
+module _ (t o o₁ : List ℕ) (r : Put) (h : 278580 ≤ length o) (got : (r ≡ roomFor (length o) (answerTo t)) × (o₁ ≡ laidOver o (answerTo t))) where
+  pub reply-at : (p : ℕ) → r ≡ At p → (p ≡ length (answerTo t)) × (o₁ ≡ front o (answerTo t)) × (p ≤ 278580)
   reply-at p e =
       let at : p ≡ length (answerTo t) = ap place (sym e ∙ got .0 ∙ answer-whole t o h) in
       (at, got .1 ∙ laid-front (answerTo t) o (le-trans (answer-size t) h), rw at (answer-size t))

@@ -59,6 +59,8 @@ fn cut<'a, 'b>(
     let mut oe = [0u32; 2048];
     let mut ok = [0u8; 2048];
     let mut of = [0u32; 2048];
+    let mut om = [0u32; 2048];
+    let mut oi = [0u32; 2048];
     let mut work = [0u32; 16384];
     let a = mesh_view::overlay_lists(
         op,
@@ -78,10 +80,12 @@ fn cut<'a, 'b>(
         &mut oe,
         &mut ok,
         &mut of,
+        &mut om,
+        &mut oi,
         &mut work,
     );
     let p = told(nodes, a);
-    printing::print_answer(out, p, &oc, &on, &oe, &ok, &of)
+    printing::print_answer(out, p, &oc, &on, &oe, &ok, &of, &om, &oi)
 }
 
 // The answer to the text s, from the first place of `out` on.
@@ -118,7 +122,7 @@ pub fn answer(s: &[u8], out: &mut [u8]) -> Put
         cutter,
     } = r
     else {
-        return printing::print_answer(out, Answer::Unread, &sc, &sn, &se, &sk, &sf);
+        return printing::print_answer(out, Answer::Unread, &sc, &sn, &se, &sk, &sf, &sf, &sf);
     };
     let nodes = (subject.points + cutter.points) as u32;
     let sp = 2 * subject.points;
@@ -147,8 +151,8 @@ pub fn answer(s: &[u8], out: &mut [u8]) -> Put
 
 // The same in a list that holds any answer: how many bytes it has.
 pub fn reply(s: &[u8], out: &mut [u8]) -> usize
-    requires { ⌜ 233524 ≤ length (now out) ⌝ }
-    ensures { λ r. ⌜ (r ≡ length (answerTo (now (s .entry)))) × (now (out .exit) ≡ front (now (out .entry)) (answerTo (now (s .entry)))) × (r ≤ 233524) ⌝ }
+    requires { ⌜ 278580 ≤ length (now out) ⌝ }
+    ensures { λ r. ⌜ (r ≡ length (answerTo (now (s .entry)))) × (now (out .exit) ≡ front (now (out .entry)) (answerTo (now (s .entry)))) × (r ≤ 278580) ⌝ }
 {
     match answer(s, out) {
         Put::At(p) => p,

@@ -26,6 +26,10 @@ use Rattle.text.specs.Text.{
   nodeText,
   nodesText,
   numbersText,
+  PieceLine,
+  pieceText,
+  piecesText,
+  pieceLines,
 }
 use Rattle.text.specs.Read.{inputFrom, firstFrom, meshFrom, nodesFrom, cellsFrom, repeated, nodeStep, nodeFrom, entryStep, entriesFrom, headFrom, cellFrom}
 use Rattle.text.specs.Read.{addCell, cellStep, decimalFrom, moreFrom, hexFrom, digitVal, hexVal, wordFrom, afterWord, andThen, ifWord}
@@ -99,17 +103,15 @@ unfolding inputFrom firstFrom meshFrom nodesFrom cellsFrom repeated nodeStep nod
     hexVal wordFrom afterWord andThen ifWord read
 k1-read = refl
 
-abbrev k1Answer : Bits
-k1Answer =
-    record {
-      coords = 0x0000000000000000 ∷ 0x0000000000000000 ∷ 0x4000000000000000 ∷ 0x0000000000000000 ∷ 0x4000000000000000 ∷ 0x4000000000000000 ∷
-          0x0000000000000000 ∷ 0x4000000000000000 ∷ 0x3ff0000000000000 ∷ 0xbff0000000000000 ∷ 0x4008000000000000 ∷ 0xbff0000000000000 ∷ 0x4008000000000000 ∷
-          0x4008000000000000 ∷ 0x3ff0000000000000 ∷ 0x4008000000000000 ∷ 0x3ff0000000000000 ∷ 0x0000000000000000 ∷ 0x3ff0000000000000 ∷ 0x4000000000000000 ∷ [];
-      nodes = 3 ∷ 0 ∷ 8 ∷ 9 ∷ 9 ∷ 8 ∷ 1 ∷ 2 ∷ [];
-      ends = 4 ∷ 8 ∷ [];
-      kinds = 11 ∷ 11 ∷ [];
-      families = 7 ∷ 7 ∷ [];
-    }
+abbrev k1Coords : List ℕ
+k1Coords =
+    0x0000000000000000 ∷ 0x0000000000000000 ∷ 0x4000000000000000 ∷ 0x0000000000000000 ∷ 0x4000000000000000 ∷ 0x4000000000000000 ∷
+    0x0000000000000000 ∷ 0x4000000000000000 ∷ 0x3ff0000000000000 ∷ 0xbff0000000000000 ∷ 0x4008000000000000 ∷ 0xbff0000000000000 ∷ 0x4008000000000000 ∷
+    0x4008000000000000 ∷ 0x3ff0000000000000 ∷ 0x4008000000000000 ∷ 0x3ff0000000000000 ∷ 0x0000000000000000 ∷ 0x3ff0000000000000 ∷ 0x4000000000000000 ∷ []
+
+abbrev k1Pieces : List PieceLine
+k1Pieces =
+    pieceLines 0 (3 ∷ 0 ∷ 8 ∷ 9 ∷ 9 ∷ 8 ∷ 1 ∷ 2 ∷ []) (4 ∷ 8 ∷ []) (11 ∷ 11 ∷ []) (7 ∷ 7 ∷ []) (0 ∷ 0 ∷ []) (0 ∷ 0 ∷ [])
 
 abbrev pub k1Printed : List ℕ
 k1Printed =
@@ -125,15 +127,20 @@ k1Printed =
     "(node 3ff0000000000000 4008000000000000)\n" ∷
     "(node 3ff0000000000000 0000000000000000)\n" ∷
     "(node 3ff0000000000000 4000000000000000)\n" ∷
-    "(cell 11 7 3 0 8 9)\n" ∷
-    "(cell 11 7 9 8 1 2)\n" ∷
+    "(cell 11 7 0 0 3 0 8 9)\n" ∷
+    "(cell 11 7 0 0 9 8 1 2)\n" ∷
     "(count 2 2 0)\n" ∷
     ")\n" ∷
     [])
 
-k1-answer : answerText (overlay k1Answer 2 2 0) ≡ k1Printed
-unfolding answerText listingText countText bodyText nodesText nodeText hex hexTo glyph decimal decimalTo cellsText cellText numbersText
+k1-answer : answerText (overlay k1Coords k1Pieces 2 2 0) ≡ k1Printed
+unfolding answerText listingText countText nodesText nodeText hex hexTo glyph decimal decimalTo piecesText pieceText pieceLines cellText numbersText
 k1-answer = refl
+
+-- W2: cell 5 of the cutter has given this piece
+parent-printed : pieceText (record { kind = 11; family = 7; mesh = 1; cell = 5; nodes = 3 ∷ 0 ∷ 8 ∷ [] }) ≡ bytes "(cell 11 7 1 5 3 0 8)\n"
+unfolding pieceText cellText numbersText decimal decimalTo
+parent-printed = refl
 
 -- ---- read or not
 abbrev isRead : List ℕ → Bool

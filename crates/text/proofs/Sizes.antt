@@ -24,9 +24,10 @@ use Rattle.text.specs.Text.{
   nodesText,
   numbersText,
   cellText,
-  cellsText,
-  Bits,
-  bodyText,
+  PieceLine,
+  pieceText,
+  piecesText,
+  pieceLines,
   countText,
   listingText,
   refusedText,
@@ -87,25 +88,33 @@ below : {m n : ℕ} {es : List ℕ} → Rising m n es → n ≤ m
 below (no-end h) = h
 below (end h r) = le-trans h (below r)
 
-cells-size : {m n : ℕ} {es : List ℕ} (ns ks fs : List ℕ) → Rising m n es → length (cellsText n ns es ks fs) + 11 * n ≤ 29 * length es + 11 * m
-unfolding cellsText
-cells-size ns ks fs (no-end h) = omega arith
-cells-size ns [] fs (end h r) = let g = below r in omega arith
-cells-size ns (k ∷ ks) [] (end h r) = let g = below r in omega arith
-cells-size ns (k ∷ ks) (f ∷ fs) (end {n = n} {e = e} {es = es} h r) =
+piece-size : (p : PieceLine) → length (pieceText p) ≤ 51 + 11 * length (p .nodes)
+unfolding pieceText
+piece-size p = omega (arith, cell-size (p .kind) (p .family) (p .mesh ∷ p .cell ∷ p .nodes))
+
+pieces-size : {m n : ℕ} {es : List ℕ} (ns ks fs ms is : List ℕ) → Rising m n es
+    → length (piecesText (pieceLines n ns es ks fs ms is)) + 11 * n ≤ 51 * length es + 11 * m
+unfolding piecesText pieceLines
+pieces-size ns ks fs ms is (no-end h) = omega arith
+pieces-size ns [] fs ms is (end h r) = let g = below r in omega arith
+pieces-size ns (k ∷ ks) [] ms is (end h r) = let g = below r in omega arith
+pieces-size ns (k ∷ ks) (f ∷ fs) [] is (end h r) = let g = below r in omega arith
+pieces-size ns (k ∷ ks) (f ∷ fs) (m ∷ ms) [] (end h r) = let g = below r in omega arith
+pieces-size ns (k ∷ ks) (f ∷ fs) (m ∷ ms) (i ∷ is) (end {n = n} {e = e} {es = es} h r) =
     let own = take (e - n) (drop n ns) in
+    let p : PieceLine = record { kind = k; family = f; mesh = m; cell = i; nodes = own } in
     let l : length own ≤ e - n = rw (length-take (e - n) (drop n ns)) (min-le-left (e - n) (length (drop n ns))) in
-    omega (arith, length-append (cellText k f own) (cellsText e ns es ks fs), cell-size k f own, cells-size ns ks fs r)
+    omega (arith, length-append (pieceText p) (piecesText (pieceLines e ns es ks fs ms is)), piece-size p, pieces-size ns ks fs ms is r)
 
 count-size : (a b c : ℕ) → length (countText a b c) ≤ 41
 unfolding countText
 count-size a b c = simp length-append (omega (arith, decimal-size a, decimal-size b, decimal-size c))
 
--- an answer of at most 2,048 nodes, 2,048 pieces and 8,192 entries has at most 233,524 bytes
-pub overlay-size : (m : Bits) (a b c : ℕ) → length (m .coords) ≤ 4096 → length (m .ends) ≤ 2048 → Rising 8192 0 (m .ends) → length (answerText (overlay m a b c)) ≤ 233524
-unfolding answerText listingText bodyText
-overlay-size m a b c h g r =
-    simp length-append (omega (arith, nodes-size (m .coords), cells-size (m .nodes) (m .kinds) (m .families) r, count-size a b c))
+-- an answer of at most 2,048 nodes, 2,048 pieces and 8,192 entries has at most 278,580 bytes
+pub overlay-size : (bs ns es ks fs ms is : List ℕ) (a b c : ℕ) → length bs ≤ 4096 → length es ≤ 2048 → Rising 8192 0 es
+    → length (answerText (overlay bs (pieceLines 0 ns es ks fs ms is) a b c)) ≤ 278580
+unfolding answerText listingText
+overlay-size bs ns es ks fs ms is a b c h g r = simp length-append (omega (arith, nodes-size bs, pieces-size ns ks fs ms is r, count-size a b c))
 
 pub refused-size : (n : ℕ) → length (answerText (refused n)) ≤ 21
 unfolding answerText refusedText

@@ -113,11 +113,38 @@ unfoldable pub inputText : ℕ → ℕ → Bits → Bits → List ℕ
 inputText op m s c = firstText op m ++ (meshText s ++ (meshText c ++ close))
 
 -- ---- answers
+-- a piece as it is printed: its kind, family, parent (the mesh, 0 the subject or 1 the cutter, and the cell there) and corners
+pub record PieceLine : Type 0 where
+  pub kind : ℕ
+  pub family : ℕ
+  pub mesh : ℕ
+  pub cell : ℕ
+  pub nodes : List ℕ
+
+-- W2: "The printed cell line carries them after the family"
+unfoldable pub pieceText : PieceLine → List ℕ
+pieceText p = cellText (p .kind) (p .family) (p .mesh ∷ p .cell ∷ p .nodes)
+
+unfoldable pub piecesText : List PieceLine → List ℕ
+piecesText [] = []
+piecesText (p ∷ ps) = pieceText p ++ piecesText ps
+
+-- the pieces that lists hold, as many as every one of es, ks, fs, ms and is has; their corners are ns' elements from `start` on
+unfoldable pub pieceLines : ℕ → (ns es ks fs ms is : List ℕ) → List PieceLine
+pieceLines start ns [] ks fs ms is = []
+pieceLines start ns (e ∷ es) [] fs ms is = []
+pieceLines start ns (e ∷ es) (k ∷ ks) [] ms is = []
+pieceLines start ns (e ∷ es) (k ∷ ks) (f ∷ fs) [] is = []
+pieceLines start ns (e ∷ es) (k ∷ ks) (f ∷ fs) (m ∷ ms) [] = []
+pieceLines start ns (e ∷ es) (k ∷ ks) (f ∷ fs) (m ∷ ms) (i ∷ is) =
+    record { kind = k; family = f; mesh = m; cell = i; nodes = take (e - start) (drop start ns) } ∷ pieceLines e ns es ks fs ms is
+
 unfoldable pub countText : ℕ → ℕ → ℕ → List ℕ
 countText pieces points doubled = countWord ++ (decimal pieces ++ (space ++ (decimal points ++ (space ++ (decimal doubled ++ close)))))
 
-unfoldable pub listingText : Bits → ℕ → ℕ → ℕ → List ℕ
-listingText m pieces points doubled = listingWord ++ (bodyText m ++ (countText pieces points doubled ++ close))
+-- the bits of all coordinates, the pieces, the counts
+unfoldable pub listingText : List ℕ → List PieceLine → ℕ → ℕ → ℕ → List ℕ
+listingText bs ps pieces points doubled = listingWord ++ (nodesText bs ++ (piecesText ps ++ (countText pieces points doubled ++ close)))
 
 unfoldable pub refusedText : ℕ → List ℕ
 refusedText n = refusedWord ++ (decimal n ++ close)
@@ -126,9 +153,9 @@ refusedText n = refusedWord ++ (decimal n ++ close)
 pub data Answer : Type 0 where
   unread : Answer
   refused : ℕ → Answer
-  overlay : Bits → ℕ → ℕ → ℕ → Answer
+  overlay : List ℕ → List PieceLine → ℕ → ℕ → ℕ → Answer
 
 unfoldable pub answerText : Answer → List ℕ
 answerText unread = unreadText
 answerText (refused n) = refusedText n
-answerText (overlay m pieces points doubled) = listingText m pieces points doubled
+answerText (overlay bs ps pieces points doubled) = listingText bs ps pieces points doubled

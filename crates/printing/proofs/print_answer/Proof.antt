@@ -3,14 +3,15 @@
 use Rattle.text.specs.Text.{answerText}
 use Rattle.printing.specs.Told.{told}
 use Rattle.printing.proofs.Pages.{printed}
-use Rattle.printing.proofs.Rests.{take-least, length-least}
+use Rattle.printing.proofs.Rests.{length-least}
+use Rattle.printing.proofs.Answers.{listing-printed}
 use borrow.Author.Needs.{needs}
 use Rattle.printing.proofs.print_answer.Statement.{statement}
 use Rattle.printing.proofs.print_answer.Tie as tie
 
 -- places of the code, each counted once
 abbrev entry : tie.After-answer2 → tie.Start
-entry c = c .before .before .before .before .before .before .before .before
+entry c = c .before .before .before .before .before .before .before .before .before .before
 
 abbrev answer2-of-least : tie.After-least → tie.After-answer2
 answer2-of-least c = c .before .before
@@ -66,14 +67,13 @@ returns-2 c =
     rw (at-answer .answer .given .1) (printed _ _ (put-refused-at-returns-2 c .put-refused .ensures))
 
 returns-3 : tie.Need-returns-3
-unfolding told answerText
 returns-3 c =
     let at-least2 = least2-of-put-listing (put-listing-at-returns-3 c) in
     let at-answer2 = answer2-of-least (least-of-least2 at-least2) in
-    rw (at-answer2 .answer2 .given .1) (printed _ _ (rw (
-      take-least _ _ _ (least-of-least2 at-least2 .least .ensures),
-      take-least _ _ _ (at-least2 .least2 .ensures),
-    ) at (put-listing-at-returns-3 c .put-listing .ensures)))
+    let a = entry at-answer2 .args in
+    listing-printed (a .coords .now) (a .nodes .now) (a .ends .now) (a .kinds .now) (a .families .now) (a .meshes .now) (a .cells .now) (a .out .now)
+    (at-answer2 .answer2 .given .1) (least-of-least2 at-least2 .least .ensures) (at-least2 .least2 .ensures)
+    (put-listing-at-returns-3 c .put-listing .ensures)
 
 pub print-answer-spec : {M : Type 1} → statement M
 print-answer-spec = tie.close (tie.spec (λ c. search needs) (λ c. search needs) (λ c κs. search needs) (λ c. search needs) (λ c κs. search needs)

@@ -57,7 +57,8 @@ r-at-cut-requires c = c .before .before .before .before .before .before .before 
 returns : tie.Need-returns
 returns c =
     let at-print-answer = c .before .before in
-    let at-enum-told = at-print-answer .before .before .before .before .before .before .before in
+    let at-print-answer-arg = at-print-answer .before .before .before .before .before .before .before .before in
+    let at-enum-told = at-print-answer-arg .before in
     let at-sk2 = at-enum-told .before .before .before .before .before .before .before .before in
     let at-read-input = at-sk2 .before .before .before .before in
     let at-se = at-read-input .before .before .before .before .before .before .before .before in
@@ -65,8 +66,8 @@ returns c =
     let a = at-entry .args in
     let i = at-read-input .read-input in
     let w = at-print-answer .print-answer in
-    unread-printed (a .s .now) (i .last .1 .0) (i .last .1 .1 .0) (i .last .1 .1 .1 .0) (i .last .1 .1 .1 .1 .0) (i .last .1 .1 .1 .1 .1 .0) (a .out .now)
-    (w .last .0) (w .result) (rw (at-enum-told .enum-told .given .1) at (i .ensures .0)) (w .ensures)
+    unread-printed (a .s .now) (i .last .1 .0) (i .last .1 .1 .0) (i .last .1 .1 .1 .0) (i .last .1 .1 .1 .1 .0) (i .last .1 .1 .1 .1 .1 .0)
+    (i .last .1 .1 .1 .1 .1 .0) (i .last .1 .1 .1 .1 .1 .0) (a .out .now) (w .last .0) (w .result) (rw (at-enum-told .enum-told .given .1) at (i .ensures .0)) (w .ensures)
 
 add-nodes : tie.Need-add-nodes
 add-nodes c =
@@ -262,8 +263,8 @@ returns-2 c =
 pub answer-spec : {M : Type 1} → statement M
 answer-spec = tie.close (tie.spec (λ c. search needs) (λ c. search needs) (λ c. search needs) (λ c. search needs) (λ c. search needs) (λ c. search needs)
     (λ c. search needs) (λ c. search needs) (λ c. search needs) (λ c. search needs) (λ c κs. search needs) (λ c. search needs) (λ c. search needs)
-    (λ c. search needs) (λ c. search needs) (λ c. search needs) (λ c. search needs) (λ c. search needs) (λ c κs. search needs) (λ c. search needs) returns
-    add-nodes cast-nodes mul-sp mul-cp array-share-prefix-sc slice-aggregate-cut array-share-prefix-sn slice-aggregate-cut-2 array-share-prefix-se
-    slice-aggregate-cut-3 array-share-prefix-sk slice-aggregate-cut-4 array-share-prefix-sf slice-aggregate-cut-5 array-share-prefix-cc slice-aggregate-cut-6
-    array-share-prefix-cn slice-aggregate-cut-7 array-share-prefix-ce slice-aggregate-cut-8 array-share-prefix-ck slice-aggregate-cut-9 array-share-prefix-cf
-    slice-aggregate-cut-10 cut-requires (λ c. search needs) returns-2)
+    (λ c. search needs) (λ c. search needs) (λ c. search needs) (λ c. search needs) (λ c. search needs) (λ c. search needs) (λ c. search needs)
+    (λ c κs. search needs) (λ c. search needs) returns add-nodes cast-nodes mul-sp mul-cp array-share-prefix-sc slice-aggregate-cut array-share-prefix-sn
+    slice-aggregate-cut-2 array-share-prefix-se slice-aggregate-cut-3 array-share-prefix-sk slice-aggregate-cut-4 array-share-prefix-sf slice-aggregate-cut-5
+    array-share-prefix-cc slice-aggregate-cut-6 array-share-prefix-cn slice-aggregate-cut-7 array-share-prefix-ce slice-aggregate-cut-8 array-share-prefix-ck
+    slice-aggregate-cut-9 array-share-prefix-cf slice-aggregate-cut-10 cut-requires (λ c. search needs) returns-2)

@@ -8,15 +8,16 @@ use Rattle.program.proofs.cut.Tie as tie
 -- places of the code, each counted once
 abbrev entry : tie.After-overlay-lists → tie.Start
 entry c = c .before .before .before .before .before .before .before .before .before .before .before .before .before .before .before .before .before .before
+    .before .before
 
 abbrev overlay-lists-at-told-requires : tie.After-work2 → tie.After-overlay-lists
-overlay-lists-at-told-requires c = c .before .before .before .before .before .before
+overlay-lists-at-told-requires c = c .before .before .before .before .before .before .before .before
 
 abbrev overlay-lists-of-told : tie.After-told → tie.After-overlay-lists
-overlay-lists-of-told c = c .before .before .before .before .before .before .before
+overlay-lists-of-told c = c .before .before .before .before .before .before .before .before .before
 
 abbrev told-of-print-answer : tie.After-print-answer → tie.After-told
-told-of-print-answer c = c .before .before .before .before .before .before .before
+told-of-print-answer c = c .before .before .before .before .before .before .before .before .before
 
 abbrev print-answer-at-returns : tie.After-slice-known2 → tie.After-print-answer
 print-answer-at-returns c = c .before .before
@@ -30,7 +31,8 @@ told-requires c κs =
     (mesh (a .cc .now) (a .cn .now) (a .ce .now) (a .ck .now) (a .cf .now)) (a .nodes) (v .result .code) (v .result .pieces) (v .result .points)
     (v .result .doubled) (v .last .1 .1 .1 .1 .1 .1 .1 .1 .1 .1 .1 .1 .0) (v .last .1 .1 .1 .1 .1 .1 .1 .1 .1 .1 .1 .1 .1 .0)
     (v .last .1 .1 .1 .1 .1 .1 .1 .1 .1 .1 .1 .1 .1 .1 .0) (v .last .1 .1 .1 .1 .1 .1 .1 .1 .1 .1 .1 .1 .1 .1 .1 .0)
-    (v .last .1 .1 .1 .1 .1 .1 .1 .1 .1 .1 .1 .1 .1 .1 .1 .1 .0) (v .last .1 .1 .1 .1 .1 .1 .1 .1 .1 .1 .1 .1 .1 .1 .1 .1 .1 .0) (v .ensures) (at-entry .pre)
+    (v .last .1 .1 .1 .1 .1 .1 .1 .1 .1 .1 .1 .1 .1 .1 .1 .1 .0) (v .last .1 .1 .1 .1 .1 .1 .1 .1 .1 .1 .1 .1 .1 .1 .1 .1 .1 .0)
+    (v .last .1 .1 .1 .1 .1 .1 .1 .1 .1 .1 .1 .1 .1 .1 .1 .1 .1 .1 .0) (v .last .1 .1 .1 .1 .1 .1 .1 .1 .1 .1 .1 .1 .1 .1 .1 .1 .1 .1 .1 .0) (v .ensures) (at-entry .pre)
 
 returns : tie.Need-returns
 returns c =
@@ -44,10 +46,11 @@ returns c =
     (mesh (a .cc .now) (a .cn .now) (a .ce .now) (a .ck .now) (a .cf .now)) (a .nodes) (v .result .code) (v .result .pieces) (v .result .points)
     (v .result .doubled) (v .last .1 .1 .1 .1 .1 .1 .1 .1 .1 .1 .1 .1 .0) (v .last .1 .1 .1 .1 .1 .1 .1 .1 .1 .1 .1 .1 .1 .0)
     (v .last .1 .1 .1 .1 .1 .1 .1 .1 .1 .1 .1 .1 .1 .1 .0) (v .last .1 .1 .1 .1 .1 .1 .1 .1 .1 .1 .1 .1 .1 .1 .1 .0)
-    (v .last .1 .1 .1 .1 .1 .1 .1 .1 .1 .1 .1 .1 .1 .1 .1 .1 .0) (v .last .1 .1 .1 .1 .1 .1 .1 .1 .1 .1 .1 .1 .1 .1 .1 .1 .1 .0) (v .ensures) (g .result)
+    (v .last .1 .1 .1 .1 .1 .1 .1 .1 .1 .1 .1 .1 .1 .1 .1 .1 .0) (v .last .1 .1 .1 .1 .1 .1 .1 .1 .1 .1 .1 .1 .1 .1 .1 .1 .1 .0)
+    (v .last .1 .1 .1 .1 .1 .1 .1 .1 .1 .1 .1 .1 .1 .1 .1 .1 .1 .1 .0) (v .last .1 .1 .1 .1 .1 .1 .1 .1 .1 .1 .1 .1 .1 .1 .1 .1 .1 .1 .1 .0) (v .ensures) (g .result)
     (w .result) (a .out .now) (w .last .0) (g .ensures) (w .ensures)
 
 pub cut-spec : {M : Type 1} → statement M
 cut-spec = tie.close (tie.spec (λ c. search needs) (λ c. search needs) (λ c. search needs) (λ c. search needs) (λ c. search needs) (λ c. search needs)
-    (λ c κs. search needs) told-requires (λ c. search needs) (λ c. search needs) (λ c. search needs) (λ c. search needs) (λ c. search needs)
-    (λ c κs. search needs) (λ c. search needs) returns)
+    (λ c. search needs) (λ c. search needs) (λ c κs. search needs) told-requires (λ c. search needs) (λ c. search needs) (λ c. search needs)
+    (λ c. search needs) (λ c. search needs) (λ c. search needs) (λ c. search needs) (λ c κs. search needs) (λ c. search needs) returns)
