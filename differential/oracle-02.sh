@@ -6,7 +6,8 @@
 # W14's table, with ` doubled` where the table that the published function makes names a neighbour twice at some node, and ` repeats` where
 # the outline as cut passes between the same two nodes twice or from a node to itself (the copy goes on there), and `outline` with the two
 # nodes of each of its outline darts. A cell that is copied has no table in the Rust: its line starts with `copied ` and tells of what the
-# Rust's `build_cell_dart_map` makes of the cell's own edges.
+# Rust's `build_cell_dart_map` makes of the cell's own edges. Of operations 0 and 5 it writes at last `parents` with the number of each listed
+# piece's cell: the list that the published `cut_cells_all` fills where it is asked to, which the published overlay doesn't.
 set -eu
 mkdir -p "$1/copy"
 out=$(cd "$1" && pwd)
@@ -44,6 +45,16 @@ TURN = '''            if !found && !next_darts[last_opposed_dart_pos].1 {
 COPIED = '''            eprint!("copied ");
             build_cell_dart_map(&SortedSegIntersections::default(), m2_edges, m2_candidates, self.connectivity());
 '''
+ASKED = '''    let mut parents = Vec::new();
+    cut_cells_all(
+'''
+PARENTS = '''        Some(&mut parents),
+    );
+    let of = |(cell, (_, pieces)): (usize, &(ElementId, Vec<ElementId>))| pieces.iter().map(|p| (*p, cell)).collect::<Vec<_>>();
+    let mut listed: Vec<_> = parents.iter().enumerate().flat_map(of).collect();
+    listed.sort();
+    eprintln!("parents{}", listed.iter().map(|(_, cell)| format!(" {cell}")).collect::<String>());
+'''
 COLLECTED = '''    let collected = sorted_intersections.values().map(Vec::len).max().unwrap_or(0);
     eprintln!("meetings {} collected {collected}", intersections.values().map(Vec::len).sum::<usize>());
 '''
@@ -71,6 +82,8 @@ start, end = 'fn build_cell_dart_map(', 'fn sort_cell_dart_map('
 again = published[published.index(start):published.index(end)].replace(start, 'fn published_dart_map(')
 put(cut, again, end)
 put(overlay, COLLECTED, '    sorted_intersections\n}')
+exchange(overlay, '    cut_cells_all(\n', ASKED)
+exchange(overlay, '        None,\n    );\n', PARENTS)
 END
 # so that nothing is compiled anew where nothing has changed
 touch -r "$here/oracle-02.sh" "$src/element_traits/cut.rs" "$src/tools/overlay.rs"

@@ -3,11 +3,12 @@
 
 OUT/data/NAME.in are the inputs, OUT/args their names in order, OUT/stdout each name and its answer. No answer comes from the
 program under test. Those of overlays are what LAW lists (`oracle-law`, as differential/oracle-02.sh builds it, by default into
-target/oracle-02: the published Rust with W1's turn back and W14's table), with 0 as the third count; how many cells the published table
-doubles must be as stands here. Refusals 8 and 9, and 19, 10 and 11 cell by cell, are what LAW's counts and its stop give; where one stands
+target/oracle-02: the published Rust with W1's turn back and W14's table), with 0 as the third count and the parents of W2; how many cells the
+published table doubles must be as stands here. LAW is asked with each cell's number as its family, and what it lists as a piece's family is its
+parent. Refusals 8 and 9, and 19, 10 and 11 cell by cell, are what LAW's counts and its stop give; where one stands
 here it must be that one. Other refusals, and text that can't be read, stand here, from document 01. The stored inputs and right answers are taken
-over from crates/overlay_cases, where LAW must list each accepted one alike and give each refusal 8, 9, 10, 11 and 19. The smallest are the
-oracle's cases/: islands, unmerged neighbours, and the smallest inputs on which the Rust and document 01's orders differ. Prints a table
+over from crates/overlay_cases, where LAW must list each accepted one alike, with its parents, and give each refusal 8, 9, 10, 11 and 19. The
+smallest are the oracle's cases/: islands, unmerged neighbours, and the smallest inputs on which the Rust and document 01's orders differ. Prints a table
 of what is made: name, answer, where it comes from.
 """
 import math
@@ -24,7 +25,7 @@ SMALLEST = os.path.join(ROOT, 'differential', 'oracle', 'cases')
 sys.path.insert(0, os.path.join(ROOT, 'differential', 'overlay'))
 sys.dont_write_bytecode = True
 
-from closing import numbered
+from closing import numbered, parent
 
 
 def bits(x):
@@ -54,6 +55,7 @@ UNREAD = '(unread)\n'
 TURNING = 'W1, and the published Rust that turns back'
 W14 = 'W14, document 02'
 ONCE = 'W14, and the published Rust with its table'
+CARRIED = 'W2, and the families of the published Rust'
 SQUARE = box(0., 0., 2., 2., 7, 8)
 STRIP = box(1., -1., 3., 3.)
 K1 = overlay(0, 9, SQUARE, STRIP)
@@ -365,16 +367,47 @@ def traced():
         yield f'refused-19-before-11-op{op}', overlay(op, 20, corner, cells(folded, wedge, kind=5)), refused(19), W14
 
 
+def bars(n):
+    """Flat cells side by side across x = 0 to 1 between y = 0 and y = 1, with nodes of their own."""
+    steps = [(i + 1) / (2 * n + 1) for i in range(2 * n)]
+    return cells(*([(-1., low), (2., low), (2., high), (-1., high)] for low, high in zip(steps[::2], steps[1::2])))
+
+
+def descended():
+    """W2: which cell a piece was cut from. (name, text, answer, where the answer comes from)"""
+    doc = 'document 01'
+    # cells of all kinds, all of family 0: one away, one inside the cutter's second cell, two cut by it. The cutter's first is away
+    triangles = cells([(0., 0.), (2., 0.), (2., 2.)], [(40., 40.), (41., 40.), (40., 41.)], kind=5)
+    squares = cells([(2., 1.5), (3., 1.5), (3., 2.), (2., 2.)], kind=8)
+    rest = cells([(4., 0.), (6., 0.), (6., 2.), (5., 3.), (4., 2.)])
+    cutter = joined(cells([(20., 20.), (21., 20.), (21., 21.), (20., 21.)], kind=8), cells([(-1., 1.), (9., 1.), (9., 9.), (-1., 9.)]))
+    for op in range(5):
+        yield f'parents-op{op}', overlay(op, 30, joined(triangles, squares, rest), cutter), Listed(), CARRIED
+    ditches = cells([(-1., 1.), (9., 1.)], [(2.5, 1.25), (2.5, 1.75)], kind=1)
+    yield 'parents-lines', overlay(5, 30, joined(triangles, squares, rest), ditches), Listed(), CARRIED
+    # the cutter's cells by themselves, and an index of three digits
+    many = [(0., 0.), (1., 0.), (0., 1.)], [(5, 7, (0, 1, 2))] * 300
+    far = cells([(5., 5.), (6., 5.), (5., 6.)])
+    yield 'parents-300-cells', overlay(0, 9, many, far), Listed(), CARRIED
+    yield 'parents-300-cells-of-the-cutter', overlay(4, 9, far, many), Listed(), CARRIED
+    # the last places are for pieces of the cutter: 61 triangles of 33 pieces each, some away, and two of each bar
+    tip, away = cells([(0., 0.), (1., 0.), (.5, 1.)], kind=5), cells([(5., 5.), (6., 5.), (5., 6.)], kind=5)
+    tips = tip[0], tip[1] * 61
+    yield 'limit-2048-pieces-of-both', overlay(1, 200, joined(tips, away, away, away), bars(16)), Listed(), CARRIED
+    yield 'limit-2049-pieces-of-both', overlay(1, 200, joined(tips, away, away, away, away), bars(16)), refused(12), doc
+
+
 CELL = re.compile(r'^(?:copied )?cell (\d+)( doubled)?( repeats)?$', re.M)
 PIECE = re.compile(r'^\(cell (\d+) (\d+)', re.M)
 
 
 def ordered(text, listing):
-    """What is listed for the text with its cells' numbers as families: pieces in the cells' order, under the cells' own families."""
+    """What is listed for the text with its cells' numbers as families: pieces in the cells' order, under the cells' own families, with the mesh
+    and the index of the cell that the number is of (W2)."""
     families = {n: old for (_, old), (_, n) in zip(PIECE.findall(text), PIECE.findall(numbered(text, text[len('(overlay ')])))}
     lines = listing.splitlines(keepends=True)
     pieces = sorted((line for line in lines if line.startswith('(cell ')), key=lambda line: int(line.split()[2]))
-    pieces = [PIECE.sub(lambda m: f'(cell {m[1]} {families[m[2]]}', line) for line in pieces]
+    pieces = [PIECE.sub(lambda m: '(cell {} {} {} {}'.format(m[1], families[m[2]], *parent(int(m[2]))), line) for line in pieces]
     nodes = [line for line in lines if line.startswith('(node ')]
     return ''.join(['(overlay\n', *nodes, *pieces, lines[-2].replace(')', ' 0)'), lines[-1]])
 
@@ -413,12 +446,12 @@ TOLD = [refused(n) for n in (8, 9, 10, 11, 19)]
 
 
 def stored(law):
-    """(name, text, answer) of the stored ones, 001-... to 355-..."""
+    """(name, text, answer) of the stored ones, 001-... to 355-..., and w2-..."""
     names = read(f'{REPLAYED}/args').decode().split()
     answers = re.split('^(' + '|'.join(map(re.escape, names)) + ')\n', read(f'{REPLAYED}/stdout').decode(), flags=re.M)[1:]
     assert answers[::2] == names
     for name, answer in zip(names, answers[1::2]):
-        if re.match(r'\d{3}-', name):
+        if re.match(r'(w2-)?\d{3}-', name):
             text = read(f'{REPLAYED}/data/{name}')
             if answer.startswith('(overlay') or answer in TOLD:
                 if told(law, name, text.decode())[0] != answer:
@@ -441,9 +474,9 @@ def answers(law):
     for name, text, answer in stored(law):
         yield name, text, answer, None
     rows = [(f, f'{SMALLEST}/{f}', 'the published Rust') for f in sorted(os.listdir(SMALLEST))]
-    rows += [(f, f'{ROOT}/examples/{f}', source) for f, source in (('soil.in', 'the published Rust'), ('ditch.in', TURNING), ('traced.in', ONCE))]
+    rows += [(f, f'{ROOT}/examples/{f}', source) for f, source in (('soil.in', 'the published Rust'), ('model.in', 'the published Rust'), ('ditch.in', TURNING), ('traced.in', ONCE))]
     rows = [(f, read(path), refused(19) if f in REPEATS else Listed(DOUBLED.get(f, 0)), source) for f, path, source in rows]
-    rows += [(f'{name}.in', text.encode(), answer, source) for name, text, answer, source in [*made(), *traced()]]
+    rows += [(f'{name}.in', text.encode(), answer, source) for name, text, answer, source in [*made(), *traced(), *descended()]]
     for name, text, answer, source in rows:
         if isinstance(answer, Listed):
             answer, source = listed(law, name, text.decode(), answer.doubled, source)

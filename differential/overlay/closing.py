@@ -1,9 +1,10 @@
 """Whether an answer closes up, from its lists alone and in exact numbers: in each cell the pieces use each outline dart once and its
 reverse never, any other edge once each way or not at all, and their doubled signed areas add up to the outline's.
 
-Pieces are told apart by their families, so a form is asked anew with each cell's number as its family (`numbered`). Imprint drops no
-piece, so the subject's cells are looked at in Imprint's answer. No operation lists all pieces of the cutter's cells: in those that Union
-and the symmetric difference list nothing may be used more often than closing up allows."""
+Which cell a piece belongs to is what the answer says of its parent (W2), so a wrong parent doesn't close up. The Rust answers no parents: it is
+asked with each cell's number as its family (`numbered`). Imprint drops no piece, so the subject's cells are looked at in Imprint's answer. No
+operation lists all pieces of the cutter's cells: in those that Union and the symmetric difference list nothing may be used more often than
+closing up allows. A cell is named by its mesh, 0 or 1, and its number there."""
 import collections
 import re
 import struct
@@ -15,6 +16,7 @@ CUTTER = 1 << 31
 BOTH_CUT = ('1', '4')
 NODE = re.compile(r'^\(node (\w+) (\w+)\)$', re.M)
 CELL = re.compile(r'^\(cell \d+ (\d+) ([\d ]+)\)$', re.M)
+PIECE = re.compile(r'^(\(cell \d+ (\d+)) (\d+) (\d+)( [\d ]+\))$', re.M)
 
 
 def operation(form):
@@ -31,10 +33,37 @@ def numbered(form, op):
     return out
 
 
-def questions(form):
-    """What to ask for it: the form whose answer has all pieces of the subject's cells, and one for the cutter's, if it cuts them."""
-    op = operation(form)
-    return [numbered(form, '5' if op == '5' else '0')] + [numbered(form, op)] * (op in BOTH_CUT)
+def parent(number):
+    """The cell that has this number in the place of its family."""
+    return divmod(number, CUTTER)
+
+
+def with_all_pieces(form):
+    """The form whose answer has all pieces of the subject's cells."""
+    return form if operation(form) in '05' else '(overlay 0' + form[len('(overlay 0'):]
+
+
+def bare(answer):
+    """An answer without the parents, as the Rust lists it."""
+    return PIECE.sub(r'\1\5', answer)
+
+
+def parents(answer):
+    """The parent of each piece of an answer, as listed."""
+    return [(int(mesh), int(cell)) for _, _, mesh, cell, _ in PIECE.findall(answer)]
+
+
+def parents_of_rust(answer):
+    """The same of the Rust's answer to a `numbered` form."""
+    return [parent(int(family)) for family, _ in CELL.findall(answer)]
+
+
+def in_the_family(form, answer):
+    """Whether each piece has the family of its parent, which is one of the cells that the operation cuts."""
+    families = [[int(family) for family, _ in CELL.findall(mesh)] for mesh in form.split('(mesh\n')[1:]]
+    families = families if operation(form) in BOTH_CUT else families[:1]
+    pieces = [(int(family), int(mesh), int(cell)) for _, family, mesh, cell, _ in PIECE.findall(answer)]
+    return all(mesh < len(families) and cell < len(families[mesh]) and families[mesh][cell] == family for family, mesh, cell in pieces)
 
 
 def whole(bits):
@@ -52,10 +81,19 @@ def area(nodes, edges):
 
 
 def pieces(answer):
-    """The pieces of each cell, by its number."""
+    """The pieces of each cell."""
+    return by_cell(parents(answer), bare(answer))
+
+
+def pieces_of_rust(answer):
+    """The same of the Rust's answer to a `numbered` form."""
+    return by_cell(parents_of_rust(answer), answer)
+
+
+def by_cell(cells, answer):
     out = collections.defaultdict(list)
-    for family, corners in CELL.findall(answer):
-        out[int(family)].append(list(map(int, corners.split())))
+    for cell, (_, corners) in zip(cells, CELL.findall(answer)):
+        out[cell].append(list(map(int, corners.split())))
     return out
 
 
@@ -73,15 +111,16 @@ def uses(outline, edges, whole_cell):
 
 
 def looked_at(form, cells):
-    """Of an overlay's cells, as told, those that the answer to one of its `questions` is held to, by their numbers: the subject's, or, where
-    both meshes are cut, the cutter's."""
+    """Of an overlay's cells, as told, those that this form's answer is held to, with their names: the subject's, or, where both meshes are cut,
+    the cutter's."""
     subjects, cutters = (len(CELL.findall(mesh)) for mesh in form.split('(mesh\n')[1:])
     assert len(cells) in (subjects, subjects + cutters), (len(cells), subjects, cutters)
-    return enumerate(cells[subjects:], CUTTER) if operation(form) in BOTH_CUT else enumerate(cells[:subjects])
+    mesh, cells = (1, cells[subjects:]) if operation(form) in BOTH_CUT else (0, cells[:subjects])
+    return [((mesh, i), cell) for i, cell in enumerate(cells)]
 
 
 def faults(form, answer, cells):
-    """Of an answer to one of an overlay's `questions`, and the overlay's cells, as told: what doesn't close up, a line each."""
+    """Of the answer to a form, and the overlay's cells, as told: what doesn't close up, a line each."""
     if not answer.startswith('(overlay\n'):
         return ['no answer: ' + answer.strip()]
     all_listed = operation(form) not in BOTH_CUT
@@ -95,7 +134,7 @@ def faults(form, answer, cells):
         if not wrong and all_listed and area(nodes, edges) != area(nodes, outline):
             wrong = 'areas: %d, the outline %d' % (area(nodes, edges), area(nodes, outline))
         if wrong:
-            out.append('cell %d: %s' % (i, wrong))
+            out.append('cell %d of mesh %d: %s' % (i[1], i[0], wrong))
     return out
 
 
@@ -117,23 +156,36 @@ K10 = '''(overlay 5 9
 
 
 def selftest():
-    """K10's answer closes up; without the way back, the ditch, a side, a piece or the right coordinates it doesn't. So too with a line across it
-    twice, from 0 to 2, as the Rust answers: with a piece of two corners."""
-    head = '(overlay\n' + '\n'.join(m[0] for m in NODE.finditer(K10)) + '\n(node 3ff0000000000000 %s)\n'
-    cells = [Told(False, 14, False, False, [(0, 6), (6, 1), (1, 2), (2, 3), (3, 0)])]
+    """K10's answer closes up; without the way back, the ditch, a side, a piece, the right coordinates or the right parent it doesn't. So too with a
+    line across it twice, from 0 to 2, as the Rust answers: with a piece of two corners. Two cells with each other's pieces don't close up either."""
+    def told(form, cells, pieces, points=''):
+        lines = ''.join('(cell 11 7 %s)\n' % p for p in pieces)
+        nodes = ''.join(m[0] + '\n' for m in NODE.finditer(form)) + points
+        return faults(form, '(overlay\n' + nodes + lines + '(count %d %d)\n)\n' % (len(pieces), bool(points)), cells)
 
-    def told(corners, y='0000000000000000'):
-        pieces = ''.join('(cell 11 0 %s)\n' % c for c in corners)
-        return faults(numbered(K10, '5'), head % y + pieces + '(count %d 1)\n)\n' % len(corners), cells)
-    assert not told(['3 0 6 5 6 1 2'])
-    assert not told(['3 0 6 1 2'])
-    assert not told(['3 0 6 5 6 1 2'], y='3fd0000000000000')
-    for wrong in ['3 0 6 5 1 2'], ['3 0 1 2'], ['0 6 5 6 1 2'], [], ['3 0 6 1 2', '5 6', '6 5'], ['3 0 6 5 6 1 2'] * 2, ['2 1 6 5 6 0 3'], ['3 0 6 5 6 5 6 1 2']:
-        assert told(wrong), wrong
-    cells = [Told(False, 14, True, False, [(0, 6), (6, 1), (1, 2), (2, 3), (3, 0)])]
-    assert not told(['0 6 1 2', '0 2 3'])
-    assert told(['0 6 1 2', '0 2', '0 2 3'])
-    print('closing up: K10 passes, 9 wrong answers are told')
+    def k10(corners, y='0000000000000000', doubled=False, cell='0 0'):
+        cells = [Told(False, 14, doubled, False, [(0, 6), (6, 1), (1, 2), (2, 3), (3, 0)])]
+        return told(K10, cells, ['%s %s' % (cell, c) for c in corners], '(node 3ff0000000000000 %s)\n' % y)
+    whole_way = '3 0 6 5 6 1 2'
+    assert not k10([whole_way])
+    assert not k10(['3 0 6 1 2'])
+    assert not k10([whole_way], y='3fd0000000000000')
+    wrongs = ['3 0 6 5 1 2'], ['3 0 1 2'], ['0 6 5 6 1 2'], [], ['3 0 6 1 2', '5 6', '6 5'], [whole_way] * 2, ['2 1 6 5 6 0 3'], ['3 0 6 5 6 5 6 1 2']
+    for wrong in wrongs:
+        assert k10(wrong), wrong
+    assert not k10(['0 6 1 2', '0 2 3'], doubled=True)
+    assert k10(['0 6 1 2', '0 2', '0 2 3'], doubled=True)
+    for wrong in '1 0', '0 1', '0 6':
+        assert k10([whole_way], cell=wrong), wrong
+    # the square's halves as two cells, the line away from them
+    halves = K10.replace('(cell 8 7 0 1 2 3)', '(cell 5 7 0 1 2)\n(cell 5 7 0 2 3)').replace('(node 3ff0', '(node 4010')
+    cells = [Told(True, 6, False, False, [(0, 1), (1, 2), (2, 0)]), Told(True, 6, False, False, [(0, 2), (2, 3), (3, 0)])]
+    assert not told(halves, cells, ['0 0 0 1 2', '0 1 0 2 3'])
+    assert not told(halves, cells, ['0 1 0 2 3', '0 0 0 1 2'])
+    for wrong in ['0 1 0 1 2', '0 0 0 2 3'], ['0 0 0 1 2', '0 0 0 2 3'], ['0 0 0 1 2', '1 1 0 2 3']:
+        assert told(halves, cells, wrong), wrong
+        assert in_the_family(halves, '(overlay\n(cell 5 7 %s)\n(cell 5 7 %s)\n' % tuple(wrong)) == ('1 1' not in wrong[1])
+    print('closing up: K10 passes, %d wrong answers and 6 wrong parents are told' % (len(wrongs) + 1))
 
 
 if __name__ == '__main__':

@@ -7,8 +7,10 @@ Builds the oracle (differential/oracle) into target/oracle, its copy that goes o
 the driver over the proved library into target/overlays (or takes those given), asks all sides N made overlays (by default 120,000; of the
 families whose names start with NAME), the known refusals and the named inputs (DIR/*.in; differential/oracle/cases always). Each refusal
 because of the state and each answer is held to the copy's, each accepted answer to closing up in every cell (closing.py). Where no cell's
-table is doubled in the Rust, the answer is also held to the published Rust's, and each difference gets its cause. The last line has the
-counts; the exit status is 1 where one is unexplained."""
+table is doubled in the Rust, the answer is also held to the published Rust's, and each difference gets its cause. The Rust answers no parents, so
+answers are compared without them; the parents are held to the copy's families where each cell has its number as its family, and of
+operations 0 and 5 to the list of parents that the copy keeps. The last line has the counts; the exit status is 1 where one is
+unexplained."""
 import argparse
 import collections
 import glob
@@ -24,7 +26,8 @@ ROOT = os.path.dirname(os.path.dirname(HERE))
 sys.path.insert(0, HERE)
 sys.dont_write_bytecode = True
 
-from closing import Told, faults, looked_at, pieces, questions
+from closing import (BOTH_CUT, Told, bare, faults, in_the_family, looked_at, numbered, operation, parents, parents_of_rust, pieces, pieces_of_rust,
+                     with_all_pieces)
 from limits import known
 from made import Made, text
 
@@ -37,12 +40,13 @@ TURNED, ALIKE = 'turns back and closes up, where the Rust stops', 'stops alike (
 DOUBLED, DOUBLED_11 = "doubled in the Rust's table; the copy's answer, and closes up", "doubled in the Rust's table; the copy stops alike (11)"
 MOST = 65536
 # What the copy of the Rust writes of an overlay, and of each of its cells.
-OVERLAY = re.compile(r'meetings (\d+) collected (\d+)\n((?:(?:copied )?cell \d+(?: doubled)?(?: repeats)?\noutline[\d ]*\n)*)')
+OVERLAY = re.compile(r'meetings (\d+) collected (\d+)\n((?:(?:copied )?cell \d+(?: doubled)?(?: repeats)?\noutline[\d ]*\n)*)(?:parents([\d ]*)\n)?')
 CELL = re.compile(r'(copied )?cell (\d+)( doubled)?( repeats)?\noutline([\d ]*)\n')
 REFUSED = {8: "refused 8: more meetings in the Rust's count, explained at a higher limit", 9: "refused 9: over 256 nodes under a key of the Rust's",
            10: "refused 10: over 1,024 slots in the copy's table", 19: 'refused 19: the outline as cut repeats in the copy'}
-# An overlay as the copy tells of it: its answer, the meetings, the most nodes collected under one key, its cells in order.
-Later = collections.namedtuple('Later', 'answer meetings collected cells')
+# An overlay as the copy tells of it: its answer, the meetings, the most nodes collected under one key, its cells in order, and the cell of each
+# piece, where it keeps a list of parents.
+Later = collections.namedtuple('Later', 'answer meetings collected cells parents')
 
 
 class Sides:
@@ -84,7 +88,7 @@ class Sides:
         told = OVERLAY.findall(told)
         if len(told) != len(forms):
             sys.exit('counts of %d overlays for %d forms' % (len(told), len(forms)))
-        return [Later(a, int(m), int(n), [cell(*c) for c in CELL.findall(cells)]) for a, (m, n, cells) in zip(answers, told)]
+        return [Later(a, int(m), int(n), [cell(*c) for c in CELL.findall(cells)], list(map(int, of.split()))) for a, (m, n, cells, of) in zip(answers, told)]
 
 
 def cell(copied, slots, doubled, repeats, outline):
@@ -127,27 +131,45 @@ def explained(sides, forms, ours, rust, later):
     return out
 
 
-def closed(sides, forms, told):
-    """Of each form, and what the copy tells of it, whether its answer closes up in every cell, and whether the Rust, where a cell is doubled and
+def descended(sides, forms, answers, told):
+    """Of each form, its answer and what the copy tells of it, whether the parents are right: those of the copy, and of their families."""
+    by_families = sides.ask('later', [numbered(form, operation(form)) for form in forms])
+    out = []
+    for form, answer, later, law in zip(forms, answers, told, by_families):
+        listed = parents(answer)
+        right = listed == parents_of_rust(law) and in_the_family(form, answer)
+        if operation(form) in '05':
+            sides.compared['pieces held to the list of parents'] += len(listed)
+            right = right and listed == [(0, i) for i in later.parents]
+        sides.compared['pieces held to their parents'] += len(listed)
+        sides.compared["of these the cutter's"] += sum(mesh for mesh, _ in listed)
+        out.append(right)
+    return out
+
+
+def closed(sides, forms, answers, told):
+    """Of each form, its answer and what the copy tells of it, whether it closes up in every cell, and whether the Rust, where a cell is doubled and
     it finishes, gives the other cells the same pieces."""
-    asked = [questions(form) for form in forms]
-    flat = [(q, later.cells) for qs, later in zip(asked, told) for q in qs]
+    asked = [with_all_pieces(form) for form in forms]
+    other = [i for i, (form, q) in enumerate(zip(forms, asked)) if form != q]
+    subjects = dict(zip(other, sides.ask('ours', [asked[i] for i in other])))
+    looked = [(i, asked[i], subjects.get(i, answers[i])) for i in range(len(forms))]
+    looked += [(i, forms[i], answers[i]) for i in range(len(forms)) if operation(forms[i]) in BOTH_CUT]
     sides.compared['answers held to closing up'] += len(forms)
-    for q, cells in flat:
-        for _, c in looked_at(q, cells):
+    good = [True] * len(forms)
+    for i, q, a in looked:
+        for _, c in looked_at(q, told[i].cells):
             sides.compared['cells of these'] += 1
             sides.compared['of these doubled in the Rust'] += c.doubled
-    ours = sides.ask('ours', [q for q, _ in flat])
-    wrong = [bool(faults(q, a, cells)) for (q, cells), a in zip(flat, ours)]
-    beside = [i for i, (_, cells) in enumerate(flat) if any(c.doubled for c in cells)]
-    for i, law in zip(beside, sides.ask('oracle-law', [flat[i][0] for i in beside])):
+        good[i] = good[i] and not faults(q, a, told[i].cells)
+    beside = [row for row in looked if any(c.doubled for c in told[row[0]].cells)]
+    for (i, q, answer), law in zip(beside, sides.ask('oracle-law', [numbered(q, operation(q)) for _, q, _ in beside])):
         if law != STOPPED:
-            a, b = pieces(ours[i]), pieces(law)
-            single = [n for n, c in looked_at(*flat[i]) if not c.doubled]
+            a, b = pieces(answer), pieces_of_rust(law)
+            single = [n for n, c in looked_at(q, told[i].cells) if not c.doubled]
             sides.compared['cells beside a doubled one, held to the Rust'] += len(single)
-            wrong[i] = wrong[i] or any(a[n] != b[n] for n in single)
-    wrong = iter(wrong)
-    return [not any([next(wrong) for _ in qs]) for qs in asked]
+            good[i] = good[i] and all(a[n] == b[n] for n in single)
+    return good
 
 
 def code(answer):
@@ -198,7 +220,8 @@ def counted(sides, forms, later, ours, rust, third):
 def compared(sides, forms):
     """Each form's verdict: equal, stops alike, turns back, a cause, doubled, a refusal with its explanation, or unexplained."""
     jobs = sides.start('oracle', forms), sides.start('ours', forms)
-    (rust, _), (ours, third) = map(sides.take, jobs)
+    (rust, _), (listed, third) = map(sides.take, jobs)
+    ours = list(map(bare, listed))
     later = sides.later(forms)
     verdict = counted(sides, forms, later, ours, rust, map(int, third.split()))
     verdict = [v or ('equal' if a == b else None) for v, a, b in zip(verdict, ours, rust)]
@@ -212,16 +235,18 @@ def compared(sides, forms):
     for i, why in zip(left, explained(sides, *rows)):
         verdict[i] = why
     accepted = [i for i, v in enumerate(verdict) if v != 'unexplained' and not code(ours[i])]
-    for i, good in zip(accepted, closed(sides, [forms[i] for i in accepted], [later[i] for i in accepted])):
-        verdict[i] = verdict[i] if good else 'unexplained'
-    return list(zip(forms, ours, rust, verdict))
+    rows = [[r[i] for i in accepted] for r in (forms, listed, later)]
+    for i, good, right in zip(accepted, closed(sides, *rows), descended(sides, *rows)):
+        verdict[i] = verdict[i] if good and right else 'unexplained'
+    return list(zip(forms, listed, rust, verdict))
 
 
 def show(title, row, sides):
     form, ours, rust, why = row
     told = sides.later([form])[0]
-    print('---- %s: %s\n%sours: %srust: %slaw: %scopy (wanted %d): %s' % (
-        title, why, form, ours, rust, sides.ask('oracle-law', [form])[0], wanted(form, told), told.answer))
+    by_families = sides.ask('later', [numbered(form, operation(form))])[0]
+    print('---- %s: %s\n%sours: %srust: %slaw: %scopy (wanted %d): %sparents: %s' % (
+        title, why, form, ours, rust, sides.ask('oracle-law', [form])[0], wanted(form, told), told.answer, parents_of_rust(by_families)))
 
 
 def table(counts, verdicts):

@@ -1,5 +1,6 @@
 //! Reads the program's forms from standard input, one after another, overlays each by the proved library and prints what `oracle count`
-//! prints: pieces regrouped by kind, `(count pieces newpoints)`; or `(refused N)`. Standard error has each form's third count.
+//! prints: pieces regrouped by kind, `(count pieces newpoints)`; or `(refused N)`. After a piece's family stand the mesh and the index of its
+//! parent, as the program prints them. Standard error has each form's third count.
 use daqwimay::{Mesh, Operation, Overlay, Overlayer};
 use std::fmt::Write as _;
 use std::io::{Read, Write as _};
@@ -61,10 +62,10 @@ fn listing(s: &mut String, o: &Overlay) {
     for c in o.mesh.coords.chunks_exact(2) {
         let _ = writeln!(s, "(node {:016x} {:016x})", c[0].to_bits(), c[1].to_bits());
     }
-    let mut pieces: Vec<_> = o.mesh.cells().collect();
-    pieces.sort_by_key(|p| p.kind);
-    for p in &pieces {
-        let _ = write!(s, "(cell {} {}", p.kind, p.family);
+    let mut pieces: Vec<_> = o.mesh.cells().zip(o.parent_meshes.iter().zip(&o.parent_cells)).collect();
+    pieces.sort_by_key(|(p, _)| p.kind);
+    for (p, (mesh, cell)) in &pieces {
+        let _ = write!(s, "(cell {} {} {mesh} {cell}", p.kind, p.family);
         for n in p.nodes {
             let _ = write!(s, " {n}");
         }
