@@ -22,6 +22,9 @@ enum {
 /* Kinds of cells. In a mesh they don't fall from one cell to the next. */
 enum { DAQWIMAY_SEG2 = 1, DAQWIMAY_TRI3 = 5, DAQWIMAY_QUAD4 = 8, DAQWIMAY_PGON = 11 };
 
+/* The mesh of the cell that a piece was cut from. */
+enum { DAQWIMAY_SUBJECT = 0, DAQWIMAY_CUTTER = 1 };
+
 /* Answers. At 1 to 7 every list keeps its content; at the others but 0 the output lists and the working list are all zero. */
 enum {
     DAQWIMAY_DONE = 0,
@@ -49,7 +52,12 @@ enum {
  *   nodes     the cells' node numbers, one cell after the other
  *   ends      where each cell's node numbers end
  *   kinds, families   one for each cell
+ * The output has two more lists, one number for each piece, which say from which cell it was cut, its parent:
+ *   parent_meshes   DAQWIMAY_SUBJECT or DAQWIMAY_CUTTER
+ *   parent_cells    the index of the cell in that mesh, from 0
  * The output's coordinates are those of the subject, of the cutter, then the new points: 2 x (nodes + limit) numbers always suffice.
+ * A piece takes its node numbers and a place in each of ends, kinds, families, parent_meshes and parent_cells. Places behind the answer
+ * are kept.
  * counts: pieces, new points and 0, where it has three places (all 0 at a refusal); kept as it is otherwise. The third was the count of
  * doubled cells: there are none any more, and it stays for readers of old listings.
  *
@@ -64,6 +72,7 @@ uint32_t daqwimay_overlay(
     const uint8_t *ckinds, size_t ckinds_len, const uint32_t *cfamilies, size_t cfamilies_len,
     double *ocoords, size_t ocoords_len, uint32_t *onodes, size_t onodes_len, uint32_t *oends, size_t oends_len,
     uint8_t *okinds, size_t okinds_len, uint32_t *ofamilies, size_t ofamilies_len,
+    uint32_t *parent_meshes, size_t parent_meshes_len, uint32_t *parent_cells, size_t parent_cells_len,
     uint32_t *work, size_t work_len, uint32_t *counts, size_t counts_len);
 
 #ifdef __cplusplus

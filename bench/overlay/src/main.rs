@@ -14,7 +14,7 @@ unsafe extern "C" {
         cc: *const f64, cc_len: usize, cn: *const u32, cn_len: usize, ce: *const u32, ce_len: usize,
         ck: *const u8, ck_len: usize, cf: *const u32, cf_len: usize,
         oc: *mut f64, oc_len: usize, on: *mut u32, on_len: usize, oe: *mut u32, oe_len: usize,
-        ok: *mut u8, ok_len: usize, of: *mut u32, of_len: usize,
+        ok: *mut u8, ok_len: usize, of: *mut u32, of_len: usize, om: *mut u32, om_len: usize, oi: *mut u32, oi_len: usize,
         work: *mut u32, work_len: usize, counts: *mut u32, counts_len: usize,
     ) -> u32;
 }
@@ -59,9 +59,11 @@ fn meshes(n: usize) -> (Mesh, Mesh) {
     (grid(n, 1.0, 8, 0.0, [0.0, 0.0]), grid(n, 0.9 * n as f64 / n as f64, 11, 0.3, [0.25 * n as f64, 0.0173]))
 }
 
-/// The lists lent to a call.
+/// The lists lent to a call: the pieces, the mesh and the index of each one's cell, the working list and the counts.
 struct Lists {
     out: Mesh,
+    meshes: Vec<u32>,
+    cells: Vec<u32>,
     work: Vec<u32>,
     counts: [u32; 3],
 }
@@ -78,6 +80,8 @@ fn lists(s: &Mesh, c: &Mesh) -> Lists {
             kinds: vec![0; pieces],
             families: vec![0; pieces],
         },
+        meshes: vec![0; pieces],
+        cells: vec![0; pieces],
         work: vec![0; 16 * (given + entries + M as usize) + 64],
         counts: [0; 3],
     }
@@ -96,6 +100,7 @@ fn ours(op: u32, s: &Mesh, c: &Mesh, l: &mut Lists) -> u32 {
             o.coords.as_mut_ptr(), o.coords.len(), o.nodes.as_mut_ptr(), o.nodes.len(),
             o.ends.as_mut_ptr(), o.ends.len(), o.kinds.as_mut_ptr(), o.kinds.len(),
             o.families.as_mut_ptr(), o.families.len(),
+            l.meshes.as_mut_ptr(), l.meshes.len(), l.cells.as_mut_ptr(), l.cells.len(),
             l.work.as_mut_ptr(), l.work.len(), l.counts.as_mut_ptr(), l.counts.len(),
         )
     }
@@ -114,7 +119,7 @@ fn umesh(m: &Mesh) -> UMesh {
     u
 }
 
-/// Bits of the coordinates, and the pieces by kind: kind, family, corners.
+/// Bits of the coordinates, and the pieces by kind: kind, family, corners. The Rust answers no parents.
 type Answer = (Vec<u64>, Vec<(u8, usize, Vec<usize>)>);
 
 fn answer_of(given: usize, l: &Lists) -> Answer {

@@ -62,6 +62,7 @@ def main() -> None:
             rates = {row['soil']: float(row['rate']) for row in csv.DictReader(f)}
     strips = daqwimay.cut(model, soils, grid=0.001)
     picture.draw_strips(PICTURES / 'practice-strips.png', strips)
+    picture.draw_strips(PICTURES / 'practice-cells.png', strips, 'cell')
     recharge(PICTURES / 'practice-recharge.png', strips, rates)
     unclean(PICTURES / 'practice-unclean.png')
 

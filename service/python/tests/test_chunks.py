@@ -9,8 +9,9 @@ from daqwimay.soils import faces_mesh
 
 
 def places(pieces):
-    """The corners of all pieces as bits, cell by cell."""
-    return pieces.xy[pieces.nodes].tobytes(), pieces.ends.tobytes(), pieces.kinds.tobytes(), pieces.families.tobytes()
+    """The corners of all pieces as bits, cell by cell, and what is told of each piece."""
+    told = (pieces.ends, pieces.kinds, pieces.families, pieces.parent_meshes, pieces.parent_cells)
+    return pieces.xy[pieces.nodes].tobytes(), *(a.tobytes() for a in told)
 
 
 @pytest.fixture(scope='module')
@@ -42,6 +43,18 @@ def test_seams_between_chunks_share_their_nodes(meshes):
     around = Polygon(pieces.xy[[0, 60, 61 * 51 - 1, 61 * 50]])
     assert set(ways.values()) == {1}
     assert sum(np.hypot(*(pieces.xy[a] - pieces.xy[b])) for a, b in lone) == pytest.approx(around.length)
+
+
+def test_parents_are_cells_of_the_whole_mesh(meshes):
+    """Families that repeat, so that they don't tell the cells apart; each piece lies in its parent, and all of a parent's fill it."""
+    model, soils = meshes
+    model = Mesh(model.xy, model.nodes, model.ends, model.kinds, np.arange(len(model)) % 3)
+    pieces = overlay_in_chunks(model, soils, chunk=170)
+    assert not pieces.parent_meshes.any() and np.array_equal(pieces.families, model.families[pieces.parent_cells])
+    assert np.allclose(np.bincount(pieces.parent_cells, pieces.areas(), len(model)), model.areas())
+    low, high = np.split(model.boxes()[pieces.parent_cells], 2, axis=1)
+    boxes = pieces.boxes()
+    assert (boxes[:, :2] >= low).all() and (boxes[:, 2:] <= high).all()
 
 
 def test_lines_in_chunks(meshes):
@@ -103,7 +116,7 @@ def test_a_crowded_cell_in_parts():
     with pytest.raises(Refused, match='refused 10'):
         overlay_in_chunks(model, disc)
     pieces = overlay_in_chunks(model, disc, parts=True)
-    assert pieces.parted.tolist() == [2] and pieces.areas().min() > 0
+    assert pieces.parted.tolist() == [2] and pieces.areas().min() > 0 and pieces.parent_cells.tolist() == pieces.families.tolist()
     assert np.allclose(np.bincount(pieces.families, pieces.areas()), 100) and [(pieces.families == f).sum() for f in (0, 1, 3)] == [1, 1, 1]
     inside = overlay_in_chunks(model, disc, 'intersection', parts=True)
     assert inside.areas().sum() == pytest.approx(Polygon(xy[:2000]).area)

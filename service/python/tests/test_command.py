@@ -52,6 +52,21 @@ def test_the_example_as_the_page_has_it(example):
     assert matplotlib.image.imread(example / 'strips.png').std() > 0.05
 
 
+def test_strips_in_the_colours_of_their_cells(example):
+    """Two pictures that differ, and no colour of two cells that have a node in common."""
+    from daqwimay.picture import apart
+    for by in ('soil', 'cell'):
+        done = run('cut', 'model.disv', 'soils.gpkg', '--grid', 0.001, '--picture', f'{by}.png', '--by', by, cwd=example)
+        assert done.returncode == 0 and f'wrote {by}.png' in done.stderr
+    assert (example / 'soil.png').read_bytes() != (example / 'cell.png').read_bytes()
+    mesh = read_model(example / 'model.disv').mesh
+    around = {}
+    for corners, colour in zip(mesh.cells(), apart(mesh)):
+        for n in corners.tolist():
+            around.setdefault(n, []).append(colour)
+    assert all(len(set(colours)) == len(colours) for colours in around.values())
+
+
 def test_an_unclean_map_is_told_and_nothing_written(example):
     done = run('cut', 'model.disv', 'soils.gpkg', '-o', 'none.vtu', '--table', 'none.csv', cwd=example)
     assert done.returncode == 1 and 'with holes' in done.stderr and 'crosses or touches itself' in done.stderr and '--grid' in done.stderr

@@ -185,6 +185,7 @@ def test_strips_as_a_map_and_as_a_mesh(tmp_path):
     assert [f.split('strips')[-1] for f in files] == ['.vtu', '.prj', '.soils.csv']
     data = meshio.read(tmp_path / 'strips.vtu').cell_data
     assert sum(a.sum() for a in data['area']) == pytest.approx(made.mesh.areas().sum())
+    assert sorted(np.concatenate(data['cell'])) == sorted(strips.cells() + 1) and np.array_equal(strips.cells(), strips.pieces.parent_cells)
     rows = list(csv.DictReader(open(tmp_path / 'strips.soils.csv')))
     assert [r['soil'] for r in rows] == strips.names
 

@@ -25,6 +25,7 @@ def test_random_maps_agree_with_shapely(seed):
     assert maps.worst(maps.areas_by_strips(strips), maps.areas_by_shapely(made, shapes)) < 1e-6
     assert np.allclose(strips.by_soil(), strips.by_geos, atol=1e-6)
     assert np.allclose(np.bincount(strips.table()['cell'], strips.table()['share']), 1, atol=1e-12)
+    assert np.allclose(np.bincount(strips.cells(), strips.areas()), made.mesh.areas())
     assert strips.pieces.doubled_cells == 0
 
 

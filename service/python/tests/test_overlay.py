@@ -21,8 +21,8 @@ K1 = """(overlay
 (node 3ff0000000000000 4008000000000000)
 (node 3ff0000000000000 0000000000000000)
 (node 3ff0000000000000 4000000000000000)
-(cell 11 7 3 0 8 9)
-(cell 11 7 9 8 1 2)
+(cell 11 7 0 0 3 0 8 9)
+(cell 11 7 0 0 9 8 1 2)
 (count 2 2 0)
 )
 """
@@ -71,7 +71,35 @@ def test_stored_answers_through_lists_of_the_packages_own_sizes():
 def test_every_operation_on_cells(operation, families, areas):
     pieces = overlay(SQUARE, RIGHT, operation)
     assert pieces.families.tolist() == families and pieces.areas().tolist() == areas
+    assert pieces.parent_meshes.tolist() == [int(f == 9) for f in families] and not pieces.parent_cells.any()
     assert (pieces.new_points, pieces.doubled_cells) == (2, 0)
+
+
+# A triangle, a square and a pentagon side by side, given in another order than by kind, all of one family; the cutter's squares lie over them and away.
+ROW = Mesh.from_cells([[0, 0], [2, 0], [4, 0], [6, 0], [0, 2], [2, 2], [4, 2], [5, 3], [6, 2]], [[2, 3, 8, 7, 6], [0, 1, 5], [1, 2, 6, 5]], families=[5] * 3)
+OVER = Mesh.from_cells([[-1, 1], [9, 1], [9, 9], [-1, 9], [20, 0], [21, 0], [21, 1], [20, 1]], [[4, 5, 6, 7], [0, 1, 2, 3]], families=[5] * 2)
+
+
+@pytest.mark.parametrize('operation, parents', [
+    ('imprint', [(0, 0), (0, 0), (0, 1), (0, 1), (0, 2), (0, 2)]), ('intersection', [(0, 0), (0, 1), (0, 2)]), ('difference', [(0, 0), (0, 1), (0, 2)]),
+    ('union', [(0, 0), (0, 0), (0, 1), (0, 1), (0, 2), (0, 2), (1, 0), (1, 1)]), (4, [(0, 0), (0, 1), (0, 2), (1, 0), (1, 1)])])
+def test_parents_where_families_say_nothing(operation, parents):
+    pieces = overlay(ROW, OVER, operation)
+    assert list(zip(pieces.parent_meshes.tolist(), pieces.parent_cells.tolist())) == parents
+    assert pieces.parent_meshes.dtype == pieces.parent_cells.dtype == np.uint32
+    for corners, mesh, cell in zip(pieces.cells(), pieces.parent_meshes, pieces.parent_cells):
+        low_x, low_y, high_x, high_y = (ROW, OVER)[mesh].boxes()[cell]
+        assert (pieces.xy[corners] >= [low_x, low_y]).all() and (pieces.xy[corners] <= [high_x, high_y]).all()
+
+
+def test_the_way_from_a_parent_to_the_cell_as_given():
+    pieces = overlay(ROW, OVER, 'intersection')
+    assert ROW.order.tolist() == [1, 2, 0] and ROW.order[pieces.parent_cells].tolist() == [1, 2, 0]
+
+
+def test_taken_pieces_keep_their_parents():
+    pieces, _ = overlay(ROW, OVER, 'union').take(np.array([7, 2]))
+    assert pieces.parent_meshes.tolist() == [1, 0] and pieces.parent_cells.tolist() == [1, 1] and len(pieces) == 2
 
 
 def test_a_boundary_traced_twice_cuts_once():

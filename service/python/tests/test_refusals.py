@@ -5,7 +5,7 @@ import numpy as np
 import pytest
 
 from daqwimay import Kind, Mesh, REFUSALS, Refused, overlay, overlay_in_chunks
-from daqwimay._library import call
+from daqwimay._library import OUTPUT_LISTS, call
 from daqwimay.overlaying import output_lists, work_size
 from daqwimay.refusals import markdown
 
@@ -81,6 +81,23 @@ def test_limit_of_meetings():
         with pytest.raises(Refused) as e:
             overlay(SQUARE, cutter, limit=limit)
         assert e.value.number == number
+
+
+@pytest.mark.parametrize('short', OUTPUT_LISTS, ids=lambda record: record.name)
+def test_one_output_list_that_is_too_short(short):
+    """12, whichever list it is, and all lists zero; with a place more it is answered, and what is behind the answer stays."""
+    cutter = Mesh([[1, -1], [3, -1], [3, 3], [1, 3]], [0, 1, 2, 3], [4], [11], [0])
+    for more, number in ((-1, 12), (0, 0)):
+        lists = output_lists(13, 11, 5)
+        at = OUTPUT_LISTS.index(short)
+        lists[at] = lists[at][:{'node': 10, 'corner': 8, 'cell': 2}[short.per] + more].copy()
+        for a in lists:
+            a[...] = 9
+        work = np.full(work_size(8 + 5, 8), 9, np.uint32)
+        code, counts = call(0, 5, SQUARE.lists(), cutter.lists(), lists, work)
+        assert (code, counts.tolist()) == (number, [0, 0, 0] if number else [2, 2, 0]) and not work.any()
+        used = {'node': 10, 'corner': 8, 'cell': 2}
+        assert all((a[used[r.per]:] == 9).all() for r, a in zip(OUTPUT_LISTS, lists)) if number == 0 else not any(a.any() for a in lists)
 
 
 @pytest.mark.parametrize('short, number', [('work', 7), ('node', 12), ('corner', 12), ('cell', 12)])

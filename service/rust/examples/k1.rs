@@ -1,5 +1,5 @@
-//! Cuts the square (0,0)-(2,2), family 7, by the square (1,-1)-(3,3), and prints the pieces.
-use daqwimay::{Kind, Mesh, Operation, Refusal, overlay};
+//! Cuts the square (0,0)-(2,2), family 7, by the square (1,-1)-(3,3), and prints the pieces and the cell that each was cut from.
+use daqwimay::{Kind, Mesh, Operation, Parent, Refusal, overlay};
 
 fn square(kind: Kind, family: u32, [x, y]: [f64; 2], [u, v]: [f64; 2]) -> Mesh {
     let mut m = Mesh::default();
@@ -12,8 +12,12 @@ fn main() -> Result<(), Refusal> {
     let subject = square(Kind::Quad4, 7, [0.0, 0.0], [2.0, 2.0]);
     let cutter = square(Kind::Pgon, 0, [1.0, -1.0], [3.0, 3.0]);
     let answer = overlay(Operation::Imprint, &subject, &cutter)?;
-    for (i, piece) in answer.mesh.cells().enumerate() {
-        print!("piece {i} of family {}:", piece.family);
+    for (i, (piece, parent)) in answer.mesh.cells().zip(answer.parents()).enumerate() {
+        let (cell, mesh) = match parent {
+            Parent::Subject(cell) => (cell, "subject"),
+            Parent::Cutter(cell) => (cell, "cutter"),
+        };
+        print!("piece {i} of family {}, from cell {cell} of the {mesh}:", piece.family);
         for [x, y] in piece.nodes.iter().filter_map(|n| answer.mesh.node(*n)) {
             print!(" ({x}, {y})");
         }

@@ -1,7 +1,7 @@
 //! The proved overlay of two meshes for Rust programs: lists of the right sizes, refusals as an enum, no `unsafe` for its users.
 //!
 //! ```
-//! use daqwimay::{Kind, Mesh, Operation, overlay};
+//! use daqwimay::{Kind, Mesh, Operation, Parent, overlay};
 //! let mut cell = Mesh::default();
 //! for [x, y] in [[0.0, 0.0], [2.0, 0.0], [2.0, 2.0], [0.0, 2.0]] {
 //!     cell.add_node(x, y);
@@ -9,6 +9,7 @@
 //! cell.add_cell(Kind::Quad4, 7, &[0, 1, 2, 3]);
 //! let answer = overlay(Operation::Imprint, &cell, &Mesh::default()).unwrap();
 //! assert_eq!(answer.mesh.cells().next().unwrap().family, 7);
+//! assert_eq!(answer.parents().next(), Some(Parent::Subject(0)));
 //! ```
 
 #[rustfmt::skip]
@@ -21,6 +22,7 @@ unsafe extern "C" {
         ckinds: *const u8, ckinds_len: usize, cfamilies: *const u32, cfamilies_len: usize,
         ocoords: *mut f64, ocoords_len: usize, onodes: *mut u32, onodes_len: usize, oends: *mut u32, oends_len: usize,
         okinds: *mut u8, okinds_len: usize, ofamilies: *mut u32, ofamilies_len: usize,
+        parent_meshes: *mut u32, parent_meshes_len: usize, parent_cells: *mut u32, parent_cells_len: usize,
         work: *mut u32, work_len: usize, counts: *mut u32, counts_len: usize,
     ) -> u32;
 }
@@ -179,19 +181,41 @@ impl std::fmt::Display for Refusal {
 
 impl std::error::Error for Refusal {}
 
-/// The coordinates of the subject, of the cutter and the new points, in this order; the pieces as its cells.
+/// The cell that a piece was cut from: its index in the subject or in the cutter, as lent.
+#[derive(Clone, Copy, Debug, PartialEq, Eq, PartialOrd, Ord, Hash)]
+pub enum Parent {
+    Subject(u32),
+    Cutter(u32),
+}
+
+/// The answer.
 #[derive(Clone, Debug, PartialEq)]
 pub struct Overlay {
+    /// The coordinates of the subject, of the cutter and the new points, in this order; the pieces as its cells.
     pub mesh: Mesh,
+    /// For each piece the mesh of the cell that it was cut from: 0 for the subject, 1 for the cutter.
+    pub parent_meshes: Vec<u32>,
+    /// For each piece the index of that cell in its mesh.
+    pub parent_cells: Vec<u32>,
     pub new_points: u32,
     /// Always 0: an edge is in a cell's table once. Kept for readers of old listings.
     pub doubled_cells: u32,
+}
+
+impl Overlay {
+    /// The parent of each piece, in the order of `mesh.cells()`.
+    pub fn parents(&self) -> impl Iterator<Item = Parent> {
+        let both = self.parent_meshes.iter().zip(&self.parent_cells);
+        both.map(|(mesh, cell)| if *mesh == 0 { Parent::Subject(*cell) } else { Parent::Cutter(*cell) })
+    }
 }
 
 /// Lists that are lent to calls, to be used again. One for each thread.
 #[derive(Default)]
 pub struct Overlayer {
     out: Mesh,
+    meshes: Vec<u32>,
+    cells: Vec<u32>,
     work: Vec<u32>,
 }
 
@@ -219,8 +243,10 @@ impl Overlayer {
             at_least(&mut self.out.ends, room);
             at_least(&mut self.out.kinds, room);
             at_least(&mut self.out.families, room);
+            at_least(&mut self.meshes, room);
+            at_least(&mut self.cells, room);
             let mut counts = [0; 3];
-            let code = call(operation, limit, subject, cutter, &mut self.out, &mut self.work[..work], &mut counts);
+            let code = self.call(operation, limit, subject, cutter, work, &mut counts);
             if code == 0 {
                 return Ok(self.answer(nodes, counts));
             }
@@ -242,28 +268,30 @@ impl Overlayer {
             kinds: self.out.kinds[..n].to_vec(),
             families: self.out.families[..n].to_vec(),
         };
-        Overlay { mesh, new_points, doubled_cells }
+        Overlay { mesh, parent_meshes: self.meshes[..n].to_vec(), parent_cells: self.cells[..n].to_vec(), new_points, doubled_cells }
+    }
+
+    #[rustfmt::skip]
+    fn call(&mut self, operation: Operation, limit: u32, s: &Mesh, c: &Mesh, work: usize, counts: &mut [u32; 3]) -> u32 {
+        let (o, meshes, cells, work) = (&mut self.out, &mut self.meshes, &mut self.cells, &mut self.work[..work]);
+        // Each pair is a list of its own, lent for the call; those that are written are borrowed mutably.
+        unsafe {
+            daqwimay_overlay(
+                operation as u32, limit,
+                s.coords.as_ptr(), s.coords.len(), s.nodes.as_ptr(), s.nodes.len(), s.ends.as_ptr(), s.ends.len(),
+                s.kinds.as_ptr(), s.kinds.len(), s.families.as_ptr(), s.families.len(),
+                c.coords.as_ptr(), c.coords.len(), c.nodes.as_ptr(), c.nodes.len(), c.ends.as_ptr(), c.ends.len(),
+                c.kinds.as_ptr(), c.kinds.len(), c.families.as_ptr(), c.families.len(),
+                o.coords.as_mut_ptr(), o.coords.len(), o.nodes.as_mut_ptr(), o.nodes.len(), o.ends.as_mut_ptr(), o.ends.len(),
+                o.kinds.as_mut_ptr(), o.kinds.len(), o.families.as_mut_ptr(), o.families.len(),
+                meshes.as_mut_ptr(), meshes.len(), cells.as_mut_ptr(), cells.len(),
+                work.as_mut_ptr(), work.len(), counts.as_mut_ptr(), counts.len(),
+            )
+        }
     }
 }
 
 /// Cuts the subject by the cutter, with lists of its own and the largest limit of meetings.
 pub fn overlay(operation: Operation, subject: &Mesh, cutter: &Mesh) -> Result<Overlay, Refusal> {
     Overlayer::default().overlay(operation, MOST_MEETINGS, subject, cutter)
-}
-
-#[rustfmt::skip]
-fn call(operation: Operation, limit: u32, s: &Mesh, c: &Mesh, o: &mut Mesh, work: &mut [u32], counts: &mut [u32; 3]) -> u32 {
-    // Each pair is a list of its own, lent for the call; those that are written are borrowed mutably.
-    unsafe {
-        daqwimay_overlay(
-            operation as u32, limit,
-            s.coords.as_ptr(), s.coords.len(), s.nodes.as_ptr(), s.nodes.len(), s.ends.as_ptr(), s.ends.len(),
-            s.kinds.as_ptr(), s.kinds.len(), s.families.as_ptr(), s.families.len(),
-            c.coords.as_ptr(), c.coords.len(), c.nodes.as_ptr(), c.nodes.len(), c.ends.as_ptr(), c.ends.len(),
-            c.kinds.as_ptr(), c.kinds.len(), c.families.as_ptr(), c.families.len(),
-            o.coords.as_mut_ptr(), o.coords.len(), o.nodes.as_mut_ptr(), o.nodes.len(), o.ends.as_mut_ptr(), o.ends.len(),
-            o.kinds.as_mut_ptr(), o.kinds.len(), o.families.as_mut_ptr(), o.families.len(),
-            work.as_mut_ptr(), work.len(), counts.as_mut_ptr(), counts.len(),
-        )
-    }
 }

@@ -1,5 +1,5 @@
 //! What the wrapper adds to the proved call: sizes, refusals, lists used again.
-use daqwimay::{Kind, MOST_MEETINGS, Mesh, Operation, Overlayer, Refusal, overlay};
+use daqwimay::{Kind, MOST_MEETINGS, Mesh, Operation, Overlay, Overlayer, Parent, Refusal, overlay};
 
 fn rectangle(m: &mut Mesh, kind: Kind, family: u32, [x, y]: [f64; 2], [u, v]: [f64; 2]) {
     let corners = [[x, y], [u, y], [u, v], [x, v]].map(|[a, b]| m.add_node(a, b));
@@ -56,8 +56,47 @@ fn two_pieces() {
     let pieces: Vec<_> = o.mesh.cells().map(|p| (p.kind, p.family, p.nodes.to_vec())).collect();
     assert_eq!(pieces, [(11, 7, vec![3, 0, 8, 9]), (11, 7, vec![9, 8, 1, 2])]);
     assert_eq!((o.new_points, o.doubled_cells), (2, 0));
+    assert_eq!((o.parent_meshes, o.parent_cells), (vec![0, 0], vec![0, 0]));
     assert_eq!(o.mesh.node(8), Some([1.0, 0.0]));
     assert_eq!(o.mesh.node(10), None);
+}
+
+fn parents(o: &Overlay) -> Vec<Parent> {
+    o.parents().collect()
+}
+
+/// Families that say nothing: all cells have the same one.
+#[test]
+fn every_piece_names_the_cell_that_it_was_cut_from() {
+    use Parent::*;
+    let mut soils = Mesh::default();
+    let [a, b, c, d, e, f] = [[0.0, 0.0], [2.0, 0.0], [4.0, 0.0], [0.0, 2.0], [2.0, 2.0], [4.0, 2.0]].map(|[x, y]| soils.add_node(x, y));
+    soils.add_cell(Kind::Quad4, 7, &[a, b, e, d]);
+    soils.add_cell(Kind::Quad4, 7, &[b, c, f, e]);
+    rectangle(&mut soils, Kind::Pgon, 7, [9.0, 9.0], [10.0, 10.0]);
+    let mut model = one(Kind::Quad4, 7, [20.0, 20.0], [21.0, 21.0]);
+    rectangle(&mut model, Kind::Pgon, 7, [1.0, -1.0], [3.0, 3.0]);
+    let of = |op| parents(&overlay(op, &soils, &model).unwrap());
+    let cut = [Subject(0), Subject(0), Subject(1), Subject(1)];
+    assert_eq!(of(Operation::Imprint), [&cut[..], &[Subject(2)]].concat());
+    assert_eq!(of(Operation::Intersection), [Subject(0), Subject(1)]);
+    assert_eq!(of(Operation::Difference), [Subject(0), Subject(1), Subject(2)]);
+    assert_eq!(of(Operation::Union), [&cut[..], &[Subject(2), Cutter(0), Cutter(1), Cutter(1)]].concat());
+    assert_eq!(of(Operation::SymmetricDifference), [Subject(0), Subject(1), Subject(2), Cutter(0), Cutter(1), Cutter(1)]);
+    let o = overlay(Operation::Union, &soils, &model).unwrap();
+    assert_eq!(o.parent_meshes, [0, 0, 0, 0, 0, 1, 1, 1]);
+    assert_eq!(o.parent_cells, [0, 0, 1, 1, 2, 0, 1, 1]);
+}
+
+/// The families of strips are their numbers, so each piece's family is its parent.
+#[test]
+fn parents_of_lists_that_grow() {
+    let (s, c) = (strips(18, true), strips(18, false));
+    for op in [Operation::Imprint, Operation::Intersection, Operation::SymmetricDifference] {
+        let o = overlay(op, &s, &c).unwrap();
+        assert_eq!(o.parent_cells, o.mesh.families);
+        assert!(o.parent_meshes.is_sorted() && (o.parent_meshes.contains(&1) == (op == Operation::SymmetricDifference)));
+    }
 }
 
 #[test]
@@ -100,6 +139,9 @@ fn empty_meshes() {
     let none = Mesh::default();
     let o = overlay(Operation::Union, &none, &none).unwrap();
     assert_eq!(o.mesh, none);
+    assert_eq!(o.parents().next(), None);
+    let (s, _) = k1();
+    assert_eq!(parents(&overlay(Operation::Union, &none, &s).unwrap()), [Parent::Cutter(0)]);
 }
 
 #[test]

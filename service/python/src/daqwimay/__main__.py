@@ -93,6 +93,7 @@ def _cut_options(p: argparse.ArgumentParser) -> None:
     p.add_argument('-o', '--output', metavar='STRIPS', help='the strips: .vtu, .vtk, .gpkg, .geojson, .shp, .nc, .disv')
     p.add_argument('--table', metavar='CSV', help='cell, soil, area, share; - for standard output')
     p.add_argument('--picture', metavar='PNG', help='the model and the strips, drawn: .png, .svg, .pdf')
+    p.add_argument('--by', choices=('soil', 'cell'), default='soil', help='colour the picture by soil, or each strip as the cell that it was cut from')
 
 
 class Progress:
@@ -197,7 +198,7 @@ def _write(options: argparse.Namespace, strips: Strips, crs: Any) -> None:
             writing.write_table(f, strips)
         written.append(options.table)
     if options.picture:
-        picture.draw_strips(options.picture, strips)
+        picture.draw_strips(options.picture, strips, options.by)
         written.append(options.picture)
     if written:
         say('wrote ' + ', '.join(written))

@@ -17,7 +17,7 @@ class ListRecord(NamedTuple):
     width: int = 1
 
 
-# In the order of the call. A list added to the call is a row added here and a field of `Mesh`.
+# In the order of the call. A list added to the call is a row added here and a field of `Mesh`, or of `Overlay` where the output alone has it.
 MESH_LISTS = (
     ListRecord('xy', np.dtype(np.float64), 'node', 2),
     ListRecord('nodes', np.dtype(np.uint32), 'corner'),
@@ -25,7 +25,11 @@ MESH_LISTS = (
     ListRecord('kinds', np.dtype(np.uint8), 'cell'),
     ListRecord('families', np.dtype(np.uint32), 'cell'),
 )
-OUTPUT_LISTS = MESH_LISTS
+OUTPUT_LISTS = (
+    *MESH_LISTS,
+    ListRecord('parent_meshes', np.dtype(np.uint32), 'cell'),
+    ListRecord('parent_cells', np.dtype(np.uint32), 'cell'),
+)
 COUNTS = 3          # pieces, new points, and 0, once the count of doubled cells
 
 _call = ctypes.CDLL(str(Path(__file__).with_name('libdaqwimay.so'))).daqwimay_overlay

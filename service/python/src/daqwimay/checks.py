@@ -72,12 +72,9 @@ def _side_boxes(ring: np.ndarray) -> tuple[np.ndarray, np.ndarray]:
 
 
 def _longest_sides(mesh: Mesh) -> list[float]:
-    """For each family the larger component of its cell's sides."""
-    found = np.zeros(len(mesh))
-    for family, corners in zip(mesh.families, mesh.cells()):
-        low, high = _side_boxes(mesh.xy[corners])
-        found[family] = (high - low).max()
-    return found.tolist()
+    """For each cell the larger component of its sides."""
+    boxes = (_side_boxes(mesh.xy[corners]) for corners in mesh.cells())
+    return [float((high - low).max()) for low, high in boxes]
 
 
 def _pieces(model: Model, pieces: Overlay, faces: _Faces, progress: Progress) -> tuple[np.ndarray, list[Problem]]:
@@ -85,8 +82,8 @@ def _pieces(model: Model, pieces: Overlay, faces: _Faces, progress: Progress) ->
     soil = np.full(len(pieces), none)
     problems: list[Problem] = []
     areas, longest = pieces.areas(), _longest_sides(model.mesh)
-    for i, (corners, family) in enumerate(zip(pieces.cells(), pieces.families.tolist())):
-        ring, cell = pieces.xy[corners], family + model.first
+    for i, (corners, parent) in enumerate(zip(pieces.cells(), pieces.parent_cells.tolist())):
+        ring, cell = pieces.xy[corners], model.number(parent)
         why = geos.why_invalid(ring) or ('' if areas[i] > 0 else f'an area of {areas[i]:.3g}')
         if why:
             problems.append(Problem.at(ring[0], f'a piece that is no simple polygon: {why}', cell))
@@ -95,7 +92,7 @@ def _pieces(model: Model, pieces: Overlay, faces: _Faces, progress: Progress) ->
         face = faces.around(shape.representative_point())
         soil[i] = faces.soils[face] if face >= 0 else none
         stray = faces.strays(shape, face)
-        if stray.area > 0 and stray.area > faces.slack(shape, longest[family]):
+        if stray.area > 0 and stray.area > faces.slack(shape, longest[parent]):
             problems.append(_astray(stray, faces, int(soil[i]), cell))
         if i % _STEP == 0:
             progress('pieces checked', i, len(pieces))
@@ -114,16 +111,16 @@ def _cells(model: Model, pieces: Overlay, soil: np.ndarray, faces: _Faces, progr
     """The areas of soils in each cell beside GEOS's."""
     mesh, ours, longest = model.mesh, _by_cell(pieces, soil), _longest_sides(model.mesh)
     by_geos, problems = np.zeros(len(faces.names)), []
-    for i, (shape, family) in enumerate(zip(geos.polygons(mesh), mesh.families.tolist())):
-        theirs, mine = faces.areas_in(shape), ours.get(family, {})
+    for i, shape in enumerate(geos.polygons(mesh)):
+        theirs, mine = faces.areas_in(shape), ours.get(i, {})
         bare = len(faces.names) - 1
         theirs[bare] = theirs.get(bare, 0.0) + max(shape.area - sum(theirs.values()), 0.0)
         for number, area in theirs.items():
             by_geos[number] += area
         off, worst = max((abs(theirs.get(s, 0.0) - mine.get(s, 0.0)), s) for s in theirs.keys() | mine.keys())
-        if off > 0 and off > faces.slack(shape, longest[family]):
+        if off > 0 and off > faces.slack(shape, longest[i]):
             what = f'"{faces.names[worst]}" has an area of {mine.get(worst, 0.0):.10g} by the pieces, {theirs.get(worst, 0.0):.10g} by GEOS'
-            problems.append(Problem.at(shape.centroid.coords[0], what, family + model.first))
+            problems.append(Problem.at(shape.centroid.coords[0], what, model.number(i)))
         if i % _STEP == 0:
             progress('cells checked', i, len(mesh))
     progress('cells checked', len(mesh), len(mesh))
@@ -131,9 +128,9 @@ def _cells(model: Model, pieces: Overlay, soil: np.ndarray, faces: _Faces, progr
 
 
 def _by_cell(pieces: Overlay, soil: np.ndarray) -> dict[int, dict[int, float]]:
-    """For each family the area of each soil."""
+    """For each cell the area of each soil."""
     found: dict[int, dict[int, float]] = {}
-    for family, number, area in zip(pieces.families.tolist(), soil.tolist(), pieces.areas().tolist()):
-        cell = found.setdefault(family, {})
+    for parent, number, area in zip(pieces.parent_cells.tolist(), soil.tolist(), pieces.areas().tolist()):
+        cell = found.setdefault(parent, {})
         cell[number] = cell.get(number, 0.0) + area
     return found

@@ -99,7 +99,6 @@ class _Whole:
 
     def _place(self, part: Mesh, nodes: np.ndarray, cells: np.ndarray) -> None:
         """Cuts a mesh whose nodes have these numbers in the whole, -1 for none, and whose cells belong to these, -1 for a rim."""
-        part.families = np.arange(len(part), dtype=np.uint32)
         low, high = part.xy.min(axis=0), part.xy.max(axis=0)
         b = self.cutter_boxes
         near = np.flatnonzero((b[:, :2] <= high).all(axis=1) & (b[:, 2:] >= low).all(axis=1))
@@ -122,11 +121,12 @@ class _Whole:
         known, many = len(self.subject.xy) + len(self.cutter.xy), 0
         parts: list[tuple[np.ndarray, ...]] = [(np.zeros((0, 2)), *[np.zeros(0, np.int64)] * 4)]
         for answer, numbers, lent in self.done:
-            own, fresh = lent[answer.families] >= 0, numbers < 0
+            cells, fresh = lent[answer.parent_cells], numbers < 0
+            own = cells >= 0
             numbers = np.where(fresh, known + many + np.cumsum(fresh) - 1, numbers)
             many += np.count_nonzero(fresh)
             corners = numbers[answer.nodes[np.repeat(own, answer.counts())]]
-            parts.append((answer.xy[fresh], corners, answer.counts()[own], answer.kinds[own], lent[answer.families[own]]))
+            parts.append((answer.xy[fresh], corners, answer.counts()[own], answer.kinds[own], cells[own]))
         return self._listed(known, *(np.concatenate(p) for p in zip(*parts)))
 
     def _listed(self, known: int, points: np.ndarray, corners: np.ndarray, counts: np.ndarray, kinds: np.ndarray, cells: np.ndarray) -> Overlay:
@@ -137,7 +137,7 @@ class _Whole:
         used, numbers = np.unique(points[corners[fresh] - known], axis=0, return_inverse=True)
         corners[fresh] = known + numbers.reshape(-1)
         found = Overlay(np.concatenate([self.subject.xy, self.cutter.xy, used]), corners, np.cumsum(counts[order]), kinds[order],
-                        self.subject.families[cells[order]])
+                        self.subject.families[cells[order]], np.zeros(len(cells), np.uint32), cells[order])
         found.new_points = len(used)
         found.parted = self.subject.families[np.array(self.parted, np.int64)]
         return found

@@ -30,6 +30,10 @@ class Model:
         if not np.array_equal(np.sort(self.mesh.families), np.arange(len(self.mesh))):
             raise ValueError('a model\'s families are the places of its cells, 0, 1, .., each once: leave them to Mesh.from_cells')
 
+    def number(self, cell: int) -> int:
+        """What a cell of the mesh is called in the file."""
+        return int(self.mesh.families[cell]) + self.first
+
 
 def read_model(path: Union[str, Path], crs: Optional[str] = None, layer: Optional[str] = None) -> Model:
     """By the file's ending: .disv, .nc (UGRID), a map of polygons (.gpkg, .shp, .geojson), otherwise meshio (.vtu, .vtk, .msh ..).

@@ -6,8 +6,9 @@ from operator import index
 from typing import Optional, Union
 
 import numpy as np
+from numpy.typing import ArrayLike
 
-from ._library import OUTPUT_LISTS, call
+from ._library import OUTPUT_LISTS, call, lendable
 from .mesh import Mesh
 from .refusals import Refused
 
@@ -27,11 +28,27 @@ class Operation(IntEnum):
 
 
 class Overlay(Mesh):
-    """The pieces as a mesh: the subject's nodes, the cutter's, then the new points; each piece has its cell's family."""
+    """The pieces as a mesh: the subject's nodes, the cutter's, then the new points; each piece has its cell's family.
 
+    The cell that a piece was cut from, its parent, is `parent_cells` of the mesh `parent_meshes`, counted as in the mesh that was given.
+    """
+
+    parent_meshes: np.ndarray   #: uint32: 0 for the subject, 1 for the cutter
+    parent_cells: np.ndarray    #: uint32: the index of the cell there, from 0
     new_points: int = 0
     doubled_cells: int = 0      #: always 0, since an edge is in a cell's table once; kept for readers of old listings
     parted: Optional[np.ndarray] = None     #: overlay_in_chunks: the families of cells that were cut in triangles first
+
+    def __init__(self, xy: ArrayLike, nodes: ArrayLike, ends: ArrayLike, kinds: ArrayLike, families: ArrayLike,
+                 parent_meshes: ArrayLike, parent_cells: ArrayLike) -> None:
+        super().__init__(xy, nodes, ends, kinds, families)
+        self.parent_meshes = lendable(parent_meshes, np.dtype(np.uint32), 'parent_meshes')
+        self.parent_cells = lendable(parent_cells, np.dtype(np.uint32), 'parent_cells')
+
+    def take(self, cells: np.ndarray) -> tuple[Overlay, np.ndarray]:
+        """Some of the pieces, in the order given, with their parents, and which nodes these have."""
+        part, nodes = super().take(cells)
+        return Overlay(*part.lists(), self.parent_meshes[cells], self.parent_cells[cells]), nodes
 
 
 def overlay(subject: Mesh, cutter: Mesh, operation: Union[Operation, str, int] = Operation.IMPRINT, *,

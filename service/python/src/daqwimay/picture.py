@@ -15,17 +15,33 @@ _NAMED = 12             # soils in the legend
 _LINE = '#3a3a3a'
 
 
-def draw_strips(path: Union[str, Path], strips: Strips) -> None:
-    """Left the model's cells, right the strips, coloured by soil."""
-    low, high = strips.model.mesh.xy.min(axis=0), strips.model.mesh.xy.max(axis=0)
+def draw_strips(path: Union[str, Path], strips: Strips, by: str = 'soil') -> None:
+    """Left the model's cells, right the strips, coloured by soil, or, with `by` "cell", each as the cell that it was cut from."""
+    mesh, pieces = strips.model.mesh, strips.pieces
+    low, high = mesh.xy.min(axis=0), mesh.xy.max(axis=0)
     figure, axes = new_figure(2, shape=float((high - low)[1] / (high - low)[0]))
-    draw_mesh(axes[0], strips.model.mesh, ['#f4f1ea'] * len(strips.model.mesh))
-    axes[0].set_title(f'{len(strips.model.mesh):,} cells')
-    draw_mesh(axes[1], strips.pieces, [COLOURS[s % len(COLOURS)] for s in strips.soil])
-    axes[1].set_title(f'{len(strips.pieces):,} pieces')
-    present = np.flatnonzero(np.bincount(strips.soil, minlength=len(strips.names)))
-    legend(axes[1], [(strips.names[i], COLOURS[i % len(COLOURS)]) for i in present])
+    cells = ['#f4f1ea'] * len(mesh) if by == 'soil' else [COLOURS[c] for c in apart(mesh)]
+    draw_mesh(axes[0], mesh, cells)
+    axes[0].set_title(f'{len(mesh):,} cells')
+    draw_mesh(axes[1], pieces, [COLOURS[s % len(COLOURS)] for s in strips.soil] if by == 'soil' else [cells[c] for c in pieces.parent_cells])
+    axes[1].set_title(f'{len(pieces):,} pieces' + ('' if by == 'soil' else ', in the colours of their cells'))
+    if by == 'soil':
+        present = np.flatnonzero(np.bincount(strips.soil, minlength=len(strips.names)))
+        legend(axes[1], [(strips.names[i], COLOURS[i % len(COLOURS)]) for i in present])
     save(figure, path)
+
+
+def apart(mesh: Mesh) -> list[int]:
+    """A colour for each cell, another one than those of the cells before it that have a node in common with it, as far as colours go."""
+    around: dict[int, set[int]] = {}
+    found: list[int] = []
+    for corners in mesh.cells():
+        seen = [around.setdefault(n, set()) for n in corners.tolist()]
+        taken = set().union(*seen)
+        found.append(next((c for c in range(len(COLOURS)) if c not in taken), len(found) % len(COLOURS)))
+        for colours in seen:
+            colours.add(found[-1])
+    return found
 
 
 def check_ending(path: Union[str, Path]) -> None:

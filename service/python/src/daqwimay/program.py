@@ -135,7 +135,8 @@ def listing(overlay: Overlay) -> str:
     """An answer as the program prints it."""
     lines = ['(overlay']
     lines += [f'(node {struct.pack(">d", x).hex()} {struct.pack(">d", y).hex()})' for x, y in overlay.xy.tolist()]
-    lines += [f'(cell {k} {f} {" ".join(map(str, c.tolist()))})' for k, f, c in zip(overlay.kinds, overlay.families, overlay.cells())]
+    pieces = zip(overlay.kinds, overlay.families, overlay.parent_meshes, overlay.parent_cells, overlay.cells())
+    lines += [f'(cell {" ".join(map(str, [*numbers, *corners.tolist()]))})' for *numbers, corners in pieces]
     lines += [f'(count {len(overlay)} {overlay.new_points} {overlay.doubled_cells})', ')', '']
     return '\n'.join(lines)
 

@@ -24,11 +24,15 @@ class Strips:
     """The pieces of a model's cells, each in one soil."""
 
     model: Model
-    pieces: Overlay                 #: families are the cells' places in the model's file, from 0
+    pieces: Overlay                 #: their parents are cells of the model's mesh
     soil: np.ndarray                #: the soil of each piece: a place in `names`
     names: list[str]                #: the soils; the last is for what no soil covers
     by_geos: np.ndarray             #: the area of each soil in the model, by GEOS
     changes: list[str] = field(default_factory=list)        #: what cleaning changed
+
+    def cells(self) -> np.ndarray:
+        """The cell that each piece was cut from: its place in the model's file, from 0."""
+        return self.model.mesh.families[self.pieces.parent_cells].astype(np.int64)
 
     def areas(self) -> np.ndarray:
         """The area of each piece."""
@@ -40,8 +44,7 @@ class Strips:
 
     def table(self) -> dict[str, np.ndarray]:
         """One row for each cell and soil: cell (counted as in the file), soil (its name), area, share of the cell."""
-        cells = self.pieces.families.astype(np.int64)
-        keys, at = np.unique(cells * len(self.names) + self.soil, return_inverse=True)
+        keys, at = np.unique(self.cells() * len(self.names) + self.soil, return_inverse=True)
         areas = np.bincount(at.reshape(-1), self.areas(), len(keys))
         cell = keys // len(self.names)
         whole = np.bincount(cell, areas)

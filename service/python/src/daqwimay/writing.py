@@ -18,13 +18,12 @@ Columns = Mapping[str, np.ndarray]
 
 
 def write_strips(path: Union[str, Path], strips: Strips, crs: Any = None) -> list[str]:
-    """The pieces with their cell, soil and area; answers the files written.
+    """The pieces with the cell that each was cut from, counted as in the model's file, its soil and its area; answers the files written.
 
     Mesh files hold numbers: there `soil` is a number, and NAME.soils.csv beside the file says which soil it is.
     """
     path = Path(path)
-    cells = strips.pieces.families.astype(np.int64) + strips.model.first
-    columns = {'cell': cells, 'soil': strips.soil, 'area': strips.areas()}
+    columns = {'cell': strips.cells() + strips.model.first, 'soil': strips.soil, 'area': strips.areas()}
     if path.suffix.lower() in MAPS:
         columns['soil'] = np.array(strips.names, object)[strips.soil]
         return write_mesh(path, strips.pieces, columns, crs)
