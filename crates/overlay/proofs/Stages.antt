@@ -37,31 +37,6 @@ module _ (op m : ℕ) (s c : Mesh) (l : Lists) (pa : Passed op m s c (length (l 
   abbrev sc : Scene
   sc = sceneFor op s c
 
-  -- its lists
-  abbrev oc : List Float
-  oc = l .coords
-
-  abbrev on : List ℕ
-  on = l .nodes
-
-  abbrev oe : List ℕ
-  oe = l .ends
-
-  abbrev ok : List ℕ
-  ok = l .kinds
-
-  abbrev of : List ℕ
-  of = l .families
-
-  abbrev om : List ℕ
-  om = l .meshes
-
-  abbrev oi : List ℕ
-  oi = l .cells
-
-  abbrev w : List ℕ
-  w = l .work
-
   -- how many pieces have their places
   abbrev room : ℕ
   room = pieceRoom l
@@ -70,10 +45,10 @@ module _ (op m : ℕ) (s c : Mesh) (l : Lists) (pa : Passed op m s c (length (l 
   abbrev pub Ran : (code pieces points doubled : ℕ) (oc₂ : List Float) (on₂ oe₂ ok₂ of₂ om₂ oi₂ : List ℕ) → Type 0
   Ran code pieces points doubled oc₂ on₂ oe₂ ok₂ of₂ om₂ oi₂ =
       (code ≡ stateOf op m s c l)
-      × (code ≡ 0 → result 0 pieces points doubled (lentLists oc₂ on₂ oe₂ ok₂ of₂ om₂ oi₂ (zeros (length w))) ≡ answered op s c l)
+      × (code ≡ 0 → result 0 pieces points doubled (lentLists oc₂ on₂ oe₂ ok₂ of₂ om₂ oi₂ (zeros (length (l .work)))) ≡ answered op s c l)
 
-  told-all : (q n : ℕ) → x .code ≡ firstRefusal m (length oc / 2) q n (foundEvents op s c)
-  told-all = code-is op m s c w (ready op m s c (length w) pa) oc oc₁ w₁ x told
+  told-all : (q n : ℕ) → x .code ≡ firstRefusal m (length (l .coords) / 2) q n (foundEvents op s c)
+  told-all = code-is op m s c (l .work) (ready op m s c (length (l .work)) pa) (l .coords) oc₁ w₁ x told
 
   pub stops-found : (x .code ≡ 0 → ⊥) → (a p q d : ℕ) → a ≡ x .code → (oc₂ : List Float) (on₂ oe₂ ok₂ of₂ om₂ oi₂ : List ℕ)
       → Ran a p q d oc₂ on₂ oe₂ ok₂ of₂ om₂ oi₂
@@ -84,21 +59,21 @@ module _ (op m : ℕ) (s c : Mesh) (l : Lists) (pa : Passed op m s c (length (l 
   )
 
   module _ (z : x .code ≡ 0) where
-    passed : firstRefusal m (length oc / 2) (room) (length on) (foundEvents op s c) ≡ 0
-    passed = sym (told-all (room) (length on)) ∙ z
+    passed : firstRefusal m (length (l .coords) / 2) (room) (length (l .nodes)) (foundEvents op s c) ≡ 0
+    passed = sym (told-all (room) (length (l .nodes))) ∙ z
 
     -- what `index_meshes` asks
     pub index-asked : Asks w₁ (x .regions) (s .ends) (c .ends)
-    index-asked = asks-index op m s c w pa oc oc₁ w₁ x told z
+    index-asked = asks-index op m s c (l .work) pa (l .coords) oc₁ w₁ x told z
 
     pub points-fit : 2 * x .next ≤ length oc₁
-    points-fit = points-in op m s c w pa oc oc₁ w₁ x told z
+    points-fit = points-in op m s c (l .work) pa (l .coords) oc₁ w₁ x told z
 
     pub next-range : ((length (s .coords) + length (c .coords)) / 2 ≤ x .next) × (x .next < 2 ^ 32)
     next-range =
         let k = coords-long op s c (pa .subject .even) (pa .cutter .even) in
-        let long = next-long op m s c w pa oc oc₁ w₁ x told z in
-        let few = met-few op m s c (length oc / 2) (room) (length on) passed in
+        let long = next-long op m s c (l .work) pa (l .coords) oc₁ w₁ x told z in
+        let few = met-few op m s c (length (l .coords) / 2) (room) (length (l .nodes)) passed in
         (omega (arith, long, k .1, pa .subject .even, pa .cutter .even), omega (arith, long, k .1, k .2, few, pa .most, pa .subject .mostNodes, pa .cutter .mostNodes))
 
     -- the indexes stand in the working list
@@ -111,11 +86,11 @@ module _ (op m : ℕ) (s c : Mesh) (l : Lists) (pa : Passed op m s c (length (l 
       coords = take (2 * x .next) oc₁
 
       ins : MeshesIn sc coords w₂ g (s .ends) (c .ends)
-      ins = lists-hold op m s c w pa oc oc₁ w₁ x told z i w₂ built
+      ins = lists-hold op m s c (l .work) pa (l .coords) oc₁ w₁ x told z i w₂ built
 
       -- what `cut_meshes` asks
       pub asked : MeshesReady op (take (2 * x .next) oc₁) w₂ (x .regions) i (s .ends) (c .ends)
-      asked = lists-ready op m s c w pa oc oc₁ w₁ x told z i w₂ built
+      asked = lists-ready op m s c (l .work) pa (l .coords) oc₁ w₁ x told z i w₂ built
 
       -- what the cells yield
       abbrev y : Yield
@@ -133,13 +108,13 @@ module _ (op m : ℕ) (s c : Mesh) (l : Lists) (pa : Passed op m s c (length (l 
 
       -- the lists of ends and of families, cut to the room, as the cells leave them
       module _ (top : ℕ) (most : top ≡ room) (r : Listed) (on′ oe′ of′ : List ℕ)
-          (told-cut : (placing r on′ oe′ of′ ≡ placedBehind noneYet y on (take top oe) (take top of)) × Few (length (s .ends) + length (c .ends)) noneYet r) where
-        got : (placing r on′ oe′ of′ ≡ placedBehind noneYet y on (take room oe) (take room of)) × Few (length (s .ends) + length (c .ends)) noneYet r
-        got = (told-cut .0 ∙ ap (λ (n : ℕ). placedBehind noneYet y on (take n oe) (take n of)) most, told-cut .1)
+          (told-cut : (placing r on′ oe′ of′ ≡ placedBehind noneYet y (l .nodes) (take top (l .ends)) (take top (l .families))) × Few (length (s .ends) + length (c .ends)) noneYet r) where
+        got : (placing r on′ oe′ of′ ≡ placedBehind noneYet y (l .nodes) (take room (l .ends)) (take room (l .families))) × Few (length (s .ends) + length (c .ends)) noneYet r
+        got = (told-cut .0 ∙ ap (λ (n : ℕ). placedBehind noneYet y (l .nodes) (take n (l .ends)) (take n (l .families))) most, told-cut .1)
 
         state-is : r .code ≡ stateOf op m s c l
         state-is =
-            let f = found-passes op s c m (length oc / 2) room (length on) passed in
+            let f = found-passes op s c m (length (l .coords) / 2) room (length (l .nodes)) passed in
             cells-state op m s c l (foundEvents op s c) (course-is op s c) (f .0) (f .1) (f .2) y (meshes-steady op coords w₂ g (s .ends) (c .ends))
             (meshes-events op sc coords w₂ g (s .ends) (c .ends) ins) r on′ oe′ of′ (got .0)
 
@@ -149,37 +124,38 @@ module _ (op m : ℕ) (s c : Mesh) (l : Lists) (pa : Passed op m s c (length (l 
 
         module _ (t : r .code ≡ 0) where
           -- the pieces have their places
-          pub count-fits : (r .count ≤ room) × (r .count < 2 ^ 32) × (r .count ≤ length (of′ ++ drop top of))
+          pub count-fits : (r .count ≤ room) × (r .count < 2 ^ 32) × (r .count ≤ length (of′ ++ drop top (l .families)))
           count-fits =
-              let f = found-passes op s c m (length oc / 2) room (length on) passed in
+              let f = found-passes op s c m (length (l .coords) / 2) room (length (l .nodes)) passed in
               let steady = meshes-steady op coords w₂ g (s .ends) (c .ends) in
               let events = meshes-events op sc coords w₂ g (s .ends) (c .ends) ins in
               let pieces = meshes-pieces op sc coords w₂ g (s .ends) (c .ends) ins in (
                 count-low op m s c l (foundEvents op s c) (course-is op s c) (f .0) (f .1) (f .2) y steady events r on′ oe′ of′ (got .0) t pieces,
                 omega (arith, got .1 .pieces, pa .subject .mostCells, pa .cutter .mostCells),
-                subst (λ (n : ℕ). r .count ≤ length (of′ ++ drop n of)) (sym most)
+                subst (λ (n : ℕ). r .count ≤ length (of′ ++ drop n (l .families))) (sym most)
                     (tags-fit op m s c l (foundEvents op s c) (course-is op s c) (f .0) (f .1) (f .2) y steady events r on′ oe′ of′ (got .0) t pieces),
               )
 
           -- what the passes read
           abbrev tags : ℕ → List ℕ
-          tags k = take (r .count) (of′ ++ drop k of)
+          tags k = take (r .count) (of′ ++ drop k (l .families))
 
           -- what they leave
           record Passes (k : ℕ) (ok′ fs om′ oi′ : List ℕ) : Type 0 where
-            kinds : ok′ ≡ front ok (map (kindBy (s .kinds) (c .kinds)) (tags k))
+            kinds : ok′ ≡ front (l .kinds) (map (kindBy (s .kinds) (c .kinds)) (tags k))
             families : fs ≡ map (familyBy (s .families) (c .families)) (tags k)
-            meshes : om′ ≡ front om (map (meshBy (length (s .ends))) (tags k))
-            cells : oi′ ≡ front oi (map (cellBy (length (s .ends))) (tags k))
+            meshes : om′ ≡ front (l .meshes) (map (meshBy (length (s .ends))) (tags k))
+            cells : oi′ ≡ front (l .cells) (map (cellBy (length (s .ends))) (tags k))
 
           -- what `run` comes to with them
-          abbrev Passed-by : (k : ℕ) (ok′ fs om′ oi′ : List ℕ) → Type 0
-          Passed-by k ok′ fs om′ oi′ =
-              Ran 0 (r .count) (x .next - (length (s .coords) + length (c .coords)) / 2) 0 oc₁ on′ (oe′ ++ drop k oe) ok′ (fs ++ drop (r .count) (of′ ++ drop k of)) om′ oi′
+          abbrev ComesTo : (k : ℕ) (ok′ fs om′ oi′ : List ℕ) → Type 0
+          ComesTo k ok′ fs om′ oi′ =
+              Ran 0 (r .count) (x .next - (length (s .coords) + length (c .coords)) / 2) 0 oc₁ on′ (oe′ ++ drop k (l .ends)) ok′
+              (fs ++ drop (r .count) (of′ ++ drop k (l .families))) om′ oi′
 
-          ran-room : (ok′ fs om′ oi′ : List ℕ) → Passes room ok′ fs om′ oi′ → Passed-by room ok′ fs om′ oi′
+          ran-room : (ok′ fs om′ oi′ : List ℕ) → Passes room ok′ fs om′ oi′ → ComesTo room ok′ fs om′ oi′
           ran-room ok′ fs om′ oi′ e =
-              let f = found-passes op s c m (length oc / 2) room (length on) passed in
+              let f = found-passes op s c m (length (l .coords) / 2) room (length (l .nodes)) passed in
               let half : length (s .coords) + length (c .coords) ≡ 2 * ((length (s .coords) + length (c .coords)) / 2) = omega (arith, pa .subject .even, pa .cutter .even) in (
                 sym t ∙ state-is,
                 λ _. cells-answered op m s c l (foundEvents op s c) (course-is op s c) (f .0) (f .1) (f .2) y (meshes-steady op coords w₂ g (s .ends) (c .ends))
@@ -187,15 +163,15 @@ module _ (op m : ℕ) (s c : Mesh) (l : Lists) (pa : Passed op m s c (length (l 
                     (meshes-kinds op sc coords w₂ g (s .ends) (c .ends) ins (s .kinds) (c .kinds) (pa .subject .kindsLong) kinds-stand)
                     (meshes-families op sc coords w₂ g (s .ends) (c .ends) ins (s .families) (c .families) (pa .subject .familiesLong) families-stand)
                     (meshes-parent-meshes op sc coords w₂ g (s .ends) (c .ends) ins) (meshes-parent-cells op sc coords w₂ g (s .ends) (c .ends) ins)
-                    ok′ fs om′ oi′ (e .kinds) (e .families) (e .meshes) (e .cells) oc₁ (placed op m s c w pa oc oc₁ w₁ x told z)
+                    ok′ fs om′ oi′ (e .kinds) (e .families) (e .meshes) (e .cells) oc₁ (placed op m s c (l .work) pa (l .coords) oc₁ w₁ x told z)
                     (x .next - (length (s .coords) + length (c .coords)) / 2)
-                    (points-are op s c (x .next) ((length (s .coords) + length (c .coords)) / 2) half (next-is op m s c w pa oc oc₁ w₁ x told z)),
+                    (points-are op s c (x .next) ((length (s .coords) + length (c .coords)) / 2) half (next-is op m s c (l .work) pa (l .coords) oc₁ w₁ x told z)),
               )
 
-          pub ran : (ok′ fs om′ oi′ : List ℕ) → ok′ ≡ front ok (map (kindBy (s .kinds) (c .kinds)) (tags top))
+          pub ran : (ok′ fs om′ oi′ : List ℕ) → ok′ ≡ front (l .kinds) (map (kindBy (s .kinds) (c .kinds)) (tags top))
               → fs ≡ map (familyBy (s .families) (c .families)) (tags top)
-              → (om′ ≡ front om (map (meshBy (length (s .ends))) (tags top))) × (oi′ ≡ front oi (map (cellBy (length (s .ends))) (tags top)))
-              → Passed-by top ok′ fs om′ oi′
+              → (om′ ≡ front (l .meshes) (map (meshBy (length (s .ends))) (tags top))) × (oi′ ≡ front (l .cells) (map (cellBy (length (s .ends))) (tags top)))
+              → ComesTo top ok′ fs om′ oi′
           ran ok′ fs om′ oi′ ek ef (em, ei) =
-              subst (λ (k : ℕ). Passed-by k ok′ fs om′ oi′) (sym most)
+              subst (λ (k : ℕ). ComesTo k ok′ fs om′ oi′) (sym most)
               (ran-room ok′ fs om′ oi′ (subst (λ (k : ℕ). Passes k ok′ fs om′ oi′) most (record { kinds = ek; families = ef; meshes = em; cells = ei })))

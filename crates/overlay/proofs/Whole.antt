@@ -111,31 +111,6 @@ cells-over op sc = cells-append (one theSubject) (one theCutter) (of theSubject)
 
 module _ (op m : ℕ) (s c : Mesh) (l : Lists) (found : List Event)
     (course-is : course op s c ≡ found ++ overBoth op (sceneFor op s c) (cellEvents op (sceneFor op s c))) where
-  -- its lists
-  abbrev oc : List Float
-  oc = l .coords
-
-  abbrev on : List ℕ
-  on = l .nodes
-
-  abbrev oe : List ℕ
-  oe = l .ends
-
-  abbrev ok : List ℕ
-  ok = l .kinds
-
-  abbrev of : List ℕ
-  of = l .families
-
-  abbrev om : List ℕ
-  om = l .meshes
-
-  abbrev oi : List ℕ
-  oi = l .cells
-
-  abbrev w : List ℕ
-  w = l .work
-
   abbrev sc₀ : Scene
   sc₀ = sceneFor op s c
 
@@ -147,54 +122,55 @@ module _ (op m : ℕ) (s c : Mesh) (l : Lists) (found : List Event)
   ps = overBoth op sc₀ (λ v. kept sc₀ v op)
 
   -- refused before the cells
-  pub found-refused : (code : ℕ) → (code ≡ 0 → ⊥) → ((q n : ℕ) → code ≡ firstRefusal m (length oc / 2) q n found) → code ≡ stateOf op m s c l
+  pub found-refused : (code : ℕ) → (code ≡ 0 → ⊥) → ((q n : ℕ) → code ≡ firstRefusal m (length (l .coords) / 2) q n found) → code ≡ stateOf op m s c l
   unfolding stateWith
   found-refused code n e =
-      refused code found (overBoth op sc₀ (cellEvents op sc₀)) m (length oc / 2) room (length on) n (e room (length on))
-      ∙ ap (firstRefusal m (length oc / 2) room (length on)) (sym course-is)
+      refused code found (overBoth op sc₀ (cellEvents op sc₀)) m (length (l .coords) / 2) room (length (l .nodes)) n (e room (length (l .nodes)))
+      ∙ ap (firstRefusal m (length (l .coords) / 2) room (length (l .nodes))) (sym course-is)
 
-  module _ (m′ p′ : ℕ) (passes : (fs : List Event) → firstRefusal m (length oc / 2) room (length on) (found ++ fs) ≡ firstRefusal m′ p′ room (length on) fs)
+  module _ (m′ p′ : ℕ) (passes : (fs : List Event) → firstRefusal m (length (l .coords) / 2) room (length (l .nodes)) (found ++ fs) ≡ firstRefusal m′ p′ room (length (l .nodes)) fs)
       (y : Yield) (steady : Steady y) (events-are : y .events ≡ overBoth op sc₀ (cellEvents op sc₀)) (r : Listed) (on′ oe′ of′ : List ℕ)
-      (placed : placing r on′ oe′ of′ ≡ placedBehind noneYet y on (take room oe) (take room of)) where
-    ends-long : length (take room oe) ≡ room
-    ends-long = length-take-le room oe (omega arith)
+      (placed : placing r on′ oe′ of′ ≡ placedBehind noneYet y (l .nodes) (take room (l .ends)) (take room (l .families))) where
+    ends-long : length (take room (l .ends)) ≡ room
+    ends-long = length-take-le room (l .ends) (omega arith)
 
     pub cells-state : r .code ≡ stateOf op m s c l
     unfolding stateWith
     cells-state =
-        let a : length (take room oe) - 0 ≡ room = omega (arith, ends-long) in
-        let b : length on - 0 ≡ length on = omega arith in
-        code-met noneYet y on (take room oe) (take room of) r on′ oe′ of′ placed
+        let a : length (take room (l .ends)) - 0 ≡ room = omega (arith, ends-long) in
+        let b : length (l .nodes) - 0 ≡ length (l .nodes) = omega arith in
+        code-met noneYet y (l .nodes) (take room (l .ends)) (take room (l .families)) r on′ oe′ of′ placed
         ∙ (λ i. firstRefusal 0 0 (a i) (b i) (events-are i))
-        ∙ sym (only-cells m′ p′ room (length on) (overBoth op sc₀ (cellEvents op sc₀)) (cells-over op sc₀))
-        ∙ sym (passes (overBoth op sc₀ (cellEvents op sc₀))) ∙ ap (firstRefusal m (length oc / 2) room (length on)) (sym course-is)
+        ∙ sym (only-cells m′ p′ room (length (l .nodes)) (overBoth op sc₀ (cellEvents op sc₀)) (cells-over op sc₀))
+        ∙ sym (passes (overBoth op sc₀ (cellEvents op sc₀))) ∙ ap (firstRefusal m (length (l .coords) / 2) room (length (l .nodes))) (sym course-is)
 
     module _ (z : r .code ≡ 0) (pieces-are : y .pieces ≡ nodesOf ps) where
       count-is : r .count ≡ length (y .pieces)
-      count-is = all-placed noneYet y on (take room oe) (take room of) r on′ oe′ of′ placed z .counted ∙ zero-add (length (y .pieces))
+      count-is = all-placed noneYet y (l .nodes) (take room (l .ends)) (take room (l .families)) r on′ oe′ of′ placed z .counted ∙ zero-add (length (y .pieces))
 
       -- what is counted has its place
       pub count-low : r .count ≤ room
-      count-low = let f = fit noneYet y on (take room oe) (take room of) r on′ oe′ of′ placed steady (omega arith) (omega arith) z in omega (arith, f .0, ends-long)
+      count-low = let f = fit noneYet y (l .nodes) (take room (l .ends)) (take room (l .families)) r on′ oe′ of′ placed steady (omega arith) (omega arith) z in omega (arith, f .0, ends-long)
 
       tags-long : length (y .tags) ≡ r .count
       tags-long = steady .tags ∙ sym count-is
 
       abbrev of″ : List ℕ
-      of″ = of′ ++ drop room of
+      of″ = of′ ++ drop room (l .families)
 
-      tagged : of″ ≡ front of (y .tags)
+      tagged : of″ ≡ front (l .families) (y .tags)
       tagged =
-          front-back of (y .tags) of′ room (all-placed noneYet y on (take room oe) (take room of) r on′ oe′ of′ placed z .tags ∙ front-put (take room of) (y .tags))
+          front-back (l .families) (y .tags) of′ room
+          (all-placed noneYet y (l .nodes) (take room (l .ends)) (take room (l .families)) r on′ oe′ of′ placed z .tags ∙ front-put (take room (l .families)) (y .tags))
           (omega (arith, tags-long, count-low)) (omega arith)
 
       -- the tags of the pieces
       pub tags-read : take (r .count) of″ ≡ y .tags
-      tags-read = ap (take (r .count)) tagged ∙ take-front-of of (y .tags) (r .count) tags-long
+      tags-read = ap (take (r .count)) tagged ∙ take-front-of (l .families) (y .tags) (r .count) tags-long
 
       pub tags-fit : r .count ≤ length of″
       unfolding front
-      tags-fit = omega (arith, ap length tagged, length-append (y .tags) (drop (length (y .tags)) of), tags-long)
+      tags-fit = omega (arith, ap length tagged, length-append (y .tags) (drop (length (y .tags)) (l .families)), tags-long)
 
       -- a list that a pass has written to by the tags
       passed : (by : ℕ → ℕ) (part : Piece → ℕ) → map by (y .tags) ≡ map part ps
@@ -205,28 +181,29 @@ module _ (op m : ℕ) (s c : Mesh) (l : Lists) (found : List Event)
           (families-are : map (familyBy (s .families) (c .families)) (y .tags) ≡ map (λ p. p .family) ps)
           (meshes-are : map (meshBy (length (s .ends))) (y .tags) ≡ map (λ p. sideNumber (p .mesh)) ps)
           (cells-are : map (cellBy (length (s .ends))) (y .tags) ≡ map (λ p. p .cell) ps) where
-        pub cells-answered : (ok′ fs om′ oi′ : List ℕ) → ok′ ≡ front ok (map (kindBy (s .kinds) (c .kinds)) (take (r .count) of″))
+        pub cells-answered : (ok′ fs om′ oi′ : List ℕ) → ok′ ≡ front (l .kinds) (map (kindBy (s .kinds) (c .kinds)) (take (r .count) of″))
             → fs ≡ map (familyBy (s .families) (c .families)) (take (r .count) of″)
-            → om′ ≡ front om (map (meshBy (length (s .ends))) (take (r .count) of″)) → oi′ ≡ front oi (map (cellBy (length (s .ends))) (take (r .count) of″))
-            → (oc′ : List Float) → oc′ ≡ front oc (sc₀ .coords) → (points : ℕ) → points ≡ length (addedBy (sc₀ .met)) / 2
-            → result 0 (r .count) points 0 (lentLists oc′ on′ (oe′ ++ drop room oe) ok′ (fs ++ drop (r .count) of″) om′ oi′ (zeros (length w))) ≡ answered op s c l
+            → om′ ≡ front (l .meshes) (map (meshBy (length (s .ends))) (take (r .count) of″)) → oi′ ≡ front (l .cells) (map (cellBy (length (s .ends))) (take (r .count) of″))
+            → (oc′ : List Float) → oc′ ≡ front (l .coords) (sc₀ .coords) → (points : ℕ) → points ≡ length (addedBy (sc₀ .met)) / 2
+            → result 0 (r .count) points 0 (lentLists oc′ on′ (oe′ ++ drop room (l .ends)) ok′ (fs ++ drop (r .count) of″) om′ oi′ (zeros (length (l .work)))) ≡ answered op s c l
         unfolding answeredWith written listingWith
         cells-answered ok′ fs om′ oi′ ek ef em ei oc′ ec points ep =
-            let a = all-placed noneYet y on (take room oe) (take room of) r on′ oe′ of′ placed z in
+            let a = all-placed noneYet y (l .nodes) (take room (l .ends)) (take room (l .families)) r on′ oe′ of′ placed z in
             let count : r .count ≡ length ps = count-is ∙ ap length pieces-are ∙ length-map ps (λ p. p .nodes) in
-            let corners : on′ ≡ front on (flat (nodesOf ps)) = a .corners ∙ front-put on (flat (y .pieces)) ∙ ap (λ (ks : List (List ℕ)). front on (flat ks)) pieces-are in
-            let ends : oe′ ++ drop room oe ≡ front oe (stops 0 (nodesOf ps)) =
-            front-back oe (stops 0 (y .pieces)) oe′ room (a .ends ∙ front-put (take room oe) (stops 0 (y .pieces)))
+            let corners : on′ ≡ front (l .nodes) (flat (nodesOf ps)) =
+            a .corners ∙ front-put (l .nodes) (flat (y .pieces)) ∙ ap (λ (ks : List (List ℕ)). front (l .nodes) (flat ks)) pieces-are in
+            let ends : oe′ ++ drop room (l .ends) ≡ front (l .ends) (stops 0 (nodesOf ps)) =
+            front-back (l .ends) (stops 0 (y .pieces)) oe′ room (a .ends ∙ front-put (take room (l .ends)) (stops 0 (y .pieces)))
             (omega (arith, stops-length 0 (y .pieces), count-is, count-low)) (omega arith)
-            ∙ ap (λ (ks : List (List ℕ)). front oe (stops 0 ks)) pieces-are in
-            let kinds = passed (kindBy (s .kinds) (c .kinds)) (λ p. p .kind) kinds-are ok ok′ ek in
-            let meshes = passed (meshBy (length (s .ends))) (λ p. sideNumber (p .mesh)) meshes-are om om′ em in
-            let cells = passed (cellBy (length (s .ends))) (λ p. p .cell) cells-are oi oi′ ei in
+            ∙ ap (λ (ks : List (List ℕ)). front (l .ends) (stops 0 ks)) pieces-are in
+            let kinds = passed (kindBy (s .kinds) (c .kinds)) (λ p. p .kind) kinds-are (l .kinds) ok′ ek in
+            let meshes = passed (meshBy (length (s .ends))) (λ p. sideNumber (p .mesh)) meshes-are (l .meshes) om′ em in
+            let cells = passed (cellBy (length (s .ends))) (λ p. p .cell) cells-are (l .cells) oi′ ei in
             let fs-are : fs ≡ map (λ p. p .family) ps = ef ∙ ap (map (familyBy (s .families) (c .families))) tags-read ∙ families-are in
-            let families : fs ++ drop (r .count) of″ ≡ front of (map (λ p. p .family) ps) =
+            let families : fs ++ drop (r .count) of″ ≡ front (l .families) (map (λ p. p .family) ps) =
             ap₂ (λ (u v : List ℕ). u ++ drop (r .count) v) fs-are tagged
-            ∙ front-over of (y .tags) (map (λ p. p .family) ps) (r .count) tags-long (length-map ps (λ p. p .family) ∙ sym count) in
-            λ i. result 0 (count i) (ep i) 0 (lentLists (ec i) (corners i) (ends i) (kinds i) (families i) (meshes i) (cells i) (zeros (length w)))
+            ∙ front-over (l .families) (y .tags) (map (λ p. p .family) ps) (r .count) tags-long (length-map ps (λ p. p .family) ∙ sym count) in
+            λ i. result 0 (count i) (ep i) 0 (lentLists (ec i) (corners i) (ends i) (kinds i) (families i) (meshes i) (cells i) (zeros (length (l .work))))
 
 -- the points are those that the meetings add
 pub points-are : (op : ℕ) (s c : Mesh) (next k : ℕ) → length (s .coords) + length (c .coords) ≡ 2 * k → next ≡ length (sceneFor op s c .coords) / 2
