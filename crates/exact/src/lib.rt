@@ -1,6 +1,8 @@
 // Exact signs of sums of products of f64, and the exact order of directions. Coordinates are whole
 // numbers of 2^-1074, products of 2^-2148, and nothing here rounds. Any f64 is taken: what is not
 // finite counts as 0.
+#![tactic(auto)]
+
 mod angle; // the order of directions
 mod cross; // the sign of a · b − c · d
 mod near; // orientation where the exponents are close
@@ -14,7 +16,7 @@ pub use orient::orient2d;
 pub use parts::{Parts, is_finite};
 
 // How a number compares with another, or a direction; as a sign, how it compares with 0.
-#[derive(Drop)]
+#[derive(Clone, Copy)]
 pub enum Order {
     Less,
     Equal,

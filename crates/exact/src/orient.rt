@@ -10,7 +10,7 @@ use crate::parts::{Parts, take_apart};
 use crate::rows::orient_far;
 
 // The least and the greatest exponent of some numbers that are not zero.
-#[derive(Drop)]
+#[derive(Clone, Copy)]
 pub(crate) struct Window {
     pub(crate) base: usize,
     pub(crate) top: usize,

@@ -4,7 +4,7 @@ ghost use Rattle.std.specs.Float.Ieee.Scale.{finite};
 ghost use Rattle.exact.specs.Exact.{take_apart};
 
 // The number ±m · 2^e, in units of 2^-1074.
-#[derive(Drop)]
+#[derive(Clone, Copy)]
 pub struct Parts {
     pub neg: bool,
     pub m: u64,

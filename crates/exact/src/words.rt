@@ -7,7 +7,7 @@ ghost use Rattle.exact.specs.Inner.{Lead, wide};
 use crate::Order;
 
 // The number hi · 2^64 + lo.
-#[derive(Drop)]
+#[derive(Clone, Copy)]
 pub(crate) struct Wide {
     pub(crate) hi: u64,
     pub(crate) lo: u64,

@@ -299,10 +299,10 @@ module _ {A : Type 0} where
   in_list (x ∷ xs) (suc k) h d = Memᴰ.tail (in_list xs k (omega (arith, h)) d)
 
   -- within a list the default doesn't matter
-  pub get_d_any : (l : List A) (i : ℕ) (a b : A) → i < length l → get_or l i a ≡ get_or l i b
-  get_d_any [] i a b h = absurd (not-suc-le-zero h)
-  get_d_any (x ∷ xs) zero a b h = refl
-  get_d_any (x ∷ xs) (suc i) a b h = get_d_any xs i a b (omega (arith, h))
+  pub get_or_any : (l : List A) (i : ℕ) (a b : A) → i < length l → get_or l i a ≡ get_or l i b
+  get_or_any [] i a b h = absurd (not-suc-le-zero h)
+  get_or_any (x ∷ xs) zero a b h = refl
+  get_or_any (x ∷ xs) (suc i) a b h = get_or_any xs i a b (omega (arith, h))
 
   pub mem_at : (l : List A) (x : A) → Memᴰ x l → (k : ℕ) × (k < length l) × ((d : A) → get_or l k d ≡ x)
   mem_at [] x h = absurd (Memᴰ.not-nil h)

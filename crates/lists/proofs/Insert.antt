@@ -4,7 +4,6 @@ use mathlib.Core.Bool.{true, false, ◌&&◌}
 use mathlib.Core.List.{List, [], ◌∷◌, ◌++◌, append_assoc}
 use Prim.Native.Nat.{ℕ, zero, suc, ◌+◌, ◌-◌, ◌≤◌, ◌<◌}
 use native.Mathlib.Numerals.{add-one}
-use native.Mathlib.Decide.{dec_le, dec_lt}
 use native.Mathlib.Omega.{arith}
 use lib.Dec.{leb, ltb}
 use lib.ListN.{length, get_or, set, take, drop, length-append, length-drop, get_or-append}
@@ -12,7 +11,7 @@ use lib.Seq.{slice, slice_empty, slice-cons, split_at, set_at, take-suc, get_or-
 use borrow.Author.Tests.{le-leb, lt-leb, lt-ltb, le-ltb}
 use Rattle.lists.specs.Sort.{moved}
 use Rattle.lists.specs.Regions.{front, put_in, insert_at}
-use Rattle.lists.proofs.Regions.{take_front_of, length_front, front_in}
+use Rattle.lists.proofs.Regions.{front_in}
 
 module _ {A : Type 0} where
   pub moved_below : (f : ℕ → A) (s : A) (k i : ℕ) → i < k → moved f s k i ≡ f i

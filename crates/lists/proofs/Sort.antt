@@ -1,20 +1,17 @@
 -- The laws of the stable order. Assumes nothing.
-use mathlib.Core.Path.{◌≡◌, refl, sym, ap, ap₂, ◌∙◌}
+use mathlib.Core.Path.{◌≡◌, refl, sym, ap, ◌∙◌}
 use mathlib.Core.Bool.{Bool, true, false, not, true≢false}
-use mathlib.Core.List.{List, [], ◌∷◌, ◌++◌, map, append-nil}
+use mathlib.Core.List.{List, [], ◌∷◌, ◌++◌, map}
 use Prim.Native.Nat.{ℕ, zero, suc, ◌+◌, ◌≤◌, ◌<◌}
-use native.Mathlib.Nat.{le_of_eq}
-use native.Mathlib.Numerals.{add-one}
 use native.Mathlib.Omega.{arith}
-use lib.ListN.{length, get_or, take, drop, drop_of_length-le}
-use lib.Seq.{length-take-le, take-suc, take_all, get_or-take}
+use lib.ListN.{length, get_or, take}
+use lib.Seq.{length-take-le, get_or-take}
 use Rattle.lists.specs.Search.{bit, seek, first}
 use Rattle.lists.specs.Gather.{gathered, each, all, tally}
 use Rattle.lists.specs.Sort.{insert, sort_onto, sorted, moved}
 use Rattle.lists.specs.Regions.{front, put_in, insert_at}
 use Rattle.lists.proofs.Search.{first_here, first_shift, first_le, first_ext}
 use Rattle.lists.proofs.Gather.{each_head, all_both}
-use Rattle.lists.proofs.Regions.{take_front_of, front_front, front_behind}
 use Rattle.lists.proofs.Insert.{insert_at_fits}
 
 module _ {A : Type 0} (before : A → A → Bool) where

@@ -1,4 +1,6 @@
 // What every layer does with lent lists.
+#![tactic(auto)]
+
 mod bytes;
 mod floats;
 mod numbers;

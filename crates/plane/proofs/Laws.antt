@@ -5,10 +5,10 @@ use Prim.Native.Nat.{ℕ, zero, suc, ◌≤◌}
 use native.Mathlib.Omega.{arith}
 use lib.ListN.{length, get_or}
 
-pub get_d_over : {A : Type 0} (xs : List A) (i : ℕ) (d : A) → length xs ≤ i → get_or xs i d ≡ d
-get_d_over [] i d h = refl
-get_d_over (x ∷ xs) zero d h = absurd (omega arith)
-get_d_over (x ∷ xs) (suc i) d h = get_d_over xs i d (omega arith)
+pub get_or_over : {A : Type 0} (xs : List A) (i : ℕ) (d : A) → length xs ≤ i → get_or xs i d ≡ d
+get_or_over [] i d h = refl
+get_or_over (x ∷ xs) zero d h = absurd (omega arith)
+get_or_over (x ∷ xs) (suc i) d h = get_or_over xs i d (omega arith)
 
 -- an answer and what a function makes of it
 pub both : {A B : Type 0} (f : A → B) {r s : A} → r ≡ s → (r ≡ s) × (f r ≡ f s)

@@ -1,10 +1,12 @@
 // Points of the plane and the steps from one to another (document 01, module 1), and the point of a node in a flat list of coordinates, x then y.
 // Each float operation rounds once, in the order written there.
+#![tactic(auto)]
+
 ghost use Rattle.std.specs.Prelude.{◌≡◌, get_or};
 ghost use Rattle.std.specs.Float.{nan};
 ghost use Rattle.plane.specs.Plane.{between, dot, along, magnitude, point_at};
 
-#[derive(Drop)]
+#[derive(Clone, Copy)]
 pub struct Point {
     pub x: f64,
     pub y: f64,

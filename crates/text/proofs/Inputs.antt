@@ -1,13 +1,9 @@
 -- Reading undoes printing: a mesh and an input. Printing has no two inputs of one text. Assumes nothing.
 use mathlib.Core.Path.{◌≡◌, refl, sym, ap, ◌∙◌}
-use mathlib.Core.Bool.{Bool, true, false, cond}
-use mathlib.Core.List.{List, [], ◌∷◌, ◌++◌, append_assoc, append-nil, map}
-use Prim.Native.Nat.{ℕ, zero, suc, ◌+◌, ◌-◌, ◌*◌, ◌/◌, ◌≤◌, ◌<◌}
-use native.Mathlib.Omega.{arith}
-use borrow.Author.Tests.{le-leb, eq-eqb}
-use lib.ListN.{length, take, drop}
-use lib.Seq.{take-length, take_all}
-use lib.Ieee.{Float}
+use mathlib.Core.List.{List, [], ◌++◌, append_assoc, map}
+use Prim.Native.Nat.{ℕ, ◌≤◌}
+use lib.ListN.{length}
+use lib.Seq.{take-length}
 use Rattle.text.specs.Text.{
   space,
   close,
@@ -26,8 +22,8 @@ use Rattle.text.specs.Text.{
   first_text,
   input_text,
 }
-use Rattle.text.specs.Read.{Rest, no, past, and_then, after_word, word_from, nodes_from, cells_from, mesh_from, first_from, input_from, decimal_from, empty}
-use Rattle.text.specs.Given.{Parsed, none, got, coordinate, Cells, Limits, ReadMesh, First, Given}
+use Rattle.text.specs.Read.{no, and_then, after_word, word_from, cells_from, mesh_from, first_from, input_from, empty}
+use Rattle.text.specs.Given.{Parsed, got, coordinate, Limits, Given}
 use Rattle.text.proofs.Inverse.{word_self}
 use Rattle.text.specs.Inputs.{Rises, no_cells, cell, Fine, read, Within, Input, text_of, given, Readable}
 use Rattle.text.proofs.Lines.{nodes_read, cells_read, so_far, before_stop, stop_space, stop_newline}
@@ -50,7 +46,7 @@ whole_cells : (c e : ℕ) (ns es ks fs t : List ℕ) → Rises ns 0 es ks fs (le
     → cells_from e c empty (cells_text 0 ns es ks fs ++ (close ++ t)) ≡ got (record { nodes = ns; ends = es; kinds = ks; families = fs }) (close ++ t)
 unfolding so_far
 whole_cells c e ns es ks fs t r l h =
-    cells_read c e ns [] [] [] (close ++ t) r l h (no_cell_close t)
+    cells_read e ns c [] [] [] (close ++ t) r l h (no_cell_close t)
     ∙ ap (λ (l : List ℕ). got (record { nodes = l; ends = es; kinds = ks; families = fs }) (close ++ t)) (take-length ns)
 
 -- a mesh within its limits is read back

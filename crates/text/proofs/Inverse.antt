@@ -1,21 +1,16 @@
 -- Reading undoes printing: words, numbers, lines. Assumes nothing.
-use mathlib.Core.Path.{◌≡◌, refl, sym, ap, ◌∙◌, subst}
+use mathlib.Core.Path.{◌≡◌, refl, sym, ap, ◌∙◌}
 use mathlib.Core.Bool.{Bool, true, false, cond}
-use mathlib.Core.List.{List, [], ◌∷◌, ◌++◌, append_assoc, append-nil, map}
-use Prim.Native.Nat.{ℕ, zero, suc, ◌+◌, ◌-◌, ◌*◌, ◌/◌, ◌%◌, ◌≤◌, ◌<◌, zero-le}
-use native.Mathlib.Nat.{not-suc-le-zero, le_of_suc-le-suc, le_refl}
-use native.Mathlib.Numerals.{add-one}
+use mathlib.Core.List.{List, [], ◌∷◌, ◌++◌}
+use Prim.Native.Nat.{ℕ, zero, suc, ◌+◌, ◌-◌, ◌*◌, ◌/◌, ◌%◌, ◌≤◌, ◌<◌}
 use native.Mathlib.Omega.{arith}
-use borrow.Author.Tests.{lt-ltb, le-ltb, le-leb, lt-leb, eq-eqb, ne_eqb, ltb-true, ltb-false}
-use lib.Dec.{ltb, leb, eqb}
-use lib.ListN.{length, take, drop}
+use borrow.Author.Tests.{lt-ltb, le-ltb, le-leb, eq-eqb, ne_eqb, ltb-true, ltb-false}
+use lib.Dec.{ltb}
 use lib.Seq.{append_snoc}
-use lib.Ieee.{Float}
-use Rattle.text.specs.Text.{space, close, newline, node_word, cell_word, decimal_to, decimal, glyph, hex_to, hex, node_text, nodes_text, numbers_text}
-use Rattle.text.specs.Read.{Rest, no, past, if_word, and_then, after_word, word_from, digit_val, hex_val}
-use Rattle.text.specs.Read.{more_from, decimal_from, hex_from, repeated, node_from, node_step, nodes_from, entry_step, entries_from}
-use Rattle.text.specs.Given.{Parsed, none, got, coordinate}
-use Rattle.text.proofs.Repeats.{repeated_stop}
+use Rattle.text.specs.Text.{decimal_to, decimal, glyph, hex_to, hex}
+use Rattle.text.specs.Read.{past, word_from, digit_val, hex_val}
+use Rattle.text.specs.Read.{more_from, decimal_from, hex_from}
+use Rattle.text.specs.Given.{got}
 
 -- ---- words
 pub word_self : (w t : List ℕ) → word_from w (w ++ t) ≡ past t

@@ -1,18 +1,17 @@
 -- Reading undoes printing: lines, meshes, inputs. Assumes nothing.
-use mathlib.Core.Path.{◌≡◌, refl, sym, ap, ◌∙◌, subst}
-use mathlib.Core.Bool.{Bool, true, false, cond}
+use mathlib.Core.Path.{◌≡◌, refl, sym, ap, ◌∙◌}
 use mathlib.Core.List.{List, [], ◌∷◌, ◌++◌, append_assoc, append-nil, map}
-use Prim.Native.Nat.{ℕ, zero, suc, ◌+◌, ◌-◌, ◌*◌, ◌/◌, ◌%◌, ◌≤◌, ◌<◌, zero-le}
-use native.Mathlib.Nat.{not-suc-le-zero, le_of_suc-le-suc, le_refl, le_trans, add-sub_of_le}
+use Prim.Native.Nat.{ℕ, zero, suc, ◌+◌, ◌-◌, ◌*◌, ◌≤◌, ◌<◌}
+use native.Mathlib.Nat.{not-suc-le-zero, le_of_suc-le-suc, le_trans, add-sub_of_le}
 use native.Mathlib.Omega.{arith}
-use borrow.Author.Tests.{lt-ltb, le-ltb, le-leb, lt-leb, eq-eqb, ne_eqb}
-use lib.ListN.{length, take, drop, length-append, length-take, length-drop}
-use lib.Seq.{append_snoc, length-take-le, take-add}
+use borrow.Author.Tests.{le-leb}
+use lib.ListN.{length, take, drop, length-drop}
+use lib.Seq.{length-take-le, take-add}
 use lib.Ieee.{Float}
-use Rattle.text.specs.Text.{space, close, newline, node_word, cell_word, mesh_word, overlay_word, decimal, hex, node_text, nodes_text, numbers_text, cell_text, cells_text}
-use Rattle.text.specs.Read.{Rest, no, past, if_word, and_then, after_word, word_from, digit_val, decimal_from, hex_from, repeated, node_from}
-use Rattle.text.specs.Read.{node_step, nodes_from, entry_step, entries_from, Heading, head_from, Cell, cell_from, add_cell, cell_step, cells_from}
-use Rattle.text.specs.Given.{Parsed, none, got, coordinate, Cells}
+use Rattle.text.specs.Text.{space, close, newline, node_word, cell_word, decimal, hex, node_text, nodes_text, numbers_text, cell_text, cells_text}
+use Rattle.text.specs.Read.{no, if_word, and_then, after_word, word_from, digit_val, decimal_from, repeated, node_from}
+use Rattle.text.specs.Read.{node_step, nodes_from, entry_step, entries_from, head_from, cell_from, add_cell, cell_step, cells_from}
+use Rattle.text.specs.Given.{Parsed, got, coordinate, Cells}
 use Rattle.text.specs.Inputs.{Coords, no_coords, pair, Small, no_numbers, small, Rises, no_cells, cell}
 use Rattle.text.proofs.Repeats.{repeated_stop}
 use Rattle.text.proofs.Inverse.{word_self, decimal_read, hex_read}
@@ -147,17 +146,17 @@ no_word : (k room n : ℕ) (ns xs ys zs t : List ℕ) → word_from cell_word t 
 unfolding cells_text so_far
 no_word k room n ns xs ys zs t s = rw (append-nil xs, append-nil ys, append-nil zs) (repeated_stop cell_word (cell_step room) (so_far ns n xs ys zs) t k s)
 
-pub cells_read : {n m : ℕ} {es ks fs : List ℕ} (k room : ℕ) (ns xs ys zs t : List ℕ) → Rises ns n es ks fs m → length es ≤ k → length ns ≤ room → word_from cell_word t ≡ no
+pub cells_read : (room : ℕ) (ns : List ℕ) {n m : ℕ} {es ks fs : List ℕ} (k : ℕ) (xs ys zs t : List ℕ) → Rises ns n es ks fs m → length es ≤ k → length ns ≤ room → word_from cell_word t ≡ no
     → cells_from room k (so_far ns n xs ys zs) (cells_text n ns es ks fs ++ t) ≡ got (so_far ns m (xs ++ es) (ys ++ ks) (zs ++ fs)) t
 unfolding cells_from
-cells_read {n} k room ns xs ys zs t no_cells l r s = no_word k room n ns xs ys zs t s
-cells_read zero room ns xs ys zs t (cell h g hk hf c d) l r s = absurd (not-suc-le-zero l)
-cells_read {n} {m} (suc j) room ns xs ys zs t (cell {e = e} {k = k} {f = f} {es = es} {ks = ks} {fs = fs} h g hk hf c d) l r s =
+cells_read room ns {n} k xs ys zs t no_cells l r s = no_word k room n ns xs ys zs t s
+cells_read room ns zero xs ys zs t (cell h g hk hf c d) l r s = absurd (not-suc-le-zero l)
+cells_read room ns {n} {m} (suc j) xs ys zs t (cell {e = e} {k = k} {f = f} {es = es} {ks = ks} {fs = fs} h g hk hf c d) l r s =
     ap (repeated cell_word (cell_step room) (suc j) (so_far ns n xs ys zs)) (cell_apart n e k f ns es ks fs t)
     ∙ one cell_word (cell_step room) j (so_far ns n xs ys zs) (so_far ns e (xs ++ (e ∷ [])) (ys ++ (k ∷ [])) (zs ++ (f ∷ [])))
     (decimal k ++ (space ++ (decimal f ++ (numbers_text (take (e - n) (drop n ns)) ++ (close ++ (cells_text e ns es ks fs ++ t)))))) (cells_text e ns es ks fs ++ t)
     (cell_step_lem room n e k f ns xs ys zs (cells_text e ns es ks fs ++ t) h g (le_trans g r) hk hf c)
-    ∙ cells_read j room ns (xs ++ (e ∷ [])) (ys ++ (k ∷ [])) (zs ++ (f ∷ [])) t d (le_of_suc-le-suc l) r s
+    ∙ cells_read room ns j (xs ++ (e ∷ [])) (ys ++ (k ∷ [])) (zs ++ (f ∷ [])) t d (le_of_suc-le-suc l) r s
     ∙ ap (λ (u : List ℕ). got (so_far ns m u (ys ++ (k ∷ []) ++ ks) (zs ++ (f ∷ []) ++ fs)) t) (append_assoc xs (e ∷ []) es)
     ∙ ap (λ (u : List ℕ). got (so_far ns m (xs ++ (e ∷ es)) u (zs ++ (f ∷ []) ++ fs)) t) (append_assoc ys (k ∷ []) ks)
     ∙ ap (λ (u : List ℕ). got (so_far ns m (xs ++ (e ∷ es)) (ys ++ (k ∷ ks)) u) t) (append_assoc zs (f ∷ []) fs)

@@ -1,14 +1,13 @@
 -- Only printed text is read: whatever is read is an input whose text this is. Assumes nothing.
 use mathlib.Core.Path.{◌≡◌, refl, sym, ap, ◌∙◌}
-use mathlib.Core.Bool.{Bool, true, cond}
-use mathlib.Core.List.{List, [], ◌∷◌, ◌++◌, append_assoc, map}
-use Prim.Native.Nat.{ℕ, zero, suc, ◌+◌, ◌*◌, ◌≤◌}
+use mathlib.Core.List.{List, [], ◌∷◌, ◌++◌, map}
+use Prim.Native.Nat.{ℕ, ◌≤◌}
 use native.Mathlib.Omega.{arith}
 use borrow.Author.Tests.{leb-true, eqb-true}
 use lib.Dec.{leb, eqb}
 use lib.ListN.{length}
 use lib.Ieee.{Float}
-use Rattle.text.specs.Text.{space, newline, close, overlay_word, mesh_word, node_word, cell_word, decimal, nodes_text, cells_text, Bits, body_text, mesh_text, first_text, input_text}
+use Rattle.text.specs.Text.{space, newline, close, overlay_word, mesh_word, node_word, cell_word, decimal, nodes_text, cells_text, Bits, mesh_text, first_text, input_text}
 use Rattle.text.specs.Read.{word_from, decimal_from, repeated, node_step, nodes_from, cell_step, cells_from, mesh_from, first_from, input_from, empty}
 use Rattle.text.specs.Given.{Parsed, none, got, coordinate, Cells, Limits, ReadMesh, First, Given}
 use Rattle.text.specs.Inputs.{Fine, read, Within, Input, text_of, given, Readable}

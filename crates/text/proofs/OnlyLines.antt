@@ -1,38 +1,20 @@
 -- Only printed text is read: node lines and cell lines. Assumes nothing.
 use mathlib.Core.Path.{◌≡◌, refl, sym, ap, ◌∙◌}
-use mathlib.Core.Bool.{Bool, true, false, cond}
 use mathlib.Core.List.{List, [], ◌∷◌, ◌++◌, append_assoc, append-nil, map}
-use Prim.Native.Nat.{ℕ, zero, suc, ◌+◌, ◌-◌, ◌*◌, ◌≤◌, ◌<◌}
+use Prim.Native.Nat.{ℕ, suc, ◌+◌, ◌-◌, ◌*◌, ◌≤◌, ◌<◌}
 use native.Mathlib.Omega.{arith}
 use borrow.Author.Tests.{leb-true}
 use lib.Dec.{leb}
 use lib.ListN.{length, take, drop, length-append}
 use lib.Seq.{take_at, drop_at}
 use lib.Ieee.{Float}
-use Rattle.text.specs.Text.{space, close, node_word, cell_word, decimal, hex, node_text, nodes_text, numbers_text, cell_text, cells_text}
-use Rattle.text.specs.Read.{and_then, after_word, word_from, decimal_from, hex_from, repeated, node_from, node_step, nodes_from}
-use Rattle.text.specs.Read.{entry_step, entries_from, Heading, head_from, Cell, cell_from, add_cell, cell_step, cells_from}
-use Rattle.text.specs.Given.{Parsed, got, coordinate, Cells}
+use Rattle.text.specs.Text.{space, close, node_word, cell_word, decimal, hex, node_text, nodes_text, numbers_text, cells_text}
+use Rattle.text.specs.Read.{word_from, decimal_from, hex_from, repeated, node_from, node_step}
+use Rattle.text.specs.Read.{entry_step, entries_from, Heading, head_from, Cell, cell_from, add_cell, cell_step}
+use Rattle.text.specs.Given.{got, coordinate, Cells}
 use Rattle.text.specs.Inputs.{Coords, no_coords, pair, Small, no_numbers, small, Rises, no_cells, cell}
 use Rattle.text.proofs.Lines.{cell_apart}
-use Rattle.text.proofs.Only.{
-  Then,
-  then_got,
-  After,
-  after_got,
-  cond_got,
-  moved,
-  same_value,
-  same_rest,
-  word_only,
-  decimal_only,
-  hex_only,
-  Turns,
-  no_more,
-  turn,
-  Turned,
-  repeated_only,
-}
+use Rattle.text.proofs.Only.{then_got, after_got, cond_got, moved, same_value, same_rest, word_only, decimal_only, hex_only, Turns, no_more, turn, repeated_only}
 
 -- ---- node lines
 record Node (p : List Float) (t u : List ℕ) : Type 0 where
@@ -222,9 +204,9 @@ within : {room : ℕ} (cs : Cells) (x : Cell) → length x.nodes ≤ room → le
 unfolding add_cell
 within cs x h = h
 
-pub cells_turns : {n : ℕ} {cs ds : Cells} {t u : List ℕ} (room : ℕ) → length cs.nodes ≤ room → Turns cell_word (cell_step room) n cs ds t u → CellLines room n cs ds t u
+pub cells_turns : (room : ℕ) {n : ℕ} {cs ds : Cells} {t u : List ℕ} → length cs.nodes ≤ room → Turns cell_word (cell_step room) n cs ds t u → CellLines room n cs ds t u
 unfolding cell_step cells_text
-cells_turns {cs = cs} room h no_more =
+cells_turns room {cs = cs} h no_more =
     record {
       more = [];
       es = [];
@@ -239,7 +221,7 @@ cells_turns {cs = cs} room h no_more =
       rises = no_cells;
       is = refl;
     }
-cells_turns {cs = cs} room h (turn {n = n} {b = ds} {t₁ = t₁} {u = u} w e r) =
+cells_turns room {cs = cs} h (turn {n = n} {b = ds} {t₁ = t₁} {u = u} w e r) =
     let a = then_got (cell_from room cs.nodes t₁) _ e in
     let p = cell_only room cs.nodes t₁ a.first in
     let s = cells_turns room (moved (λ b v. length b.nodes ≤ room) a.second (within cs a.value (room_left room cs a.value h p))) r in

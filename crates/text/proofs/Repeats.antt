@@ -3,7 +3,7 @@ use mathlib.Core.Path.{◌≡◌, refl}
 use mathlib.Core.List.{List}
 use Prim.Native.Nat.{ℕ, zero, suc, ◌+◌, ◌-◌, ◌≤◌, ◌<◌}
 use native.Mathlib.Omega.{arith}
-use Rattle.text.specs.Read.{Rest, no, past, if_word, and_then, word_from, repeated}
+use Rattle.text.specs.Read.{no, past, if_word, and_then, word_from, repeated}
 use Rattle.text.specs.Given.{Parsed, none, got}
 
 module _ {A : Type 0} (w : List ℕ) (f : A → List ℕ → Parsed A) (a : A) (t : List ℕ) where

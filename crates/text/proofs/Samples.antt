@@ -33,7 +33,7 @@ use Rattle.text.specs.Text.{
 }
 use Rattle.text.specs.Read.{input_from, first_from, mesh_from, nodes_from, cells_from, repeated, node_step, node_from, entry_step, entries_from, head_from, cell_from}
 use Rattle.text.specs.Read.{add_cell, cell_step, decimal_from, more_from, hex_from, digit_val, hex_val, word_from, after_word, and_then, if_word}
-use Rattle.text.specs.Given.{Parsed, none, got, Limits, at_most, limits}
+use Rattle.text.specs.Given.{none, got, Limits, at_most, limits}
 use Rattle.text.specs.Inputs.{Input, text_of, given, read}
 
 abbrev pub texts : List String → List ℕ

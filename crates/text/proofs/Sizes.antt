@@ -1,42 +1,14 @@
 -- How long an answer's text can be. Assumes nothing.
-use mathlib.Core.Path.{◌≡◌, refl, sym, ap, ◌∙◌}
+use mathlib.Core.Path.{◌≡◌, refl, ◌∙◌}
 use mathlib.Core.Bool.{Bool, true, false, cond}
 use mathlib.Core.List.{List, [], ◌∷◌, ◌++◌}
-use Prim.Native.Nat.{ℕ, zero, suc, ◌+◌, ◌-◌, ◌*◌, ◌/◌, ◌%◌, ◌≤◌, ◌<◌}
+use Prim.Native.Nat.{ℕ, zero, suc, ◌+◌, ◌-◌, ◌*◌, ◌/◌, ◌%◌, ◌≤◌}
 use native.Mathlib.Omega.{arith}
 use native.Mathlib.Nat.{min-le_left, le_trans}
 use lib.Dec.{ltb}
 use lib.ListN.{length, take, drop, length-append, length-take}
-use Rattle.text.specs.Text.{
-  space,
-  close,
-  node_word,
-  cell_word,
-  listing_word,
-  count_word,
-  refused_word,
-  decimal_to,
-  decimal,
-  glyph,
-  hex_to,
-  hex,
-  node_text,
-  nodes_text,
-  numbers_text,
-  cell_text,
-  PieceLine,
-  piece_text,
-  pieces_text,
-  piece_lines,
-  count_text,
-  listing_text,
-  refused_text,
-  Answer,
-  unread,
-  refused,
-  overlay,
-  answer_text,
-}
+use Rattle.text.specs.Text.{decimal_to, decimal, glyph, hex_to, hex, node_text, nodes_text, numbers_text, cell_text, PieceLine}
+use Rattle.text.specs.Text.{piece_text, pieces_text, piece_lines, count_text, listing_text, refused_text, refused, overlay, answer_text}
 
 decimal_to_size : (k n : ℕ) → length (decimal_to k n) ≤ k
 unfolding decimal_to

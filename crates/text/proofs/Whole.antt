@@ -1,13 +1,13 @@
 -- A mesh and an input from their parts. Assumes nothing.
-use mathlib.Core.Path.{◌≡◌, refl, sym, ap, ◌∙◌}
-use mathlib.Core.List.{List, [], ◌∷◌, ◌++◌}
-use Prim.Native.Nat.{ℕ, zero, suc, ◌+◌, ◌-◌, ◌*◌, ◌/◌, ◌≤◌, ◌<◌, min}
-use borrow.Author.Tests.{lt-ltb, le-ltb, le-leb, lt-leb, eq-eqb, ne_eqb}
-use lib.ListN.{length, take, drop}
+use mathlib.Core.Path.{◌≡◌}
+use mathlib.Core.List.{List, []}
+use Prim.Native.Nat.{ℕ, ◌/◌, ◌≤◌, ◌<◌, min}
+use borrow.Author.Tests.{le-leb, lt-leb, eq-eqb, ne_eqb}
+use lib.ListN.{length}
 use lib.Ieee.{Float}
 use Rattle.text.specs.Text.{mesh_word, close}
-use Rattle.text.specs.Read.{Rest, no, past, and_then, after_word, word_from, nodes_from, cells_from, mesh_from, first_from, input_from, empty}
-use Rattle.text.specs.Given.{Parsed, none, got, Cells, Limits, at_most, limits, ReadMesh, First, Given}
+use Rattle.text.specs.Read.{no, past, and_then, after_word, word_from, nodes_from, cells_from, mesh_from, first_from, input_from, empty}
+use Rattle.text.specs.Given.{none, got, Cells, Limits, at_most, limits, ReadMesh, First}
 
 pub mesh_read : (l : Limits) (t t₁ t₂ t₃ t₄ : List ℕ) (cs : List Float) (cl : Cells) → word_from mesh_word t ≡ past t₁ → nodes_from l.nodes [] t₁ ≡ got cs t₂
     → cells_from l.entries l.cells empty t₂ ≡ got cl t₃ → word_from close t₃ ≡ past t₄ → mesh_from l t ≡ got (record { coords = cs; cells = cl }) t₄

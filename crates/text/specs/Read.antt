@@ -1,8 +1,6 @@
 -- Reading, as a function of the rest of the text. proofs/Inputs.antt shows that it undoes printing, proofs/OnlyInputs.antt that nothing but printed text is read.
 -- Assumes nothing.
-use Rattle.std.specs.Prelude.{ℕ, zero, suc, ◌+◌, ◌-◌, ◌*◌, ◌/◌, ◌%◌, ◌≤◌, ◌<◌, min, Bool, true, false, cond, List, [], ◌∷◌, ◌++◌, length, take, drop, get_or, ltb, leb, eqb, Float}
-use Rattle.std.specs.Float.Ieee.{of_bits}
-use Rattle.std.specs.Float.{binary64}
+use Rattle.std.specs.Prelude.{ℕ, zero, suc, ◌+◌, ◌-◌, ◌*◌, cond, List, [], ◌∷◌, ◌++◌, length, ltb, leb, eqb, Float}
 use Rattle.text.specs.Given.{Parsed, none, got, coordinate, Cells, ReadMesh, Limits, First, Given}
 use Rattle.text.specs.Text.{node_word, cell_word, mesh_word, overlay_word, space, newline, close}
 

@@ -1,0 +1,13 @@
+-- `lists::floats::insert_at_f64` meets its contract. The invariant: the list is the one lent with its place n given up and some entry in place i. Assumes nothing.
+use mathlib.Core.Path.{◌≡◌}
+use Prim.Native.Nat.{◌≤◌}
+use lib.ListN.{length}
+use lib.Ieee.{Float}
+use Rattle.lists.proofs.Insert.{shifted}
+use Rattle.lists.proofs.floats.insert_at_f64.Given as goal
+
+abbrev pub invariant-loop-i : goal.invariant-loop-i
+invariant-loop-i l = (l.k ≤ l.i) × (l.i ≤ l.n) × (length l.xs ≡ length l.initial.xs) × ((v : Float) × (l.xs ≡ shifted l.initial.xs l.n l.i v))
+
+abbrev pub decreases-loop-i : goal.decreases-loop-i
+decreases-loop-i l = l.i
