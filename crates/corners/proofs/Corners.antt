@@ -8,7 +8,7 @@ use native.Mathlib.Omega.{arith}
 use lib.ListN.{length, get_or, length-reverse}
 use borrow.Author.Tests.{le-ltb}
 use Rattle.corners.specs.Corners.{corner_after, oriented}
-use Rattle.plane.proofs.Laws.{get_d_over}
+use Rattle.plane.proofs.Laws.{get_or_over}
 
 behind : {A : Type 0} (l r : List A) (j : ℕ) (d : A) → get_or (reverse_aux l r) (length l + j) d ≡ get_or r j d
 behind [] r j d = ap (λ (n : ℕ). get_or r n d) (zero-add j)
@@ -39,7 +39,7 @@ forward false ps i e = refl
 forward true ps i e = absurd (false≢true (sym e))
 
 pub no_corner : (b : Bool) (ps : List ℕ) (i : ℕ) → length ps ≤ i → 0 ≡ get_or (oriented b ps) i 0
-no_corner b ps i h = sym (get_d_over (oriented b ps) i 0 (subst (λ (n : ℕ). n ≤ i) (sym (length_oriented b ps)) h))
+no_corner b ps i h = sym (get_or_over (oriented b ps) i 0 (subst (λ (n : ℕ). n ≤ i) (sym (length_oriented b ps)) h))
 
 pub after_over : (n i : ℕ) → n ≤ i → 0 ≡ corner_after n i
 unfolding corner_after

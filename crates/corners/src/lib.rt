@@ -1,4 +1,6 @@
 // The corners of a polygon (document 01, module 2): a run of node numbers, with the coordinates a flat list, x then y; its signed area.
+#![tactic(auto)]
+
 ghost use Rattle.std.specs.Prelude.{◌≡◌, ◌<◌, length, get_or};
 ghost use Rattle.corners.specs.Corners.{corner_at, corner_after, corner_before, next_corner, oriented, area_term, doubled_sum, signed_area2, turned, into_ccw2};
 

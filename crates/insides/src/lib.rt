@@ -1,4 +1,6 @@
 // Whether a point lies inside a polygon (document 01, module 2), its corners a run of node numbers, the coordinates a flat list, x then y.
+#![tactic(auto)]
+
 ghost use Rattle.std.specs.Prelude.{◌≡◌};
 ghost use Rattle.exact.specs.Exact.{is_less, is_greater};
 ghost use Rattle.corners.specs.Corners.{oriented};
@@ -9,14 +11,14 @@ use exact::Order;
 use plane::Point;
 
 // The parameter of a projection, and the squared distance from it.
-#[derive(Drop)]
+#[derive(Clone, Copy)]
 pub struct Reached {
     pub t: f64,
     pub d: f64,
 }
 
 // What is closest to a point so far: the squared distance, and the edge from the corner `at`, or the corner itself.
-#[derive(Drop)]
+#[derive(Clone, Copy)]
 pub struct Near {
     pub d: f64,
     pub edge: bool,

@@ -1,4 +1,6 @@
 // A point strictly inside a polygon (document 01, module 2). The corners are a run of node numbers, the coordinates a flat list, x then y.
+#![tactic(auto)]
+
 ghost use Rattle.std.specs.Prelude.{◌≡◌, length};
 ghost use Rattle.std.specs.Float.Ieee.{lt};
 ghost use Rattle.lists.specs.Gather.{all};
@@ -11,14 +13,14 @@ use corners::{after, corner_at, doubled};
 use plane::Point;
 
 // A height, or none.
-#[derive(Drop)]
+#[derive(Clone, Copy)]
 pub enum Height {
     Nothing,
     At(f64),
 }
 
 // How far the heights have been climbed, and the widest gap on the way with its middle.
-#[derive(Drop)]
+#[derive(Clone, Copy)]
 pub struct Climb {
     pub at: Height,
     pub widest: f64,
@@ -26,7 +28,7 @@ pub struct Climb {
 }
 
 // The two lowest of some numbers.
-#[derive(Drop)]
+#[derive(Clone, Copy)]
 pub enum Lowest {
     Empty,
     One(f64),
@@ -35,7 +37,7 @@ pub enum Lowest {
 }
 
 // A point strictly inside, or none.
-#[derive(Drop)]
+#[derive(Clone, Copy)]
 pub enum Inner {
     Nowhere,
     Inside(f64, f64),

@@ -1,4 +1,6 @@
 // Segments of the plane, and where two of them meet (document 01, module 1). Each float operation rounds once, in the order written there.
+#![tactic(auto)]
+
 ghost use Rattle.std.specs.Prelude.{◌≡◌, ◌<◌};
 ghost use Rattle.plane.specs.Plane.{cross, larger, scale, tolerance, in_unit};
 ghost use Rattle.segments.specs.Colinear.{spread, parameters, orderable, is_first, is_second, first_then_second, of_order, colinear};
@@ -7,14 +9,14 @@ ghost use Rattle.segments.specs.Scans.{exchanged, exchanged_ids, swept};
 
 use plane::{Point, along, between, dot, magnitude};
 
-#[derive(Drop)]
+#[derive(Clone, Copy)]
 pub struct Segment {
     pub a: Point,
     pub b: Point,
 }
 
 // The ends of the first segment, then those of the second.
-#[derive(Drop)]
+#[derive(Clone, Copy)]
 pub enum PointId {
     P1,
     P2,
@@ -23,7 +25,7 @@ pub enum PointId {
 }
 
 // No meeting; at one of the four ends; at a new point; all along between two of the ends.
-#[derive(Drop)]
+#[derive(Clone, Copy)]
 pub enum Meeting {
     Apart,
     Existing(PointId),
