@@ -1,16 +1,16 @@
 -- A cell's walk finds a slot for each dart, and its steps suffice. Assumes nothing.
 use mathlib.Core.Path.{◌≡◌, refl, ap, ap₂, ◌∙◌, subst}
-use mathlib.Core.Bool.{Bool, true, false, ◌&&◌}
-use mathlib.Core.List.{List, [], ◌∷◌, ◌++◌}
-use Prim.Native.Nat.{ℕ, zero, suc, ◌+◌, ◌*◌, ◌-◌, ◌≤◌, ◌<◌}
+use mathlib.Core.Bool.{Bool, ◌&&◌}
+use mathlib.Core.List.{List, [], ◌∷◌}
+use Prim.Native.Nat.{ℕ, suc, ◌+◌, ◌*◌, ◌≤◌, ◌<◌}
 use native.Mathlib.Omega.{arith}
-use lib.Dec.{eqb, ltb}
+use lib.Dec.{eqb}
 use lib.ListN.{length, get_or, set, length-set, length-map}
-use borrow.Author.Tests.{ltb-true, ltb-false, lt-ltb, eqb-true, eq-eqb}
+use borrow.Author.Tests.{eq-eqb}
 use Rattle.lists.specs.Gather.{tally}
 use Rattle.cutting.specs.Edges.{Edge, times}
 use Rattle.cutting.specs.Cell.{Slot, table}
-use Rattle.cutting.specs.Walk.{State, state, Phase, resting, on_slot, Next, more, closed, stuck, broken, walk_steps, next_open, slot, leads, starts, walk_from}
+use Rattle.cutting.specs.Walk.{State, state, Phase, resting, on_slot, Next, more, closed, stuck, broken, walk_steps, slot, leads, starts, walk_from}
 use Rattle.cutting.specs.Walk.{srcs, dsts, marks_of, walk_with}
 use Rattle.lists.proofs.Search.{many_has, many_bound}
 use Rattle.cutting.proofs.Ways.{reverse_of, Way, ends, missing, passes, begins, lost, closes, goes, stops, Led, steps_keep}

@@ -10,7 +10,7 @@ pub data Outcome : Type 0 where
   refusal : ℕ → Outcome
   pieces : List (List ℕ) → Outcome
 
--- what the walk alone comes to (`broken` and `more` are never reached: `Walk-Ends`)
+-- what the walk alone comes to (`broken` and `more` are never reached: `walk_ends`)
 abbrev pub of_walk : Next → Outcome
 of_walk (closed ps) = pieces ps
 of_walk stuck = refusal 11

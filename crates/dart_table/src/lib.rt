@@ -1,5 +1,7 @@
 // A cell's table of slots, built edge by edge and kept in its order. The table of n slots stands in the first n entries of three
 // lists: at a slot's node `src` its neighbour `dst` and its mark. Over 1,024 slots are refused (10).
+#![tactic(auto)]
+
 ghost use Rattle.std.specs.Prelude.{◌≡◌, cond, [], ◌∷◌, map, ◌+◌, ◌*◌, ◌≤◌, ◌<◌, length, get_or};
 ghost use Rattle.lists.specs.Search.{first};
 ghost use Rattle.lists.specs.Sort.{insert, sort_onto};
@@ -64,7 +66,7 @@ fn insert_slot(
 )
     requires { (n < length src.old) × (n < length dst.old) × (n < length marks.old) }
     ensures { Inserted (insert (stands_before coords.now) (record { src = a; dst = b; mark = mark })
-        (slots_of src.entry.now dst.old marks.old n)) (n + 1) src.entry.now dst.old marks.old src.exit.now
+        (slots_of src.old dst.old marks.old n)) (n + 1) src.old dst.old marks.old src.new
         dst.new marks.new }
 {
     let k = place(coords, src, dst, n, a, b);

@@ -1,4 +1,6 @@
 // The walk of a cell's table. The table of n slots stands in the first n entries of three lists: at a slot's node `src` its neighbour `dst` and its mark.
+#![tactic(auto)]
+
 ghost use Rattle.std.specs.Prelude.{◌≡◌, true, [], ◌*◌, ◌≤◌, ◌<◌, length};
 ghost use Rattle.lists.specs.Search.{first};
 ghost use Rattle.cutting.specs.Walk.{open_at, next_open, starts, walk_from, walk};
@@ -69,7 +71,7 @@ fn fill_heap(outline: &[u32], src: &[u32], dst: &[u32], n: usize, heap: &mut [u3
 }
 
 // What a walk comes to: the number of pieces and of their corners, or the number of a refusal.
-#[derive(Drop)]
+#[derive(Clone, Copy)]
 pub enum Walked {
     Closed(usize, usize),
     Refused(u32),

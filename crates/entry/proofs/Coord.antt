@@ -1,6 +1,6 @@
 -- `coord_ok`'s four answers are `coord_ok`'s. Assumes nothing.
 use mathlib.Core.Path.{◌≡◌, refl, sym, ◌∙◌}
-use mathlib.Core.Bool.{Bool, true, false, not}
+use mathlib.Core.Bool.{Bool, true, false}
 use Prim.Native.Nat.{ℕ, zero, suc, ◌*◌, ◌^◌, ◌<◌}
 use native.Mathlib.Nat.{mul-one, zero-mul, mul-pos, suc-ne-zero}
 use native.Mathlib.Omega.{arith}

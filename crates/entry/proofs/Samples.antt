@@ -1,6 +1,6 @@
 -- The borders that document 01 draws, each from both sides, by computation. Assumes nothing.
 use mathlib.Core.Path.{◌≡◌, refl}
-use mathlib.Core.Bool.{Bool, true, false}
+use mathlib.Core.Bool.{true, false}
 use mathlib.Core.List.{List, [], ◌∷◌, map}
 use Prim.Native.Nat.{ℕ}
 use lib.Ieee.{Float, nan, inf, of_bits, binary64}

@@ -1,4 +1,6 @@
 // The entry of an overlay: the refusals because of the input, 1 to 7.
+#![tactic(auto)]
+
 mod coords;
 mod kinds;
 mod meshes;

@@ -1,10 +1,12 @@
 // Keys of edges, and the chains that edges are put on by them.
+#![tactic(auto)]
+
 ghost use Rattle.std.specs.Prelude.{◌≡◌, ◌<◌};
 ghost use Rattle.cutting.specs.Edges.{key, same_key};
 ghost use Rattle.keys.specs.Chains.{chain_of, edge_chain};
 
 // The two node numbers of an edge, smaller first.
-#[derive(Drop)]
+#[derive(Clone, Copy)]
 pub struct SortedKey {
     pub first: u32,
     pub second: u32,

@@ -1,4 +1,6 @@
 // An outline's darts in flat lists of pairs, and whether edges of such lists are between the same two nodes, in either direction.
+#![tactic(auto)]
+
 ghost use Rattle.std.specs.Prelude.{◌≡◌, cond, map, ◌+◌, ◌*◌, ◌≤◌, length};
 ghost use Rattle.lists.specs.Regions.{front};
 ghost use Rattle.cutting.specs.Edges.{reversed_if};

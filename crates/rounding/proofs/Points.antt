@@ -88,7 +88,8 @@ module _ (n : ℕ) where
   pub descending_under : (i : ℕ) (cells : List (List ℕ)) → i ≤ length cells → ((j : ℕ) → j < length cells → Each Under (get_or cells j [])) → Each Both (descending_to i cells)
   unfolding descending_to
   descending_under zero cells h k = each_none Both
-  descending_under (suc i) cells h k = added_all_under (descending_to i cells) (ring (get_or cells i [])) (descending_under i cells (omega arith) k) (ring_under (get_or cells i []) (k i (omega arith)))
+  descending_under (suc i) cells h k =
+      added_all_under (descending_to i cells) (ring (get_or cells i [])) (descending_under i cells (omega arith) k) (ring_under (get_or cells i []) (k i (omega arith)))
 
 -- those of a mesh of lines or of cells
 module _ (lines : Bool) (s : Mesh) (ok : Sound lines s) where

@@ -1,5 +1,5 @@
 -- The three ways in which an overlay ends: refused because of the input, refused because of the state, answered. Assumes nothing.
-use mathlib.Core.Path.{◌≡◌, refl, ap, ◌∙◌}
+use mathlib.Core.Path.{◌≡◌, refl}
 use mathlib.Core.Bool.{Bool, true, false, cond}
 use Prim.Native.Nat.{ℕ}
 use lib.Dec.{eqb}
@@ -9,6 +9,10 @@ use Rattle.cutting.specs.Setting.{Setting}
 use Rattle.entry.specs.Mesh.{Mesh}
 use Rattle.entry.specs.Refused.{entry_of}
 use Rattle.rules.specs.Overlay.{Lists, Result, result_of, cleared, answered_with, state_with, overlay_with}
+
+-- what an overlay comes to, by the refusals of its input and of its state, and by its answer
+abbrev pub told : Lists → ℕ → ℕ → Result → Result
+told l entry state answer = cond (eqb entry 0) (cond (eqb state 0) answer (result_of state 0 0 0 (cleared l))) (result_of entry 0 0 0 l)
 
 module _ (v : Setting) (op m : ℕ) (s c : Mesh) (l : Lists) where
   abbrev entry : ℕ
@@ -21,17 +25,25 @@ module _ (v : Setting) (op m : ℕ) (s c : Mesh) (l : Lists) where
   abbrev end : Bool → Bool → Result
   end x y = cond x (cond y (answered_with v op s c l) (result_of state 0 0 0 (cleared l))) (result_of entry 0 0 0 l)
 
-  pub input_refused : (entry_of op m s c (length l.work) ≡ 0 → ⊥) → overlay_with v op m s c l ≡ result_of (entry_of op m s c (length l.work)) 0 0 0 l
+  -- which the overlay is: each of its ways by itself
+  decided : (x y : Bool) → eqb entry 0 ≡ x → eqb state 0 ≡ y → overlay_with v op m s c l ≡ end x y
   unfolding overlay_with
-  input_refused n = ap (λ (x : Bool). end x (eqb state 0)) (ne_eqb entry 0 n)
+  decided false y e f = rw e refl
+  decided true true e f = rw (e, f) refl
+  decided true false e f = rw (e, f) refl
+
+  -- so it is what the refusals and the answer make of it
+  pub overlay_told : overlay_with v op m s c l ≡ told l (entry_of op m s c (length l.work)) (state_with v op m s c l) (answered_with v op s c l)
+  overlay_told = decided (eqb entry 0) (eqb state 0) refl refl
+
+  pub input_refused : (entry_of op m s c (length l.work) ≡ 0 → ⊥) → overlay_with v op m s c l ≡ result_of (entry_of op m s c (length l.work)) 0 0 0 l
+  input_refused n = decided false (eqb state 0) (ne_eqb entry 0 n) refl
 
   pub state_refused : entry_of op m s c (length l.work) ≡ 0 → (state_with v op m s c l ≡ 0 → ⊥) → overlay_with v op m s c l ≡ result_of (state_with v op m s c l) 0 0 0 (cleared l)
-  unfolding overlay_with
-  state_refused e n = ap (λ (x : Bool). end x (eqb state 0)) (eq-eqb entry 0 e) ∙ ap (λ (y : Bool). end true y) (ne_eqb state 0 n)
+  state_refused e n = decided true false (eq-eqb entry 0 e) (ne_eqb state 0 n)
 
   pub succeeds : entry_of op m s c (length l.work) ≡ 0 → state_with v op m s c l ≡ 0 → overlay_with v op m s c l ≡ answered_with v op s c l
-  unfolding overlay_with
-  succeeds e f = ap (λ (x : Bool). end x (eqb state 0)) (eq-eqb entry 0 e) ∙ ap (λ (y : Bool). end true y) (eq-eqb state 0 f)
+  succeeds e f = decided true true (eq-eqb entry 0 e) (eq-eqb state 0 f)
 
   -- so what is answered has the code 0
   pub no_refusal : (answered_with v op s c l).code ≡ 0

@@ -3,10 +3,10 @@ use mathlib.Core.Path.{◌≡◌, refl, sym, ap, ap₂, ◌∙◌, subst}
 use mathlib.Core.Logic.{◌⊎◌, inl, inr}
 use mathlib.Core.Bool.{Bool, true, false, cond}
 use mathlib.Core.List.{List, [], ◌∷◌, ◌++◌, append_assoc}
-use Prim.Native.Nat.{ℕ, zero, suc, ◌-◌, ◌/◌, ◌≤◌, ◌<◌, min}
+use Prim.Native.Nat.{ℕ, zero, suc, ◌-◌, ◌/◌, ◌≤◌, ◌<◌}
 use native.Mathlib.Omega.{arith}
 use native.Mathlib.Decide.{dec_le}
-use lib.Dec.{leb, eqb}
+use lib.Dec.{leb}
 use lib.ListN.{length, get_or, replicate, length-append}
 use Rattle.lists.specs.Gather.{gathered, each, passing, joined}
 use Rattle.lists.proofs.Gather.{gathered_ext}
@@ -25,7 +25,7 @@ use Rattle.rules.specs.Operations.{cuts, keeps, scene_for, Piece, piece_with, ke
 use Rattle.rules.specs.Refusals.{Event, meeting, point, piece, stop, of_meeting, of_cell, course_with, first_refusal}
 use Rattle.rules.specs.Overlay.{Lists, Result, result_of, cleared, piece_room, written, answered_with, state_with, overlay_with, overlay_of}
 use Rattle.rules.specs.Demand3.{AcceptedWith}
-use Rattle.rules.proofs.Endings.{Ending, input, state_met, success, ending, input_refused, state_refused, succeeds, no_refusal}
+use Rattle.rules.proofs.Endings.{told, overlay_told, Ending, input, state_met, success, ending, input_refused, state_refused, succeeds, no_refusal}
 use Rattle.rules.proofs.Accepts.{Made, all_made, accepted}
 
 -- ---- cells that come to the same by two settings
@@ -89,14 +89,8 @@ module _ (u v : Setting) (op m : ℕ) (s c : Mesh) (l : Lists) where
     state_as = ap (first_refusal m (length l.coords / 2) (piece_room l) (length l.nodes)) course_as
 
     overlay_as : third u ≡ third v → overlay_with u op m s c l ≡ overlay_with v op m s c l
-    unfolding overlay_with
-    overlay_as e = ap₂ by state_as (answer_as e)
-      where
-        entry : ℕ
-        entry = entry_of op m s c (length l.work)
-
-        by : ℕ → Result → Result
-        by state answer = cond (eqb entry 0) (cond (eqb state 0) answer (result_of state 0 0 0 (cleared l))) (result_of entry 0 0 0 l)
+    overlay_as e =
+        overlay_told u op m s c l ∙ ap₂ (told l (entry_of op m s c (length l.work))) state_as (answer_as e) ∙ sym (overlay_told v op m s c l)
 
 -- ---- events that are the same up to a stop 11
 

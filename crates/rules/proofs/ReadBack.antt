@@ -14,7 +14,7 @@ use Rattle.rules.specs.Operations.{Piece, listing}
 use Rattle.rules.specs.Overlay.{Lists, overlay_of, answered, answered_with, written}
 use Rattle.rules.specs.Demand3.{Accepted, WrittenAt}
 use Rattle.lists.proofs.Regions.{front_in}
-use Rattle.lists.proofs.Gather.{get_d_any}
+use Rattle.lists.proofs.Gather.{get_or_any}
 use Rattle.rules.proofs.Accepts.{accepted}
 
 -- where run j starts, the first at k
@@ -57,7 +57,7 @@ run_back k (p ∷ ps) es tail (suc j) h =
 field_back : {A : Type 0} (f : Piece → A) (ps : List Piece) (w : List A) (k : ℕ) (d : Piece) (z : A) → k < length ps → get_or (front w (map f ps)) k z ≡ f (get_or ps k d)
 field_back f ps w k d z h =
     let size : k < length (map f ps) = omega (arith, h, length-map ps f) in
-    front_in w (map f ps) k z size ∙ get_d_any (map f ps) k z (f d) size ∙ get_or-map f ps k d
+    front_in w (map f ps) k z size ∙ get_or_any (map f ps) k z (f d) size ∙ get_or-map f ps k d
 
 prior_start : (es : List ℕ) (j : ℕ) → prior es j ≡ start 0 es j
 unfolding prior
@@ -78,7 +78,7 @@ module _ (op : ℕ) (s c : Mesh) (l : Lists) where
         ap (λ (a : ℕ). take (get_or ends k 0 - a) (drop a nodes)) (prior_start ends k)
         ∙ ap (λ (a : ℕ). take (get_or ends k 0 - start 0 ends k) (drop a nodes)) zero_off
         ∙ run_back 0 runs (drop (length (stops 0 runs)) l.ends) (drop (length (flat runs)) l.nodes) k size
-        ∙ get_d_any runs k [] d.nodes size
+        ∙ get_or_any runs k [] d.nodes size
         ∙ get_or-map (λ (p : Piece). p.nodes) ps k d;
   }
     where

@@ -6,7 +6,7 @@ use mathlib.Core.List.{List, []}
 use Prim.Native.Nat.{ℕ, ◌<◌}
 use native.Mathlib.Omega.{arith}
 use lib.ListN.{length, get_or}
-use Rattle.lists.proofs.Gather.{get_d_any}
+use Rattle.lists.proofs.Gather.{get_or_any}
 use Rattle.entry.specs.Mesh.{Mesh}
 use Rattle.rules.specs.Mesh.{Side, the_subject, the_cutter, other, side_number}
 use Rattle.rules.specs.Meetings.{Scene, net_of, scene_of}
@@ -53,7 +53,7 @@ module _ (r r' : Result) (k j : ℕ) (p q : Piece) (a : WrittenAt r k p) (b : Wr
 pub stands_at : (op : ℕ) (s c : Mesh) (k : ℕ) → k < length (listing op s c) → (p : Piece) × ListedAt p k op s c
 stands_at op s c k h =
     let d : Piece = piece_at (scene_of false s c) the_subject 0 0 in
-    (get_or (listing op s c) k d, record { below = h; is = λ x. get_d_any (listing op s c) k x d h })
+    (get_or (listing op s c) k d, record { below = h; is = λ x. get_or_any (listing op s c) k x d h })
 
 -- ---- Imprint, Intersection and Difference
 

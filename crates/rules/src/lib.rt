@@ -1,7 +1,8 @@
 // The definitions of the overlay stand in specs/, the theorems about them in proofs/: there is no code here, only a type that both name.
+#![tactic(auto)]
 
 // A closed box.
-#[derive(Drop)]
+#[derive(Clone, Copy)]
 pub struct Bounds {
     pub left: f64,
     pub low: f64,

@@ -1,6 +1,6 @@
 -- Winding numbers: pieces that close up wind about every point as often as the outline does. Assumes nothing.
 use mathlib.Core.Path.{◌≡◌, refl, sym, ap, ap₂, ◌∙◌}
-use mathlib.Core.Bool.{true, false, true≢false}
+use mathlib.Core.Bool.{false, true≢false}
 use mathlib.Core.List.{List, [], ◌∷◌}
 use Prim.Native.Nat.{ℕ, zero, suc, ◌+◌, ◌≤◌, ◌<◌}
 use native.Mathlib.Omega.{arith}
@@ -11,13 +11,11 @@ use lib.Ieee.{Float}
 use Rattle.lists.specs.Search.{bit}
 use Rattle.lists.specs.Gather.{tally}
 use Rattle.cutting.specs.Edges.{Edge, ring, rings, times}
-use Rattle.cutting.specs.Cell.{Laid, repeats, cell_table}
-use Rattle.cutting.specs.Outcome.{pieces, cut_outcome, copied_outcome}
+use Rattle.cutting.specs.Cell.{repeats}
 use Rattle.cutting.specs.Areas.{Closes, ClosesUp}
 use Rattle.winding.specs.Winding.{Spot, spot_at, rises_past, crosses_ray, winding, winding_of, windings, negative, positive, WindsUp, NoneBackward, OneWinds}
 use Rattle.cutting.proofs.Sums.{sum, sum_append, sum_even}
 use Rattle.cutting.proofs.Repeats.{repeats_not}
-use Rattle.cutting.proofs.Closing.{accepted_once, copy_once, accepted_closes_up, copy_closes_up}
 
 -- ---- turned round, an edge crosses the other way: for every point, on the edge too
 

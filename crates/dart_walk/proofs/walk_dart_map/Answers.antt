@@ -1,0 +1,39 @@
+-- `dart_walk::walk_dart_map` meets its contract. Assumes nothing.
+use mathlib.Core.Path.{sym}
+use native.Mathlib.Omega.{arith}
+use lib.Seq.{length-take-le}
+use Rattle.dart_walk.proofs.Answers.{as_closed, as_refused}
+use Rattle.dart_walk.proofs.walk_dart_map.Goals as goal
+
+pub slice_bounds-walk_table-end : goal.slice_bounds-walk_table-end
+slice_bounds-walk_table-end c = sym (length-take-le _ _ (omega (arith, c.requires)))
+
+pub slice_bounds-walk_table-end-2 : goal.slice_bounds-walk_table-end-2
+slice_bounds-walk_table-end-2 c = sym (length-take-le _ _ (omega (arith, c.requires)))
+
+pub slice_bounds-walk_table-end-3 : goal.slice_bounds-walk_table-end-3
+slice_bounds-walk_table-end-3 c = sym (length-take-le _ _ (omega (arith, c.requires)))
+
+pub walk_table-w-requires : goal.walk_table-w-requires
+walk_table-w-requires c = (
+  c.requires.0,
+  length-take-le _ _ c.requires.1,
+  length-take-le _ _ c.requires.2,
+  length-take-le _ _ c.requires.3,
+  c.requires.4,
+  omega (arith, c.requires),
+  omega (arith, c.requires),
+)
+
+pub returns-in-Closed : goal.returns-in-Closed
+returns-in-Closed c =
+    let g = c.args in
+    as_closed g.outline.now g.src.now g.dst.now g.marks.now g.n _ _ _ _ _ _ _ c.walk_table-w.ensures c.in-Closed.is
+
+pub returns-in-Refused : goal.returns-in-Refused
+returns-in-Refused c =
+    let g = c.args in
+    let w = c.walk_table-w in
+    as_refused g.outline.now g.src.now g.dst.now g.marks.now g.n _ _ _ _ _ _ _ _ w.ensures
+    c.in-Refused.is c.zero_u32.ensures c.zero_u32-in-Refused.ensures
+    w.auto.nodes w.auto.stops
