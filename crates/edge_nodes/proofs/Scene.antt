@@ -6,7 +6,6 @@ use Prim.Native.Nat.{ℕ, ◌+◌, ◌*◌, ◌/◌, ◌≤◌, ◌<◌}
 use native.Mathlib.Omega.{arith}
 use lib.Dec.{ltb, eqb}
 use lib.ListN.{length, get_or, take}
-use lib.Ieee.{Float}
 use borrow.Author.Tests.{eqb-true, ltb-false}
 use Rattle.lists.specs.Search.{has}
 use Rattle.lists.specs.Gather.{joined}
@@ -59,8 +58,8 @@ unfolding met_nodes
 numbers_stored ms met n at few =
     record {
       count = omega (arith, n);
-      subject_at_lem = λ q h. let z : 5 * q ≡ 5 * q + 0 = omega arith in ap (λ (k : ℕ). get_or met k 0) z ∙ at q 0 h (omega arith);
-      cutter_at_lem = λ q h. at q 1 h (omega arith);
+      subjects = λ q h. let z : 5 * q ≡ 5 * q + 0 = omega arith in ap (λ (k : ℕ). get_or met k 0) z ∙ at q 0 h (omega arith);
+      cutters = λ q h. at q 1 h (omega arith);
       nodes_at = λ q h. ap₂ (λ (c : ℕ) (ns : List ℕ). take c ns) (at q 2 h (omega arith))
           (ap₂ (λ (v w : ℕ). v ∷ w ∷ []) (at q 3 h (omega arith)) (at q 4 h (omega arith))) ∙ read_back (get_or ms q no_met).nodes (few q h);
     }
@@ -82,8 +81,8 @@ module _ (sc : Scene) (met : List ℕ) (stored : Stored sc.met met) where
   collected_is e =
       let zero_on : (q : ℕ) → 5 * q + 0 ≡ 5 * q = λ q. omega arith in
       ap₂ (λ (l r : List ℕ). l ++ r)
-      (under_is sc.met met stored sc.subject.edges 0 e (λ m. m.subject_edge) (λ q h. ap (λ (k : ℕ). get_or met k 0) (zero_on q) ∙ stored.subject_at_lem q h))
-      (under_is sc.met met stored sc.cutter.edges 1 e (λ m. m.cutter_edge) (λ q h. stored.cutter_at_lem q h))
+      (under_is sc.met met stored sc.subject.edges 0 e (λ m. m.subject_edge) (λ q h. ap (λ (k : ℕ). get_or met k 0) (zero_on q) ∙ stored.subjects q h))
+      (under_is sc.met met stored sc.cutter.edges 1 e (λ m. m.cutter_edge) (λ q h. stored.cutters q h))
 
   unless_is : (e : Edge) (ns : List ℕ) → unless_none sc.coords e ns ≡ Nodes.unless_none sc e ns
   unless_is e [] = refl

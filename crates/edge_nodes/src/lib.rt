@@ -1,5 +1,7 @@
 // The nodes on an edge (document 01, module 7): those that meetings collected under its key, by their projections.
 // Edges are flat lists of pairs. A meeting takes five numbers: its subject edge, its cutter edge, how many nodes it has (1 or 2), and these.
+#![tactic(auto)]
+
 mod chains;
 
 ghost use Rattle.std.specs.Prelude.{◌≡◌, [], ◌∷◌, ◌++◌, map, ℕ, ◌+◌, ◌*◌, ◌/◌, ◌≤◌, ◌<◌, min, max, eqb, length, get_or, take};

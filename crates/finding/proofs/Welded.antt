@@ -6,7 +6,7 @@ use native.Mathlib.Omega.{arith}
 use lib.ListN.{length, get_or, set, take, length-append, length-map, length-set, get_or-append, get_or-map}
 use lib.Seq.{take_all}
 use Rattle.lists.specs.Regions.{front, put}
-use Rattle.lists.proofs.Gather.{get_d_any}
+use Rattle.lists.proofs.Gather.{get_or_any}
 use Rattle.lists.proofs.Regions.{front_in, put_before, copy_start, copy_turn}
 use Rattle.entry.specs.Mesh.{Mesh, node_count}
 use Rattle.rules.specs.Snap.{weld}
@@ -33,7 +33,7 @@ module _ (w₀ cn : List ℕ) (at : ℕ) (below : Below at cn) (fits : at + leng
       let k : ℕ = get_or cn i 0 in
       let is : get_or w k 0 ≡ get_or (map read cn) i 0 =
       ap (λ (l : List ℕ). get_or l k 0) inv.2 ∙ put_before w₀ at (omega arith) (take i (map read cn)) k 0 (below i h)
-      ∙ sym (get_d_any (map read cn) i 0 (read 0) (omega (arith, len)) ∙ get_or-map read cn i 0) in (
+      ∙ sym (get_or_any (map read cn) i 0 (read 0) (omega (arith, len)) ∙ get_or-map read cn i 0) in (
         omega arith,
         length-set w (at + i) (get_or w k 0) ∙ inv.1,
         ap (set w (at + i)) is ∙ copy_turn w₀ at (map read cn) (omega (arith, len)) w i 0 (omega (arith, len)) inv.2,

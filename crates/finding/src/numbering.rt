@@ -13,7 +13,7 @@ use strips::build;
 
 // Where the cutter's entries begin, then the subject's; where the subject's edges begin and how many there are; the same of the cutter's; where the index
 // of these begins; where there is room behind it.
-#[derive(Drop)]
+#[derive(Clone, Copy)]
 pub struct NetPlaces {
     pub entries: usize,
     pub copied: usize,

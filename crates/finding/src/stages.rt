@@ -14,7 +14,7 @@ use meetings::compute_intersections;
 use regions::{MeshRuns, Regions, Run, part};
 
 // The refusal or 0; where both meshes, the meetings and their links stand in the working list; how many nodes there are.
-#[derive(Drop)]
+#[derive(Clone, Copy)]
 pub struct Found {
     pub code: u32,
     pub regions: Regions,

@@ -1,7 +1,7 @@
 -- Indexes one behind the other, behind the regions that they are of. Assumes nothing.
 use mathlib.Core.Path.{◌≡◌, refl, sym, ap, ap₂, ◌∙◌, subst}
 use mathlib.Core.List.{List, [], ◌++◌, append-nil, append_assoc}
-use Prim.Native.Nat.{ℕ, ◌+◌, ◌-◌, ◌≤◌, ◌<◌}
+use Prim.Native.Nat.{ℕ, ◌+◌, ◌-◌, ◌≤◌}
 use native.Mathlib.Nat.{add_assoc}
 use native.Mathlib.Omega.{arith}
 use lib.ListN.{length, length-append}
@@ -13,7 +13,6 @@ use Rattle.regions.specs.declared.Run.{Run}
 use Rattle.regions.specs.declared.MeshRuns.{MeshRuns}
 use Rattle.regions.specs.declared.Regions.{Regions}
 use Rattle.regions.specs.declared.MeshIndex.{MeshIndex}
-use Rattle.regions.specs.declared.Indexes.{Indexes}
 use Rattle.regions.specs.Runs.{Within, run_in}
 use Rattle.strips.specs.Things.{thing_count}
 use Rattle.strips.specs.Index.{index_size, index_of, Indexed}

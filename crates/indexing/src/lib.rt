@@ -1,4 +1,6 @@
 // The indexes of both meshes' edges and cells, behind the links of the working list: by them the cells find what is near.
+#![tactic(auto)]
+
 ghost use Rattle.std.specs.Prelude.{◌≡◌};
 ghost use Rattle.lists.specs.Regions.{put};
 ghost use Rattle.indexing.specs.Indexes.{mesh_index, mesh_index_at, indexes, indexes_at, MeshAsks, Asks};

@@ -72,7 +72,7 @@ module _ (m base : ℕ) (oc : List Float) (w : List ℕ) (met next : ℕ) where
         met_is = omega (arith, a);
         next_is = omega (arith, b);
         few = omega arith;
-        met_fits_lem = omega (arith, a);
+        met_within = omega (arith, a);
         next_fits = omega (arith, b);
         points = sym (put_none oc (2 * next));
         numbers = sym (put_none w (base + 5 * met));
@@ -94,7 +94,7 @@ module _ (m base : ℕ) (oc : List Float) (w : List ℕ) (met next : ℕ) where
           met_is = a;
           next_is = omega (arith, b);
           few = omega arith;
-          met_fits_lem = omega (arith, a);
+          met_within = omega (arith, a);
           next_fits = omega (arith, b);
           points = sym (put_none oc (2 * next));
           numbers = e;
@@ -135,7 +135,7 @@ module _ (m base : ℕ) (oc : List Float) (w : List ℕ) (met next : ℕ) where
           met_is = a;
           next_is = omega (arith, b);
           few = omega arith;
-          met_fits_lem = omega (arith, a);
+          met_within = omega (arith, a);
           next_fits = omega (arith, b);
           points = o;
           numbers = e;
@@ -171,7 +171,7 @@ module _ (m base : ℕ) (oc : List Float) (w : List ℕ) (met next : ℕ) where
     points_fit = omega (arith, one.next_is, one.next_fits)
 
     numbers_fit : base + 5 * met + length (booked ms) ≤ length w
-    numbers_fit = omega (arith, length_booked ms, one.met_is, one.met_fits_lem)
+    numbers_fit = omega (arith, length_booked ms, one.met_is, one.met_within)
 
     pub length_points : length oc₁ ≡ length oc
     length_points = ap length one.points ∙ length_put oc (2 * next) (omega arith) (added_by ms) points_fit
@@ -195,7 +195,7 @@ module _ (m base : ℕ) (oc : List Float) (w : List ℕ) (met next : ℕ) where
           met_is = omega (arith, len, one.met_is, then.met_is);
           next_is = omega (arith, added, one.next_is, then.next_is);
           few = omega (arith, len, added, one.few, then.few);
-          met_fits_lem = then.met_fits_lem;
+          met_within = then.met_within;
           next_fits = omega (arith, then.next_fits, length_points);
           points = then.points ∙ ap₂ (λ (l : List Float) (k : ℕ). put l k (added_by more)) one.points oc_at
               ∙ put_append oc (2 * next) (omega arith) (added_by ms) (added_by more) points_fit ∙ ap (put oc (2 * next)) (sym (joined_append (λ m. m.point) ms more));

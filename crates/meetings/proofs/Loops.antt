@@ -120,7 +120,7 @@ module _ (oc : List Float) (w : List ℕ) (placed base m met next : ℕ) (ready 
           ready.1,
           omega (arith, w_same, ready.2),
           ready.3,
-          gr.met_fits_lem,
+          gr.met_within,
           omega (arith, b, ready.5),
           omega (arith, oc_same, gr.next_fits),
           omega (arith, a, b, f, ready.7),

@@ -45,7 +45,7 @@ pub record Grown (m base : ℕ) (oc : List Float) (w : List ℕ) (met next : ℕ
   pub met_is : g.met ≡ met + length ms
   pub next_is : 2 * g.next ≡ 2 * next + length (added_by ms)
   pub few : length (added_by ms) ≤ 2 * length ms
-  pub met_fits_lem : g.met ≤ m
+  pub met_within : g.met ≤ m
   pub next_fits : 2 * g.next ≤ length oc
   pub points : oc' ≡ put oc (2 * next) (added_by ms)
   pub numbers : w' ≡ put w (base + 5 * met) (booked ms)

@@ -1,5 +1,7 @@
 // Where edges of the two meshes meet (document 01, module 7, `compute_intersections`). Points go to the coordinates, meetings to a region of the
 // working list.
+#![tactic(auto)]
+
 ghost use Rattle.std.specs.Prelude.{◌≡◌, [], ◌∷◌, ◌+◌, ◌*◌, ◌-◌, ◌/◌, ◌≤◌, ◌<◌, length, take};
 ghost use Rattle.lists.specs.Regions.{run, put};
 ghost use Rattle.segments.specs.Meet.{meeting};
@@ -17,7 +19,7 @@ use spatial_index::edge_bounds;
 use strips::{gather, index_size};
 
 // The refusal or 0, how many meetings there are, and the number of the next new point.
-#[derive(Drop)]
+#[derive(Clone, Copy)]
 pub struct Found {
     pub code: u32,
     pub met: usize,

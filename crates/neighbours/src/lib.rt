@@ -1,5 +1,7 @@
 // The edges of cells (document 01, module 5), in a region of the working list. An edge takes two numbers there. While they are written, they are on
 // chains in a second region, so that one with the same key is found without a scan of all.
+#![tactic(auto)]
+
 ghost use Rattle.std.specs.Prelude.{◌≡◌, [], ◌+◌, ◌*◌, ◌/◌, ◌≤◌, ◌<◌, length};
 ghost use Rattle.lists.specs.Search.{has};
 ghost use Rattle.lists.specs.Regions.{run, put, zeros};

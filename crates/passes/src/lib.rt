@@ -1,5 +1,7 @@
 // Passes over the pieces once all cells are cut: what a piece's tag says of it goes to the output lists. The tag is twice the number of the piece's cell
 // among those of both meshes, the subject's first, and one more where the cell is cut.
+#![tactic(auto)]
+
 ghost use Rattle.std.specs.Prelude.{◌≡◌, ◌++◌, map, ◌≤◌, length, get_or};
 ghost use Rattle.lists.specs.Regions.{front};
 ghost use Rattle.passes.specs.Tags.{kind_by, family_by, mesh_by, cell_by};

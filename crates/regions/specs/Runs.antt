@@ -1,5 +1,5 @@
 -- Runs of the working list: what only contracts of the stages cite. Assumes nothing.
-use Rattle.std.specs.Prelude.{List, ℕ, ◌-◌, ◌≤◌, length}
+use Rattle.std.specs.Prelude.{List, ℕ, ◌-◌, ◌≤◌}
 use Rattle.lists.specs.Regions.{run}
 use Rattle.cutting.specs.Edges.{Edge}
 use Rattle.cutting.specs.Lent.{pairs}

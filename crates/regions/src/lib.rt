@@ -1,23 +1,25 @@
 // Regions of the working list, by value: where the edges of both meshes, the meetings and what belongs to them stand in it.
+#![tactic(auto)]
+
 ghost use Rattle.std.specs.Prelude.{◌≡◌, length};
 ghost use Rattle.regions.specs.Runs.{Within, run_in};
 
 // From `from` up to `end`.
-#[derive(Drop)]
+#[derive(Clone, Copy)]
 pub struct Run {
     pub from: usize,
     pub end: usize,
 }
 
 // Of one mesh: its edges, two numbers each, and the node entries of its cells, under one numbering of both meshes.
-#[derive(Drop)]
+#[derive(Clone, Copy)]
 pub struct MeshRuns {
     pub edges: Run,
     pub entries: Run,
 }
 
 // The two meshes; the meetings, five numbers each, and the links that chain them.
-#[derive(Drop)]
+#[derive(Clone, Copy)]
 pub struct Regions {
     pub subject: MeshRuns,
     pub cutter: MeshRuns,
@@ -26,13 +28,13 @@ pub struct Regions {
 }
 
 // The indexes of one mesh, of its edges and of its cells.
-#[derive(Drop)]
+#[derive(Clone, Copy)]
 pub struct MeshIndex {
     pub edges: Run,
     pub cells: Run,
 }
 
-#[derive(Drop)]
+#[derive(Clone, Copy)]
 pub struct Indexes {
     pub subject: MeshIndex,
     pub cutter: MeshIndex,

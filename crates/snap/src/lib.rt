@@ -1,4 +1,6 @@
 // Near nodes of the two meshes share a number (document 01, module 4).
+#![tactic(auto)]
+
 ghost use Rattle.std.specs.Prelude.{◌≡◌, [], ◌++◌, ◌+◌, ◌-◌, ◌/◌, ◌≤◌, ◌<◌, length, get_or, take};
 ghost use Rattle.lists.specs.Gather.{each};
 ghost use Rattle.lists.specs.Regions.{run, front, put, zeros};
@@ -10,7 +12,7 @@ use lists::{insert_at_u32, zero_u32};
 use plane::{Point, point_at};
 
 // The nearest node so far, and the squared distance that the next must stay below.
-#[derive(Drop)]
+#[derive(Clone, Copy)]
 struct Nearest {
     dist2: f64,
     node: u32,

@@ -1,4 +1,6 @@
 // Closed f64 boxes of nodes, edges and points, and whether two of them meet.
+#![tactic(auto)]
+
 ghost use Rattle.std.specs.Prelude.{◌≡◌, []};
 ghost use Rattle.plane.specs.Plane.{larger};
 ghost use Rattle.rules.specs.SpatialIndex.{smaller, stretched, box_of, edge_box, boxes_meet};

@@ -1,5 +1,7 @@
 // Which things' boxes meet a box, without a look at each thing. The plane is cut into strips by x and by y, and each thing is on the chain of one square.
 // Things are runs of a flat list of node numbers, by their ends; where there are no ends they are pairs.
+#![tactic(auto)]
+
 mod building;
 mod gathering;
 mod squares;

@@ -5,7 +5,7 @@ ghost use Rattle.strips.specs.Squares.{coordinate_of, strip_of, span_of, halved,
 use rules::Bounds;
 
 // From which strip to which something reaches by x and by y, on a level whose squares have their chains from `at` on, `side` to a row.
-#[derive(Drop)]
+#[derive(Clone, Copy)]
 pub(crate) struct Span {
     pub x0: usize,
     pub x1: usize,

@@ -1,0 +1,59 @@
+-- `finding::numbering::edges` meets its contract. Assumes nothing.
+use native.Mathlib.Omega.{arith}
+use Rattle.finding.proofs.Whole.{rising, lines_end, cells_end_lem}
+use Rattle.finding.proofs.numbering.edges.Goals as goal
+
+pub compute_descending-subject-requires : goal.compute_descending-subject-requires
+compute_descending-subject-requires c =
+    let w-kept-by-duplicates-from = c.duplicates_from.auto.w in
+    let w-kept-by-renumber = c.renumber.auto.w in
+    let dst-kept = c.copy_u32.auto.dst in (
+      omega arith,
+      omega arith,
+      omega (arith, c.requires.2, w-kept-by-duplicates-from, w-kept-by-renumber, dst-kept),
+      omega arith,
+      c.requires.0.most_entries,
+      omega arith,
+      rising _ _ c.requires.0,
+    )
+
+pub returns-then-lines : goal.returns-then-lines
+returns-then-lines c =
+    let w-last-by-duplicates-from = c.duplicates_from.new.w in
+    let w-last-by-renumber = c.renumber.new.w in
+    let w-last-by-compute-descending = c.compute_descending-subject.new.w in
+    let dst-last = c.copy_u32.new.dst in
+    lines_end c.args.lines c.args.sc.now c.args.cc.now c.args.sn.now c.args.se.now
+    c.args.cn.now c.args.ce.now c.requires.0 c.requires.1 c.args.w.now
+    c.requires.2 w-last-by-duplicates-from w-last-by-renumber dst-last w-last-by-compute-descending c.compute_descending-subject.result
+    c.duplicates_from.ensures c.renumber.ensures c.copy_u32.ensures.1
+    c.compute_descending-subject.ensures c.if-lines.true
+
+pub compute_descending-cutter-requires : goal.compute_descending-cutter-requires
+compute_descending-cutter-requires c =
+    let w-kept-by-duplicates-from = c.duplicates_from.auto.w in
+    let w-kept-by-renumber = c.renumber.auto.w in
+    let w-kept-by-compute-descending = c.compute_descending-subject.auto.w in
+    let dst-kept = c.copy_u32.auto.dst in (
+      omega arith,
+      omega arith,
+      omega (arith, c.requires.2, w-kept-by-duplicates-from, w-kept-by-renumber, dst-kept, w-kept-by-compute-descending),
+      omega arith,
+      c.requires.1.most_entries,
+      omega arith,
+      rising _ _ c.requires.1,
+    )
+
+pub returns : goal.returns
+returns c =
+    let w-last-by-duplicates-from = c.duplicates_from.new.w in
+    let w-last-by-renumber = c.renumber.new.w in
+    let w-last-by-compute-descending = c.compute_descending-subject.new.w in
+    let w-last-by-compute-descending2 = c.compute_descending-cutter.new.w in
+    let dst-last = c.copy_u32.new.dst in
+    cells_end_lem c.args.lines c.args.sc.now c.args.cc.now c.args.sn.now c.args.se.now
+    c.args.cn.now c.args.ce.now c.requires.0 c.requires.1 c.args.w.now
+    c.requires.2 w-last-by-duplicates-from w-last-by-renumber dst-last w-last-by-compute-descending c.compute_descending-subject.result
+    c.duplicates_from.ensures c.renumber.ensures c.copy_u32.ensures.1
+    c.compute_descending-subject.ensures c.if-lines.false
+    w-last-by-compute-descending2 c.compute_descending-cutter.result c.compute_descending-cutter.ensures

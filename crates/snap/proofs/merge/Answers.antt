@@ -1,0 +1,60 @@
+use mathlib.Core.Path.{sym}
+use native.Mathlib.Omega.{arith}
+use lib.ListN.{length-take}
+use lib.Seq.{length-take-le}
+use Rattle.snap.proofs.Moves.{merge_start, merge_ready, merge_room, merge_turn, merge_end}
+use Rattle.snap.proofs.merge.Goals as goal
+
+pub loop-j-init : goal.loop-j-init
+loop-j-init c = merge_start _ _ _ _ (omega arith)
+
+pub slice_bounds-place-end : goal.slice_bounds-place-end
+slice_bounds-place-end c =
+    let h = c.loop-j.invariant in
+    omega (arith, h.under, h.size, c.requires.0)
+
+pub slice_bounds-place-end-in-loop-j : goal.slice_bounds-place-end-in-loop-j
+slice_bounds-place-end-in-loop-j c =
+    let l = c.loop-j in
+    sym (length-take-le l.end l.s (omega (arith, l.invariant.under, l.invariant.size, c.requires.0)))
+
+pub place-p-requires : goal.place-p-requires
+place-p-requires c =
+    let l = c.loop-j in
+    merge_ready c.args.coords.now c.args.s.now c.args.k c.args.order.now c.requires.0 l.s l.end
+    l.j l.invariant c.requires.1
+
+pub move_up-requires : goal.move_up-requires
+move_up-requires c =
+    let l = c.loop-j in
+    (omega (arith, c.place-p.ensures.1, length-take l.end l.s), omega (arith, l.invariant.under, l.invariant.left, l.invariant.size, c.requires.0))
+
+pub bounds-s-p : goal.bounds-s-p
+bounds-s-p c =
+    let l = c.loop-j in
+    let t = c.loop-j-test.true in
+    let p = c.place-p in
+    let m = c.move_up in
+    merge_room c.args.coords.now c.args.s.now c.args.k c.args.order.now c.requires.0 l.s l.end
+    l.j l.invariant p.result m.new.s t c.requires.2 p.ensures.0 p.ensures.1 m.ensures
+
+pub overflow_add-s : goal.overflow_add-s
+overflow_add-s c = record { fits = omega (arith, bounds-s-p c) }
+
+pub offset_bounds-s-p : goal.offset_bounds-s-p
+offset_bounds-s-p c = record { fits = omega (arith, bounds-s-p c) }
+
+pub loop-j-preserved : goal.loop-j-preserved
+loop-j-preserved c =
+    let l = c.loop-j in
+    let t = c.loop-j-test.true in
+    let p = c.place-p in
+    let m = c.move_up in
+    merge_turn c.args.coords.now c.args.s.now c.args.k c.args.order.now c.requires.0 l.s l.end
+    l.j l.invariant p.result m.new.s t c.requires.2 p.ensures.0 p.ensures.1 m.ensures
+
+pub returns : goal.returns
+returns c =
+    let l = c.loop-j in
+    merge_end c.args.coords.now c.args.s.now c.args.k c.args.order.now c.requires.0 l.s l.end l.j
+    l.invariant c.loop-j-test.false
