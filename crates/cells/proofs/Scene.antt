@@ -5,7 +5,6 @@ use mathlib.Core.List.{List, [], ◌∷◌, map}
 use Prim.Native.Nat.{ℕ, suc, ◌+◌, ◌≤◌, ◌<◌}
 use native.Mathlib.Omega.{arith}
 use lib.ListN.{length, take}
-use lib.Ieee.{Float}
 use Rattle.lists.specs.Regions.{front}
 use Rattle.lists.proofs.Regions.{take_front}
 use Rattle.cutting.specs.Edges.{Edge, edge_at, same_key, ring}

@@ -1,5 +1,7 @@
 // One cell cut by the other mesh's edges near it. Edges are pairs of numbers, meetings five numbers each and chained by links: all of them stand in
 // regions of the working list w.
+#![tactic(auto)]
+
 ghost use Rattle.std.specs.Prelude.{◌≡◌, [], ◌+◌, ◌≤◌, ◌<◌, length, take};
 ghost use Rattle.cutting.specs.Edges.{ring};
 ghost use Rattle.cutting.specs.Cell.{own_darts, near_darts, cell_table, repeats};
@@ -21,7 +23,7 @@ use outlines::{edges_meet, edges_repeat, lay_own_edge};
 use regions::{Regions, Run, part};
 
 // What a cell comes to: the refusal or 0, how many pieces there are, and corners in them.
-#[derive(Drop)]
+#[derive(Clone, Copy)]
 pub struct CutCell {
     pub code: u32,
     pub pieces: usize,

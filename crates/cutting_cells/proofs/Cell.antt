@@ -34,7 +34,7 @@ use Rattle.regions.specs.declared.MeshIndex.{MeshIndex}
 use Rattle.regions.specs.declared.Regions.{Regions}
 use Rattle.regions.specs.Runs.{run_in, mesh_edges}
 use Rattle.cells.specs.Cells.{outline_in, table_in, edges_in, Places, Cut, cut_as}
-use Rattle.cells.proofs.Scene.{Read, read_pieces, read_refusal}
+use Rattle.cells.proofs.Scene.{read_pieces, read_refusal}
 use Rattle.pieces.specs.declared.Keep.{Keep}
 use Rattle.pieces.specs.declared.Listed.{Listed}
 use Rattle.pieces.specs.Pieces.{runs_of, is_kept, Yield, tagged, Placing, placing, refused_by, placed_behind}

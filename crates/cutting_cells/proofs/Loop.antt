@@ -5,11 +5,8 @@ use Prim.Native.Nat.{ℕ, ◌+◌, ◌*◌, ◌-◌, ◌≤◌, ◌<◌}
 use native.Mathlib.Nat.{le_antisymm}
 use native.Mathlib.Omega.{arith}
 use lib.ListN.{length, get_or, take, drop}
-use Rattle.cutting.specs.Edges.{ring}
 use Rattle.entry.specs.Mesh.{prior, cell_size, Rising}
 use Rattle.entry.proofs.Ends.{prior_more}
-use Rattle.regions.specs.declared.Regions.{Regions}
-use Rattle.cells.specs.Cells.{AllFew}
 use Rattle.pieces.specs.declared.Listed.{Listed}
 use Rattle.pieces.specs.Pieces.{runs_of, Yield, both, all_of, Space, Placing, placing, placed_behind}
 use Rattle.pieces.proofs.Runs.{run_at, part_is, length_cell}

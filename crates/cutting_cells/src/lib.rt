@@ -1,4 +1,6 @@
 // The cells of one mesh (document 01, module 7): each is copied or cut, and those of its pieces that the operation keeps are placed behind the others.
+#![tactic(auto)]
+
 ghost use Rattle.std.specs.Prelude.{◌≡◌, ◌+◌, ◌*◌, ◌^◌, ◌≤◌, ◌<◌, length};
 ghost use Rattle.lists.specs.Search.{bit};
 ghost use Rattle.cutting.specs.Edges.{ring};
@@ -91,7 +93,7 @@ fn tag_of(number: usize, cut: bool) -> u32
 }
 
 // How the cells of a mesh are treated: which pieces are kept, what they are cut by, and its indexes.
-#[derive(Drop)]
+#[derive(Clone, Copy)]
 struct Treatment {
     keep: Keep,
     other: MeshRuns,

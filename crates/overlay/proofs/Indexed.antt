@@ -1,26 +1,23 @@
 -- The indexes behind what `find` leaves: there is room for them, and they leave it as it is. Assumes nothing.
-use mathlib.Core.Path.{◌≡◌, refl, sym, ap, ◌∙◌}
+use mathlib.Core.Path.{◌≡◌, ap, ◌∙◌}
 use mathlib.Core.List.{List, [], ◌∷◌}
-use Prim.Native.Nat.{ℕ, zero, suc, ◌+◌, ◌*◌, ◌/◌, ◌≤◌, ◌<◌}
+use Prim.Native.Nat.{ℕ, zero, suc, ◌+◌, ◌*◌, ◌≤◌, ◌<◌}
 use native.Mathlib.Omega.{arith}
 use native.Mathlib.Numerals.{add-one}
 use lib.ListN.{length, get_or, length-map}
 use lib.Ieee.{Float}
-use Rattle.cutting.specs.Lent.{flat_edges}
 use Rattle.cutting.proofs.Pairs.{ends_length}
-use Rattle.entry.specs.Mesh.{Mesh, node_count, prior, Rising}
+use Rattle.entry.specs.Mesh.{Mesh, prior}
 use Rattle.entry.specs.Passed.{Sound, Passed}
 use Rattle.entry.proofs.Ends.{prior_more}
 use Rattle.rules.specs.Snap.{weld}
 use Rattle.rules.specs.Operations.{scene_for}
 use Rattle.regions.specs.declared.Run.{Run}
-use Rattle.regions.specs.declared.MeshRuns.{MeshRuns}
 use Rattle.regions.specs.declared.Regions.{Regions}
-use Rattle.regions.specs.Runs.{Within, run_in, Lies}
+use Rattle.regions.specs.Runs.{Within, run_in}
 use Rattle.strips.specs.Things.{thing_count}
-use Rattle.strips.specs.Index.{index_size}
 use Rattle.strips.proofs.Sizes.{size_low}
-use Rattle.indexing.specs.Indexes.{mesh_size, MeshAsks, Asks}
+use Rattle.indexing.specs.Indexes.{mesh_size, Asks}
 use Rattle.indexing.proofs.Written.{after, length_after, kept_after}
 use Rattle.finding.proofs.Held.{Holds, Low}
 

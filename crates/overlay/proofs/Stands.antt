@@ -5,7 +5,7 @@ use mathlib.Core.List.{List, ◌++◌}
 use Prim.Native.Nat.{ℕ}
 use native.Mathlib.Omega.{arith}
 use lib.Dec.{eqb}
-use lib.ListN.{length, get_or}
+use lib.ListN.{get_or}
 use lib.Ieee.{Float}
 use borrow.Author.Tests.{eqb-true, ne_eqb}
 use Rattle.cutting.specs.Edges.{Edge}
@@ -13,7 +13,7 @@ use Rattle.cutting.specs.Lent.{pairs}
 use Rattle.cutting.proofs.Pairs.{pairs_ends}
 use Rattle.entry.specs.Mesh.{Mesh}
 use Rattle.entry.specs.Passed.{Passed}
-use Rattle.rules.specs.Mesh.{the_subject, the_cutter, cell_at, cells_of}
+use Rattle.rules.specs.Mesh.{the_cutter, cell_at, cells_of}
 use Rattle.rules.specs.Snap.{weld}
 use Rattle.rules.specs.Neighbours.{renumbered, subject_net, cutter_net, line_edges, compute_descending}
 use Rattle.rules.specs.Meetings.{Scene, scene_of}

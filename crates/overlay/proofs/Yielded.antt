@@ -15,7 +15,6 @@ use Rattle.lists.proofs.Gather.{gathered_ext}
 use Rattle.rules.specs.Mesh.{Side, the_subject, the_cutter, other, side_number}
 use Rattle.rules.specs.Meetings.{Scene, net_of}
 use Rattle.rules.specs.Operations.{Piece, cuts, kept, over_cells}
-use Rattle.rules.specs.Refusals.{Event}
 use Rattle.regions.specs.declared.Regions.{Regions}
 use Rattle.regions.specs.Runs.{run_in}
 use Rattle.pieces.specs.Pieces.{runs_of, Yield, nothing, both, all_of}

@@ -1,4 +1,6 @@
 // The overlay of two meshes: the public call.
+#![tactic(auto)]
+
 ghost use Rattle.std.specs.Prelude.{◌≡◌, min, length};
 ghost use Rattle.lists.specs.Regions.{zeros};
 ghost use Rattle.entry.specs.Mesh.{mesh};
@@ -14,7 +16,7 @@ use passes::{write_families, write_kinds, write_parents};
 
 // The refusal or 0, and the counts of pieces and new points; `doubled` is 0, as no table names a neighbour twice, and is kept for readers of old
 // listings.
-#[derive(Drop)]
+#[derive(Clone, Copy)]
 pub struct Answer {
     pub code: u32,
     pub pieces: u32,

@@ -1,6 +1,6 @@
 -- What placing leaves: all that is yielded in the lists, or a refusal and zeros; and one yield behind another. Assumes nothing.
 use mathlib.Core.Path.{◌≡◌, refl, sym, ap, ap₂, ◌∙◌}
-use mathlib.Core.List.{List, [], ◌++◌, map-append, append-nil, append_assoc}
+use mathlib.Core.List.{List, ◌++◌, map-append, append-nil, append_assoc}
 use Prim.Native.Nat.{ℕ, zero, suc, ◌+◌, ◌-◌, ◌≤◌, ◌<◌}
 use native.Mathlib.Nat.{add-zero, zero-add, suc-add}
 use native.Mathlib.Numerals.{add-one}

@@ -1,4 +1,6 @@
 // Which pieces of a cell an operation keeps (document 01, "Operations"), and their placing behind those of the cells before.
+#![tactic(auto)]
+
 ghost use Rattle.std.specs.Prelude.{◌≡◌, ◌&&◌, cond, [], ◌∷◌, ◌+◌, ◌^◌, ◌≤◌, ◌<◌, leb, ltb, length};
 ghost use Rattle.lists.specs.Gather.{passing};
 ghost use Rattle.lists.specs.Regions.{put};
@@ -17,14 +19,14 @@ use rules::Bounds;
 use strips::gather;
 
 // Whether the operation keeps those pieces of a mesh that lie inside the other, and those that don't.
-#[derive(Drop)]
+#[derive(Clone, Copy)]
 pub struct Keep {
     pub inside: bool,
     pub outside: bool,
 }
 
 // The refusal, or 0 and how many pieces and corners there are then.
-#[derive(Drop)]
+#[derive(Clone, Copy)]
 pub struct Listed {
     pub code: u32,
     pub count: usize,
