@@ -1,12 +1,13 @@
-// The overlay of two views. The borrow checker covers no function over such a struct, so each is proved by hand; the work is that of
-// `overlay::overlay`, which takes plain lists.
+// The overlay of two views. The work is that of `overlay::overlay`, which takes plain lists.
+#![tactic(auto)]
+
 ghost use Rattle.std.specs.Prelude.{◌≡◌};
 ghost use Rattle.entry.specs.Mesh.{mesh};
 ghost use Rattle.rules.specs.Overlay.{lent_lists, result_of, overlay_of};
 ghost use Rattle.mesh_view.specs.Shown.{mesh_of, lists_of};
 
 use overlay::{Answer, overlay};
-use views::{MeshView, OutputView, output, view};
+use views::{MeshView, OutputView, view};
 
 // Operation, meeting limit M, subject, cutter, output lists, working list.
 pub fn overlay_views<'a, 'b, 'c, 'd>(
@@ -22,6 +23,15 @@ pub fn overlay_views<'a, 'b, 'c, 'd>(
         out.exit.1.1.1.1.1.0.now out.exit.1.1.1.1.1.1.0.now work.new)
         ≡ overlay_of op m (mesh_of subject.entry) (mesh_of cutter.entry) (lists_of out.entry work.old) }
 {
+    let OutputView {
+        coords,
+        nodes,
+        ends,
+        kinds,
+        families,
+        meshes,
+        cells,
+    } = out;
     overlay(
         op,
         m,
@@ -35,18 +45,19 @@ pub fn overlay_views<'a, 'b, 'c, 'd>(
         cutter.ends,
         cutter.kinds,
         cutter.families,
-        &mut *out.coords,
-        &mut *out.nodes,
-        &mut *out.ends,
-        &mut *out.kinds,
-        &mut *out.families,
-        &mut *out.meshes,
-        &mut *out.cells,
+        coords,
+        nodes,
+        ends,
+        kinds,
+        families,
+        meshes,
+        cells,
         work,
     )
 }
 
-// The same on plain lists, those of one mesh at one lifetime: whoever calls it needs no proof by hand.
+// The same on plain lists, those of one mesh at one lifetime. The output is written out, not made by `output`: what each list ends as is then plain to
+// the prover.
 pub fn overlay_lists<'a, 'b, 'c, 'd>(
     op: u32,
     m: u32,
@@ -81,7 +92,15 @@ pub fn overlay_lists<'a, 'b, 'c, 'd>(
         m,
         view(sc, sn, se, sk, sf),
         view(cc, cn, ce, ck, cf),
-        output(oc, on, oe, ok, of, om, oi),
+        OutputView {
+            coords: oc,
+            nodes: on,
+            ends: oe,
+            kinds: ok,
+            families: of,
+            meshes: om,
+            cells: oi,
+        },
         work,
     )
 }

@@ -1,9 +1,10 @@
-// A mesh as a view over the caller's lists, and the lists that the pieces go to. The borrow checker covers no function over such a struct, so each is
-// proved by hand.
+// A mesh as a view over the caller's lists, and the lists that the pieces go to.
+#![tactic(auto)]
+
 ghost use Rattle.std.specs.Prelude.{◌≡◌};
 
 // A mesh as read: coordinates (x then y), node numbers (flat), cell ends, kinds, families.
-#[derive(Drop)]
+#[derive(Clone, Copy)]
 pub struct MeshView<'a> {
     pub coords: &'a [f64],
     pub nodes: &'a [u32],
