@@ -5,7 +5,7 @@ ghost use Rattle.std.specs.Float.{binary64};
 ghost use Rattle.text.specs.Text.{decimal, hex, glyph};
 
 // the digits of a number are the bytes from `start` on
-#[derive(Drop)]
+#[derive(Clone, Copy)]
 pub struct Digits {
     pub bytes: [u8; 10],
     pub start: usize,

@@ -1,4 +1,6 @@
 // Printing the program's text into a lent list.
+#![tactic(auto)]
+
 ghost use Rattle.std.specs.Prelude.{◌≡◌, ◌+◌, ◌-◌, ◌*◌, ◌≤◌, ◌<◌, min, length, take, drop};
 ghost use Rattle.text.specs.Text.{piece_lines, listing_text, refused_text, unread_text, answer_text};
 ghost use Rattle.printing.specs.Page.{page, page_with, room_for, laid_over};
@@ -8,14 +10,14 @@ mod digits;
 mod lines;
 
 // the place after what is written, or that the list is full
-#[derive(Drop)]
+#[derive(Clone, Copy)]
 pub enum Put {
     At(usize),
     Full,
 }
 
 // what the program has to say; of an overlay, how many nodes and pieces the lists hold, and what was counted
-#[derive(Drop)]
+#[derive(Clone, Copy)]
 pub enum Answer {
     Unread,
     Refused(u32),

@@ -1,4 +1,6 @@
 // The program's answer: a text read, two meshes overlaid, the answer printed.
+#![tactic(auto)]
+
 ghost use Rattle.std.specs.Prelude.{◌≡◌, ◌+◌, ◌≤◌, length};
 ghost use Rattle.lists.specs.Regions.{front};
 ghost use Rattle.entry.specs.Mesh.{mesh};

@@ -1,5 +1,5 @@
 -- The answers of the code that reads meshes and inputs, as what was read and the rest of the text s. Assumes nothing.
-use Rattle.std.specs.Prelude.{ℕ, ◌+◌, ◌-◌, ◌*◌, ◌≤◌, ◌≡◌, List, [], ◌++◌, length, take, drop, Float}
+use Rattle.std.specs.Prelude.{ℕ, ◌-◌, ◌*◌, ◌≤◌, ◌≡◌, List, [], ◌++◌, length, take, drop, Float}
 use Rattle.lists.specs.Regions.{zeros, fzeros}
 use Rattle.text.specs.Given.{Parsed, none, got, ReadMesh, Given}
 use Rattle.reading.specs.declared.MeshRead.{MeshRead}

@@ -1,4 +1,6 @@
 // Reading an input of the program into lent lists.
+#![tactic(auto)]
+
 ghost use Rattle.std.specs.Prelude.{◌≡◌, ◌*◌, ◌≤◌, min, length, drop};
 ghost use Rattle.text.specs.Read.{mesh_from, input_from};
 ghost use Rattle.text.specs.Given.{at_most, limits};
@@ -9,20 +11,20 @@ use reading_lines::words::Step;
 use reading_lines::{lines, words};
 
 // how much of the five lists is a mesh
-#[derive(Drop)]
+#[derive(Clone, Copy)]
 pub struct Counts {
     pub points: usize,
     pub cells: usize,
     pub entries: usize,
 }
 
-#[derive(Drop)]
+#[derive(Clone, Copy)]
 enum MeshRead {
     At(Counts, usize),
     No,
 }
 
-#[derive(Drop)]
+#[derive(Clone, Copy)]
 pub enum Input {
     Read {
         op: u32,

@@ -1,16 +1,16 @@
 -- One turn of the loops over lines and numbers. Assumes nothing.
-use mathlib.Core.Path.{◌≡◌, refl, sym, ap, ◌∙◌}
+use mathlib.Core.Path.{◌≡◌}
 use mathlib.Core.List.{List, [], ◌∷◌, ◌++◌, append_assoc}
-use Prim.Native.Nat.{ℕ, zero, suc, ◌+◌, ◌-◌, ◌*◌, ◌≤◌, ◌<◌}
-use native.Mathlib.Numerals.{add-one, add-two}
+use Prim.Native.Nat.{ℕ, ◌+◌, ◌-◌, ◌*◌, ◌≤◌, ◌<◌}
+use native.Mathlib.Numerals.{add-one}
 use native.Mathlib.Omega.{arith}
-use lib.ListN.{length, get_or, set, take, drop, length-set}
+use lib.ListN.{length, set, take, drop, length-set}
 use lib.Seq.{take-suc-set, length-take-le}
 use lib.Ieee.{Float}
 use Rattle.text.specs.Text.{node_word, cell_word, space}
-use Rattle.text.specs.Read.{Rest, no, past, and_then, after_word, word_from, repeated, node_from, node_step, nodes_from}
-use Rattle.text.specs.Read.{decimal_from, entry_step, entries_from, Heading, Cell, cell_from, add_cell, cell_step, cells_from}
-use Rattle.text.specs.Given.{Parsed, none, got, Cells}
+use Rattle.text.specs.Read.{no, past, and_then, word_from, node_from, node_step, nodes_from}
+use Rattle.text.specs.Read.{decimal_from, entry_step, entries_from, cell_from, add_cell, cell_step, cells_from}
+use Rattle.text.specs.Given.{none, got, Cells}
 use Rattle.text.proofs.Repeats.{repeated_stop, repeated_end, repeated_bad, repeated_step}
 
 module _ {A : Type 0} where

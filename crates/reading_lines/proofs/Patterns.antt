@@ -1,12 +1,10 @@
 -- Which bits are a NaN's. Assumes nothing.
-use mathlib.Core.Path.{◌≡◌, refl, sym, ap, ◌∙◌, subst}
-use mathlib.Core.Bool.{Bool, true, false, cond, not, ◌&&◌, beq}
-use Prim.Native.Nat.{ℕ, ◌+◌, ◌*◌, ◌/◌, ◌%◌, ◌≤◌, ◌<◌}
+use mathlib.Core.Path.{◌≡◌, refl, sym, ◌∙◌}
+use mathlib.Core.Bool.{Bool, true, false, not, ◌&&◌}
+use Prim.Native.Nat.{ℕ, ◌/◌, ◌%◌}
 use borrow.Author.Tests.{eq-eqb, ne_eqb}
 use lib.Dec.{T, eqb}
-use lib.Ieee.{Float, nan, inf, fin, is_nan, nan_bits, of_bits, to_bits, div, eq, up, down, binary64}
-use lib.IntN.{ℤ}
-use native.Mathlib.Omega.{arith}
+use lib.Ieee.{Float, nan, inf, fin, is_nan, nan_bits, of_bits, div, binary64}
 use lib.Ieee.Bits.{nan_bits_is}
 
 pub few : (b : ℕ) → (b % 9223372036854775808 / 4503599627370496 ≡ 2047 → ⊥) → T (not (nan_bits binary64 b))

@@ -7,41 +7,41 @@ ghost use Rattle.reading_lines.specs.Lines.{cell_as, cell_end, cell_count, cells
 use crate::words;
 use crate::words::{Number, Pattern, Step};
 
-#[derive(Drop)]
+#[derive(Clone, Copy)]
 pub enum NodeRead {
     At(f64, f64, usize),
     No,
 }
 
 // how many there are now, and the place after them
-#[derive(Drop)]
+#[derive(Clone, Copy)]
 pub enum Count {
     At(usize, usize),
     No,
 }
 
-#[derive(Drop)]
+#[derive(Clone, Copy)]
 pub enum Head {
     At(u8, u32, usize),
     No,
 }
 
 // cells, entries, place
-#[derive(Drop)]
+#[derive(Clone, Copy)]
 pub enum CellsRead {
     At(usize, usize, usize),
     No,
 }
 
 // kind, family, entries now, place
-#[derive(Drop)]
+#[derive(Clone, Copy)]
 pub enum CellRead {
     At(u8, u32, usize, usize),
     No,
 }
 
 // operation, M, place
-#[derive(Drop)]
+#[derive(Clone, Copy)]
 pub enum First {
     At(u32, u32, usize),
     No,

@@ -5,19 +5,19 @@ ghost use Rattle.text.specs.Read.{digit_val, hex_val, word_from, more_from, deci
 ghost use Rattle.text.specs.Given.{coordinate};
 ghost use Rattle.reading_lines.specs.Lines.{step_as, step_end, number_as, number_end, pattern_as, pattern_end};
 
-#[derive(Drop)]
+#[derive(Clone, Copy)]
 pub enum Step {
     Past(usize),
     No,
 }
 
-#[derive(Drop)]
+#[derive(Clone, Copy)]
 pub enum Number {
     At(u32, usize),
     No,
 }
 
-#[derive(Drop)]
+#[derive(Clone, Copy)]
 pub enum Pattern {
     At(u64, usize),
     No,
