@@ -1,16 +1,23 @@
 // Answers lines on the geometry layer by itself, as the published Rust does in a differential run: a word and numbers, each the 16
 // hexadecimal digits of an f64. `meet` two segments; `inner` the corners of a polygon; `inside` a point and the corners; `orient`
 // three points; `around` a centre and its neighbours. Up to 65,536 bytes and 512 points a line.
+#![tactic(auto)]
+
 ghost use Rattle.std.specs.Prelude.{◌<◌, ◌≤◌};
 
 use exact::Order;
 use plane::Point;
 use polygons::Inner;
 use segments::{Meeting, PointId, Segment};
+use std::io;
+use std::io::{BufWriter, Read, Write};
+
+// No more of the input is read.
+const MOST_READ: u64 = 65536;
 
 // What of a line has been read: its first word's third letter, whether that word still goes on, the count of characters of the present
 // word, the value of its digits, and how many numbers came before.
-#[derive(Drop)]
+#[derive(Clone, Copy)]
 struct Line {
     form: u8,
     word: bool,
@@ -31,57 +38,46 @@ fn start() -> Line {
 
 // ---- Answers
 
-fn print_number(x: f64) {
+fn print_number<W: Write>(out: &mut W, x: f64) -> io::Result<()> {
     if x == x {
-        io::print_hex(1, f64::to_bits(x), 16);
+        let bits = f64::to_bits(x);
+        write!(out, "{bits:016x}")
     } else {
-        io::write_all(1, b"7ff8000000000000");
+        out.write_all(b"7ff8000000000000")
     }
 }
 
-fn print_point(x: f64, y: f64) {
-    print_number(x);
-    io::write_all(1, b" ");
-    print_number(y);
+fn print_point<W: Write>(out: &mut W, x: f64, y: f64) -> io::Result<()> {
+    print_number(out, x)?;
+    out.write_all(b" ")?;
+    print_number(out, y)
 }
 
-fn unread() {
-    io::write_all(1, b"(unread)");
+fn unread<W: Write>(out: &mut W) -> io::Result<()> {
+    out.write_all(b"(unread)")
 }
 
-fn print_id(p: PointId) {
+fn print_id<W: Write>(out: &mut W, p: PointId) -> io::Result<()> {
     match p {
-        PointId::P1 => {
-            io::write_all(1, b"P1");
-        }
-        PointId::P2 => {
-            io::write_all(1, b"P2");
-        }
-        PointId::P3 => {
-            io::write_all(1, b"P3");
-        }
-        PointId::P4 => {
-            io::write_all(1, b"P4");
-        }
+        PointId::P1 => out.write_all(b"P1"),
+        PointId::P2 => out.write_all(b"P2"),
+        PointId::P3 => out.write_all(b"P3"),
+        PointId::P4 => out.write_all(b"P4"),
     }
 }
 
-fn print_meeting(m: Meeting) {
+fn print_meeting<W: Write>(out: &mut W, m: Meeting) -> io::Result<()> {
     match m {
-        Meeting::Apart => {
-            io::write_all(1, b"none");
-        }
-        Meeting::Existing(p) => {
-            print_id(p);
-        }
+        Meeting::Apart => out.write_all(b"none"),
+        Meeting::Existing(p) => print_id(out, p),
         Meeting::New(x, y) => {
-            io::write_all(1, b"new ");
-            print_point(x, y);
+            out.write_all(b"new ")?;
+            print_point(out, x, y)
         }
         Meeting::Overlap(p, q) => {
-            print_id(p);
-            io::write_all(1, b",");
-            print_id(q);
+            print_id(out, p)?;
+            out.write_all(b",")?;
+            print_id(out, q)
         }
     }
 }
@@ -115,80 +111,70 @@ fn segment(c: &[f64], i: usize, j: usize) -> Segment {
     }
 }
 
-fn meet(c: &[f64]) {
+fn meet<W: Write>(out: &mut W, c: &[f64]) -> io::Result<()> {
     if c.len() == 8 {
         let s = segment(c, 0, 1);
         let o = segment(c, 2, 3);
-        print_meeting(s.intersect(o));
+        print_meeting(out, s.intersect(o))
     } else {
-        unread();
+        unread(out)
     }
 }
 
-fn orient(c: &[f64]) {
+fn orient<W: Write>(out: &mut W, c: &[f64]) -> io::Result<()> {
     if c.len() == 6 {
-        print_order(exact::orient2d(
+        let o = exact::orient2d(
             x_of(c, 0),
             y_of(c, 0),
             x_of(c, 1),
             y_of(c, 1),
             x_of(c, 2),
             y_of(c, 2),
-        ));
+        );
+        print_order(out, o)
     } else {
-        unread();
+        unread(out)
     }
 }
 
-fn print_order(o: Order) {
+fn print_order<W: Write>(out: &mut W, o: Order) -> io::Result<()> {
     match o {
-        Order::Less => {
-            io::write_all(1, b"-1");
-        }
-        Order::Equal => {
-            io::write_all(1, b"0");
-        }
-        Order::Greater => {
-            io::write_all(1, b"1");
-        }
+        Order::Less => out.write_all(b"-1"),
+        Order::Equal => out.write_all(b"0"),
+        Order::Greater => out.write_all(b"1"),
     }
 }
 
-fn print_inner(i: Inner) {
+fn print_inner<W: Write>(out: &mut W, i: Inner) -> io::Result<()> {
     match i {
-        Inner::Nowhere => {
-            io::write_all(1, b"none");
-        }
-        Inner::Inside(x, y) => {
-            print_point(x, y);
-        }
+        Inner::Nowhere => out.write_all(b"none"),
+        Inner::Inside(x, y) => print_point(out, x, y),
     }
 }
 
 // The corners are the points in turn: `rising` has 0, 1, 2 and so on.
-fn inner(c: &[f64], rising: &[u32]) {
+fn inner<W: Write>(out: &mut W, c: &[f64], rising: &[u32]) -> io::Result<()> {
     let n = c.len() / 2;
     if n <= rising.len() {
-        print_inner(polygons::strict_interior_point(c, &rising[0..n]));
+        print_inner(out, polygons::strict_interior_point(c, &rising[0..n]))
     } else {
-        unread();
+        unread(out)
     }
 }
 
-fn inside(c: &[f64], rising: &[u32]) {
+fn inside<W: Write>(out: &mut W, c: &[f64], rising: &[u32]) -> io::Result<()> {
     let n = c.len() / 2;
     if n == 0 {
-        unread();
-        return;
+        return unread(out);
     }
     if n <= rising.len() {
         if insides::inside(c, &rising[1..n], point(c, 0)) {
-            io::write_all(1, b"true");
+            out.write_all(b"true")
         } else {
-            io::write_all(1, b"false");
+            out.write_all(b"false")
         }
     } else {
-        unread();
+        unread(out)
     }
 }
 
@@ -228,10 +214,8 @@ fn ones(b: bool) -> usize
 // How many of the first n points but the centre come before neighbour j.
 fn place(c: &[f64], n: usize, j: usize) -> usize {
     let mut r: usize = 0;
-    let mut i: usize = 1;
-    while i < n {
+    for i in 1..n {
         r += ones(before(c, i, j));
-        i += 1;
     }
     r
 }
@@ -248,82 +232,69 @@ fn put(c: &[f64], n: usize, j: usize, order: &mut [u32]) {
 
 // The neighbours in their order around point 0.
 fn sort(c: &[f64], n: usize, order: &mut [u32]) {
-    let mut j: usize = 1;
-    while j < n {
+    for j in 1..n {
         put(c, n, j, order);
-        j += 1;
     }
 }
 
 // A neighbour's number, from 0; `more` where another stands before it.
-fn print_place(v: u32, more: bool) {
+fn print_place<W: Write>(out: &mut W, v: u32, more: bool) -> io::Result<()> {
     if more {
-        io::write_all(1, b" ");
+        out.write_all(b" ")?;
     }
     if v > 0 {
-        io::print_decimal(1, (v - 1) as u64);
+        let number = v - 1;
+        write!(out, "{number}")?;
     }
+    Ok(())
 }
 
-fn print_places(order: &[u32]) {
-    let mut i: usize = 0;
-    while i < order.len() {
-        print_place(order[i], i > 0);
-        i += 1;
+fn print_places<W: Write>(out: &mut W, order: &[u32]) -> io::Result<()> {
+    for (i, v) in order.iter().enumerate() {
+        print_place(out, *v, i > 0)?;
     }
+    Ok(())
 }
 
-fn around(c: &[f64], order: &mut [u32]) {
+fn around<W: Write>(out: &mut W, c: &[f64], order: &mut [u32]) -> io::Result<()> {
     let n = c.len() / 2;
     if n == 0 {
-        unread();
-        return;
+        return unread(out);
     }
     sort(c, n, order);
     let m = n - 1;
     if m <= order.len() {
-        print_places(&order[0..m]);
+        print_places(out, &order[0..m])?;
     }
+    Ok(())
 }
 
-fn answer(form: u8, c: &[f64], rising: &[u32], order: &mut [u32]) {
-    if form == b'e' {
-        meet(c);
-        return;
+fn answer<W: Write>(
+    out: &mut W,
+    form: u8,
+    c: &[f64],
+    rising: &[u32],
+    order: &mut [u32],
+) -> io::Result<()> {
+    match form {
+        b'e' => meet(out, c),
+        b'n' => inner(out, c, rising),
+        b's' => inside(out, c, rising),
+        b'i' => orient(out, c),
+        b'o' => around(out, c, order),
+        _ => unread(out),
     }
-    if form == b'n' {
-        inner(c, rising);
-        return;
-    }
-    if form == b's' {
-        inside(c, rising);
-        return;
-    }
-    if form == b'i' {
-        orient(c);
-        return;
-    }
-    if form == b'o' {
-        around(c, order);
-        return;
-    }
-    unread();
 }
 
 // ---- Lines
 
 // The float of a bit pattern; any NaN's is one NaN.
+#[tactic(auto, using(std::proofs::lemmas::Float::not_nan_f64_bits))]
 fn float_of(b: u64) -> f64 {
-    if b % 0x8000_0000_0000_0000 / 0x0010_0000_0000_0000 != 2047 {
+    if b % 0x8000_0000_0000_0000 <= 0x7ff0_0000_0000_0000 {
         return f64::from_bits(b);
     }
-    if b % 0x0010_0000_0000_0000 != 0 {
-        return 0.0 / 0.0;
-    }
-    if b < 0x8000_0000_0000_0000 {
-        return 1.0 / 0.0;
-    }
-    -1.0 / 0.0
+    0.0 / 0.0
 }
 
 fn digit(b: u8) -> u64
@@ -385,50 +356,60 @@ fn ended(s: Line, numbers: &mut [f64]) -> Line {
     }
 }
 
-fn next(s: Line, b: u8, numbers: &mut [f64], rising: &[u32], order: &mut [u32]) -> Line {
+fn next<W: Write>(
+    out: &mut W,
+    s: Line,
+    b: u8,
+    numbers: &mut [f64],
+    rising: &[u32],
+    order: &mut [u32],
+) -> io::Result<Line> {
     if b == b' ' {
-        return ended(s, numbers);
+        return Ok(ended(s, numbers));
     }
     if b == b'\n' {
         let e = ended(s, numbers);
         let n = e.count;
         if n <= numbers.len() {
-            answer(e.form, &numbers[0..n], rising, order);
-            io::write_all(1, b"\n");
-            return start();
+            answer(out, e.form, &numbers[0..n], rising, order)?;
+            out.write_all(b"\n")?;
         }
-        return start();
+        return Ok(start());
     }
-    more(s, b)
+    Ok(more(s, b))
 }
 
-fn answers(text: &[u8], numbers: &mut [f64], rising: &[u32], order: &mut [u32]) {
+fn answers<W: Write>(
+    out: &mut W,
+    text: &[u8],
+    numbers: &mut [f64],
+    rising: &[u32],
+    order: &mut [u32],
+) -> io::Result<()> {
     let mut s = start();
-    let mut i: usize = 0;
-    while i < text.len() {
-        s = next(s, text[i], numbers, rising, order);
-        i += 1;
+    for b in text {
+        s = next(out, s, *b, numbers, rising, order)?;
     }
+    Ok(())
 }
 
 // Each place gets its own number.
 fn number_all(rising: &mut [u32]) {
-    let mut k: u32 = 0;
-    while (k as usize) < rising.len() {
-        rising[k as usize] = k;
-        if k == 511 {
-            return;
+    for (k, place) in rising.iter_mut().enumerate() {
+        if k < 512 {
+            *place = k as u32;
         }
-        k += 1;
     }
 }
 
-fn main() {
-    let mut text = io::large_buffer();
-    let n = io::read_full(0, &mut text);
+fn main(rt: HostRuntime) -> io::Result<()> {
+    let mut text = Vec::new(rt.alloc());
+    rt.stdin().take(MOST_READ).read_to_end(&mut text)?;
     let mut numbers = [0.0; 1024];
     let mut rising = [0u32; 512];
     number_all(&mut rising);
     let mut order = [0u32; 512];
-    answers(&text[..n], &mut numbers, &rising, &mut order);
+    let mut out = BufWriter::new(rt.alloc(), io::writer(&rt))?;
+    answers(&mut out, &text, &mut numbers, &rising, &mut order)?;
+    out.flush()
 }

@@ -1,28 +1,36 @@
 // Answers stored inputs, each a file named by an argument: its name, then what `overlay_main` writes for it.
+#![tactic(auto)]
 
-// the file of argument i
-fn replay(i: usize) {
-    let mut name = io::buffer();
-    let n = os::arg(i, &mut name);
-    io::write_all(1, &name[..n]);
-    io::write_all(1, b"\n");
-    let file = os::open_read(&name[..n]);
-    let mut text = [0u8; 65537];
-    let k = io::read_full(file, &mut text);
-    libc::close(file);
-    let mut out = [0u8; 278580];
-    let p = program::reply(&text[..k], &mut out);
-    io::write_all(1, &out[..p]);
+use std::env::Args;
+use std::io::Read;
+use std::rt::Files;
+use std::{env, fs, io};
+
+// A text of more than 65,536 bytes is refused, so one byte more is read.
+const MOST_READ: u64 = 65537;
+
+// Holds any answer.
+const MOST_WRITTEN: usize = 278580;
+
+// the file of this name
+fn replay(rt: &(impl Files + Print + AllocGlobal), name: &str) -> io::Result<()> {
+    rt.println(name)?;
+    let mut text = Vec::new(rt.alloc());
+    fs::open(rt, name)?.take(MOST_READ).read_to_end(&mut text)?;
+    let mut out = [0u8; MOST_WRITTEN];
+    let p = program::reply(&text, &mut out);
+    rt.write_all(&out[..p])
 }
 
-fn replay_all(count: usize) {
-    let mut i: usize = 1;
-    while i < count {
-        replay(i);
-        i += 1;
+// all names but the first, the program's own
+fn replay_all(rt: &(impl Files + Print + AllocGlobal), names: Args) -> io::Result<()> {
+    for name in names.skip(1) {
+        replay(rt, name.as_str())?;
     }
+    Ok(())
 }
 
-fn main() {
-    replay_all(os::arg_count());
+fn main(rt: HostRuntime) -> io::Result<()> {
+    let names = env::args(&rt)?;
+    replay_all(&rt, names)
 }

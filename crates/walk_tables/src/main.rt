@@ -1,7 +1,11 @@
 // Stored cells: the table is built edge by edge and walked. For each cell its pieces, a line each, or its refusal.
+#![tactic(auto)]
+
 ghost use Rattle.std.specs.Prelude.{◌≤◌, length};
 
 use dart_walk::Walked;
+use std::io;
+use std::io::{BufWriter, Write};
 
 fn wide(x: u32) -> usize {
     x as usize
@@ -69,38 +73,37 @@ fn add_near(
 }
 
 // Ends a line where a piece ends. Answers how many have ended.
-fn ended(stops: &[u32], p: usize, j: usize) -> usize {
+fn ended<W: Write>(out: &mut W, stops: &[u32], p: usize, j: usize) -> io::Result<usize> {
     if p < stops.len() {
         if wide(stops[p]) == j {
-            io::write_all(1, b"\n");
-            return p + 1;
+            out.write_all(b"\n")?;
+            return Ok(p + 1);
         }
     }
-    io::write_all(1, b" ");
-    p
+    out.write_all(b" ")?;
+    Ok(p)
 }
 
-fn show_number(x: u32) {
-    io::print_decimal(1, x as u64);
+fn show_number<W: Write>(out: &mut W, x: u32) -> io::Result<()> {
+    write!(out, "{x}")
 }
 
-fn show_pieces(nodes: &[u32], stops: &[u32]) {
+fn show_pieces<W: Write>(out: &mut W, nodes: &[u32], stops: &[u32]) -> io::Result<()> {
     let mut p = 0;
-    let mut j = 0;
-    while j < nodes.len() {
-        show_number(nodes[j]);
-        j += 1;
-        p = ended(stops, p, j);
+    for (j, node) in nodes.iter().enumerate() {
+        show_number(out, *node)?;
+        p = ended(out, stops, p, j + 1)?;
     }
+    Ok(())
 }
 
-fn refused(code: u32) {
-    io::write_all(1, b"refused ");
-    show_number(code);
-    io::write_all(1, b"\n");
+fn refused<W: Write>(out: &mut W, code: u32) -> io::Result<()> {
+    out.write_all(b"refused ")?;
+    show_number(out, code)?;
+    out.write_all(b"\n")
 }
 
-fn show(coords: &[f64], own: &[u32], near: &[u32]) {
+fn show<W: Write>(out: &mut W, coords: &[f64], own: &[u32], near: &[u32]) -> io::Result<()> {
     let mut outline = [0u32; 1024];
     let mut src = [0u32; 1024];
     let mut dst = [0u32; 1024];
@@ -109,17 +112,14 @@ fn show(coords: &[f64], own: &[u32], near: &[u32]) {
     let mut stops = [0u32; 1024];
     let top = add_own(coords, own, &mut outline, &mut src, &mut dst, &mut marks);
     if 1024 < top {
-        refused(10);
-        return;
+        return refused(out, 10);
     }
     if outlines::edges_repeat(&outline[..top]) {
-        refused(19);
-        return;
+        return refused(out, 19);
     }
     let n = add_near(coords, near, &mut src, &mut dst, &mut marks, top);
     if 1024 < n {
-        refused(10);
-        return;
+        return refused(out, 10);
     }
     let w = dart_walk::walk_dart_map(
         &src,
@@ -131,12 +131,13 @@ fn show(coords: &[f64], own: &[u32], near: &[u32]) {
         &mut stops,
     );
     match w {
-        Walked::Closed(k, m) => {
+        Walked::Closed(_, m) => {
             if m <= 1024 {
-                show_pieces(&nodes[..m], &stops);
+                show_pieces(out, &nodes[..m], &stops)?;
             }
+            Ok(())
         }
-        Walked::Refused(code) => refused(code),
+        Walked::Refused(code) => refused(out, code),
     }
 }
 
@@ -144,24 +145,23 @@ fn show(coords: &[f64], own: &[u32], near: &[u32]) {
 fn ring(edge: &mut [u32], count: u32)
     requires { 515 ≤ length edge.old }
 {
-    let mut i = 3;
-    while i < 515 {
+    for i in 3..515 {
         edge[i] = (i - 3) as u32;
-        i += 1;
     }
     edge[1] = 1;
     edge[2] = count;
 }
 
-fn show_ring(count: u32) {
+fn show_ring<W: Write>(out: &mut W, count: u32) -> io::Result<()> {
     let coords = [0.0; 2];
     let none = [0u32; 1];
     let mut edge = [0u32; 517];
     ring(&mut edge, count);
-    show(&coords, &edge, &none);
+    show(out, &coords, &edge, &none)
 }
 
-fn main() {
+fn main(rt: HostRuntime) -> io::Result<()> {
+    let mut out = BufWriter::new(rt.alloc(), io::writer(&rt))?;
     // the square 0 1 2 3, K1's square 4 5 6 7, the points 8 and 9 where they meet
     let k1 = [
         0.0, 0.0, 2.0, 0.0, 2.0, 2.0, 0.0, 2.0, 1.0, -1.0, 3.0, -1.0, 3.0, 3.0, 1.0, 3.0, 1.0, 0.0,
@@ -169,36 +169,37 @@ fn main() {
     ];
     let k1_own = [0u32, 1, 3, 0, 8, 1, 1, 2, 0, 2, 3, 3, 2, 9, 3, 3, 0, 0];
     let k1_near = [7u32, 4, 4, 4, 8, 9, 7];
-    show(&k1, &k1_own, &k1_near);
+    show(&mut out, &k1, &k1_own, &k1_near)?;
     // K10: a line 4 5 that ends inside, at 6 on the edge 0 1
     let k10 = [
         0.0, 0.0, 2.0, 0.0, 2.0, 2.0, 0.0, 2.0, 1.0, -1.0, 1.0, 1.0, 1.0, 0.0,
     ];
     let k10_own = [0u32, 1, 3, 0, 6, 1, 1, 2, 0, 2, 3, 0, 3, 0, 0];
     let k10_near = [4u32, 5, 3, 4, 6, 5];
-    show(&k10, &k10_own, &k10_near);
+    show(&mut out, &k10, &k10_own, &k10_near)?;
     // the edge 0 1 comes whole once more
     let square = [0u32, 1, 0, 1, 2, 0, 2, 3, 0, 3, 0, 0];
     let twice = [1u32, 0, 0];
-    show(&k1, &square, &twice);
+    show(&mut out, &k1, &square, &twice)?;
     // the same edge with its nodes is the outline's own
     let known = [1u32, 0, 2, 0, 1];
-    show(&k1, &square, &known);
+    show(&mut out, &k1, &square, &known)?;
     // an outline that runs back along itself, and one from a node to itself
     let folded = [0u32, 1, 0, 1, 2, 0, 2, 1, 0, 1, 0, 0];
     let stuck = [0u32, 1, 0, 1, 1, 0, 1, 0, 0];
-    show(&k1, &folded, &twice);
-    show(&k1, &stuck, &twice);
+    show(&mut out, &k1, &folded, &twice)?;
+    show(&mut out, &k1, &stuck, &twice)?;
     // a copied cell
     let none = [0u32; 1];
-    show(&k1, &square, &none);
+    show(&mut out, &k1, &square, &none)?;
     // a triangle 0 4 5 inside, that touches the outline at 0: the walk passes 0 twice, or ends there where it starts at 0
     let inside = [0.0, 0.0, 2.0, 0.0, 2.0, 2.0, 0.0, 2.0, 1.0, 0.5, 0.5, 1.0];
     let triangle = [0u32, 4, 0, 4, 5, 0, 5, 0, 0];
     let later = [1u32, 2, 0, 2, 3, 0, 3, 0, 0, 0, 1, 0];
-    show(&inside, &square, &triangle);
-    show(&inside, &later, &triangle);
+    show(&mut out, &inside, &square, &triangle)?;
+    show(&mut out, &inside, &later, &triangle)?;
     // 1,024 slots, and 1,026
-    show_ring(513);
-    show_ring(514);
+    show_ring(&mut out, 513)?;
+    show_ring(&mut out, 514)?;
+    out.flush()
 }
