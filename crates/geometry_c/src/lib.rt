@@ -1,4 +1,6 @@
 // The geometry layer for C and Rust programs: numbers in the place of structs and enums, points written into lent lists.
+#![tactic(auto)]
+
 ghost use Rattle.std.specs.Prelude.{◌≡◌, true, false, ◌≤◌};
 ghost use Rattle.exact.specs.Angle.{orientation, angles};
 ghost use Rattle.segments.specs.Meet.{meeting};
@@ -62,6 +64,7 @@ fn meet_number(m: Meeting) -> u8
 }
 
 // A point is put into the first two places, where there are two.
+#[tactic(auto, unfolding(crate::specs::Numbers::new_point))]
 fn put(point: &mut [f64], x: f64, y: f64)
     ensures { point.new ≡ new_point x y point.old }
 {
@@ -91,6 +94,7 @@ fn put_meeting(m: Meeting, point: &mut [f64])
     }
 }
 
+#[tactic(auto, unfolding(crate::specs::Numbers::segment_from))]
 fn segment_of(x: f64, y: f64, u: f64, v: f64) -> Segment
     ensures { result ≡ segment_from x y u v }
 {

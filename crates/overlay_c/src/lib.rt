@@ -1,4 +1,6 @@
 // The overlay for C and Rust programs: the refusal's number or 0 is the answer, the counts go into a lent list.
+#![tactic(auto)]
+
 ghost use Rattle.std.specs.Prelude.{◌≡◌};
 ghost use Rattle.entry.specs.Mesh.{mesh};
 ghost use Rattle.rules.specs.Overlay.{lent_lists, overlay_of};
@@ -7,6 +9,7 @@ ghost use Rattle.overlay_c.specs.Answer.{AnswerOf, placed};
 use overlay::overlay;
 
 // The counts are put into the first three places, where there are three.
+#[tactic(auto, unfolding(crate::specs::Answer::placed))]
 fn put(counts: &mut [u32], pieces: u32, points: u32, doubled: u32)
     ensures { counts.new ≡ placed pieces points doubled counts.old }
 {
