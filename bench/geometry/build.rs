@@ -1,7 +1,7 @@
-//! Links the proved functions: target/staticlib/libgeometry_c.a.
+//! Links the proved functions: crates/geometry_c/out/libgeometry_c.a.
 fn main() {
     let here = std::env::var("CARGO_MANIFEST_DIR").unwrap();
-    println!("cargo:rustc-link-search=native={here}/../../target/staticlib");
+    println!("cargo:rustc-link-search=native={here}/../../crates/geometry_c/out");
     println!("cargo:rustc-link-lib=static=geometry_c");
-    println!("cargo:rerun-if-changed={here}/../../target/staticlib/libgeometry_c.a");
+    println!("cargo:rerun-if-changed={here}/../../crates/geometry_c/out/libgeometry_c.a");
 }

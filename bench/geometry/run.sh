@@ -4,7 +4,7 @@ set -eu
 root=$(cd "$(dirname "$0")/../.." && pwd)
 cd "$root"
 mkdir -p target
-rt staticlib geometry_c >target/staticlib.log 2>&1 || {
+(cd crates/geometry_c && rt lib) >target/staticlib.log 2>&1 || {
     cat target/staticlib.log >&2
     exit 1
 }

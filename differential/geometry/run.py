@@ -216,9 +216,10 @@ def main():
     built = a.built or os.path.join(ROOT, 'target', 'oracle')
     if not a.built:
         subprocess.run([os.path.join(ROOT, 'differential', 'oracle.sh'), built], check=True)
-    program = a.program or os.path.join(ROOT, 'target', 'bin', 'geometry_lines')
+    crate = os.path.join(ROOT, 'crates', 'geometry_lines')
+    program = a.program or os.path.join(crate, 'out', 'geometry_lines')
     if not a.program:
-        subprocess.run(['rt', 'check', 'geometry_lines'], cwd=ROOT, check=not a.sample, stdout=subprocess.DEVNULL)
+        subprocess.run(['rt', 'run'], cwd=crate, check=True, stdin=subprocess.DEVNULL, stdout=subprocess.DEVNULL, stderr=subprocess.DEVNULL)
     oracle, law = (os.path.join(built, 'release', n) for n in ('oracle', 'oracle-law'))
     lines = [l for _, l in named()] + Lines(a.seed).made(2000 if a.sample else a.lines)
     rows = list(compare(program, oracle, law, lines))

@@ -325,7 +325,7 @@ def build(a):
         later = os.path.join(ROOT, 'target', 'oracle-02')
         subprocess.run(['sh', os.path.join(ROOT, 'differential', 'oracle-02.sh'), later], check=True)
     if not driver:
-        subprocess.run(['rt', 'staticlib', 'overlay_c'], cwd=ROOT, check=True, stdout=subprocess.DEVNULL)
+        subprocess.run(['rt', 'lib'], cwd=os.path.join(ROOT, 'crates', 'overlay_c'), check=True, stdout=subprocess.DEVNULL)
         out = os.path.join(ROOT, 'target', 'overlays')
         subprocess.run(['cargo', 'build', '--release', '--offline', '--quiet', '--target-dir', out], cwd=os.path.join(HERE, 'driver'), check=True)
         driver = os.path.join(out, 'release', 'overlays')

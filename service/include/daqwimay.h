@@ -1,4 +1,4 @@
-/* daqwimay: the proved overlay of two meshes, for C. Link target/staticlib/liboverlay_c.a (rt staticlib overlay_c). */
+/* daqwimay: the proved overlay of two meshes, for C. Link crates/overlay_c/out/liboverlay_c.a (rt lib in crates/overlay_c). */
 #ifndef DAQWIMAY_H
 #define DAQWIMAY_H
 

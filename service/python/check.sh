@@ -10,7 +10,7 @@ if ! dpkg -s $packages > /dev/null 2>&1; then
     $root apt-get update
     $root apt-get install -y --no-install-recommends $packages
 fi
-[ -f "${DAQWIMAY_LIB:-../../target/staticlib}/liboverlay_c.a" ] || (cd ../.. && rt staticlib overlay_c)
+[ -f "${DAQWIMAY_LIB:-../../crates/overlay_c/out}/liboverlay_c.a" ] || (cd ../../crates/overlay_c && rt lib)
 home=../../target/python/tests
 rm -rf $home
 /usr/bin/python3 -m venv --system-site-packages $home

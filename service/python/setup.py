@@ -1,6 +1,6 @@
 """Links the proved archive into libdaqwimay.so, inside the package, and gives the wheel its platform's tag.
 
-The archive is liboverlay_c.a in DAQWIMAY_LIB, by default the repository's target/staticlib (rt staticlib overlay_c).
+The archive is liboverlay_c.a in DAQWIMAY_LIB, by default the repository's crates/overlay_c/out (rt lib in crates/overlay_c).
 """
 import os
 import shlex
@@ -20,10 +20,10 @@ LINK = '-shared -fPIC -Wl,-z,defs,-z,now,-z,relro,-z,noexecstack -Wl,--whole-arc
 
 
 def archive() -> Path:
-    folder = Path(os.environ.get('DAQWIMAY_LIB', HERE.parents[1] / 'target' / 'staticlib'))
+    folder = Path(os.environ.get('DAQWIMAY_LIB', HERE.parents[1] / 'crates' / 'overlay_c' / 'out'))
     found = folder / 'liboverlay_c.a'
     if not found.exists():
-        raise SystemExit(f'{folder} has no liboverlay_c.a: run `rt staticlib overlay_c` in the repository\'s root, or set DAQWIMAY_LIB')
+        raise SystemExit(f'{folder} has no liboverlay_c.a: run `rt lib` in crates/overlay_c, or set DAQWIMAY_LIB')
     return found
 
 

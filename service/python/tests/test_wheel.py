@@ -53,4 +53,4 @@ def test_in_a_fresh_environment(wheel, tmp_path):
 
 def test_without_the_library(tmp_path):
     done = build(tmp_path, DAQWIMAY_LIB=str(tmp_path))
-    assert done.returncode != 0 and 'rt staticlib overlay_c' in done.stderr + done.stdout and not list(tmp_path.glob('*.whl'))
+    assert done.returncode != 0 and '`rt lib` in crates/overlay_c' in done.stderr + done.stdout and not list(tmp_path.glob('*.whl'))
