@@ -13,7 +13,7 @@ import sys
 APART = "## Needn't be believed"
 ROW = re.compile(r"^\| (\w+/specs/[^|]+?) \|", re.M)
 NAME = re.compile(r"^ *(?:(?:abbrev|unfoldable) pub|pub (?:data|record)) ([^\s:]+)", re.M)
-NEED = re.compile(r"^use Rattle·(\w+)(?:·specs)?\.(specs(?:\.specs)?|proofs(?:\.proofs)?)\.(\w+)", re.M)
+NEED = re.compile(r"^use Rattle\.(\w+)\.(specs|proofs)\.(\w+)", re.M)
 
 
 def listed(page):
@@ -31,8 +31,8 @@ def listed(page):
 def needs(path):
     """(kind, crate/File) of each module that a file of definitions uses"""
     for crate, kind, module in NEED.findall(path.read_text()):
-        if module != "declared":
-            yield kind.split(".")[0], f"{crate}/{module}"
+        if module != "declared" and crate != "std":
+            yield kind, f"{crate}/{module}"
 
 
 def meanings(root, names):

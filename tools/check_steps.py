@@ -2,7 +2,7 @@
 """Checks that no step to the next slot around a node or to the next corner of a polygon holds a division or a remainder (document 02, W3), in the
 source and in the compiled libraries. Run by hand; it is no part of the gate.
 
-usage: python3 tools/check_steps.py [LIBRARY.a ..]      (default: makes liboverlay_c.a and libgeometry_c.a by `rt staticlib` and looks at both)
+usage: python3 tools/check_steps.py [LIBRARY.a ..]      (default: makes liboverlay_c.a and libgeometry_c.a by `rt lib` and looks at both)
 
 Source: the steps and the functions that take one have neither `/` nor `%`, and nothing in the library takes a remainder by anything but a literal.
 Compiled: most of those functions are inlined, so every function of a library is disassembled. One that has a `div` or `idiv` must be one from which
@@ -37,7 +37,7 @@ def read_source():
     bodies, named, imports = {}, {}, {}
     for path in sorted(ROOT.glob("crates/*/src/**/*.rt")):
         crate = path.relative_to(ROOT).parts[1]
-        brought = {name: way.split("::")[0] for way, name in re.findall(r"^use ([\w:]+)::(\w+);", path.read_text(), re.M)}
+        brought = {name: way.split("::")[0] for way, names in re.findall(r"^use ([\w:]+)::(\w+|\{[\w\s,]*\});", path.read_text(), re.M) for name in re.findall(r"\w+", names)}
         for name, body in functions_of(path):
             bodies[crate, name] = bodies.get((crate, name), "") + body
             named.setdefault(name, set()).add((crate, name))
@@ -110,8 +110,8 @@ def libraries(words):
     if words:
         return [pathlib.Path(word) for word in words]
     for crate in ("overlay_c", "geometry_c"):
-        subprocess.run(["rt", "staticlib", crate], cwd=ROOT, check=True, stdout=subprocess.DEVNULL)
-    return [ROOT / f"target/staticlib/lib{crate}.a" for crate in ("overlay_c", "geometry_c")]
+        subprocess.run(["rt", "lib"], cwd=ROOT / "crates" / crate, check=True, stdout=subprocess.DEVNULL)
+    return [ROOT / f"crates/{crate}/out/lib{crate}.a" for crate in ("overlay_c", "geometry_c")]
 
 
 def main():
