@@ -1,0 +1,20 @@
+-- The refusals' numbers. Assumes nothing.
+use Rattle.std.specs.Prelude.{ℕ}
+use Rattle.refusals.specs.declared.Refusal.{Refusal}
+use Rattle.refusals.specs.declared.Refusal.TheVariants.{Call, Lists, Coordinates, Kinds, NodeNumbers, NodeTwice, WorkingList, TooManyMeetings, CrowdedEdge, FullTable, OpenWalk, NoPlace, RepeatedEdge}
+
+-- document 01's number, and 19 for document 02's W14
+abbrev pub number : Refusal → ℕ
+number Call = 1
+number Lists = 2
+number Coordinates = 3
+number Kinds = 4
+number NodeNumbers = 5
+number NodeTwice = 6
+number WorkingList = 7
+number TooManyMeetings = 8
+number CrowdedEdge = 9
+number FullTable = 10
+number OpenWalk = 11
+number NoPlace = 12
+number RepeatedEdge = 19

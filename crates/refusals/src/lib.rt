@@ -1,0 +1,93 @@
+// The refusals: why an overlay gives no answer.
+#![tactic(auto)]
+
+ghost use Rattle.std.specs.Prelude.{◌≡◌};
+ghost use Rattle.refusals.specs.Numbers.{number};
+
+use std::error::Error;
+use std::fmt;
+
+// 1 to 7 are of the input, 8 to 12 and 19 of the state.
+#[derive(Clone, Copy, Debug, PartialEq, Eq)]
+pub enum Refusal {
+    // 1: an operation or a limit of meetings that there isn't
+    Call,
+    // 2: lists that don't go together, or too long ones
+    Lists,
+    // 3: a coordinate that isn't finite, is too large or is −0
+    Coordinates,
+    // 4: a kind that isn't taken, out of order, or with a wrong node count
+    Kinds,
+    // 5: a node number not below the node count
+    NodeNumbers,
+    // 6: a node twice in one cell or line
+    NodeTwice,
+    // 7: a working list that is too short
+    WorkingList,
+    // 8: a meeting beyond the limit
+    TooManyMeetings,
+    // 9: over 256 nodes collected under one edge key
+    CrowdedEdge,
+    // 10: over 1,024 slots in a cell's table
+    FullTable,
+    // 11: a walk that can't go on
+    OpenWalk,
+    // 12: the next item has no place in its output list
+    NoPlace,
+    // 19: an outline that passes between the same two nodes twice, or from a node to itself
+    RepeatedEdge,
+}
+
+impl Refusal {
+    // The number that the rules give it.
+    pub fn number(self) -> u32
+        ensures { result ≡ number self }
+    {
+        match self {
+            Refusal::Call => 1,
+            Refusal::Lists => 2,
+            Refusal::Coordinates => 3,
+            Refusal::Kinds => 4,
+            Refusal::NodeNumbers => 5,
+            Refusal::NodeTwice => 6,
+            Refusal::WorkingList => 7,
+            Refusal::TooManyMeetings => 8,
+            Refusal::CrowdedEdge => 9,
+            Refusal::FullTable => 10,
+            Refusal::OpenWalk => 11,
+            Refusal::NoPlace => 12,
+            Refusal::RepeatedEdge => 19,
+        }
+    }
+}
+
+impl From<Refusal> for u32 {
+    ghost from_gives = { λ r n. n ≡ number r };
+
+    fn from(r: Refusal) -> u32 {
+        r.number()
+    }
+}
+
+impl fmt::Display for Refusal {
+    fn fmt<W: fmt::Write>(&self, f: &mut fmt::Formatter<W>) -> fmt::Result {
+        f.write_str(match self {
+            Refusal::Call => "no such operation, or no such limit of meetings",
+            Refusal::Lists => "the lists do not go together, or are too long",
+            Refusal::Coordinates => "a coordinate is not finite, too large or -0",
+            Refusal::Kinds => "a kind is not taken, out of order or has a wrong node count",
+            Refusal::NodeNumbers => "a node number is not below the node count",
+            Refusal::NodeTwice => "a node stands twice in one cell or line",
+            Refusal::WorkingList => "the working list is too short",
+            Refusal::TooManyMeetings => "there are more meetings than the limit",
+            Refusal::CrowdedEdge => "over 256 nodes are collected on one edge",
+            Refusal::FullTable => "a cell's table has over 1,024 slots",
+            Refusal::OpenWalk => "the walk round a cell cannot go on",
+            Refusal::NoPlace => "an output list has no place for the next item",
+            Refusal::RepeatedEdge =>
+                "a cell's outline repeats an edge, or has one from a node to itself",
+        })
+    }
+}
+
+impl Error for Refusal {}
