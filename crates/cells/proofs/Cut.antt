@@ -13,11 +13,13 @@ use Rattle.lists.proofs.Regions.{take_front_of}
 use Rattle.cutting.specs.Edges.{Edge}
 use Rattle.cutting.specs.Cell.{Laid, Slot, new_to, inner_with, cell_table, repeats}
 use Rattle.cutting.specs.Walk.{walk}
-use Rattle.cutting.specs.Outcome.{Outcome, pieces, refusal, of_walk, flat}
+use Rattle.cutting.specs.Outcome.{Outcome, pieces, refusal, of_walk}
 use Rattle.cutting.specs.Lent.{slots_of, flat_edges, pairs}
 use Rattle.dart_walk.specs.Answer.{answer, corners_in, ends_in}
-use Rattle.dart_walk.specs.declared.Walked.{Walked}
-use Rattle.dart_walk.specs.declared.Walked.TheVariants.{Closed, Refused}
+use Rattle.std.proofs.Common.{Result, Ok, Err}
+use Rattle.refusals.specs.declared.Refusal.{Refusal}
+use Rattle.refusals.specs.Numbers.{number, by_number}
+use Rattle.dart_walk.specs.declared.Counts.{Counts}
 use Rattle.cutting.proofs.Pairs.{pairs_ends}
 use Rattle.dart_table.proofs.Joins.{cell_length, cut_repeats, cut_over, cut_fits}
 use Rattle.cutting.proofs.Tabled.{slots_length}
@@ -25,7 +27,7 @@ use Rattle.edge_nodes.specs.Lent.{FrontIs}
 use Rattle.regions.specs.declared.Run.{Run}
 use Rattle.regions.specs.declared.Regions.{Regions}
 use Rattle.regions.specs.Runs.{run_in}
-use Rattle.cells.specs.Cells.{outline_in, near_in, table_in, edges_in, Places, AllFew, Cut, cut, cut_as, cut_by, cut_cell, Held}
+use Rattle.cells.specs.Cells.{outline_in, near_in, table_in, edges_in, Places, AllFew, Cut, cut, cut_to, cut_as, cut_by, cut_cell, Held}
 
 -- ---- refusals 10 and 19
 
@@ -92,27 +94,21 @@ as_walked coords outline near n src dst marks on os x once few held e =
 
 -- ---- the answer of the walk
 
-module _ (o : Outcome) (w : Walked) (on os on' os' : List ℕ) (ew : w ≡ answer o) (en : on' ≡ corners_in o on) (es : os' ≡ ends_in o os) where
-  pub closed_as : (k m : ℕ) → w ≡ Closed k m → cut (record { code = 0; pieces = k; entries = m }) on' os' ≡ cut_as o on os
-  unfolding cut_as corners_in ends_in
-  closed_as k m e = go o ew en es
-    where
-      go : (x : Outcome) → w ≡ answer x → on' ≡ corners_in x on → os' ≡ ends_in x os → cut (record { code = 0; pieces = k; entries = m }) on' os' ≡ cut_as x on os
-      go (pieces ps) a b c =
-          let ek : k ≡ length ps = cc in
-          let em : m ≡ length (flat ps) = cc in
-          λ t. cut (record { code = 0; pieces = ek t; entries = em t }) (b t) (c t)
-      go (refusal c) a b d = let z : ◌≡◌ {A = ℕ} 0 1 = cc in absurd (omega arith)
+abbrev counts_of : Result Counts ℕ → Counts
+counts_of (Ok k) = k
+counts_of (Err c) = record { pieces = 0; entries = 0 }
 
-  pub refused_as : (k : ℕ) → w ≡ Refused k → cut (record { code = k; pieces = 0; entries = 0 }) on' os' ≡ cut_as o on os
-  unfolding cut_as corners_in ends_in
-  refused_as k e = go o ew en es
-    where
-      go : (x : Outcome) → w ≡ answer x → on' ≡ corners_in x on → os' ≡ ends_in x os → cut (record { code = k; pieces = 0; entries = 0 }) on' os' ≡ cut_as x on os
-      go (pieces ps) a b c = let z : ◌≡◌ {A = ℕ} 0 1 = cc in absurd (omega arith)
-      go (refusal c) a b d =
-          let ek : k ≡ c = cc in
-          λ t. cut (record { code = ek t; pieces = 0; entries = 0 }) (b t) (d t)
+pub answered : (o : Outcome) (w : Result Counts Refusal) (on os on' os' : List ℕ) → by_number w ≡ answer o → on' ≡ corners_in o on → os' ≡ ends_in o os
+    → cut w on' os' ≡ cut_as o on os
+unfolding cut_as corners_in ends_in
+answered (pieces ps) (Ok k) on os on' os' e en es =
+    let count = ap (λ (r : Result Counts ℕ). counts_of r) e in
+    λ t. cut_to (record { code = 0; pieces = (count t).pieces; entries = (count t).entries }) (en t) (es t)
+answered (refusal c) (Err r) on os on' os' e en es =
+    let code : number r ≡ c = cc in
+    λ t. cut_to (record { code = code t; pieces = 0; entries = 0 }) (en t) (es t)
+answered (pieces ps) (Err r) on os on' os' e en es = cc
+answered (refusal c) (Ok k) on os on' os' e en es = cc
 
 -- ---- the edges near a cell, where they are lent by themselves
 

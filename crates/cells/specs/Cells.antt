@@ -1,6 +1,6 @@
 -- One cell cut by the other mesh's edges near it (document 01, modules 6 and 7), where edges, meetings and links stand in regions of the working list.
 -- Assumes nothing.
-use Rattle.std.specs.Prelude.{◌≡◌, List, [], map, ℕ, ◌*◌, ◌≤◌, ◌<◌, length, get_or, drop, Float}
+use Rattle.std.specs.Prelude.{◌≡◌, Result, Ok, Err, List, [], map, ℕ, ◌*◌, ◌≤◌, ◌<◌, length, get_or, drop, Float}
 use Rattle.lists.specs.Regions.{front, zeros}
 use Rattle.cutting.specs.Edges.{Edge, edge_at, ring}
 use Rattle.cutting.specs.Cell.{Laid, outline_darts, Slot, cell_table}
@@ -11,7 +11,9 @@ use Rattle.regions.specs.declared.Run.{Run}
 use Rattle.regions.specs.declared.Regions.{Regions}
 use Rattle.regions.specs.Runs.{Within, run_in}
 use Rattle.edge_nodes.specs.Lent.{nodes_on, Few}
-use Rattle.cells.specs.declared.CutCell.{CutCell}
+use Rattle.refusals.specs.declared.Refusal.{Refusal}
+use Rattle.refusals.specs.Numbers.{number}
+use Rattle.dart_walk.specs.declared.Counts.{Counts}
 
 module _ (coords : List Float) (work : List ℕ) (g : Regions) where
   -- an edge with its sorted nodes
@@ -40,18 +42,31 @@ Places js es = (k : ℕ) → k < length js → get_or js k 0 < length es
 
 -- ---- what a cell comes to: the answer, and the lists of its pieces' corners and of where they end
 
+-- the refusal's number or 0, how many pieces there are, and corners in them
+pub record Numbers : Type 0 where
+  pub code : ℕ
+  pub pieces : ℕ
+  pub entries : ℕ
+
+abbrev pub numbers : Result Counts Refusal → Numbers
+numbers (Ok k) = record { code = 0; pieces = k.pieces; entries = k.entries }
+numbers (Err r) = record { code = number r; pieces = 0; entries = 0 }
+
 pub record Cut : Type 0 where
-  pub answer : CutCell
+  pub answer : Numbers
   pub corners : List ℕ
   pub stops : List ℕ
 
-abbrev pub cut : CutCell → List ℕ → List ℕ → Cut
-cut r on os = record { answer = r; corners = on; stops = os }
+abbrev pub cut_to : Numbers → List ℕ → List ℕ → Cut
+cut_to k on os = record { answer = k; corners = on; stops = os }
+
+abbrev pub cut : Result Counts Refusal → List ℕ → List ℕ → Cut
+cut r on os = cut_to (numbers r) on os
 
 -- the pieces in front of the two lists; zeros on a refusal
 unfoldable pub cut_as : Outcome → List ℕ → List ℕ → Cut
-cut_as (pieces ps) on os = cut (record { code = 0; pieces = length ps; entries = length (flat ps) }) (front on (flat ps)) (front os (Outcome.stops 0 ps))
-cut_as (refusal k) on os = cut (record { code = k; pieces = 0; entries = 0 }) (zeros (length on)) (zeros (length os))
+cut_as (pieces ps) on os = cut_to (record { code = 0; pieces = length ps; entries = length (flat ps) }) (front on (flat ps)) (front os (Outcome.stops 0 ps))
+cut_as (refusal k) on os = cut_to (record { code = k; pieces = 0; entries = 0 }) (zeros (length on)) (zeros (length os))
 
 -- a cell with the outline and the table t
 unfoldable pub cut_by : List Edge → List Slot → List ℕ → List ℕ → Cut

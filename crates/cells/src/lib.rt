@@ -12,35 +12,25 @@ ghost use Rattle.outlines.specs.Meets.{edges_meet};
 ghost use Rattle.dart_table.specs.Table.{table_in, with_edges, Added, Outlined};
 ghost use Rattle.regions.specs.Runs.{Within, run_in};
 ghost use Rattle.edge_nodes.specs.Lent.{Few};
+ghost use Rattle.refusals.specs.Numbers.{number};
 ghost use Rattle.cells.specs.Cells.{laid_in, outline_in, near_in, edges_in, Places, cut, cut_as, cut_by, cut_cell, AllFew, outline_from, LaidIn, Held, Tables, Ready};
 
 use corners::next_corner;
 use dart_table::{add_near_edge, add_own_edge};
-use dart_walk::{Walked, walk_dart_map};
+use dart_walk::{Counts, walk_dart_map};
 use edge_nodes::nodes_on;
 use lists::zero_u32;
 use outlines::{edges_meet, edges_repeat, lay_own_edge};
+use refusals::Refusal;
 use regions::{Regions, Run, part};
 
-// What a cell comes to: the refusal or 0, how many pieces there are, and corners in them.
-#[derive(Clone, Copy)]
-pub struct CutCell {
-    pub code: u32,
-    pub pieces: usize,
-    pub entries: usize,
-}
-
 // A refusal leaves the lists of corners and stops zero.
-pub fn refused(code: u32, runs: &mut [u32], stops: &mut [u32]) -> CutCell
-    ensures { cut result runs.new stops.new ≡ cut_as (refusal code) runs.old stops.old }
+pub fn refused(why: Refusal, runs: &mut [u32], stops: &mut [u32]) -> Result<Counts, Refusal>
+    ensures { cut result runs.new stops.new ≡ cut_as (refusal (number why)) runs.old stops.old }
 {
     zero_u32(runs);
     zero_u32(stops);
-    CutCell {
-        code,
-        pieces: 0,
-        entries: 0,
-    }
+    Err(why)
 }
 
 // Adds the darts of the cell's own edge from a to b to the table of n slots and to the n entries of the outline. `nodes` is room for its nodes.
@@ -230,26 +220,14 @@ fn walk_cell(
     outline: &[u32],
     runs: &mut [u32],
     stops: &mut [u32],
-) -> CutCell
+) -> Result<Counts, Refusal>
     requires { (n ≤ 1024) × (n ≤ length src.now) × (n ≤ length dst.now) × (n ≤ length marks.now) × (length outline.now ≤ 2048) × (1024 ≤ length runs.old)
         × (1024 ≤ length stops.old) }
     ensures { cut result runs.new stops.new
         ≡ cut_as (of_walk (walk (pairs outline.now) (slots_of src.now dst.now marks.now n))) runs.old
         stops.old }
 {
-    let w = walk_dart_map(src, dst, marks, n, outline, runs, stops);
-    match w {
-        Walked::Closed(pieces, entries) => CutCell {
-            code: 0,
-            pieces,
-            entries,
-        },
-        Walked::Refused(code) => CutCell {
-            code,
-            pieces: 0,
-            entries: 0,
-        },
-    }
+    walk_dart_map(src, dst, marks, n, outline, runs, stops)
 }
 
 // Cuts a cell with a finished outline, whose own edges have the first slots, one for each of its entries: adds the edges near it and walks.
@@ -266,7 +244,7 @@ fn cut_outlined(
     marks: &mut [u32],
     runs: &mut [u32],
     stops: &mut [u32],
-) -> CutCell
+) -> Result<Counts, Refusal>
     requires { Ready w.now g edges js.now nodes.old runs.old stops.old × Tables coords.now outline.now src.old dst.old marks.old }
     ensures { cut result runs.new stops.new ≡ cut_by (pairs outline.now)
         (cell_table coords.now (pairs outline.now)
@@ -274,13 +252,13 @@ fn cut_outlined(
         runs.old stops.old }
 {
     if edges_repeat(outline) {
-        return refused(19, runs, stops);
+        return refused(Refusal::RepeatedEdge, runs, stops);
     }
     let n = outline.len();
     let near = part(w, edges);
     let slots = near_darts(coords, w, g, near, js, outline, nodes, src, dst, marks, n);
     if 1024 < slots {
-        return refused(10, runs, stops);
+        return refused(Refusal::FullTable, runs, stops);
     }
     walk_cell(src, dst, marks, slots, outline, runs, stops)
 }
@@ -296,7 +274,7 @@ pub fn cut_cell(
     cell: &[u32],
     runs: &mut [u32],
     stops: &mut [u32],
-) -> CutCell
+) -> Result<Counts, Refusal>
     requires { AllFew w.now g (ring cell.now) × Within edges (length w.now) × AllFew w.now g (edges_in w.now edges)
         × Places js.now (edges_in w.now edges) × (1024 ≤ length runs.old) × (1024 ≤ length stops.old) }
     ensures { cut result runs.new stops.new
@@ -320,9 +298,9 @@ pub fn cut_cell(
     );
     if 1024 < own {
         if outline_repeats(coords, w, g, cell, &mut nodes) {
-            return refused(19, runs, stops);
+            return refused(Refusal::RepeatedEdge, runs, stops);
         }
-        return refused(10, runs, stops);
+        return refused(Refusal::FullTable, runs, stops);
     }
     cut_outlined(
         coords,

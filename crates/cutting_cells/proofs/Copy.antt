@@ -21,7 +21,7 @@ use Rattle.cutting.proofs.Pairs.{ends_append, pairs_ends}
 use Rattle.regions.specs.declared.Regions.{Regions}
 use Rattle.regions.specs.declared.Run.{Run}
 use Rattle.corners.specs.Corners.{next_corner}
-use Rattle.cells.specs.Cells.{Cut, cut, cut_as, cut_by, cut_cell}
+use Rattle.cells.specs.Cells.{Cut, cut_to, cut_as, cut_by, cut_cell}
 use Rattle.rules.proofs.Rings.{side, sides, ring_each}
 use Rattle.cutting_cells.specs.Yields.{outcome_by}
 
@@ -69,14 +69,14 @@ sided_all cell list i r v h e =
 -- ---- the cell as its one piece
 
 whole_as : (cell on os on' : List ℕ) → length cell ≤ 256 → 1024 ≤ length on → 1024 ≤ length os → on' ≡ copied on 0 cell
-    → cut (record { code = 0; pieces = 1; entries = length cell }) on' (set os 0 (length cell)) ≡ cut_as (pieces (cell ∷ [])) on os
+    → cut_to (record { code = 0; pieces = 1; entries = length cell }) on' (set os 0 (length cell)) ≡ cut_as (pieces (cell ∷ [])) on os
 unfolding cut_as flat Outcome.stops
 whole_as cell on os on' small long many e =
     let flat_is : cell ≡ cell ++ [] = sym (append-nil cell) in
     let en : on' ≡ front on (cell ++ []) = e ∙ copied_fits on 0 cell (omega (arith, small, long)) ∙ front_put on cell ∙ ap (front on) flat_is in
     let es : set os 0 (length cell) ≡ front os ((0 + length cell) ∷ []) =
     front_store os os [] 0 (length cell) 0 refl (omega (arith, many)) (front_none os) ∙ ap (λ (k : ℕ). front os (k ∷ [])) (sym (zero-add (length cell))) in
-    λ s. cut (record { code = 0; pieces = 1; entries = length (flat_is s) }) (en s) (es s)
+    λ s. cut_to (record { code = 0; pieces = 1; entries = length (flat_is s) }) (en s) (es s)
   where
     front_none : (w : List ℕ) → w ≡ front w []
     front_none w = sym (sym (front_put w []) ∙ put_none w 0)
@@ -86,7 +86,7 @@ module _ (cell on os : List ℕ) (t : Bool) (et : t ≡ repeats (ring cell)) whe
   outcome_is x e = ap (λ (b : Bool). cond b (refusal 19) (pieces (cell ∷ []))) (sym e ∙ et)
 
   pub copied_as : (on' : List ℕ) → t ≡ false → length cell ≤ 256 → 1024 ≤ length on → 1024 ≤ length os → on' ≡ copied on 0 cell
-      → cut (record { code = 0; pieces = 1; entries = length cell }) on' (set os 0 (length cell)) ≡ cut_as (copied_outcome cell) on os
+      → cut_to (record { code = 0; pieces = 1; entries = length cell }) on' (set os 0 (length cell)) ≡ cut_as (copied_outcome cell) on os
   copied_as on' f small long many e = whole_as cell on os on' small long many e ∙ ap (λ (o : Outcome). cut_as o on os) (outcome_is false f)
 
   pub copied_refused : t ≡ true → cut_as (refusal 19) on os ≡ cut_as (copied_outcome cell) on os

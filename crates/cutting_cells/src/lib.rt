@@ -11,11 +11,13 @@ ghost use Rattle.cells.specs.Cells.{cut, cut_as, edges_in, Places, AllFew};
 ghost use Rattle.pieces.specs.Pieces.{side_of, Space, placing, placed_behind};
 ghost use Rattle.cutting_cells.specs.Yields.{outcome_by, yield_of, treatment_of, runs_on, numbered_from, cells_yield, meshes_yield, none_yet, Few, OtherReady, CellsAsk, MeshesReady};
 
-use cells::{CutCell, cut_cell};
+use cells::cut_cell;
 use corners::next_corner;
+use dart_walk::Counts;
 use lists::copy_u32;
 use outlines::edges_repeat;
 use pieces::{Keep, Listed, keep_of, place_pieces, refuse};
+use refusals::Refusal;
 use regions::{Indexes, MeshIndex, MeshRuns, Regions, Run, part};
 use spatial_index::bounds2;
 use strips::gather;
@@ -41,20 +43,19 @@ fn copy_repeats(cell: &[u32]) -> bool
 }
 
 // The cell itself as its one piece, unless its own edges repeat (19).
-fn copy_cell(cell: &[u32], runs: &mut [u32], stops: &mut [u32]) -> CutCell
+fn copy_cell(cell: &[u32], runs: &mut [u32], stops: &mut [u32]) -> Result<Counts, Refusal>
     requires { (length cell.now ≤ 256) × (1024 ≤ length runs.old) × (1024 ≤ length stops.old) }
     ensures { cut result runs.new stops.new ≡ cut_as (copied_outcome cell.now) runs.old stops.old }
 {
     if copy_repeats(cell) {
-        return cells::refused(19, runs, stops);
+        return cells::refused(Refusal::RepeatedEdge, runs, stops);
     }
     copy_u32(runs, 0, cell);
     stops[0] = cell.len() as u32;
-    CutCell {
-        code: 0,
+    Ok(Counts {
         pieces: 1,
         entries: cell.len(),
-    }
+    })
 }
 
 // ---- Any cell
@@ -69,7 +70,7 @@ fn outcome_of(
     cell: &[u32],
     runs: &mut [u32],
     stops: &mut [u32],
-) -> CutCell
+) -> Result<Counts, Refusal>
     requires { AllFew w.now g (ring cell.now) × Within edges (length w.now) × AllFew w.now g (edges_in w.now edges) × Places js.now (edges_in w.now edges)
         × (length cell.now ≤ 256) × (1024 ≤ length runs.old) × (1024 ≤ length stops.old) }
     ensures { cut result runs.new stops.new
@@ -136,7 +137,7 @@ fn overlay_cell(
     );
     let mut runs = [0u32; 1024];
     let mut stops = [0u32; 1024];
-    let r = outcome_of(
+    let outcome = outcome_of(
         coords,
         w,
         g,
@@ -146,27 +147,26 @@ fn overlay_cell(
         &mut runs,
         &mut stops,
     );
-    let code = r.code;
-    if code != 0 {
-        return refuse(code, on, oe, ot);
+    match outcome {
+        Ok(counts) => {
+            let tag = tag_of(number, 0 < n);
+            place_pieces(
+                t.keep,
+                coords,
+                part(w, t.other.entries),
+                ends,
+                part(w, t.index.cells),
+                on,
+                oe,
+                ot,
+                p,
+                &runs[..counts.entries],
+                &stops[..counts.pieces],
+                tag,
+            )
+        }
+        Err(why) => refuse(why.number(), on, oe, ot),
     }
-    let m = r.entries;
-    let c = r.pieces;
-    let tag = tag_of(number, 0 < n);
-    place_pieces(
-        t.keep,
-        coords,
-        part(w, t.other.entries),
-        ends,
-        part(w, t.index.cells),
-        on,
-        oe,
-        ot,
-        p,
-        &runs[..m],
-        &stops[..c],
-        tag,
-    )
 }
 
 // ---- All cells

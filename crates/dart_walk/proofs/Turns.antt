@@ -7,7 +7,8 @@ use native.Mathlib.Omega.{arith}
 use lib.Dec.{eqb}
 use lib.ListN.{length, get_or, set, take, drop, take-append-drop, length-append, length-set}
 use lib.Seq.{length-take-le}
-use Rattle.dart_walk.specs.declared.Walked.TheVariants.{Refused}
+use Rattle.std.proofs.Common.{Result, Err}
+use Rattle.dart_walk.specs.declared.Counts.{Counts}
 use borrow.Author.Tests.{eq-eqb}
 use Rattle.lists.specs.Regions.{front}
 use Rattle.lists.proofs.Search.{many_has, many_bound}
@@ -20,6 +21,10 @@ use Rattle.cutting.specs.Lent.{stacked}
 use Rattle.dart_walk.specs.Answer.{Room, closed_with, answer, Written}
 use Rattle.dart_walk.proofs.Steps.{length_stacked, stacked_push, stacked_pop, run_more, run_closed, run_stuck, run_broken}
 use Rattle.cutting.proofs.Runs.{take_push, drop_push, flat_snoc, stops_snoc, stops_length}
+
+-- refusal 11
+abbrev refused : Result Counts ℕ
+refused = Err 11
 
 -- the walk's own place, as the code holds it
 abbrev Shape : ℕ → List ℕ → List ℕ → ℕ → ℕ → ℕ → ℕ → List (List ℕ) → Phase → Type 0
@@ -112,10 +117,10 @@ module _ {n top : ℕ} {src dst marks₀ heap₀ nodes₀ ends₀ : List ℕ} (r
       off : Runs resting → walk_steps true n src dst v.fuel (state marks (i ∷ stacked heap (sp - 1)) v.done resting) ≡ r
       off st = rw (ei, ← (stacked_pop heap sp some)) st
 
-      pub missing : n ≤ i → (Refused 11 ≡ answer (of_walk r)) × Written (of_walk r) nodes₀ ends₀ nodes ends
+      pub missing : n ≤ i → (refused ≡ answer (of_walk r)) × Written (of_walk r) nodes₀ ends₀ nodes ends
       missing out = from v.phase v.shape v.still
         where
-          from : (p : Phase) → Shape n marks nodes at start m k v.done p → Runs p → (Refused 11 ≡ answer (of_walk r)) × Written (of_walk r) nodes₀ ends₀ nodes ends
+          from : (p : Phase) → Shape n marks nodes at start m k v.done p → Runs p → (refused ≡ answer (of_walk r)) × Written (of_walk r) nodes₀ ends₀ nodes ends
           from (on_slot first mid j) sh st = absurd (omega arith)
           from resting sh st =
               let e = run_broken true n src dst r v.fuel _ (omega (arith, v.enough)) (off st)
@@ -201,10 +206,10 @@ module _ {n top : ℕ} {src dst marks₀ heap₀ nodes₀ ends₀ : List ℕ} (r
       on : (first : ℕ) (mid : List ℕ) (i : ℕ) → at ≡ i → start ≡ first → Runs (on_slot first mid i) → Runs (on_slot start mid at)
       on first mid i e f st = rw (e, f) st
 
-      pub lost : n ≤ q → (Refused 11 ≡ answer (of_walk r)) × Written (of_walk r) nodes₀ ends₀ nodes ends
+      pub lost : n ≤ q → (refused ≡ answer (of_walk r)) × Written (of_walk r) nodes₀ ends₀ nodes ends
       lost out = from v.phase v.shape v.still
         where
-          from : (p : Phase) → Shape n marks nodes at start m k v.done p → Runs p → (Refused 11 ≡ answer (of_walk r)) × Written (of_walk r) nodes₀ ends₀ nodes ends
+          from : (p : Phase) → Shape n marks nodes at start m k v.done p → Runs p → (refused ≡ answer (of_walk r)) × Written (of_walk r) nodes₀ ends₀ nodes ends
           from resting sh st = absurd (omega arith)
           from (on_slot first mid i) sh st =
               let e = run_broken true n src dst r v.fuel _ (omega (arith, v.enough)) (on first mid i sh.0 sh.3 st)
@@ -259,10 +264,10 @@ module _ {n top : ℕ} {src dst marks₀ heap₀ nodes₀ ends₀ : List ℕ} (r
           next_is : j ≡ next_open true n src (set marks at 1) (get_or dst at 0) (reverse_of n src dst at)
           next_is = ej ∙ ap₂ (λ (x z : ℕ). next_open true n src (set marks at 1) x z) ey back_is
 
-          pub no_way : n ≤ j → (Refused 11 ≡ answer (of_walk r)) × Written (of_walk r) nodes₀ ends₀ nodes ends
+          pub no_way : n ≤ j → (refused ≡ answer (of_walk r)) × Written (of_walk r) nodes₀ ends₀ nodes ends
           no_way out = from v.phase v.shape v.still
             where
-              from : (p : Phase) → Shape n marks nodes at start m k v.done p → Runs p → (Refused 11 ≡ answer (of_walk r)) × Written (of_walk r) nodes₀ ends₀ nodes ends
+              from : (p : Phase) → Shape n marks nodes at start m k v.done p → Runs p → (refused ≡ answer (of_walk r)) × Written (of_walk r) nodes₀ ends₀ nodes ends
               from resting sh st = absurd (omega arith)
               from (on_slot first mid i) sh st =
                   let e = run_stuck true n src dst r v.fuel _ (omega (arith, v.enough)) (on first mid i sh.0 sh.3 st)

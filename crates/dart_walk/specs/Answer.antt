@@ -1,18 +1,17 @@
 -- What a walk answers, and writes to lent lists. Assumes nothing.
-use Rattle.std.specs.Prelude.{◌≡◌, List, [], ◌∷◌, ℕ, zero, suc, ◌+◌, ◌-◌, ◌≤◌, length, take, drop}
+use Rattle.std.specs.Prelude.{◌≡◌, Result, Ok, Err, List, [], ◌∷◌, ℕ, zero, suc, ◌+◌, ◌-◌, ◌≤◌, length, take, drop}
 use Rattle.lists.specs.Regions.{front, zeros}
-use Rattle.dart_walk.specs.declared.Walked.{Walked}
-use Rattle.dart_walk.specs.declared.Walked.TheVariants.{Closed, Refused}
+use Rattle.dart_walk.specs.declared.Counts.{Counts}
 use Rattle.cutting.specs.Outcome.{Outcome, refusal, pieces, flat, stops}
 
 -- for k pieces with m corners in all
-abbrev pub closed_with : ℕ → ℕ → Walked
-closed_with k m = Closed k m
+abbrev pub closed_with : ℕ → ℕ → Result Counts ℕ
+closed_with k m = Ok (record { pieces = k; entries = m })
 
 -- how many pieces and corners, or the refusal by document 01's number
-abbrev pub answer : Outcome → Walked
+abbrev pub answer : Outcome → Result Counts ℕ
 answer (pieces ps) = closed_with (length ps) (length (flat ps))
-answer (refusal k) = Refused k
+answer (refusal k) = Err k
 
 -- what the lists of corners and of ends come to: the pieces at their front, or zeros on a refusal
 unfoldable pub corners_in : Outcome → List ℕ → List ℕ

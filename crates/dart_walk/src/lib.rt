@@ -6,9 +6,11 @@ ghost use Rattle.lists.specs.Search.{first};
 ghost use Rattle.cutting.specs.Walk.{open_at, next_open, starts, walk_from, walk};
 ghost use Rattle.cutting.specs.Outcome.{of_walk};
 ghost use Rattle.cutting.specs.Lent.{slots_of, pairs, stacked};
-ghost use Rattle.dart_walk.specs.Answer.{Room, Written, closed_with, answer, corners_in, ends_in};
+ghost use Rattle.refusals.specs.Numbers.{by_number};
+ghost use Rattle.dart_walk.specs.Answer.{Room, Written, answer, corners_in, ends_in};
 
 use dart_table::find_slot;
+use refusals::Refusal;
 
 fn wide(x: u32) -> usize
     ensures { result ≡ x }
@@ -70,18 +72,11 @@ fn fill_heap(outline: &[u32], src: &[u32], dst: &[u32], n: usize, heap: &mut [u3
     k
 }
 
-// What a walk comes to: the number of pieces and of their corners, or the number of a refusal.
-#[derive(Clone, Copy)]
-pub enum Walked {
-    Closed(usize, usize),
-    Refused(u32),
-}
-
-// The answer for k pieces with m corners in all.
-fn closed(k: usize, m: usize) -> Walked
-    ensures { result ≡ closed_with k m }
-{
-    Walked::Closed(k, m)
+// How many pieces a cell comes to, and corners in them.
+#[derive(Clone, Copy, Debug, PartialEq, Eq)]
+pub struct Counts {
+    pub pieces: usize,
+    pub entries: usize,
 }
 
 // Walks the table of n slots from the slots on the heap, of which there are `top`. A turn is a step of the definition.
@@ -94,9 +89,9 @@ fn walk_on(
     heap: &mut [u32],
     nodes: &mut [u32],
     stops: &mut [u32],
-) -> Walked
+) -> Result<Counts, Refusal>
     requires { Room n top src.now dst.now marks.old heap.old nodes.old stops.old }
-    ensures { (result ≡ answer (of_walk (walk_from true n src.now dst.now marks.old (stacked heap.old top))))
+    ensures { (by_number result ≡ answer (of_walk (walk_from true n src.now dst.now marks.old (stacked heap.old top))))
         × Written (of_walk (walk_from true n src.now dst.now marks.old (stacked heap.old top))) nodes.old
         stops.old nodes.new stops.new }
 {
@@ -112,7 +107,7 @@ fn walk_on(
             let y = dst[at];
             let r = find_slot(src, dst, n, y, x);
             if n <= r {
-                return Walked::Refused(11);
+                return Err(Refusal::OpenWalk);
             }
             heap[sp] = r as u32;
             sp += 1;
@@ -123,7 +118,7 @@ fn walk_on(
             } else {
                 let j = next_open(src, marks, n, y, r);
                 if n <= j {
-                    return Walked::Refused(11);
+                    return Err(Refusal::OpenWalk);
                 }
                 nodes[m] = y;
                 m += 1;
@@ -131,12 +126,15 @@ fn walk_on(
             }
         } else {
             if sp == 0 {
-                return closed(k, m);
+                return Ok(Counts {
+                    pieces: k,
+                    entries: m,
+                });
             }
             sp -= 1;
             let i = wide(heap[sp]);
             if n <= i {
-                return Walked::Refused(11);
+                return Err(Refusal::OpenWalk);
             }
             if marks[i] == 0 {
                 start = src[i];
@@ -157,9 +155,9 @@ fn walk_table(
     outline: &[u32],
     nodes: &mut [u32],
     stops: &mut [u32],
-) -> Walked
+) -> Result<Counts, Refusal>
     requires { (n ≤ 1024) × (length src.now ≡ n) × (length dst.now ≡ n) × (length marks.now ≡ n) × (length outline.now ≤ 2048) × (n ≤ length nodes.old) × (n ≤ length stops.old) }
-    ensures { (result ≡ answer (of_walk (walk (pairs outline.now) (slots_of src.now dst.now marks.now n))))
+    ensures { (by_number result ≡ answer (of_walk (walk (pairs outline.now) (slots_of src.now dst.now marks.now n))))
         × Written (of_walk (walk (pairs outline.now) (slots_of src.now dst.now marks.now n))) nodes.old
         stops.old nodes.new stops.new }
 {
@@ -180,20 +178,18 @@ pub fn walk_dart_map(
     outline: &[u32],
     nodes: &mut [u32],
     stops: &mut [u32],
-) -> Walked
+) -> Result<Counts, Refusal>
     requires { (n ≤ 1024) × (n ≤ length src.now) × (n ≤ length dst.now) × (n ≤ length marks.now) × (length outline.now ≤ 2048) × (n ≤ length nodes.old) × (n ≤ length stops.old) }
-    ensures { (result ≡ answer (of_walk (walk (pairs outline.now) (slots_of src.now dst.now marks.now n))))
+    ensures { (by_number result ≡ answer (of_walk (walk (pairs outline.now) (slots_of src.now dst.now marks.now n))))
         × (nodes.new ≡ corners_in (of_walk (walk (pairs outline.now) (slots_of src.now dst.now marks.now n)))
         nodes.old) × (stops.new ≡ ends_in (of_walk
         (walk (pairs outline.now) (slots_of src.now dst.now marks.now n))) stops.old) }
 {
-    let w = walk_table(&src[..n], &dst[..n], &marks[..n], n, outline, nodes, stops);
-    match w {
-        Walked::Closed(_, _) => w,
-        Walked::Refused(_) => {
-            lists::zero_u32(nodes);
-            lists::zero_u32(stops);
-            w
-        }
+    let walked = walk_table(&src[..n], &dst[..n], &marks[..n], n, outline, nodes, stops);
+    if walked.is_ok() {
+        return walked;
     }
+    lists::zero_u32(nodes);
+    lists::zero_u32(stops);
+    walked
 }

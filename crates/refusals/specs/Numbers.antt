@@ -1,5 +1,5 @@
 -- The refusals' numbers. Assumes nothing.
-use Rattle.std.specs.Prelude.{ℕ}
+use Rattle.std.specs.Prelude.{ℕ, Result, Ok, Err}
 use Rattle.refusals.specs.declared.Refusal.{Refusal}
 use Rattle.refusals.specs.declared.Refusal.TheVariants.{Call, Lists, Coordinates, Kinds, NodeNumbers, NodeTwice, WorkingList, TooManyMeetings, CrowdedEdge, FullTable, OpenWalk, NoPlace, RepeatedEdge}
 
@@ -18,3 +18,8 @@ number FullTable = 10
 number OpenWalk = 11
 number NoPlace = 12
 number RepeatedEdge = 19
+
+-- an answer with its refusal's number
+abbrev pub by_number : {A : Type 0} → Result A Refusal → Result A ℕ
+by_number (Ok x) = Ok x
+by_number (Err r) = Err (number r)

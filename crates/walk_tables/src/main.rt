@@ -3,7 +3,7 @@
 
 ghost use Rattle.std.specs.Prelude.{◌≤◌, length};
 
-use dart_walk::Walked;
+use refusals::Refusal;
 use std::io;
 use std::io::{BufWriter, Write};
 
@@ -97,9 +97,9 @@ fn show_pieces<W: Write>(out: &mut W, nodes: &[u32], stops: &[u32]) -> io::Resul
     Ok(())
 }
 
-fn refused<W: Write>(out: &mut W, code: u32) -> io::Result<()> {
+fn refused<W: Write>(out: &mut W, why: Refusal) -> io::Result<()> {
     out.write_all(b"refused ")?;
-    show_number(out, code)?;
+    show_number(out, why.number())?;
     out.write_all(b"\n")
 }
 
@@ -112,14 +112,14 @@ fn show<W: Write>(out: &mut W, coords: &[f64], own: &[u32], near: &[u32]) -> io:
     let mut stops = [0u32; 1024];
     let top = add_own(coords, own, &mut outline, &mut src, &mut dst, &mut marks);
     if 1024 < top {
-        return refused(out, 10);
+        return refused(out, Refusal::FullTable);
     }
     if outlines::edges_repeat(&outline[..top]) {
-        return refused(out, 19);
+        return refused(out, Refusal::RepeatedEdge);
     }
     let n = add_near(coords, near, &mut src, &mut dst, &mut marks, top);
     if 1024 < n {
-        return refused(out, 10);
+        return refused(out, Refusal::FullTable);
     }
     let w = dart_walk::walk_dart_map(
         &src,
@@ -131,13 +131,14 @@ fn show<W: Write>(out: &mut W, coords: &[f64], own: &[u32], near: &[u32]) -> io:
         &mut stops,
     );
     match w {
-        Walked::Closed(_, m) => {
+        Ok(counts) => {
+            let m = counts.entries;
             if m <= 1024 {
                 show_pieces(out, &nodes[..m], &stops)?;
             }
             Ok(())
         }
-        Walked::Refused(code) => refused(out, code),
+        Err(why) => refused(out, why),
     }
 }
 

@@ -1,5 +1,5 @@
 -- `dart_walk::walk_dart_map` meets its contract. Assumes nothing.
-use mathlib.Core.Path.{sym}
+use mathlib.Core.Path.{sym, ◌∙◌}
 use native.Mathlib.Omega.{arith}
 use lib.Seq.{length-take-le}
 use Rattle.dart_walk.proofs.Answers.{as_closed, as_refused}
@@ -14,8 +14,8 @@ slice_bounds-walk_table-end-2 c = sym (length-take-le _ _ (omega (arith, c.requi
 pub slice_bounds-walk_table-end-3 : goal.slice_bounds-walk_table-end-3
 slice_bounds-walk_table-end-3 c = sym (length-take-le _ _ (omega (arith, c.requires)))
 
-pub walk_table-w-requires : goal.walk_table-w-requires
-walk_table-w-requires c = (
+pub walk_table-walked-requires : goal.walk_table-walked-requires
+walk_table-walked-requires c = (
   c.requires.0,
   length-take-le _ _ c.requires.1,
   length-take-le _ _ c.requires.2,
@@ -25,15 +25,14 @@ walk_table-w-requires c = (
   omega (arith, c.requires),
 )
 
-pub returns-in-Closed : goal.returns-in-Closed
-returns-in-Closed c =
+pub returns-then-is_ok : goal.returns-then-is_ok
+returns-then-is_ok c =
     let g = c.args in
-    as_closed g.outline.now g.src.now g.dst.now g.marks.now g.n _ _ _ _ _ _ _ c.walk_table-w.ensures c.in-Closed.is
+    as_closed g.outline.now g.src.now g.dst.now g.marks.now g.n _ _ _ _ _ c.walk_table-walked.ensures (sym c.is_ok.ensures.value ∙ c.if-is_ok.true)
 
-pub returns-in-Refused : goal.returns-in-Refused
-returns-in-Refused c =
+pub returns : goal.returns
+returns c =
     let g = c.args in
-    let w = c.walk_table-w in
-    as_refused g.outline.now g.src.now g.dst.now g.marks.now g.n _ _ _ _ _ _ _ _ w.ensures
-    c.in-Refused.is c.zero_u32.ensures c.zero_u32-in-Refused.ensures
-    w.auto.nodes w.auto.stops
+    let w = c.walk_table-walked in
+    as_refused g.outline.now g.src.now g.dst.now g.marks.now g.n _ _ _ _ _ _ _ w.ensures (sym c.is_ok.ensures.value ∙ c.if-is_ok.false)
+    c.zero_u32.ensures c.zero_u32-2.ensures w.auto.nodes w.auto.stops

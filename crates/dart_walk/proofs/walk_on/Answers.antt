@@ -1,4 +1,4 @@
-use mathlib.Core.Path.{refl, ◌∙◌}
+use mathlib.Core.Path.{refl}
 use Prim.Native.Nat.{◌<◌}
 use native.Mathlib.Omega.{arith}
 use lib.ListN.{get_or, length-set}
@@ -115,15 +115,12 @@ loop-at-preserved-else-y-start c =
     let found = c.find_slot-r.ensures in
     turn_onward c.requires v h y _ refl found c.if-n-r.false c.if-y-start.false _ c.next_open-j.ensures c.if-n-j.false
 
-pub closed-requires : goal.closed-requires
-closed-requires c = tt
-
 pub returns-then-sp-eq0 : goal.returns-then-sp-eq0
 returns-then-sp-eq0 c =
     let v = c.loop-at.invariant in
     let h = c.if-at-n.false in
     let e = at_close c.requires v h c.if-sp-eq0.true in
-    (c.closed.ensures ∙ e.0, e.1)
+    e
 
 pub wide-i-requires : goal.wide-i-requires
 wide-i-requires c = tt
