@@ -1,6 +1,6 @@
 -- The laws of `prior`, and what ends that pass have. Assumes nothing.
 use mathlib.Core.Path.{◌≡◌}
-use mathlib.Core.Bool.{true}
+use mathlib.Core.Bool.{Bool, true}
 use mathlib.Core.List.{List}
 use Prim.Native.Nat.{ℕ, zero, suc, ◌+◌, ◌-◌, ◌≤◌, ◌<◌}
 use native.Mathlib.Nat.{add-zero, add-suc}
@@ -18,15 +18,19 @@ pub prior_more : (l : List ℕ) (i : ℕ) → prior l (i + 1) ≡ get_or l i 0
 unfolding prior
 prior_more l i = rw add-one
 
+-- end i is above the one before
+abbrev pub rises_at : List ℕ → ℕ → Bool
+rises_at ends i = ltb (prior ends i) (get_or ends i 0)
+
 -- ---- lists of ends that pass
 
 module _ (ends : List ℕ) (n : ℕ) (ok : ends_ok ends n ≡ true) where
-  parts : (every (length ends) (λ i. ltb (prior ends i) (get_or ends i 0)) ≡ true) × (eqb (prior ends (length ends)) n ≡ true)
+  parts : (every (length ends) (rises_at ends) ≡ true) × (eqb (prior ends (length ends)) n ≡ true)
   unfolding ends_ok
   parts = and_true _ _ ok
 
   above : (i : ℕ) → i < length ends → prior ends i < get_or ends i 0
-  above i h = ltb-true _ _ (every_at (λ j. ltb (prior ends j) (get_or ends j 0)) i (length ends) parts.0 h)
+  above i h = ltb-true _ _ (every_at (rises_at ends) i (length ends) parts.0 h)
 
   rises : (k i : ℕ) → i + k ≤ length ends → prior ends i ≤ prior ends (i + k)
   rises zero i h = rw add-zero (omega arith)

@@ -3,3 +3,4 @@ pub mod Coord
 pub mod Lowest
 pub mod Passed
 pub mod Samples
+pub mod Calls

@@ -77,6 +77,11 @@ chain_end true true true false e z = refl
 chain_end true true true true false z = refl
 chain_end true true true true true z = refl
 
+pub lower_one : (a : ℕ) → 0 < a → a ≡ lower_refusal a 0
+unfolding lower_refusal
+lower_one zero h = refl
+lower_one (suc n) h = rw (ne_eqb (suc n) 0 (suc-ne-zero n))
+
 -- where the lower of two is 0, both are
 pub lower_zero : (a b : ℕ) → lower_refusal a b ≡ 0 → (a ≡ 0) × (b ≡ 0)
 unfolding lower_refusal

@@ -1,14 +1,20 @@
 -- An overlay that the entry lets pass has what `specs/Passed.antt` says. Assumes nothing.
 use mathlib.Core.Path.{◌≡◌, refl, sym, ap, ◌∙◌}
 use mathlib.Core.Logic.{◌⊎◌, inl, inr}
-use mathlib.Core.Bool.{Bool, true, false, ◌&&◌, ◌||◌, not, cond, true≢false}
+use mathlib.Core.Bool.{Bool, true, false, ◌&&◌, ◌||◌, not, cond, true≢false, and-false}
 use Prim.Native.Nat.{ℕ, suc, ◌+◌, ◌*◌, ◌%◌, ◌^◌, ◌≤◌, ◌<◌}
 use native.Mathlib.Nat.{suc-ne-zero}
 use native.Mathlib.Omega.{arith}
 use lib.Dec.{eqb, leb, ltb}
 use lib.Ieee.{Float, nan, inf, fin, up, down}
-use lib.ListN.{length, get_or}
-use borrow.Author.Tests.{eqb-true, leb-true, ltb-true, eq-eqb}
+use lib.ListN.{length, get_or, take}
+use borrow.Author.Tests.{eqb-true, leb-true, ltb-true, eq-eqb, le-leb, lt-leb}
+use mathlib.Core.List.{List}
+use Rattle.std.specs.List.{list_all}
+use Rattle.std.proofs.lemmas.List.{length-take-le, get_or-take}
+use Rattle.std.proofs.lemmas.List.Folds.{list_all_at, list_any_at}
+use Rattle.lists.specs.Regions.{run}
+use Rattle.lists.proofs.Regions.{length_run, get_or_run}
 use Rattle.lists.proofs.Search.{and_true, every_at}
 use Rattle.entry.specs.Mesh.{Mesh, node_count, prior, cell_size}
 use Rattle.entry.specs.Refused.{call_ok, ends_ok, shape_ok, coord_ok, coords_ok, kind_ok, kinds_ok, nodes_ok, absent, cell_ok, cells_ok, work_ok, entry_of}
@@ -20,6 +26,14 @@ use Rattle.entry.proofs.Ends.{end_at, end_last}
 asked : (t : Bool) (k x : ℕ) → cond (not t) (suc k) x ≡ 0 → (t ≡ true) × (x ≡ 0)
 asked true k x h = (refl, h)
 asked false k x h = absurd (suc-ne-zero k h)
+
+-- each item of a list passes a test that all pass
+passes_at : {A : Type 0} (p : A → Bool) (xs : List A) (i : ℕ) (d : A) → list_all p xs ≡ true → i < length xs → p (get_or xs i d) ≡ true
+passes_at p xs i d h l = go (p (get_or xs i d)) refl
+  where
+    go : (t : Bool) → p (get_or xs i d) ≡ t → t ≡ true
+    go true e = refl
+    go false e = absurd (true≢false (sym h ∙ list_all_at p xs i d l e))
 
 -- ---- 2
 
@@ -119,21 +133,25 @@ module _ (lines : Bool) (m : Mesh) (shape : shape_ok m ≡ true) (coords : coord
 
   coord_at : (i : ℕ) → i < length m.coords → coord_ok (get_or m.coords i nan) ≡ true
   unfolding coords_ok
-  coord_at i h = every_at (λ j. coord_ok (get_or m.coords j nan)) i (length m.coords) coords h
+  coord_at i h = passes_at coord_ok m.coords i nan coords h
 
   number_at : (i : ℕ) → i < length m.nodes → get_or m.nodes i 0 < node_count m
   unfolding nodes_ok
-  number_at i h = ltb-true (get_or m.nodes i 0) (node_count m) (every_at (λ j. ltb (get_or m.nodes j 0) (node_count m)) i (length m.nodes) nodes h)
+  number_at i h = ltb-true (get_or m.nodes i 0) (node_count m) (passes_at (λ x. ltb x (node_count m)) m.nodes i 0 nodes h)
 
   once_at : (i j k : ℕ) → i < length m.ends → j < k → k < cell_size m.ends i → get_or m.nodes (prior m.ends i + j) 0 ≡ get_or m.nodes (prior m.ends i + k) 0 → ⊥
   unfolding cells_ok cell_ok absent
   once_at i j k h l b e =
       let start : ℕ = prior m.ends i in
-      let x : ℕ = get_or m.nodes (start + k) 0 in
-      let cell = every_at (λ q. cell_ok m.nodes (prior m.ends q) (cell_size m.ends q)) i (length m.ends) cells h in
-      let none = every_at (λ q. absent m.nodes start q (get_or m.nodes (start + q) 0)) k (cell_size m.ends i) cell b in
-      let other = every_at (λ q. not (eqb (get_or m.nodes (start + q) 0) x)) j k none l in
-      true≢false (sym other ∙ ap not (eq-eqb (get_or m.nodes (start + j) 0) x e))
+      let n : ℕ = cell_size m.ends i in
+      let cell : List ℕ = run m.nodes start n in
+      let long : length cell ≡ n = length_run m.nodes start n (omega (arith, end_at m.ends (length m.nodes) (shape_parts m shape).1 i h)) in
+      let good = every_at (λ q. cell_ok (run m.nodes (prior m.ends q) (cell_size m.ends q))) i (length m.ends) cells h in
+      let none = every_at (λ q. absent (take q cell) (get_or cell q 0)) k (length cell) good (omega arith) in
+      let same : get_or cell j 0 ≡ get_or cell k 0 = get_or_run m.nodes start n j 0 (omega arith) ∙ e ∙ sym (get_or_run m.nodes start n k 0 b) in
+      let met = list_any_at (λ y. eqb y (get_or cell k 0)) (take k cell) j 0 (rw (length-take-le k cell (omega arith)) l)
+      (eq-eqb _ _ (get_or-take k cell j 0 l ∙ same)) in
+      true≢false (sym none ∙ ap not met)
 
   pub sound : Sound lines m
   sound =
@@ -199,6 +217,19 @@ call_parts op m h =
     let p = and_true (leb op 5 && leb 1 m) (leb m 65536) h in
     let q = and_true (leb op 5) (leb 1 m) p.0 in
     (leb-true op 5 q.0, leb-true 1 m q.1, leb-true m 65536 p.1)
+
+pub call_within : (op m : ℕ) → op ≤ 5 → 1 ≤ m → m ≤ 65536 → call_ok op m ≡ true
+unfolding call_ok
+call_within op m a b d = rw (le-leb op 5 a, le-leb 1 m b, le-leb m 65536 d)
+
+pub call_unnamed : (op m : ℕ) → 5 < op → call_ok op m ≡ false
+unfolding call_ok
+call_unnamed op m h = rw (lt-leb op 5 h)
+
+pub call_beyond : (op m : ℕ) → (m < 1) ⊎ ((1 ≤ m) × (65536 < m)) → call_ok op m ≡ false
+unfolding call_ok
+call_beyond op m (inl h) = rw (lt-leb 1 m h, and-false)
+call_beyond op m (inr h) = rw (lt-leb m 65536 h.1, and-false)
 
 -- the numbers of two meshes that pass are far from wrapping
 pub room_most : (op m : ℕ) (s c : Mesh) (lines : Bool) → call_ok op m ≡ true → mesh_refusal false s ≡ 0 → mesh_refusal lines c ≡ 0

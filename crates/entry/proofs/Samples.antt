@@ -5,6 +5,7 @@ use mathlib.Core.List.{List, [], ◌∷◌, map}
 use Prim.Native.Nat.{ℕ}
 use lib.Ieee.{Float, nan, inf, of_bits, binary64}
 use Rattle.lists.specs.Search.{every}
+use Rattle.lists.specs.Regions.{run}
 use Rattle.entry.specs.Mesh.{Mesh, mesh, prior}
 use Rattle.entry.specs.Refused.{call_ok, ends_ok, shape_ok, coord_ok, coords_ok, kind_ok, kinds_ok, nodes_ok, absent, cell_ok, cells_ok, work_ok, entry_of}
 
@@ -69,7 +70,7 @@ pub meshes : map subject
     ∷ of (0 ∷ 1 ∷ 2 ∷ 5 ∷ []) (4 ∷ []) (8 ∷ []) (7 ∷ [])
     ∷ of (0 ∷ 1 ∷ 2 ∷ 0 ∷ []) (4 ∷ []) (8 ∷ []) (7 ∷ [])
     ∷ []) ≡ 0 ∷ 0 ∷ 0 ∷ 0 ∷ 2 ∷ 2 ∷ 2 ∷ 2 ∷ 2 ∷ 2 ∷ 2 ∷ 3 ∷ 4 ∷ 4 ∷ 5 ∷ 6 ∷ []
-unfolding every prior call_ok ends_ok shape_ok coord_ok coords_ok kind_ok kinds_ok nodes_ok absent cell_ok cells_ok work_ok entry_of of_bits
+unfolding every run prior call_ok ends_ok shape_ok coord_ok coords_ok kind_ok kinds_ok nodes_ok absent cell_ok cells_ok work_ok entry_of of_bits
 meshes = refl
 
 -- the call, the working list, operation 5's lines, and the lower of two numbers from either mesh
@@ -78,5 +79,5 @@ pub calls : (entry_of 5 1 quad line 1000 ≡ 0) × (entry_of 5 65536 quad line 1
     × (entry_of 5 9 quad quad 10000 ≡ 4) × (cutter line ≡ 4) × (entry_of 5 9 line line 10000 ≡ 4)
     × (entry_of 0 9 (of (0 ∷ 1 ∷ 2 ∷ 0 ∷ []) (4 ∷ []) (8 ∷ []) (7 ∷ [])) line 0 ≡ 4)
     × (entry_of 0 9 line (mesh (minus ∷ zero ∷ []) [] [] [] []) 0 ≡ 3)
-unfolding every prior call_ok ends_ok shape_ok coord_ok coords_ok kind_ok kinds_ok nodes_ok absent cell_ok cells_ok work_ok entry_of of_bits
+unfolding every run prior call_ok ends_ok shape_ok coord_ok coords_ok kind_ok kinds_ok nodes_ok absent cell_ok cells_ok work_ok entry_of of_bits
 calls = (refl, refl, refl, refl, refl, refl, refl, refl, refl, refl, refl)

@@ -1,4 +1,5 @@
 pub mod Mesh
+pub mod Named
 pub mod Refused
 pub mod ByMesh
 pub mod Passed

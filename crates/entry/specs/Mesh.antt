@@ -1,5 +1,6 @@
 -- "A mesh as read is a view over the caller's lists". Assumes nothing.
 use Rattle.std.specs.Prelude.{ℕ, zero, suc, ◌-◌, ◌/◌, ◌≤◌, ◌<◌, List, length, get_or, Float}
+use Rattle.views.specs.declared.MeshView.{MeshView}
 
 -- coordinates (x then y), node numbers (flat), cell ends, kinds, families
 pub record Mesh : Type 0 where
@@ -11,6 +12,10 @@ pub record Mesh : Type 0 where
 
 abbrev pub mesh : List Float → List ℕ → List ℕ → List ℕ → List ℕ → Mesh
 mesh c n e k f = record { coords = c; nodes = n; ends = e; kinds = k; families = f }
+
+-- the mesh that a view shows
+abbrev pub mesh_of : MeshView → Mesh
+mesh_of v = mesh v.coords.now v.nodes.now v.ends.now v.kinds.now v.families.now
 
 abbrev pub node_count : Mesh → ℕ
 node_count m = length m.coords / 2

@@ -1,8 +1,10 @@
 -- "Refused because of the input", 1 to 7, in document 01's order: what each of them lets pass. Assumes nothing.
-use Rattle.std.specs.Prelude.{ℕ, ◌+◌, ◌*◌, ◌%◌, ◌^◌, Bool, true, false, ◌&&◌, ◌||◌, not, cond, List, length, get_or, leb, ltb, eqb, Float}
+use Rattle.std.specs.Prelude.{ℕ, ◌+◌, ◌*◌, ◌%◌, ◌^◌, Bool, true, false, ◌&&◌, ◌||◌, not, cond, List, length, get_or, take, leb, ltb, eqb, Float}
+use Rattle.std.specs.List.{list_all, list_any}
 use Rattle.std.specs.Float.{nan, inf, fin}
 use Rattle.std.specs.Float.Ieee.{up, down}
 use Rattle.lists.specs.Search.{every}
+use Rattle.lists.specs.Regions.{run}
 use Rattle.entry.specs.Mesh.{Mesh, node_count, prior, cell_size}
 
 -- 1: the operation, and the meeting limit M within 1..65,536
@@ -31,7 +33,7 @@ coord_ok (inf s) = false
 coord_ok (fin s m e) = leb (m * up e) (2 ^ 40 * down e) && not (s && eqb m 0)
 
 unfoldable pub coords_ok : List Float → Bool
-coords_ok c = every (length c) (λ i. coord_ok (get_or c i nan))
+coords_ok = list_all coord_ok
 
 -- 4: kind k with n nodes: 5 TRI3, 8 QUAD4, 11 PGON with 3..256; where lines are asked for, 1 SEG2
 unfoldable pub kind_ok : Bool → ℕ → ℕ → Bool
@@ -44,18 +46,18 @@ kinds_ok lines kinds ends = every (length ends) (λ i. leb (prior kinds i) (get_
 
 -- 5: each node number below the node count
 unfoldable pub nodes_ok : List ℕ → ℕ → Bool
-nodes_ok nodes n = every (length nodes) (λ i. ltb (get_or nodes i 0) n)
+nodes_ok nodes n = list_all (λ x. ltb x n) nodes
 
--- 6: x is none of the n entries from `start` on
-unfoldable pub absent : List ℕ → ℕ → ℕ → ℕ → Bool
-absent nodes start n x = every n (λ j. not (eqb (get_or nodes (start + j) 0) x))
+-- 6: x stands nowhere in a list
+unfoldable pub absent : List ℕ → ℕ → Bool
+absent nodes x = not (list_any (λ y. eqb y x) nodes)
 
--- 6: none of them stands among those before it
-unfoldable pub cell_ok : List ℕ → ℕ → ℕ → Bool
-cell_ok nodes start n = every n (λ j. absent nodes start j (get_or nodes (start + j) 0))
+-- 6: no node of a cell or line stands among those before it
+unfoldable pub cell_ok : List ℕ → Bool
+cell_ok cell = every (length cell) (λ j. absent (take j cell) (get_or cell j 0))
 
 unfoldable pub cells_ok : List ℕ → List ℕ → Bool
-cells_ok nodes ends = every (length ends) (λ i. cell_ok nodes (prior ends i) (cell_size ends i))
+cells_ok nodes ends = every (length ends) (λ i. cell_ok (run nodes (prior ends i) (cell_size ends i)))
 
 -- 7: a working list of w numbers is no shorter than 16 × (N + E + M) + 64
 unfoldable pub work_ok : ℕ → Mesh → Mesh → ℕ → Bool

@@ -18,13 +18,9 @@ fn coord_ok(x: f64) -> bool
     x == x
 }
 
-pub(crate) fn coords_ok(c: &[f64]) -> bool
-    ensures { result ≡ coords_ok c.now }
+#[tactic(auto, unfolding(crate::specs::Refused::coords_ok))]
+pub(crate) fn coords_ok(coords: &[f64]) -> bool
+    ensures { result ≡ coords_ok coords.now }
 {
-    for i in 0..c.len() {
-        if !coord_ok(c[i]) {
-            return false;
-        }
-    }
-    true
+    coords.iter().all(|x| coord_ok(*x))
 }

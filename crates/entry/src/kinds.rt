@@ -1,48 +1,66 @@
 // Refusal 4: the kinds and their node counts.
 ghost use Rattle.std.specs.Prelude.{◌≡◌, true, length};
+ghost use Rattle.entry.specs.Named.{NamesKind};
 ghost use Rattle.entry.specs.Refused.{ends_ok, kind_ok, kinds_ok};
 
-fn kind_ok(lines: bool, k: u8, n: usize) -> bool
-    ensures { result ≡ kind_ok lines k n }
+// A line; a triangle, a quadrilateral, a polygon.
+#[derive(Clone, Copy, Debug, PartialEq, Eq, PartialOrd, Ord)]
+pub(crate) enum Kind {
+    Seg2,
+    Tri3,
+    Quad4,
+    Pgon,
+}
+
+// A number that no kind has.
+#[derive(Clone, Copy, Debug, PartialEq, Eq)]
+pub(crate) struct UnknownKind(pub u8);
+
+impl TryFrom<u8> for Kind {
+    type Error = UnknownKind;
+
+    ghost try_from_gives = { NamesKind };
+
+    fn try_from(kind: u8) -> Result<Self, UnknownKind> {
+        match kind {
+            1 => Ok(Kind::Seg2),
+            5 => Ok(Kind::Tri3),
+            8 => Ok(Kind::Quad4),
+            11 => Ok(Kind::Pgon),
+            _ => Err(UnknownKind(kind)),
+        }
+    }
+}
+
+#[tactic(auto, unfolding(crate::specs::Refused::kind_ok))]
+fn kind_ok(lines: bool, kind: u8, n: usize) -> bool
+    ensures { result ≡ kind_ok lines kind n }
 {
-    if lines {
-        if k == 1 {
-            return n == 2;
-        }
-        return false;
+    match Kind::try_from(kind) {
+        Ok(Kind::Seg2) => lines && n == 2,
+        Ok(Kind::Tri3) => !lines && n == 3,
+        Ok(Kind::Quad4) => !lines && n == 4,
+        Ok(Kind::Pgon) => !lines && 3 <= n && n <= 256,
+        Err(_) => false,
     }
-    if k == 5 {
-        return n == 3;
-    }
-    if k == 8 {
-        return n == 4;
-    }
-    if k == 11 {
-        if n < 3 {
-            return false;
-        }
-        return n <= 256;
-    }
-    false
 }
 
 pub(crate) fn kinds_ok(lines: bool, kinds: &[u8], ends: &[u32], n: usize) -> bool
     requires { (length kinds.now ≡ length ends.now) × (ends_ok ends.now n ≡ true) }
     ensures { result ≡ kinds_ok lines kinds.now ends.now }
 {
-    let mut start: usize = 0;
-    let mut last: u8 = 0;
-    for i in 0..ends.len() {
-        let e = ends[i] as usize;
-        let k = kinds[i];
-        if k < last {
+    let mut start = 0;
+    let mut last = 0;
+    for (i, &end) in ends.iter().enumerate() {
+        let kind = kinds[i];
+        if kind < last {
             return false;
         }
-        if !kind_ok(lines, k, e - start) {
+        if !kind_ok(lines, kind, (end - start) as usize) {
             return false;
         }
-        start = e;
-        last = k;
+        start = end;
+        last = kind;
     }
     true
 }

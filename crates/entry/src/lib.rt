@@ -5,6 +5,8 @@ mod coords;
 mod kinds;
 mod meshes;
 mod nodes;
+mod operation;
 mod shape;
 
 pub use meshes::entry;
+pub use operation::Operation;

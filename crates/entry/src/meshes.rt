@@ -1,95 +1,84 @@
 // The lowest refusal of both meshes.
-ghost use Rattle.std.specs.Prelude.{◌≡◌};
-ghost use Rattle.entry.specs.Mesh.{mesh};
-ghost use Rattle.entry.specs.Refused.{call_ok, entry_of};
+ghost use Rattle.std.specs.Prelude.{◌≡◌, IfOk};
+ghost use Rattle.refusals.specs.Numbers.{number, refused_with};
+ghost use Rattle.entry.specs.Mesh.{mesh_of};
+ghost use Rattle.entry.specs.Named.{op_number};
+ghost use Rattle.entry.specs.Refused.{entry_of};
 ghost use Rattle.entry.specs.ByMesh.{mesh_refusal, lower_refusal};
 
 use crate::coords::coords_ok;
 use crate::kinds::kinds_ok;
 use crate::nodes::{cells_ok, nodes_ok};
+use crate::operation::Operation;
 use crate::shape::shape_ok;
+use refusals::Refusal;
+use views::MeshView;
 
-fn call_ok(op: u32, m: u32) -> bool
-    ensures { result ≡ call_ok op m }
+// Whether a mesh, of lines or of cells, passes 2 to 6.
+#[tactic(auto, unfolding(crate::specs::ByMesh::mesh_refusal), using(crate::proofs::Passed::shape_parts))]
+fn check(lines: bool, mesh: &MeshView) -> Result<(), Refusal>
+    ensures { refused_with result ≡ mesh_refusal lines (mesh_of mesh.now) }
 {
-    if op > 5 {
-        return false;
+    if !shape_ok(mesh) {
+        return Err(Refusal::Lists);
     }
-    if m < 1 {
-        return false;
+    if !coords_ok(mesh.coords) {
+        return Err(Refusal::Coordinates);
     }
-    m <= 65536
+    if !kinds_ok(lines, mesh.kinds, mesh.ends, mesh.nodes.len()) {
+        return Err(Refusal::Kinds);
+    }
+    if !nodes_ok(mesh.nodes, mesh.coords.len() / 2) {
+        return Err(Refusal::NodeNumbers);
+    }
+    if !cells_ok(mesh.nodes, mesh.ends) {
+        return Err(Refusal::NodeTwice);
+    }
+    Ok(())
 }
 
-fn mesh_of(lines: bool, c: &[f64], n: &[u32], e: &[u32], k: &[u8], f: &[u32]) -> u32
-    ensures { result ≡ mesh_refusal lines (mesh c.now n.now e.now k.now f.now) }
+// The lower of two refusals.
+#[tactic(auto, unfolding(crate::specs::ByMesh::lower_refusal), using(refusals::proofs::Numbers::number_positive))]
+fn lower(a: Refusal, b: Refusal) -> Refusal
+    ensures { number result ≡ lower_refusal (number a) (number b) }
 {
-    if !shape_ok(c, n, e, k, f) {
-        return 2;
-    }
-    if !coords_ok(c) {
-        return 3;
-    }
-    if !kinds_ok(lines, k, e, n.len()) {
-        return 4;
-    }
-    if !nodes_ok(n, c.len() / 2) {
-        return 5;
-    }
-    if !cells_ok(n, e) {
-        return 6;
-    }
-    0
+    if a.number() <= b.number() { a } else { b }
 }
 
-fn lower(a: u32, b: u32) -> u32
-    ensures { result ≡ lower_refusal a b }
+// The refusal of one of two checks, the lower one where both refuse.
+fn both(a: Result<(), Refusal>, b: Result<(), Refusal>) -> Result<(), Refusal>
+    ensures { refused_with result ≡ lower_refusal (refused_with a) (refused_with b) }
 {
-    if a == 0 {
-        return b;
+    match (a, b) {
+        (Err(r), Err(s)) => Err(lower(r, s)),
+        (Err(r), Ok(())) => Err(r),
+        (Ok(()), b) => b,
     }
-    if b == 0 {
-        return a;
-    }
-    if a <= b {
-        return a;
-    }
-    b
 }
 
-// The refusal because of the input, or 0; `work` is the length of the working list.
+// The operation with that number, where nothing is refused because of the input; M is the limit of meetings, `work` the length of the working list.
 pub fn entry(
     op: u32,
     m: u32,
-    sc: &[f64],
-    sn: &[u32],
-    se: &[u32],
-    sk: &[u8],
-    sf: &[u32],
-    cc: &[f64],
-    cn: &[u32],
-    ce: &[u32],
-    ck: &[u8],
-    cf: &[u32],
+    subject: &MeshView,
+    cutter: &MeshView,
     work: usize,
-) -> u32
-    ensures { result ≡ entry_of op m
-        (mesh sc.now sn.now se.now sk.now sf.now)
-        (mesh cc.now cn.now ce.now ck.now cf.now) work }
+) -> Result<Operation, Refusal>
+    ensures refusal { refused_with result ≡ entry_of op m (mesh_of subject.now) (mesh_of cutter.now) work }
+    ensures operation { IfOk result (λ o. op_number o ≡ op) }
 {
-    if !call_ok(op, m) {
-        return 1;
+    let operation = Operation::try_from(op)?;
+    if m < 1 || 65536 < m {
+        return Err(Refusal::Call);
     }
-    let a = mesh_of(false, sc, sn, se, sk, sf);
-    let b = mesh_of(op == 5, cc, cn, ce, ck, cf);
-    let r = lower(a, b);
-    if r != 0 {
-        return r;
-    }
-    let nodes = sc.len() / 2 + cc.len() / 2;
-    let entries = sn.len() + cn.len();
+    both(
+        check(false, subject),
+        check(operation.takes_lines(), cutter),
+    )?;
+    let nodes = subject.coords.len() / 2 + cutter.coords.len() / 2;
+    let entries = subject.nodes.len() + cutter.nodes.len();
     if work < 16 * (nodes + entries + m as usize) + 64 {
-        return 7;
+        return Err(Refusal::WorkingList);
     }
-    0
+    Ok(operation)
 }

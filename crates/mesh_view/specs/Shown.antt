@@ -1,12 +1,7 @@
--- What a view and an output show: the mesh, and the lists. Assumes nothing.
+-- What an output shows: the lists. Assumes nothing.
 use Rattle.std.specs.Prelude.{ℕ, List}
-use Rattle.entry.specs.Mesh.{Mesh, mesh}
 use Rattle.rules.specs.Overlay.{Lists, lent_lists}
-use Rattle.views.specs.declared.MeshView.{MeshView}
 use Rattle.views.specs.declared.OutputView.{OutputView}
-
-abbrev pub mesh_of : MeshView → Mesh
-mesh_of v = mesh v.coords.now v.nodes.now v.ends.now v.kinds.now v.families.now
 
 -- the output's lists, and the working list w
 abbrev pub lists_of : OutputView → List ℕ → Lists

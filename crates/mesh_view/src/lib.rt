@@ -2,9 +2,9 @@
 #![tactic(auto)]
 
 ghost use Rattle.std.specs.Prelude.{◌≡◌};
-ghost use Rattle.entry.specs.Mesh.{mesh};
+ghost use Rattle.entry.specs.Mesh.{mesh, mesh_of};
 ghost use Rattle.rules.specs.Overlay.{lent_lists, result_of, overlay_of};
-ghost use Rattle.mesh_view.specs.Shown.{mesh_of, lists_of};
+ghost use Rattle.mesh_view.specs.Shown.{lists_of};
 
 use overlay::{Answer, overlay};
 use views::{MeshView, OutputView, view};

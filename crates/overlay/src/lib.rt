@@ -13,6 +13,7 @@ use finding::find;
 use indexing::index_meshes;
 use lists::{zero_f64, zero_u8, zero_u32};
 use passes::{write_families, write_kinds, write_parents};
+use views::MeshView;
 
 // The refusal or 0, and the counts of pieces and new points; `doubled` is 0, as no table names a neighbour twice, and is kept for readers of old
 // listings.
@@ -178,9 +179,22 @@ pub fn overlay(
         (mesh cc.now cn.now ce.now ck.now cf.now)
         (lent_lists oc.old on.old oe.old ok.old of.old om.old oi.old work.old) }
 {
-    let bad = entry(op, m, sc, sn, se, sk, sf, cc, cn, ce, ck, cf, work.len());
-    if bad != 0 {
-        return plain(bad);
+    let subject = MeshView {
+        coords: sc,
+        nodes: sn,
+        ends: se,
+        kinds: sk,
+        families: sf,
+    };
+    let cutter = MeshView {
+        coords: cc,
+        nodes: cn,
+        ends: ce,
+        kinds: ck,
+        families: cf,
+    };
+    if let Err(refusal) = entry(op, m, &subject, &cutter, work.len()) {
+        return plain(refusal.number());
     }
     let a = run(
         op, m, sc, sn, se, sk, sf, cc, cn, ce, ck, cf, oc, on, oe, ok, of, om, oi, work,

@@ -1,1 +1,2 @@
 pub mod Distinct
+pub mod Numbers

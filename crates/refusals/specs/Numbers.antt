@@ -23,3 +23,8 @@ number RepeatedEdge = 19
 abbrev pub by_number : {A : Type 0} → Result A Refusal → Result A ℕ
 by_number (Ok x) = Ok x
 by_number (Err r) = Err (number r)
+
+-- the number of the refusal that a result is, or 0
+abbrev pub refused_with : {X : Type 0} → Result X Refusal → ℕ
+refused_with (Ok x) = 0
+refused_with (Err r) = number r

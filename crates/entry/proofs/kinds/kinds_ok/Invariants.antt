@@ -1,17 +1,15 @@
--- `entry::kinds::kinds_ok` meets its contract. The invariant: the first i kinds pass; `start` and `last` are the end and the kind before. Assumes nothing.
-use mathlib.Core.Path.{◌≡◌}
-use mathlib.Core.Bool.{Bool, true, ◌&&◌}
-use mathlib.Core.List.{List}
-use Prim.Native.Nat.{ℕ, ◌-◌, ◌≤◌}
-use lib.ListN.{length, get_or}
+-- The kinds so far pass; `start` and `last` are the end and the kind before. Assumes nothing.
+use Rattle.std.proofs.Common.{◌≡◌, true, Bool, List, ℕ}
+use mathlib.Core.Bool.{◌&&◌}
+use lib.ListN.{get_or}
 use lib.Dec.{leb}
 use Rattle.lists.specs.Search.{every}
-use Rattle.entry.specs.Mesh.{prior}
+use Rattle.entry.specs.Mesh.{prior, cell_size}
 use Rattle.entry.specs.Refused.{kind_ok}
 use Rattle.entry.proofs.kinds.kinds_ok.Given as goal
 
-abbrev pub P : Bool → List ℕ → List ℕ → ℕ → Bool
-P lines kinds ends i = leb (prior kinds i) (get_or kinds i 0) && kind_ok lines (get_or kinds i 0) (get_or ends i 0 - prior ends i)
+abbrev pub passes_at : Bool → List ℕ → List ℕ → ℕ → Bool
+passes_at lines kinds ends i = leb (prior kinds i) (get_or kinds i 0) && kind_ok lines (get_or kinds i 0) (cell_size ends i)
 
 abbrev pub invariant-loop-i : goal.invariant-loop-i
-invariant-loop-i l = (l.i ≤ length l.ends) × (every l.i (P l.lines l.kinds l.ends) ≡ true) × (l.start ≡ prior l.ends l.i) × (l.last ≡ prior l.kinds l.i)
+invariant-loop-i l = (every l.i (passes_at l.lines l.kinds l.ends) ≡ true) × (l.start ≡ prior l.ends l.i) × (l.last ≡ prior l.kinds l.i)
