@@ -10,9 +10,9 @@ use borrow.Author.Tests.{lt-ltb, le-ltb, le-leb, lt-leb, ltb-true, ltb-false}
 use lib.Dec.{ltb, leb}
 use lib.ListN.{length, get_or, set, take, drop, length-set, drop_of_length-le, take-append-drop}
 use lib.Seq.{drop-cons, take-suc-set, drop-set-lt, take_all, append_snoc}
-use Rattle.printing.specs.Page.{Page, page, byte, page_with, room_for, laid_over}
-use Rattle.printing.specs.declared.Put.{Put}
-use Rattle.printing.specs.declared.Put.TheVariants.{At, Full}
+use Rattle.std.specs.Prelude.{Ok, Err, IsErr}
+use Rattle.std.proofs.lemmas.Bool.{false≢true}
+use Rattle.printing.specs.Page.{Place, full, Prints, Page, page, byte, page_with, room_for, laid_over}
 
 -- a text after a text
 pub written_append : (g : Page) (t u : List ℕ) → page_with g (t ++ u) ≡ page_with (page_with g t) u
@@ -25,35 +25,35 @@ unfolding page_with
 written_nil g = refl
 
 -- nothing is written in a full list
-pub written_full : (o t : List ℕ) → page_with (page Full o) t ≡ page Full o
+pub written_full : (o t : List ℕ) → page_with (page full o) t ≡ page full o
 unfolding page_with page byte
 written_full o [] = refl
 written_full o (b ∷ t) = written_full o t
 
 -- a byte, and the rest of the text
 module _ (o : List ℕ) (p b : ℕ) (t : List ℕ) where
-  cons_fits : p < length o → page_with (page (At p) o) (b ∷ t) ≡ page_with (page (At (p + 1)) (set o p b)) t
+  cons_fits : p < length o → page_with (page (Ok p) o) (b ∷ t) ≡ page_with (page (Ok (p + 1)) (set o p b)) t
   unfolding page_with page byte
-  cons_fits h = ap (λ (x : Bool). page_with (cond x (page (At (p + 1)) (set o p b)) (page Full o)) t) (lt-ltb _ _ h)
+  cons_fits h = ap (λ (x : Bool). page_with (cond x (page (Ok (p + 1)) (set o p b)) (page full o)) t) (lt-ltb _ _ h)
 
-  cons_full : length o ≤ p → page_with (page (At p) o) (b ∷ t) ≡ page Full o
+  cons_full : length o ≤ p → page_with (page (Ok p) o) (b ∷ t) ≡ page full o
   unfolding page_with page byte
-  cons_full h = ap (λ (x : Bool). page_with (cond x (page (At (p + 1)) (set o p b)) (page Full o)) t) (le-ltb _ _ h) ∙ written_full o t
+  cons_full h = ap (λ (x : Bool). page_with (cond x (page (Ok (p + 1)) (set o p b)) (page full o)) t) (le-ltb _ _ h) ∙ written_full o t
 
 module _ (o w : List ℕ) (p i : ℕ) where
-  pub bytes_end : length w ≤ i → page_with (page (At p) o) (drop i w) ≡ page (At p) o
-  bytes_end h = rw (drop_of_length-le w h) (written_nil (page (At p) o))
+  pub bytes_end : length w ≤ i → page_with (page (Ok p) o) (drop i w) ≡ page (Ok p) o
+  bytes_end h = rw (drop_of_length-le w h) (written_nil (page (Ok p) o))
 
-  pub bytes_full : i < length w → length o ≤ p → page_with (page (At p) o) (drop i w) ≡ page Full o
+  pub bytes_full : i < length w → length o ≤ p → page_with (page (Ok p) o) (drop i w) ≡ page full o
   bytes_full h g = rw (drop-cons w i 0 h) (cons_full o p (get_or w i 0) (drop (suc i) w) g)
 
-  pub bytes_turn : i < length w → p < length o → page_with (page (At p) o) (drop i w) ≡ page_with (page (At (p + 1)) (set o p (get_or w i 0))) (drop (i + 1) w)
+  pub bytes_turn : i < length w → p < length o → page_with (page (Ok p) o) (drop i w) ≡ page_with (page (Ok (p + 1)) (set o p (get_or w i 0))) (drop (i + 1) w)
   bytes_turn h g = rw (drop-cons w i 0 h, add-one i) (cons_fits o p (get_or w i 0) (drop (suc i) w) g)
 
 -- ---- what a list holds after a text
 -- the place after n bytes from p on, in a list of m
-abbrev reach : ℕ → ℕ → Put
-reach n m = cond (leb n m) (At n) Full
+abbrev reach : ℕ → ℕ → Place
+reach n m = cond (leb n m) (Ok n) full
 
 abbrev from : List ℕ → ℕ → List ℕ → Page
 from o p t = page (reach (p + length t) (length o)) (take p o ++ laid_over (drop p o) t)
@@ -72,7 +72,7 @@ unfolding laid_over
 laid_out [] = refl
 laid_out (b ∷ t) = refl
 
-from_nil : (o : List ℕ) (p : ℕ) → p ≤ length o → page (At p) o ≡ from o p []
+from_nil : (o : List ℕ) (p : ℕ) → p ≤ length o → page (Ok p) o ≡ from o p []
 from_nil o p h = rw (add-zero p, le-leb _ _ h, laid_nil (drop p o), take-append-drop p o)
 
 from_turn : (o : List ℕ) (p b : ℕ) (t : List ℕ) → p < length o → from (set o p b) (p + 1) t ≡ from o p (b ∷ t)
@@ -80,17 +80,17 @@ from_turn o p b t h =
     let n : p + 1 + length t ≡ p + suc (length t) = omega arith in
     rw (length-set, n, add-one p, take-suc-set o p b h, drop-set-lt (suc p) o p b (omega arith), drop-cons o p 0 h, laid_cons (drop (suc p) o) (get_or o p 0) b t, append_snoc)
 
-from_full : (o : List ℕ) (p b : ℕ) (t : List ℕ) → length o ≤ p → page Full o ≡ from o p (b ∷ t)
+from_full : (o : List ℕ) (p b : ℕ) (t : List ℕ) → length o ≤ p → page full o ≡ from o p (b ∷ t)
 from_full o p b t h =
     let l : length o < p + suc (length t) = omega arith in
     rw (lt-leb _ _ l, drop_of_length-le o h, laid_out (b ∷ t), append-nil, take_all p o h)
 
-written_from : (o : List ℕ) (p : ℕ) (t : List ℕ) → p ≤ length o → page_with (page (At p) o) t ≡ from o p t
-written_from o p [] h = written_nil (page (At p) o) ∙ from_nil o p h
+written_from : (o : List ℕ) (p : ℕ) (t : List ℕ) → p ≤ length o → page_with (page (Ok p) o) t ≡ from o p t
+written_from o p [] h = written_nil (page (Ok p) o) ∙ from_nil o p h
 written_from o p (b ∷ t) h = go (λ l. written_from (set o p b) (p + 1) t l) (ltb p (length o)) refl
   where
-    go : (p + 1 ≤ length (set o p b) → page_with (page (At (p + 1)) (set o p b)) t ≡ from (set o p b) (p + 1) t) → (x : Bool) → ltb p (length o) ≡ x
-        → page_with (page (At p) o) (b ∷ t) ≡ from o p (b ∷ t)
+    go : (p + 1 ≤ length (set o p b) → page_with (page (Ok (p + 1)) (set o p b)) t ≡ from (set o p b) (p + 1) t) → (x : Bool) → ltb p (length o) ≡ x
+        → page_with (page (Ok p) o) (b ∷ t) ≡ from o p (b ∷ t)
     go ih true e =
         let l : p < length o = ltb-true p (length o) e in
         cons_fits o p b t l ∙ ih (rw length-set (omega arith)) ∙ from_turn o p b t l
@@ -99,26 +99,39 @@ written_from o p (b ∷ t) h = go (λ l. written_from (set o p b) (p + 1) t l) (
         cons_full o p b t l ∙ from_full o p b t l
 
 -- a text from the first place on
-pub whole : (o t : List ℕ) → page_with (page (At 0) o) t ≡ page (room_for (length o) t) (laid_over o t)
+pub whole : (o t : List ℕ) → page_with (page (Ok 0) o) t ≡ page (room_for (length o) t) (laid_over o t)
 unfolding room_for
 whole o t = rw zero-add at (written_from o 0 t (omega arith))
 
 -- a page's parts
-pub parts : {p q : Put} {o u : List ℕ} → page p o ≡ page q u → (p ≡ q) × (o ≡ u)
+pub parts : {p q : Place} {o u : List ℕ} → page p o ≡ page q u → (p ≡ q) × (o ≡ u)
 unfolding page
 parts e = (ap (λ (g : Page). g.place) e, ap (λ (g : Page). g.bytes) e)
 
 -- one text, then another
-pub then : {g₁ g₂ : Page} (g₀ : Page) (t u : List ℕ) → g₁ ≡ page_with g₀ t → g₂ ≡ page_with g₁ u → g₂ ≡ page_with g₀ (t ++ u)
-then g₀ t u e f = f ∙ ap (λ (g : Page). page_with g u) e ∙ sym (written_append g₀ t u)
+pub then : {g₁ g₂ : Page} (g : Page) (t u : List ℕ) → g₁ ≡ page_with g t → g₂ ≡ page_with g₁ u → g₂ ≡ page_with g (t ++ u)
+then g t u e f = f ∙ ap (λ (x : Page). page_with x u) e ∙ sym (written_append g t u)
+
+is_full : (r : Place) → IsErr r → r ≡ full
+is_full (Ok p) h = absurd (false≢true h)
+is_full (Err e) h = refl
+
+-- a text that the list cuts off, and what would have come after it
+pub stopped : (r : Place) (o : List ℕ) (g : Page) (t u : List ℕ) → page full o ≡ page_with g t → IsErr r → page r o ≡ page_with g (t ++ u)
+stopped r o g t u e h = rw (is_full r h) (then g t u e (sym (written_full o u)))
 
 -- a loop's turn: what is left begins with t
 pub turn : {g₁ : Page} {rest : List ℕ} (g : Page) (t rest₁ : List ℕ) → rest ≡ t ++ rest₁ → g₁ ≡ page_with g t → page_with g₁ rest₁ ≡ page_with g rest
 turn g t rest₁ e f = rw (f, e) (sym (written_append g t rest₁))
 
+-- the list cuts a turn's text off
+pub cut : (r : Place) (o : List ℕ) {rest : List ℕ} (g : Page) (t rest₁ : List ℕ) → rest ≡ t ++ rest₁ → page full o ≡ page_with g t → IsErr r
+    → page r o ≡ page_with g rest
+cut r o g t rest₁ e f h = rw e (stopped r o g t rest₁ f h)
+
 pub ended : {rest : List ℕ} (g : Page) → rest ≡ [] → page_with g rest ≡ g
 ended g e = rw e (written_nil g)
 
 -- what a call leaves that writes the text t from the first place on
-pub printed : {r : Put} {u : List ℕ} (o t : List ℕ) → page r u ≡ page_with (page (At 0) o) t → (r ≡ room_for (length o) t) × (u ≡ laid_over o t)
-printed o t e = parts (e ∙ whole o t)
+pub printed : {r : Place} {u : List ℕ} (o t : List ℕ) {t' : List ℕ} → t ≡ t' → page r u ≡ page_with (page (Ok 0) o) t → Prints r o u t'
+printed o t h e = let (p, b) = parts (e ∙ whole o t) in rw (← h) (record { place = p; bytes = b })

@@ -1,134 +1,112 @@
 -- What is left to print, at each turn of the loops. Assumes nothing.
-use mathlib.Core.Path.{◌≡◌, refl, sym, ap, ◌∙◌}
+use mathlib.Core.Path.{◌≡◌, refl}
 use mathlib.Core.List.{List, [], ◌∷◌, ◌++◌, append_assoc}
-use mathlib.Core.Bool.{Bool, true, false}
-use Prim.Native.Nat.{ℕ, suc, ◌+◌, ◌-◌, ◌≤◌, ◌<◌, min}
-use native.Mathlib.Nat.{not-suc-le-zero, le_of_suc-le-suc, min-eq_left, min-eq_right, min-le_right}
-use native.Mathlib.Numerals.{add-one, add-two}
+use Prim.Native.Nat.{ℕ, ◌+◌, ◌-◌, ◌≤◌, ◌<◌}
+use native.Mathlib.Nat.{not-suc-le-zero, le_of_suc-le-suc}
+use native.Mathlib.Numerals.{add-one}
 use native.Mathlib.Omega.{arith}
-use lib.ListN.{length, get_or, take, drop, drop_of_length-le, length-drop}
-use lib.Seq.{drop-cons, take-nil, take_all, length-take-le}
-use lib.Dec.{ltb}
-use borrow.Author.Tests.{ltb-true, ltb-false}
+use lib.Seq.{drop-cons}
+use mathlib.Core.Logic.{◌⊎◌, inl, inr}
+use lib.ListN.{length, get_or, take, drop, drop_of_length-le}
 use lib.Ieee.{Float, nan, to_bits, binary64}
-use Rattle.text.specs.Text.{space, close, cell_word, decimal, node_text, nodes_text, numbers_text, cell_text, PieceLine, piece_text, pieces_text, piece_lines}
+use Rattle.std.specs.Prelude.{Option, Some, None}
+use denote.Ref.{Bor}
+use Rattle.std.specs.declared.slice.Iter.{Iter}
+use Rattle.std.specs.declared.iter.Zip.{Zip}
+use Rattle.std.specs.Slice.Iter.{iter_rest}
+use Rattle.std.specs.Iterator.Adapters.{zip_first, zip_second}
+use Rattle.std.proofs.iter.Yields.{fronts}
+use Rattle.std.proofs.lemmas.Iterator.{zips}
+use Rattle.std.proofs.lemmas.Slice.Zip.{either_empty_from_Zip}
+use Rattle.std.proofs.lemmas.List.{nil_from_length}
+use Rattle.text.specs.Text.{bytes, space, close, decimal, listing_word, PieceLine, piece_lines}
+use Rattle.text.specs.Text.{node_text, nodes_text, numbers_text, cell_text, piece_text, pieces_text, count_text, refused_text, listing_text}
 use Rattle.printing.specs.Told.{bits}
 
-pub nodes_pair : (cs : List Float) (k : ℕ) → k + 1 < length cs
-    → nodes_text (bits (drop k cs)) ≡ node_text (to_bits binary64 (get_or cs k nan)) (to_bits binary64 (get_or cs (k + 1) nan)) ++ nodes_text (bits (drop (k + 2) cs))
+-- l begins with the pair x
+pub nodes_next : (l x rest : List Float) → l ≡ x ++ rest → length x ≡ 2
+    → nodes_text (bits l) ≡ node_text (to_bits binary64 (get_or x 0 nan)) (to_bits binary64 (get_or x 1 nan)) ++ nodes_text (bits rest)
 unfolding nodes_text bits
-nodes_pair cs k h =
-    let h₁ : k < length cs = omega arith in
-    let h₂ : suc k < length cs = omega arith in
-    rw (add-one, add-two, drop-cons cs k nan h₁, drop-cons cs (suc k) nan h₂)
+nodes_next l [] rest e h = absurd (omega arith)
+nodes_next l (a ∷ []) rest e h = absurd (omega arith)
+nodes_next l (a ∷ b ∷ []) rest e h = rw e refl
+nodes_next l (a ∷ b ∷ c ∷ x) rest e h = absurd (omega arith)
 
-short : (l : List Float) → length l < 2 → nodes_text (bits l) ≡ []
+pub nodes_short : (l : List Float) → length l < 2 → nodes_text (bits l) ≡ []
 unfolding nodes_text bits
-short [] h = refl
-short (x ∷ []) h = refl
-short (x ∷ y ∷ l) h = absurd (not-suc-le-zero (le_of_suc-le-suc (le_of_suc-le-suc h)))
+nodes_short [] h = refl
+nodes_short (x ∷ []) h = refl
+nodes_short (x ∷ y ∷ l) h = absurd (not-suc-le-zero (le_of_suc-le-suc (le_of_suc-le-suc h)))
 
-pub nodes_short : (cs : List Float) (k : ℕ) → length cs ≤ k + 1 → nodes_text (bits (drop k cs)) ≡ []
-nodes_short cs k h = short (drop k cs) (simp length-drop (omega arith))
-
-module _ (ns : List ℕ) (k to : ℕ) where
-  pub numbers_end : to ≤ k → numbers_text (take (to - k) (drop k ns)) ≡ []
-  unfolding numbers_text
-  numbers_end h = let z : to - k ≡ 0 = omega arith in rw z
-
-  pub numbers_out : length ns ≤ k → numbers_text (take (to - k) (drop k ns)) ≡ []
-  unfolding numbers_text
-  numbers_out h = rw (drop_of_length-le ns h, take-nil (to - k))
-
-  pub numbers_turn : k < to → k < length ns → numbers_text (take (to - k) (drop k ns)) ≡ (space ++ decimal (get_or ns k 0)) ++ numbers_text (take (to - (k + 1)) (drop (k + 1) ns))
-  unfolding numbers_text
-  numbers_turn h g =
-      let e : to - k ≡ suc (to - (k + 1)) = omega arith in
-      rw (e, drop-cons ns k 0 g, add-one)
-
--- ---- pieces
-
--- a piece's line, number by number
-pub piece_parts : (p : PieceLine) → piece_text p ≡ cell_word ++ (decimal p.kind ++ ((space ++ decimal p.family) ++ ((space ++ decimal p.mesh) ++
-    ((space ++ decimal p.cell) ++ (numbers_text p.nodes ++ close)))))
+-- a piece's line: a word, numbers, the corners
+pub piece_parts : (p : PieceLine) → piece_text p ≡ bytes "(cell" ++ (numbers_text (p.kind ∷ p.family ∷ p.mesh ∷ p.cell ∷ []) ++ (numbers_text p.nodes ++ close))
 unfolding piece_text cell_text numbers_text
 piece_parts p = simp append_assoc
 
--- how many pieces lists hold
-unfoldable pub held : (es ks fs ms is : List ℕ) → ℕ
-held es ks fs ms is = min (length es) (min (min (length ks) (length fs)) (min (length ms) (length is)))
+pub refused_parts : (n : ℕ) → refused_text n ≡ bytes "(refused" ++ (numbers_text (n ∷ []) ++ close)
+unfolding refused_text numbers_text
+refused_parts n = simp append_assoc
 
-none_held : (from : ℕ) (ns es ks fs ms is : List ℕ) → held es ks fs ms is ≤ 0 → pieces_text (piece_lines from ns es ks fs ms is) ≡ []
-unfolding pieces_text piece_lines held
-none_held from ns [] ks fs ms is h = refl
-none_held from ns (e ∷ es) [] fs ms is h = refl
-none_held from ns (e ∷ es) (k ∷ ks) [] ms is h = refl
-none_held from ns (e ∷ es) (k ∷ ks) (f ∷ fs) [] is h = refl
-none_held from ns (e ∷ es) (k ∷ ks) (f ∷ fs) (m ∷ ms) [] h = refl
-none_held from ns (e ∷ es) (k ∷ ks) (f ∷ fs) (m ∷ ms) (i ∷ is) h = absurd (omega (arith, h))
+pub listing_parts : (bs : List ℕ) (ps : List PieceLine) (pieces points doubled : ℕ) → listing_text bs ps pieces points doubled
+    ≡ listing_word ++ (nodes_text bs ++ (pieces_text ps ++ ((bytes "(count" ++ (numbers_text (pieces ∷ points ∷ doubled ∷ []) ++ close)) ++ close)))
+unfolding listing_text count_text numbers_text
+listing_parts bs ps pieces points doubled = simp append_assoc
 
-min_sub : (a b k : ℕ) → min (a - k) (b - k) ≡ min a b - k
-min_sub a b k = omega arith
+module _ (ns : List ℕ) (k : ℕ) where
+  pub numbers_end : length ns ≤ k → numbers_text (drop k ns) ≡ []
+  unfolding numbers_text
+  numbers_end h = rw (drop_of_length-le ns h)
 
--- all lists go on at k
-pub record At (k : ℕ) (es ks fs ms is : List ℕ) : Type 0 where
-  pub ends : k < length es
-  pub kinds : k < length ks
-  pub families : k < length fs
-  pub meshes : k < length ms
-  pub cells : k < length is
+  pub numbers_turn : k < length ns → numbers_text (drop k ns) ≡ (space ++ decimal (get_or ns k 0)) ++ numbers_text (drop (k + 1) ns)
+  unfolding numbers_text
+  numbers_turn h = rw (drop-cons ns k 0 h, add-one)
 
-held_at : (k : ℕ) (es ks fs ms is : List ℕ) → k < held es ks fs ms is → At k es ks fs ms is
-unfolding held
-held_at k es ks fs ms is h =
-    record { ends = omega (arith, h); kinds = omega (arith, h); families = omega (arith, h); meshes = omega (arith, h); cells = omega (arith, h) }
-
--- the lists hold n pieces
-pub record Held (n : ℕ) (es ks fs ms is : List ℕ) : Type 0 where
-  pub count : n ≡ held es ks fs ms is
-  pub at : (k : ℕ) → k < n → At k es ks fs ms is
-
-pub counted : (es ks fs ms is : List ℕ) (a b c n : ℕ) → a ≡ min (length ks) (length fs) → b ≡ min (length ms) (length is) → c ≡ min a b → n ≡ min (length es) c
-    → Held n es ks fs ms is
-unfolding held
-counted es ks fs ms is a b c n e f g h =
-    let same : n ≡ held es ks fs ms is = rw (g, e, f) at h in
-    record { count = same; at = λ k l. held_at k es ks fs ms is (rw same at l) }
-
--- k pieces are printed
-module _ (from k : ℕ) (ns es ks fs ms is : List ℕ) where
-  pub pieces_end : (n : ℕ) → Held n es ks fs ms is → n ≤ k → pieces_text (piece_lines from ns (drop k es) (drop k ks) (drop k fs) (drop k ms) (drop k is)) ≡ []
-  unfolding held
-  pieces_end n e h = none_held from ns (drop k es) (drop k ks) (drop k fs) (drop k ms) (drop k is) (simp (length-drop, min_sub) (omega (arith, e.count, h)))
-
-  pub pieces_next : At k es ks fs ms is → pieces_text (piece_lines from ns (drop k es) (drop k ks) (drop k fs) (drop k ms) (drop k is)) ≡ piece_text
-      (record { kind = get_or ks k 0; family = get_or fs k 0; mesh = get_or ms k 0; cell = get_or is k 0; nodes = take (get_or es k 0 - from) (drop from ns) })
-      ++ pieces_text (piece_lines (get_or es k 0) ns (drop (k + 1) es) (drop (k + 1) ks) (drop (k + 1) fs) (drop (k + 1) ms) (drop (k + 1) is))
-  unfolding pieces_text piece_lines
-  pieces_next h =
-      rw (
-        drop-cons es k 0 h.ends,
-        drop-cons ks k 0 h.kinds,
-        drop-cons fs k 0 h.families,
-        drop-cons ms k 0 h.meshes,
-        drop-cons is k 0 h.cells,
-        add-one,
-      )
-
-pub nearer : (k n : ℕ) → k < n → n - (k + 1) < n - k
-nearer k n h = omega arith
-
--- ---- least
--- no more than there are
-pub take_least : {A : Type 0} (l : List A) (n a : ℕ) → n ≡ min a (length l) → take n l ≡ take a l
-take_least l n a e = go (ltb (length l) a) refl
+none_left : (from : ℕ) (ns es ks fs ms is : List ℕ) → (es ≡ []) ⊎ (((ks ≡ []) ⊎ (fs ≡ [])) ⊎ ((ms ≡ []) ⊎ (is ≡ []))) → piece_lines from ns es ks fs ms is ≡ []
+unfolding piece_lines
+none_left from ns [] ks fs ms is h = refl
+none_left from ns (e ∷ es) [] fs ms is h = refl
+none_left from ns (e ∷ es) (k ∷ ks) [] ms is h = refl
+none_left from ns (e ∷ es) (k ∷ ks) (f ∷ fs) [] is h = refl
+none_left from ns (e ∷ es) (k ∷ ks) (f ∷ fs) (m ∷ ms) [] h = refl
+none_left from ns (e ∷ es) (k ∷ ks) (f ∷ fs) (m ∷ ms) (i ∷ is) h = absurd (never h)
   where
-    go : (b : Bool) → ltb (length l) a ≡ b → take n l ≡ take a l
-    go true h =
-        let g : length l < a = ltb-true (length l) a h in
-        let f : n ≡ length l = e ∙ min-eq_right (omega arith) in
-        take_all n l (omega arith) ∙ sym (take_all a l (omega arith))
-    go false h = ap (λ (k : ℕ). take k l) (e ∙ min-eq_left (ltb-false (length l) a h))
+    no : (x : ℕ) (l : List ℕ) → x ∷ l ≡ [] → ⊥
+    no x l e = cc
 
-pub length_least : {A : Type 0} (l : List A) (n a : ℕ) → n ≡ min a (length l) → n ≡ length (take n l)
-length_least l n a e = sym (length-take-le n l (rw e (min-le_right a (length l))))
+    never : (e ∷ es ≡ []) ⊎ (((k ∷ ks ≡ []) ⊎ (f ∷ fs ≡ [])) ⊎ ((m ∷ ms ≡ []) ⊎ (i ∷ is ≡ []))) → ⊥
+    never (inl p) = no _ _ p
+    never (inr (inl (inl p))) = no _ _ p
+    never (inr (inl (inr p))) = no _ _ p
+    never (inr (inr (inl p))) = no _ _ p
+    never (inr (inr (inr p))) = no _ _ p
+
+-- ends beside (kinds, families) and (meshes, cells)
+abbrev pub Columns : Type 0
+Columns = Zip (Iter ℕ) (Zip (Zip (Iter ℕ) (Iter ℕ)) (Zip (Iter ℕ) (Iter ℕ)))
+
+abbrev steps : Columns → Option (Bor ℕ × ((Bor ℕ × Bor ℕ) × (Bor ℕ × Bor ℕ))) → Columns → Type 0
+steps = zips fronts (zips (zips fronts fronts) (zips fronts fronts))
+
+module _ (from : ℕ) (ns : List ℕ) (s : Columns) where
+  -- the pieces that are left
+  abbrev pub lines_left : List PieceLine
+  lines_left =
+      let marks = zip_first (zip_second s) in
+      let parents = zip_second (zip_second s) in
+      piece_lines from ns (iter_rest (zip_first s)) (iter_rest (zip_first marks)) (iter_rest (zip_second marks)) (iter_rest (zip_first parents)) (iter_rest (zip_second parents))
+
+module _ (from : ℕ) (ns : List ℕ) (s t : Columns) where
+  pub pieces_next : (e k f m i : Bor ℕ) → steps s (Some (e, ((k, f), (m, i)))) t → pieces_text (lines_left from ns s)
+      ≡ piece_text (record { kind = k.now; family = f.now; mesh = m.now; cell = i.now; nodes = take (e.now - from) (drop from ns) }) ++ pieces_text (lines_left e.now ns t)
+  unfolding piece_lines pieces_text
+  pieces_next e k f m i (a, ((b, c), (d, g))) = rw (a, b, c, d, g) refl
+
+  pub pieces_end : steps s None t → pieces_text (lines_left from ns s) ≡ []
+  unfolding pieces_text
+  pieces_end h = rw (none_left from ns _ _ _ _ _ (by h)) refl
+    where
+      by : steps s None t → (iter_rest (zip_first s) ≡ []) ⊎ (((iter_rest (zip_first (zip_first (zip_second s))) ≡ []) ⊎ (iter_rest (zip_second (zip_first (zip_second s))) ≡ []))
+          ⊎ ((iter_rest (zip_first (zip_second (zip_second s))) ≡ []) ⊎ (iter_rest (zip_second (zip_second (zip_second s))) ≡ [])))
+      by (inl (u, z)) = inl (nil_from_length _ z.0)
+      by (inr (u, inl (v, z))) = inr (inl (either_empty_from_Zip _ v None refl z))
+      by (inr (u, inr (v, z))) = inr (inr (either_empty_from_Zip _ v None refl z))

@@ -1,63 +1,36 @@
-// The digits of numbers.
-ghost use Rattle.std.specs.Prelude.{◌≡◌, ◌≤◌, ◌<◌, length, drop};
+// The hexadecimal digits of coordinates.
+ghost use Rattle.std.specs.Prelude.{◌≡◌, ◌<◌};
 ghost use Rattle.std.specs.Float.Ieee.{to_bits};
 ghost use Rattle.std.specs.Float.{binary64};
-ghost use Rattle.text.specs.Text.{decimal, hex, glyph};
+ghost use Rattle.text.specs.Text.{hex, glyph};
 
-// the digits of a number are the bytes from `start` on
-#[derive(Clone, Copy)]
-pub struct Digits {
-    pub bytes: [u8; 10],
-    pub start: usize,
-}
-
-fn glyph_of(d: u64) -> u8
+#[tactic(auto, unfolding(text::specs::Text::glyph))]
+fn glyph_of(d: u8) -> u8
     requires { d < 16 }
     ensures { result ≡ glyph d }
 {
-    if d < 10 {
-        return 48 + d as u8;
-    }
-    87 + d as u8
+    if d < 10 { b'0' + d } else { b'a' + (d - 10) }
 }
 
 pub(crate) fn hex_digits(n: u64) -> [u8; 16]
     ensures { result ≡ hex n }
 {
-    let mut a = [0u8; 16];
-    let mut i = 16;
-    let mut v = n;
-    while 0 < i {
-        i -= 1;
-        a[i] = glyph_of(v % 16);
-        v = v / 16;
+    let mut digits = [0; 16];
+    let mut left = n;
+    // by index: after `iter_mut` no element is known
+    for i in (0..16).rev() {
+        digits[i] = glyph_of((left % 16) as u8);
+        left /= 16;
     }
-    a
-}
-
-pub(crate) fn decimal_digits(n: u32) -> Digits
-    ensures { (drop result.start result.bytes ≡ decimal n) × (result.start ≤ 10) × (length result.bytes ≡ 10) }
-{
-    let mut a = [0u8; 10];
-    let mut i = 10;
-    let mut v = n;
-    while 0 < i {
-        i -= 1;
-        a[i] = 48 + (v % 10) as u8;
-        if v < 10 {
-            return Digits { bytes: a, start: i };
-        }
-        v = v / 10;
-    }
-    Digits { bytes: a, start: 0 }
+    digits
 }
 
 // a NaN is printed as 7ff8000000000000
 pub(crate) fn bits_of(x: f64) -> u64
     ensures { result ≡ to_bits binary64 x }
 {
-    if x == x {
-        return f64::to_bits(x);
+    if x.is_nan() {
+        return 0x7ff8000000000000;
     }
-    9221120237041090560
+    x.to_bits()
 }

@@ -1,115 +1,76 @@
 // Printing the program's text into a lent list.
 #![tactic(auto)]
 
-ghost use Rattle.std.specs.Prelude.{◌≡◌, ◌+◌, ◌-◌, ◌*◌, ◌≤◌, ◌<◌, min, length, take, drop};
-ghost use Rattle.text.specs.Text.{piece_lines, listing_text, refused_text, unread_text, answer_text};
-ghost use Rattle.printing.specs.Page.{page, page_with, room_for, laid_over};
-ghost use Rattle.printing.specs.Told.{bits, told};
+ghost use Rattle.std.specs.Prelude.{◌≡◌, Ok};
+ghost use Rattle.text.specs.Text.{listing_text, answer_text};
+ghost use Rattle.printing.specs.Page.{page, page_with, Prints};
+ghost use Rattle.printing.specs.Told.{bits, lines_of, told};
 
 mod digits;
 mod lines;
 
-// the place after what is written, or that the list is full
-#[derive(Clone, Copy)]
-pub enum Put {
-    At(usize),
-    Full,
+use lines::{put, put_line, put_nodes, put_pieces};
+
+// the list ends before the text
+#[derive(Clone, Copy, Debug, PartialEq, Eq)]
+pub struct Full;
+
+// what an overlay counts
+#[derive(Clone, Copy, Debug, PartialEq, Eq)]
+pub struct Counts {
+    pub pieces: u32,
+    pub points: u32,
+    pub doubled: u32,
 }
 
-// what the program has to say; of an overlay, how many nodes and pieces the lists hold, and what was counted
-#[derive(Clone, Copy)]
+// what the program has to say; of an overlay, how many nodes the lists hold, and what was counted
+#[derive(Clone, Copy, Debug, PartialEq, Eq)]
 pub enum Answer {
     Unread,
     Refused(u32),
-    Overlay {
-        nodes: u32,
-        pieces: u32,
-        points: u32,
-        doubled: u32,
-    },
+    Overlay { nodes: u32, counts: Counts },
 }
 
-pub(crate) fn least(a: usize, b: usize) -> usize
-    ensures { result ≡ min a b }
+// the lists of an overlay: coordinates, the pieces' corners, where those of each piece end, and of each piece its kind, family and parent
+#[derive(Clone, Copy, Default)]
+pub struct Listing<'a> {
+    pub coords: &'a [f64],
+    pub nodes: &'a [u32],
+    pub ends: &'a [u32],
+    pub kinds: &'a [u8],
+    pub families: &'a [u32],
+    pub meshes: &'a [u32],
+    pub cells: &'a [u32],
+}
+
+fn put_listing(out: &mut [u8], lists: &Listing, counts: Counts) -> Result<usize, Full>
+    ensures { page result out.new ≡ page_with (page (Ok 0) out.old) (listing_text (bits lists.now.coords.now)
+        (lines_of lists.now) counts.pieces counts.points counts.doubled) }
 {
-    if a < b { a } else { b }
+    let at = put(out, 0, b"(overlay\n")?;
+    let at = put_nodes(out, at, lists.coords)?;
+    let at = put_pieces(out, at, lists)?;
+    let numbers = [counts.pieces, counts.points, counts.doubled];
+    let at = put_line(out, at, b"(count", &numbers)?;
+    put(out, at, b")\n")
 }
 
-fn put_refused(out: &mut [u8], to: Put, n: u32) -> Put
-    ensures { page result out.new ≡ page_with (page to out.old) (refused_text n) }
-{
-    let a = lines::put_bytes(out, to, b"(refused ");
-    let b = lines::put_decimal(out, a, n);
-    lines::put_bytes(out, b, b")\n")
-}
-
-fn put_listing(
-    out: &mut [u8],
-    to: Put,
-    coords: &[f64],
-    nodes: &[u32],
-    ends: &[u32],
-    kinds: &[u8],
-    families: &[u32],
-    meshes: &[u32],
-    cells: &[u32],
-    pieces: u32,
-    points: u32,
-    doubled: u32,
-) -> Put
-    ensures { page result out.new ≡ page_with (page to out.old) (listing_text (bits coords.now)
-        (piece_lines 0 nodes.now ends.now kinds.now families.now meshes.now cells.now)
-        pieces points doubled) }
-{
-    let a = lines::put_bytes(out, to, b"(overlay\n");
-    let b = lines::put_nodes(out, a, coords);
-    let c = lines::put_pieces(out, b, nodes, ends, kinds, families, meshes, cells);
-    let d = lines::put_count(out, c, pieces, points, doubled);
-    lines::put_bytes(out, d, b")\n")
-}
-
-// The text of an answer, from the list's first place on.
-pub fn print_answer(
-    out: &mut [u8],
-    answer: Answer,
-    coords: &[f64],
-    nodes: &[u32],
-    ends: &[u32],
-    kinds: &[u8],
-    families: &[u32],
-    meshes: &[u32],
-    cells: &[u32],
-) -> Put
-    ensures { (result ≡ room_for (length out.old) (answer_text (told answer coords.now nodes.now
-        ends.now kinds.now families.now meshes.now cells.now)))
-        × (out.new ≡ laid_over out.old (answer_text (told answer coords.now nodes.now
-        ends.now kinds.now families.now meshes.now cells.now))) }
+// The text of an answer, from the list's first place on: the place after it.
+pub fn print_answer(out: &mut [u8], answer: Answer, lists: &Listing) -> Result<usize, Full>
+    ensures { Prints result out.old out.new (answer_text (told answer lists.now)) }
 {
     match answer {
-        Answer::Unread => lines::put_bytes(out, Put::At(0), b"(unread)\n"),
-        Answer::Refused(n) => put_refused(out, Put::At(0), n),
-        Answer::Overlay {
-            nodes: count,
-            pieces,
-            points,
-            doubled,
-        } => {
-            let n = least(2 * count as usize, coords.len());
-            let k = least(pieces as usize, ends.len());
-            put_listing(
-                out,
-                Put::At(0),
-                &coords[..n],
-                nodes,
-                &ends[..k],
-                kinds,
-                families,
-                meshes,
-                cells,
-                pieces,
-                points,
-                doubled,
-            )
+        Answer::Unread => put(out, 0, b"(unread)\n"),
+        Answer::Refused(n) => put_line(out, 0, b"(refused", &[n]),
+        Answer::Overlay { nodes, counts } => {
+            let n = (2 * nodes as usize).min(lists.coords.len());
+            let k = (counts.pieces as usize).min(lists.ends.len());
+            let shown = Listing {
+                coords: &lists.coords[..n],
+                ends: &lists.ends[..k],
+                ..*lists
+            };
+            put_listing(out, &shown, counts)
         }
     }
 }

@@ -1,167 +1,139 @@
 // Lines, written one after the other: each function writes its text from a place on and answers the place after it.
-ghost use Rattle.std.specs.Prelude.{◌≡◌, ◌++◌, ◌-◌, take, drop};
+ghost use Rattle.std.specs.Prelude.{◌≡◌, ◌++◌, ◌-◌, Ok, take, drop};
 ghost use Rattle.std.specs.Float.Ieee.{to_bits};
 ghost use Rattle.std.specs.Float.{binary64};
-ghost use Rattle.text.specs.Text.{space, decimal, hex, node_text, nodes_text, numbers_text, piece_text, pieces_text, piece_lines, count_text};
+ghost use Rattle.text.specs.Text.{space, close, decimal, hex, node_text, nodes_text, numbers_text, piece_text, pieces_text};
 ghost use Rattle.printing.specs.Page.{page, page_with};
-ghost use Rattle.printing.specs.Told.{bits};
+ghost use Rattle.printing.specs.Told.{bits, lines_of};
 
-use crate::{Put, digits, least};
+use crate::digits::{bits_of, hex_digits};
+use crate::{Full, Listing};
 
-pub(crate) fn put_bytes(out: &mut [u8], to: Put, w: &[u8]) -> Put
-    ensures { page result out.new ≡ page_with (page to out.old) w.now }
-{
-    let Put::At(at) = to else {
-        return Put::Full;
-    };
-    let mut p = at;
-    let mut i = 0;
-    while i < w.len() {
-        if out.len() <= p {
-            return Put::Full;
-        }
-        out[p] = w[i];
-        p += 1;
-        i += 1;
-    }
-    Put::At(p)
-}
-
-fn put_hex(out: &mut [u8], to: Put, n: u64) -> Put
-    ensures { page result out.new ≡ page_with (page to out.old) (hex n) }
-{
-    let a = digits::hex_digits(n);
-    put_bytes(out, to, &a)
-}
-
-pub(crate) fn put_decimal(out: &mut [u8], to: Put, n: u32) -> Put
-    ensures { page result out.new ≡ page_with (page to out.old) (decimal n) }
-{
-    let d = digits::decimal_digits(n);
-    let a = d.bytes;
-    let i = d.start;
-    put_bytes(out, to, &a[i..])
-}
-
-// a number with a space before it
-fn put_number(out: &mut [u8], to: Put, n: u32) -> Put
-    ensures { page result out.new ≡ page_with (page to out.old) (space ++ decimal n) }
-{
-    let a = put_bytes(out, to, b" ");
-    put_decimal(out, a, n)
-}
-
-fn put_node(out: &mut [u8], to: Put, x: f64, y: f64) -> Put
-    ensures { page result out.new ≡ page_with (page to out.old) (node_text (to_bits binary64 x) (to_bits binary64 y)) }
-{
-    let a = put_bytes(out, to, b"(node ");
-    let b = put_hex(out, a, digits::bits_of(x));
-    let c = put_bytes(out, b, b" ");
-    let d = put_hex(out, c, digits::bits_of(y));
-    put_bytes(out, d, b")\n")
-}
-
-pub(crate) fn put_nodes(out: &mut [u8], to: Put, coords: &[f64]) -> Put
-    ensures { page result out.new ≡ page_with (page to out.old) (nodes_text (bits coords.now)) }
-{
-    let mut p = to;
-    let mut k = 0;
-    while k + 1 < coords.len() {
-        p = put_node(out, p, coords[k], coords[k + 1]);
-        k += 2;
-    }
-    p
-}
-
-// the numbers of the list from `from` up to `end`
-fn put_numbers(out: &mut [u8], to: Put, nodes: &[u32], from: usize, end: usize) -> Put
-    ensures { page result out.new ≡ page_with (page to out.old) (numbers_text (take (end - from) (drop from nodes.now))) }
-{
-    let mut p = to;
-    let mut k = from;
-    while k < end {
-        if nodes.len() <= k {
-            return p;
-        }
-        p = put_number(out, p, nodes[k]);
-        k += 1;
-    }
-    p
-}
-
-// a piece, its corners the numbers of the list from `from` up to `end`
-fn put_piece(
-    out: &mut [u8],
-    to: Put,
+// a piece and its corners
+#[derive(Clone, Copy)]
+struct Piece<'a> {
     kind: u8,
     family: u32,
     mesh: u32,
     cell: u32,
-    nodes: &[u32],
-    from: usize,
-    end: usize,
-) -> Put
-    ensures { page result out.new ≡ page_with (page to out.old)
-        (piece_text (record { kind = kind; family = family; mesh = mesh; cell = cell; nodes = take (end - from) (drop from nodes.now) })) }
-{
-    let a = put_bytes(out, to, b"(cell ");
-    let b = put_decimal(out, a, kind as u32);
-    let c = put_number(out, b, family);
-    let d = put_number(out, c, mesh);
-    let e = put_number(out, d, cell);
-    let f = put_numbers(out, e, nodes, from, end);
-    put_bytes(out, f, b")\n")
+    nodes: &'a [u32],
 }
 
-// the pieces that the lists hold
-pub(crate) fn put_pieces(
-    out: &mut [u8],
-    to: Put,
-    nodes: &[u32],
-    ends: &[u32],
-    kinds: &[u8],
-    families: &[u32],
-    meshes: &[u32],
-    cells: &[u32],
-) -> Put
-    ensures { page result out.new ≡ page_with (page to out.old) (pieces_text
-        (piece_lines 0 nodes.now ends.now kinds.now families.now meshes.now cells.now)) }
+pub(crate) fn put(out: &mut [u8], at: usize, text: &[u8]) -> Result<usize, Full>
+    ensures { page result out.new ≡ page_with (page (Ok at) out.old) text.now }
 {
-    let count = least(
-        ends.len(),
-        least(
-            least(kinds.len(), families.len()),
-            least(meshes.len(), cells.len()),
-        ),
-    );
-    let mut p = to;
-    let mut from = 0;
-    let mut k = 0;
-    while k < count {
-        let end = ends[k] as usize;
-        p = put_piece(
-            out,
-            p,
-            kinds[k],
-            families[k],
-            meshes[k],
-            cells[k],
-            nodes,
-            from,
-            end,
-        );
-        from = end;
-        k += 1;
+    let mut at = at;
+    // by index: after `iter_mut` no byte is known, and std's `write!` says nothing of a list that is too short
+    for b in text {
+        if out.len() <= at {
+            return Err(Full);
+        }
+        out[at] = *b;
+        at += 1;
     }
-    p
+    Ok(at)
 }
 
-pub(crate) fn put_count(out: &mut [u8], to: Put, pieces: u32, points: u32, doubled: u32) -> Put
-    ensures { page result out.new ≡ page_with (page to out.old) (count_text pieces points doubled) }
+// a space and the number, for each
+fn put_numbers(out: &mut [u8], at: usize, numbers: &[u32]) -> Result<usize, Full>
+    ensures { page result out.new ≡ page_with (page (Ok at) out.old) (numbers_text numbers.now) }
 {
-    let a = put_bytes(out, to, b"(count ");
-    let b = put_decimal(out, a, pieces);
-    let c = put_number(out, b, points);
-    let d = put_number(out, c, doubled);
-    put_bytes(out, d, b")\n")
+    let mut at = at;
+    for n in numbers {
+        at = put_number(out, at, *n)?;
+    }
+    Ok(at)
+}
+
+fn put_number(out: &mut [u8], at: usize, n: u32) -> Result<usize, Full>
+    ensures { page result out.new ≡ page_with (page (Ok at) out.old) (space ++ decimal n) }
+{
+    let at = put(out, at, b" ")?;
+    let mut digits = itoa::Buffer::new();
+    put(out, at, digits.format(n).as_bytes())
+}
+
+// a word, numbers and the closing parenthesis
+pub(crate) fn put_line(
+    out: &mut [u8],
+    at: usize,
+    word: &[u8],
+    numbers: &[u32],
+) -> Result<usize, Full>
+    ensures { page result out.new ≡ page_with (page (Ok at) out.old) (word.now ++ (numbers_text numbers.now ++ close)) }
+{
+    let at = put(out, at, word)?;
+    let at = put_numbers(out, at, numbers)?;
+    put(out, at, b")\n")
+}
+
+fn put_bits(out: &mut [u8], at: usize, x: f64) -> Result<usize, Full>
+    ensures { page result out.new ≡ page_with (page (Ok at) out.old) (hex (to_bits binary64 x)) }
+{
+    put(out, at, &hex_digits(bits_of(x)))
+}
+
+fn put_node(out: &mut [u8], at: usize, x: f64, y: f64) -> Result<usize, Full>
+    ensures { page result out.new ≡ page_with (page (Ok at) out.old) (node_text (to_bits binary64 x) (to_bits binary64 y)) }
+{
+    let at = put(out, at, b"(node ")?;
+    let at = put_bits(out, at, x)?;
+    let at = put(out, at, b" ")?;
+    let at = put_bits(out, at, y)?;
+    put(out, at, b")\n")
+}
+
+pub(crate) fn put_nodes(out: &mut [u8], at: usize, coords: &[f64]) -> Result<usize, Full>
+    ensures { page result out.new ≡ page_with (page (Ok at) out.old) (nodes_text (bits coords.now)) }
+{
+    let mut at = at;
+    for node in coords.chunks_exact(2) {
+        at = put_node(out, at, node[0], node[1])?;
+    }
+    Ok(at)
+}
+
+fn put_piece(out: &mut [u8], at: usize, piece: Piece) -> Result<usize, Full>
+    ensures { page result out.new ≡ page_with (page (Ok at) out.old) (piece_text (record {
+      kind = piece.entry.kind;
+      family = piece.entry.family;
+      mesh = piece.entry.mesh;
+      cell = piece.entry.cell;
+      nodes = piece.entry.nodes.now;
+    })) }
+{
+    let at = put(out, at, b"(cell")?;
+    let numbers = [piece.kind as u32, piece.family, piece.mesh, piece.cell];
+    let at = put_numbers(out, at, &numbers)?;
+    let at = put_numbers(out, at, piece.nodes)?;
+    put(out, at, b")\n")
+}
+
+// the numbers from `from` up to `end`, as far as there are
+fn corners(nodes: &[u32], from: usize, end: usize) -> &[u32]
+    ensures { result.now ≡ take (end - from) (drop from nodes.now) }
+{
+    nodes.get(from..nodes.len().min(end)).unwrap_or(&[])
+}
+
+pub(crate) fn put_pieces(out: &mut [u8], at: usize, lists: &Listing) -> Result<usize, Full>
+    ensures { page result out.new ≡ page_with (page (Ok at) out.old) (pieces_text (lines_of lists.now)) }
+{
+    let mut at = at;
+    let mut from = 0;
+    let marks = lists.kinds.iter().zip(lists.families);
+    let parents = lists.meshes.iter().zip(lists.cells);
+    for (end, ((kind, family), (mesh, cell))) in lists.ends.iter().zip(marks.zip(parents)) {
+        let end = *end as usize;
+        let piece = Piece {
+            kind: *kind,
+            family: *family,
+            mesh: *mesh,
+            cell: *cell,
+            nodes: corners(lists.nodes, from, end),
+        };
+        at = put_piece(out, at, piece)?;
+        from = end;
+    }
+    Ok(at)
 }

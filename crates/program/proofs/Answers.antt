@@ -1,5 +1,5 @@
 -- From the contracts of reading, overlay and printing to the program's answer. Assumes nothing.
-use mathlib.Core.Path.{◌≡◌, refl, ap, ◌∙◌}
+use mathlib.Core.Path.{◌≡◌, refl, ap, subst, ◌∙◌}
 use mathlib.Core.Bool.{Bool, true, false, cond}
 use mathlib.Core.List.{List, [], ◌++◌}
 use Prim.Native.Nat.{ℕ, ◌+◌, ◌*◌, ◌/◌, ◌≤◌}
@@ -19,9 +19,9 @@ use Rattle.rules.proofs.Lengths.{accepted_fits}
 use Rattle.text.specs.Text.{Answer, answer_text}
 use Rattle.text.specs.Read.{input_from}
 use Rattle.text.specs.Given.{Given, Parsed, none, got, limits}
-use Rattle.printing.specs.Page.{room_for, laid_over}
+use Rattle.printing.specs.Page.{Place, Prints}
 use Rattle.printing.specs.Told.{told}
-use Rattle.printing.specs.declared.Put.{Put}
+use Rattle.printing.specs.declared.Listing.{Listing}
 use Rattle.printing.specs.declared.Answer.{Answer as Printed}
 use Rattle.printing.specs.declared.Answer.TheVariants as printed
 use Rattle.reading.specs.declared.Counts.{Counts}
@@ -35,18 +35,20 @@ pub a_refusal : (n code p q d : ℕ) → (code ≡ 0 → ⊥) → printed.Refuse
 unfolding printed_of
 a_refusal n code p q d h = rw (ne_eqb code 0 h) refl
 
-pub a_listing : (n code p q d : ℕ) → code ≡ 0 → printed.Overlay (n + q) p q d ≡ printed_of n code p q d
+pub a_listing : (n code p q d : ℕ) → code ≡ 0 → printed.Overlay (n + q) (record { pieces = p; points = q; doubled = d }) ≡ printed_of n code p q d
 unfolding printed_of
 a_listing n code p q d h = rw (eq-eqb code 0 h) refl
 
-printed_told : (n code p q d : ℕ) (l : Lists)
-    → told (printed_of n code p q d) l.coords l.nodes l.ends l.kinds l.families l.meshes l.cells ≡ result_told n (result_of code p q d l)
+-- the lists that printing is lent, and the working list
+abbrev shown : Listing → List ℕ → Lists
+shown v ws = lent_lists v.coords.now v.nodes.now v.ends.now v.kinds.now v.families.now v.meshes.now v.cells.now ws
+
+printed_told : (n code p q d : ℕ) (v : Listing) (ws : List ℕ) → told (printed_of n code p q d) v ≡ result_told n (result_of code p q d (shown v ws))
 unfolding printed_of told result_told
-printed_told n code p q d l = go (eqb code 0)
+printed_told n code p q d v ws = go (eqb code 0)
   where
     left : Bool → Answer
-    left b =
-        told (cond b (printed.Overlay (n + q) p q d) (printed.Refused code)) l.coords l.nodes l.ends l.kinds l.families l.meshes l.cells
+    left b = told (cond b (printed.Overlay (n + q) (record { pieces = p; points = q; doubled = d })) (printed.Refused code)) v
 
     go : (b : Bool) → left b ≡ cond b (left true) (left false)
     go true = refl
@@ -76,20 +78,19 @@ module _ (op m : ℕ) (s c : Mesh) where
       go (state_met e n) = rw (state_refused ours op m s c lists e n) (omega arith)
       go (success e f) = let same = succeeds ours op m s c lists e f in rw same (success_few same)
 
-  module _ (n code p q d : ℕ) (cs : List Float) (ns es ks fs ms is ws : List ℕ)
-      (same : result_of code p q d (lent_lists cs ns es ks fs ms is ws) ≡ overlay_of op m s c
+  module _ (n code p q d : ℕ) (l : Lists)
+      (same : result_of code p q d l ≡ overlay_of op m s c
       (lent_lists (fzeros 4096) (zeros 8192) (zeros 2048) (zeros 2048) (zeros 2048) (zeros 2048) (zeros 2048) (zeros 16384))) where
     pub nodes_fit_lem : n ≤ 1024 → n + q ≤ 4294967295
     nodes_fit_lem h = omega (arith, h, points_few, ap (λ (r : Result). r.points) same)
 
-    pub cut_printed : (g : Printed) (r : Put) (out out₁ : List ℕ) → g ≡ printed_of n code p q d
-        → (r ≡ room_for (length out) (answer_text (told g cs ns es ks fs ms is))) × (out₁ ≡ laid_over out (answer_text (told g cs ns es ks fs ms is)))
-        → (r ≡ room_for (length out) (answer_text (result_told n (overlay_of op m s c blank)))) × (out₁ ≡ laid_over out (answer_text (result_told n (overlay_of op m s c blank))))
+    pub cut_printed : (g : Printed) (v : Listing) (r : Place) (o u : List ℕ) → g ≡ printed_of n code p q d → shown v l.work ≡ l → Prints r o u (answer_text (told g v))
+        → Prints r o u (answer_text (result_told n (overlay_of op m s c blank)))
     unfolding blank
-    cut_printed g r out out₁ e (a, b) =
-        let text : told g cs ns es ks fs ms is ≡ result_told n (overlay_of op m s c lists) =
-        ap (λ x. told x cs ns es ks fs ms is) e ∙ printed_told n code p q d (lent_lists cs ns es ks fs ms is ws) ∙ ap (result_told n) same in
-        (a ∙ ap (λ t. room_for (length out) (answer_text t)) text, b ∙ ap (λ t. laid_over out (answer_text t)) text)
+    cut_printed g v r o u e f h =
+        let text : told g v ≡ result_told n (overlay_of op m s c lists) =
+        ap (λ x. told x v) e ∙ printed_told n code p q d v l.work ∙ ap (λ x. result_told n (result_of code p q d x)) f ∙ ap (result_told n) same in
+        rw text at h
 
 -- ---- what was read
 
@@ -108,26 +109,19 @@ module _ (s : List ℕ) where
   answer_read g e = ap (λ x. answer_text (answer_given x)) (e ∙ ap (λ l. input_from l l s) most_read)
 
   -- malformed
-  pub unread_printed : (cs : List Float) (ns es ks fs ms is out out₁ : List ℕ) (r : Put) → none ≡ read_of
-      → (r ≡ room_for (length out) (answer_text (told printed.Unread cs ns es ks fs ms is)))
-      × (out₁ ≡ laid_over out (answer_text (told printed.Unread cs ns es ks fs ms is)))
-      → (r ≡ room_for (length out) (answer_to s)) × (out₁ ≡ laid_over out (answer_to s))
+  pub unread_printed : (v : Listing) (r : Place) (o u : List ℕ) → none ≡ read_of → Prints r o u (answer_text (told printed.Unread v)) → Prints r o u (answer_to s)
   unfolding told answer_given
-  unread_printed cs ns es ks fs ms is out out₁ r e (a, b) =
-      let text = answer_read none e in
-      (a ∙ ap (λ t. room_for (length out) t) text, b ∙ ap (λ t. laid_over out t) text)
+  unread_printed v r o u e h = rw (answer_read none e) at h
 
   -- read, and overlaid
-  pub read_printed : (op m n : ℕ) (f g : Counts) (sc : List Float) (sn se sk sf : List ℕ) (cc₁ : List Float) (cn ce ck cf out out₁ : List ℕ) (r : Put)
+  pub read_printed : (op m n : ℕ) (f g : Counts) (sc : List Float) (sn se sk sf : List ℕ) (cc₁ : List Float) (cn ce ck cf o u : List ℕ) (r : Place)
       → got (record { first = record { op = op; m = m }; subject = mesh_seen f sc sn se sk sf; cutter = mesh_seen g cc₁ cn ce ck cf }) [] ≡ read_of
       → 2 * f.points ≤ length sc → 2 * g.points ≤ length cc₁ → n ≡ f.points + g.points
-      → (r ≡ room_for (length out) (answer_text (result_told n (overlay_of op m (lent (mesh_seen f sc sn se sk sf)) (lent (mesh_seen g cc₁ cn ce ck cf)) blank)))) ×
-      (out₁ ≡ laid_over out (answer_text (result_told n (overlay_of op m (lent (mesh_seen f sc sn se sk sf)) (lent (mesh_seen g cc₁ cn ce ck cf)) blank))))
-      → (r ≡ room_for (length out) (answer_to s)) × (out₁ ≡ laid_over out (answer_to s))
+      → Prints r o u (answer_text (result_told n (overlay_of op m (lent (mesh_seen f sc sn se sk sf)) (lent (mesh_seen g cc₁ cn ce ck cf)) blank)))
+      → Prints r o u (answer_to s)
   unfolding answer_given
-  read_printed op m n f g sc sn se sk sf cc₁ cn ce ck cf out out₁ r e h k z (a, b) =
+  read_printed op m n f g sc sn se sk sf cc₁ cn ce ck cf o u r e h k z w =
       let nodes : n ≡ length (take (2 * f.points) sc) / 2 + length (take (2 * g.points) cc₁) / 2 =
       omega (arith, z, length-take-le (2 * f.points) sc h, length-take-le (2 * g.points) cc₁ k) in
       let answer : ℕ → List ℕ = λ x. answer_text (result_told x (overlay_of op m (lent (mesh_seen f sc sn se sk sf)) (lent (mesh_seen g cc₁ cn ce ck cf)) blank)) in
-      let text : answer n ≡ answer_to s = ap answer nodes ∙ answer_read _ e in
-      (a ∙ ap (λ t. room_for (length out) t) text, b ∙ ap (λ t. laid_over out t) text)
+      subst (Prints r o u) (ap answer nodes ∙ answer_read _ e) w

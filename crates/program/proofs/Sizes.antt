@@ -25,10 +25,9 @@ use Rattle.text.specs.Text.{piece_lines, unread, refused, overlay, answer_text}
 use Rattle.text.specs.Read.{input_from}
 use Rattle.text.specs.Given.{Given, Parsed, none, got}
 use Rattle.text.proofs.Sizes.{Rising, no_end, end, overlay_size, refused_size}
-use Rattle.printing.specs.Page.{room_for, laid_over}
+use Rattle.std.specs.Prelude.{Ok, is_ok}
+use Rattle.printing.specs.Page.{Place, Prints, room_for, laid_over}
 use Rattle.printing.specs.Told.{bits}
-use Rattle.printing.specs.declared.Put.{Put}
-use Rattle.printing.specs.declared.Put.TheVariants.{At, Full}
 use Rattle.program.specs.Answered.{read_limits, lent, blank, result_told, answer_given, answer_to}
 
 -- ---- where pieces end
@@ -104,29 +103,24 @@ unfolding answer_to
 answer_size t = answered_size (input_from read_limits read_limits t)
 
 -- so a list of so many bytes holds it
-pub answer_whole : (t o : List ℕ) → 278580 ≤ length o → room_for (length o) (answer_to t) ≡ At (length (answer_to t))
+pub answer_whole : (t o : List ℕ) → 278580 ≤ length o → room_for (length o) (answer_to t) ≡ Ok (length (answer_to t))
 unfolding room_for
 answer_whole t o h = rw (le-leb (length (answer_to t)) (length o) (le_trans (answer_size t) h)) refl
 
 -- ---- in a list of at least so many bytes
 
-abbrev place : Put → ℕ
-place (At p) = p
-place Full = 0
-
-abbrev full : Put → ℕ
-full (At p) = 0
-full Full = 1
-
 laid_front : (t o : List ℕ) → length t ≤ length o → laid_over o t ≡ front o t
 unfolding laid_over front
 laid_front t o h = rw (take_all (length o) t h) refl
 
-module _ (t o o₁ : List ℕ) (r : Put) (h : 278580 ≤ length o) (got : (r ≡ room_for (length o) (answer_to t)) × (o₁ ≡ laid_over o (answer_to t))) where
-  pub reply_at : (p : ℕ) → r ≡ At p → (p ≡ length (answer_to t)) × (o₁ ≡ front o (answer_to t)) × (p ≤ 278580)
-  reply_at p e =
-      let at : p ≡ length (answer_to t) = ap place (sym e ∙ got.0 ∙ answer_whole t o h) in
-      (at, got.1 ∙ laid_front (answer_to t) o (le_trans (answer_size t) h), rw at (answer_size t))
+module _ (t o u : List ℕ) (r : Place) (h : 278580 ≤ length o) (got : Prints r o u (answer_to t)) where
+  reply_ok : r ≡ Ok (length (answer_to t))
+  reply_ok = got.place ∙ answer_whole t o h
 
-  pub reply_never_full : r ≡ Full → ⊥
-  reply_never_full e = absurd (omega (arith, ap full (sym e ∙ got.0 ∙ answer_whole t o h)))
+  pub reply_is_ok : is_ok r ≡ true
+  reply_is_ok = rw reply_ok refl
+
+  pub reply_at : (p : ℕ) → r ≡ Ok p → (p ≡ length (answer_to t)) × (u ≡ front o (answer_to t)) × (p ≤ 278580)
+  reply_at p e =
+      let at : p ≡ length (answer_to t) = cc (e, reply_ok) in
+      (at, got.bytes ∙ laid_front (answer_to t) o (le_trans (answer_size t) h), rw at (answer_size t))

@@ -4,4 +4,5 @@ use Rattle.printing.specs.declared.Answer.{Answer as Printed}
 use Rattle.printing.specs.declared.Answer.TheVariants as printed
 
 unfoldable pub printed_of : ℕ → ℕ → ℕ → ℕ → ℕ → Printed
-printed_of nodes code pieces points doubled = cond (eqb code 0) (printed.Overlay (nodes + points) pieces points doubled) (printed.Refused code)
+printed_of nodes code pieces points doubled =
+    cond (eqb code 0) (printed.Overlay (nodes + points) (record { pieces = pieces; points = points; doubled = doubled })) (printed.Refused code)

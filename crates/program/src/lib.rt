@@ -6,11 +6,11 @@ ghost use Rattle.lists.specs.Regions.{front};
 ghost use Rattle.entry.specs.Mesh.{mesh};
 ghost use Rattle.rules.specs.Overlay.{overlay_of};
 ghost use Rattle.text.specs.Text.{answer_text};
-ghost use Rattle.printing.specs.Page.{room_for, laid_over};
+ghost use Rattle.printing.specs.Page.{Prints};
 ghost use Rattle.program.specs.Answered.{blank, result_told, answer_to};
 ghost use Rattle.program.specs.Printed.{printed_of};
 
-use printing::{Answer, Put};
+use printing::{Answer, Counts, Full, Listing};
 use reading::Input;
 
 // what is printed of an overlay's answer: `nodes` are those of both meshes
@@ -23,9 +23,11 @@ fn told(nodes: u32, a: overlay::Answer) -> Answer
     }
     Answer::Overlay {
         nodes: nodes + a.points,
-        pieces: a.pieces,
-        points: a.points,
-        doubled: a.doubled,
+        counts: Counts {
+            pieces: a.pieces,
+            points: a.points,
+            doubled: a.doubled,
+        },
     }
 }
 
@@ -45,14 +47,10 @@ fn cut<'a, 'b>(
     ck: &'b [u8],
     cf: &'b [u32],
     out: &mut [u8],
-) -> Put
+) -> Result<usize, Full>
     requires { nodes ≤ 1024 }
-    ensures { (result ≡ room_for (length out.old)
-        (answer_text (result_told nodes (overlay_of op m (mesh sc.now sn.now se.now sk.now sf.now)
-        (mesh cc.now cn.now ce.now ck.now cf.now) blank))))
-        × (out.new ≡ laid_over out.old (answer_text
-        (result_told nodes (overlay_of op m (mesh sc.now sn.now se.now sk.now sf.now)
-        (mesh cc.now cn.now ce.now ck.now cf.now) blank)))) }
+    ensures { Prints result out.old out.new (answer_text (result_told nodes (overlay_of op m (mesh sc.now sn.now se.now sk.now sf.now)
+        (mesh cc.now cn.now ce.now ck.now cf.now) blank))) }
 {
     let mut oc = [0.0; 4096];
     let mut on = [0u32; 8192];
@@ -66,13 +64,21 @@ fn cut<'a, 'b>(
         op, m, sc, sn, se, sk, sf, cc, cn, ce, ck, cf, &mut oc, &mut on, &mut oe, &mut ok, &mut of,
         &mut om, &mut oi, &mut work,
     );
-    let p = told(nodes, a);
-    printing::print_answer(out, p, &oc, &on, &oe, &ok, &of, &om, &oi)
+    let lists = Listing {
+        coords: &oc,
+        nodes: &on,
+        ends: &oe,
+        kinds: &ok,
+        families: &of,
+        meshes: &om,
+        cells: &oi,
+    };
+    printing::print_answer(out, told(nodes, a), &lists)
 }
 
 // The answer to the text s, from the first place of `out` on.
-pub fn answer(s: &[u8], out: &mut [u8]) -> Put
-    ensures { (result ≡ room_for (length out.old) (answer_to s.now)) × (out.new ≡ laid_over out.old (answer_to s.now)) }
+pub fn answer(s: &[u8], out: &mut [u8]) -> Result<usize, Full>
+    ensures { Prints result out.old out.new (answer_to s.now) }
 {
     let mut sc = [0.0; 1024];
     let mut sn = [0u32; 2048];
@@ -94,7 +100,7 @@ pub fn answer(s: &[u8], out: &mut [u8]) -> Put
         cutter,
     } = r
     else {
-        return printing::print_answer(out, Answer::Unread, &sc, &sn, &se, &sk, &sf, &sf, &sf);
+        return printing::print_answer(out, Answer::Unread, &Listing::default());
     };
     let nodes = (subject.points + cutter.points) as u32;
     let sp = 2 * subject.points;
@@ -126,8 +132,5 @@ pub fn reply(s: &[u8], out: &mut [u8]) -> usize
     requires { 278580 ≤ length out.old }
     ensures { (result ≡ length (answer_to s.now)) × (out.new ≡ front out.old (answer_to s.now)) × (result ≤ 278580) }
 {
-    match answer(s, out) {
-        Put::At(p) => p,
-        Put::Full => 0,
-    }
+    answer(s, out).unwrap()
 }

@@ -1,21 +1,13 @@
 -- `printing::print_answer` meets its contract. Assumes nothing.
-use Rattle.text.specs.Text.{answer_text}
-use Rattle.printing.specs.Told.{told}
 use Rattle.printing.proofs.Pages.{printed}
-use Rattle.printing.proofs.Answers.{listing_printed}
+use Rattle.printing.proofs.Answers.{told_unread, told_refused, told_overlay}
 use Rattle.printing.proofs.print_answer.Goals as goal
 
 pub returns-in-Unread : goal.returns-in-Unread
-unfolding told answer_text
-returns-in-Unread c = rw c.in-Unread.is (printed _ _ c.put_bytes.ensures)
+returns-in-Unread c = printed _ _ (told_unread c.args.lists.now c.in-Unread.is) c.put.ensures
 
 pub returns-in-Refused : goal.returns-in-Refused
-unfolding told answer_text
-returns-in-Refused c = rw c.in-Refused.is (printed _ _ c.put_refused.ensures)
+returns-in-Refused c = printed _ _ (told_refused c.args.lists.now c.in-Refused.is) c.put_line.ensures
 
 pub returns-in-Overlay : goal.returns-in-Overlay
-returns-in-Overlay c =
-    let a = c.args in
-    listing_printed a.coords.now a.nodes.now a.ends.now a.kinds.now a.families.now a.meshes.now a.cells.now a.out.now
-    c.in-Overlay.is c.least-n.ensures c.least-k.ensures
-    c.put_listing.ensures
+returns-in-Overlay c = printed _ _ (told_overlay c.args.lists.now c.in-Overlay.is c.min-n.ensures c.min-k.ensures) c.put_listing.ensures

@@ -7,10 +7,8 @@ use Rattle.program.proofs.answer.Goals as goal
 pub returns-in_default : goal.returns-in_default
 returns-in_default c =
     let a = c.args in
-    let i = c.read_input-r in
     let w = c.print_answer in
-    unread_printed a.s.now i.new.sc i.new.sn i.new.se i.new.sk i.new.sf
-    i.new.sf i.new.sf a.out.now w.new.out w.result c.in_default.ensures.0 w.ensures
+    unread_printed a.s.now _ w.result a.out.now w.new.out c.in_default.ensures.0 w.ensures
 
 pub returns : goal.returns
 returns c =

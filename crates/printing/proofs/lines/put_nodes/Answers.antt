@@ -1,17 +1,32 @@
+-- `printing::lines::put_nodes` meets its contract. Assumes nothing.
+use mathlib.Core.Path.{refl, sym, ap, ◌∙◌}
 use native.Mathlib.Omega.{arith}
-use mathlib.Core.Path.{sym, ◌∙◌}
-use Rattle.printing.proofs.Pages.{turn, ended}
-use Rattle.printing.proofs.Rests.{nodes_pair, nodes_short}
+use Rattle.std.specs.Slice.Iter.{chunks_exact_rest, chunks_exact_size}
+use Rattle.printing.proofs.Pages.{turn, cut, ended}
+use Rattle.printing.proofs.Rests.{nodes_next, nodes_short}
 use Rattle.printing.proofs.lines.put_nodes.Goals as goal
 
-pub loop-k-preserved : goal.loop-k-preserved
-loop-k-preserved c =
-    let out-kept = c.put_node-p.auto.out in (
-      omega arith,
-      out-kept ∙ c.loop-k.invariant.1,
-      turn _ _ _ (nodes_pair c.args.coords.now c.loop-k.k
-          c.loop-k-test.true) c.put_node-p.ensures ∙ c.loop-k.invariant.2,
-    )
+pub loop-node-init : goal.loop-node-init
+loop-node-init c =
+    let e = c.into_iter-node-iterator.ensures.into_iter_gives in
+    let size = ap chunks_exact_size e ∙ c.chunks_exact-node-items.ensures.size in
+    let rest = ap chunks_exact_rest e ∙ c.chunks_exact-node-items.ensures.rest in
+    (omega (arith, size), tt, refl, size, rw rest refl)
+
+pub returns-in_err-at : goal.returns-in_err-at
+returns-in_err-at c =
+    let (size, (item, long), _) = c.in-Some.ensures.steps in
+    let (_, _, _, two, kept) = c.loop-node.invariant in
+    cut _ _ _ _ _ (nodes_next _ _ _ item (long ∙ two)) c.in_err-at.ensures c.from_residual.ensures.0 ∙ kept
+
+pub loop-node-preserved : goal.loop-node-preserved
+loop-node-preserved c =
+    let (size, (item, long), _) = c.in-Some.ensures.steps in
+    let (_, _, same, two, kept) = c.loop-node.invariant in
+    (omega (arith, size, two), tt, c.put_node.auto.out ∙ same, size ∙ two, turn _ _ _ (nodes_next _ _ _ item (long ∙ two)) c.in_ok-at.ensures ∙ kept)
 
 pub returns : goal.returns
-returns c = sym (ended _ (nodes_short c.args.coords.now c.loop-k.k c.loop-k-test.false)) ∙ c.loop-k.invariant.2
+returns c =
+    let (_, (short, _), _) = c.in-None.ensures.steps in
+    let (_, _, _, two, kept) = c.loop-node.invariant in
+    sym (ended _ (nodes_short _ (omega (arith, short, two)))) ∙ kept

@@ -1,14 +1,11 @@
 -- `printing::lines::put_numbers` meets its contract. Assumes nothing.
 use mathlib.Core.Path.{◌≡◌}
-use Prim.Native.Nat.{◌-◌}
-use lib.ListN.{length, take, drop}
+use lib.ListN.{length, drop}
+use Rattle.std.specs.Prelude.{Ok}
 use Rattle.text.specs.Text.{numbers_text}
 use Rattle.printing.specs.Page.{page, page_with}
 use Rattle.printing.proofs.lines.put_numbers.Given as goal
 
-abbrev pub invariant-loop-k : goal.invariant-loop-k
-invariant-loop-k l = (length l.out ≡ length l.initial.out) ×
-    (page_with (page l.p l.out) (numbers_text (take (l.end - l.k) (drop l.k l.nodes))) ≡ page_with (page l.initial.p l.initial.out) (numbers_text (take (l.end - l.from) (drop l.from l.nodes))))
-
-abbrev pub decreases-loop-k : goal.decreases-loop-k
-decreases-loop-k l = l.end - l.k
+abbrev pub invariant-loop-n : goal.invariant-loop-n
+invariant-loop-n l = (length l.out ≡ length l.initial.out) ×
+    (page_with (page (Ok l.at) l.out) (numbers_text (drop l.n-index l.numbers)) ≡ page_with (page (Ok l.initial.at) l.initial.out) (numbers_text l.numbers))

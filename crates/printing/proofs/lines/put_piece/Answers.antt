@@ -1,11 +1,16 @@
 -- `printing::lines::put_piece` meets its contract. Assumes nothing.
-use Rattle.printing.proofs.Pages.{then}
 use Rattle.printing.proofs.Rests.{piece_parts}
+use Rattle.printing.proofs.Pages.{then, stopped}
 use Rattle.printing.proofs.lines.put_piece.Goals as goal
 
+pub returns-in_err-at : goal.returns-in_err-at
+returns-in_err-at c = rw (piece_parts _) (stopped _ _ _ _ _ c.in_err-at.ensures c.from_residual.ensures.0)
+
+pub returns-in_err-at-2 : goal.returns-in_err-at-2
+returns-in_err-at-2 c = rw (piece_parts _) (then _ _ _ c.in_ok-at.ensures (stopped _ _ _ _ _ c.in_err-at-2.ensures c.from_residual-in_err-at-2.ensures.0))
+
+pub returns-in_err-at-3 : goal.returns-in_err-at-3
+returns-in_err-at-3 c = rw (piece_parts _) (then _ _ _ c.in_ok-at.ensures (then _ _ _ c.in_ok-at-2.ensures (stopped _ _ _ _ _ c.in_err-at-3.ensures c.from_residual-in_err-at-3.ensures.0)))
+
 pub returns : goal.returns
-returns c =
-    rw (piece_parts _) (then _ _ _ c.put_bytes-a.ensures (then _ _ _ c.put_decimal-b.ensures
-    (then _ _ _ c.put_number-c.ensures
-    (then _ _ _ c.put_number-d.ensures (then _ _ _ c.put_number-e.ensures
-    (then _ _ _ c.put_numbers-f.ensures c.put_bytes.ensures))))))
+returns c = rw (piece_parts _) (then _ _ _ c.in_ok-at.ensures (then _ _ _ c.in_ok-at-2.ensures (then _ _ _ c.in_ok-at-3.ensures c.put-2.ensures)))

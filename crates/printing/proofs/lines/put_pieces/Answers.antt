@@ -1,28 +1,26 @@
+-- `printing::lines::put_pieces` meets its contract. Assumes nothing.
 use mathlib.Core.Path.{refl, sym, ◌∙◌}
-use Rattle.printing.proofs.Pages.{turn, ended}
-use Rattle.printing.proofs.Rests.{counted, pieces_end, pieces_next}
+use Rattle.std.proofs.Common.{rules}
+use Rattle.printing.proofs.Pages.{turn, cut, ended}
+use Rattle.printing.proofs.Rests.{pieces_next, pieces_end}
 use Rattle.printing.proofs.lines.put_pieces.Goals as goal
 
-pub loop-k-init : goal.loop-k-init
-loop-k-init c =
-    let a = c.args in
-    let count = counted a.ends.now a.kinds.now a.families.now a.meshes.now a.cells.now _ _ _ _ c.least.ensures
-    c.least-2.ensures c.least-3.ensures c.least-count.ensures in
-    (count, refl, refl)
+pub loop-end-init : goal.loop-end-init
+loop-end-init c =
+    ((tt, ((tt, tt), (tt, tt))), tt, refl, search rules)
 
-pub loop-k-preserved : goal.loop-k-preserved
-loop-k-preserved c =
-    let out-kept = c.put_piece-p.auto.out in (
-      c.loop-k.invariant.0,
-      out-kept ∙ c.loop-k.invariant.1,
-      turn _ _ _ (pieces_next c.loop-k.from c.loop-k.k c.args.nodes.now c.args.ends.now c.args.kinds.now
-          c.args.families.now c.args.meshes.now c.args.cells.now
-          (c.loop-k.invariant.0.at _ c.loop-k-test.true))
-          c.put_piece-p.ensures ∙ c.loop-k.invariant.2,
-    )
+pub returns-in_err-at : goal.returns-in_err-at
+returns-in_err-at c =
+    let i = c.in-Some in
+    let next = pieces_next c.loop-end.from c.args.lists.now.nodes.now c.loop-end.end-iterator c.next.new.self i.end i.kind i.family i.mesh i.cell i.ensures.steps in
+    cut _ _ _ _ _ next (rw c.corners.ensures at c.in_err-at.ensures) c.from_residual.ensures.0 ∙ c.loop-end.invariant.3
+
+pub loop-end-preserved : goal.loop-end-preserved
+loop-end-preserved c =
+    let i = c.in-Some in
+    let next = pieces_next c.loop-end.from c.args.lists.now.nodes.now c.loop-end.end-iterator c.next.new.self i.end i.kind i.family i.mesh i.cell i.ensures.steps in
+    ((tt, ((tt, tt), (tt, tt))), tt, c.put_piece.auto.out ∙ c.loop-end.invariant.2, turn _ _ _ next (rw c.corners.ensures at c.in_ok-at.ensures) ∙ c.loop-end.invariant.3)
 
 pub returns : goal.returns
 returns c =
-    sym (ended _ (pieces_end c.loop-k.from c.loop-k.k c.args.nodes.now c.args.ends.now c.args.kinds.now
-    c.args.families.now c.args.meshes.now c.args.cells.now _ c.loop-k.invariant.0 c.loop-k-test.false))
-    ∙ c.loop-k.invariant.2
+    sym (ended _ (pieces_end c.loop-end.from c.args.lists.now.nodes.now c.loop-end.end-iterator c.next.new.self c.in-None.ensures.steps)) ∙ c.loop-end.invariant.3

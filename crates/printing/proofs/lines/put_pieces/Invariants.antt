@@ -1,17 +1,17 @@
 -- `printing::lines::put_pieces` meets its contract. Assumes nothing.
 use mathlib.Core.Path.{◌≡◌}
-use Prim.Native.Nat.{◌-◌}
-use lib.ListN.{length, drop}
-use Rattle.text.specs.Text.{pieces_text, piece_lines}
+use lib.ListN.{length}
+use Rattle.std.specs.Prelude.{Ok}
+use Rattle.text.specs.Text.{pieces_text}
 use Rattle.printing.specs.Page.{page, page_with}
-use Rattle.printing.proofs.Rests.{Held}
+use Rattle.printing.specs.Told.{lines_of}
+use Rattle.printing.proofs.Rests.{lines_left}
 use Rattle.printing.proofs.lines.put_pieces.Given as goal
 
-abbrev pub invariant-loop-k : goal.invariant-loop-k
-invariant-loop-k l =
-    Held l.count l.ends l.kinds l.families l.meshes l.cells × (length l.out ≡ length l.initial.out) ×
-    (page_with (page l.p l.out) (pieces_text (piece_lines l.from l.nodes (drop l.k l.ends) (drop l.k l.kinds) (drop l.k l.families) (drop l.k l.meshes) (drop l.k l.cells)))
-    ≡ page_with (page l.initial.p l.initial.out) (pieces_text (piece_lines 0 l.nodes l.ends l.kinds l.families l.meshes l.cells)))
-
-abbrev pub decreases-loop-k : goal.decreases-loop-k
-decreases-loop-k l = l.count - l.k
+abbrev pub invariant-loop-end : goal.invariant-loop-end
+invariant-loop-end l =
+    (goal.iterator-loop-end).can_next l.end-iterator ×
+    (goal.iterator-loop-end).is_finite l.end-iterator ×
+    (length l.out ≡ length l.initial.out) ×
+    (page_with (page (Ok l.at) l.out) (pieces_text (lines_left l.from l.lists.nodes.now l.end-iterator))
+    ≡ page_with (page (Ok l.initial.at) l.initial.out) (pieces_text (lines_of l.lists)))
