@@ -7,7 +7,7 @@ use lib.Dec.{eqb}
 use lib.Ieee.{Float, sub, binary64}
 use borrow.Author.Tests.{eq-eqb, ne_eqb}
 use Rattle.exact.specs.Angle.{angles}
-use Rattle.exact.specs.declared.Order.{Order}
+use Rattle.std.specs.declared.cmp.Ordering.{Ordering}
 use Rattle.plane.specs.Plane.{between, point_at}
 use Rattle.plane.specs.declared.Point.{Point}
 use Rattle.cutting.specs.Edges.{Edge, key, same_key}
@@ -27,7 +27,7 @@ module _ (coords : List Float) (a b c d : ℕ) where
   stands_apart h = sym (ap (λ (t : Bool). t && is_less (angles (between (point_at coords a) (point_at coords b)).x
       (between (point_at coords a) (point_at coords b)).y (between (point_at coords c) (point_at coords d)).x (between (point_at coords c) (point_at coords d)).y)) (ne_eqb a c h))
 
-  pub stands_meet : (p q s : Point) (o : Order) (r : Bool) → a ≡ c → p ≡ point_at coords a → q ≡ point_at coords b → s ≡ point_at coords d
+  pub stands_meet : (p q s : Point) (o : Ordering) (r : Bool) → a ≡ c → p ≡ point_at coords a → q ≡ point_at coords b → s ≡ point_at coords d
       → o ≡ angles (sub binary64 q.x p.x) (sub binary64 q.y p.y) (sub binary64 s.x p.x) (sub binary64 s.y p.y) → r ≡ is_less o → r ≡ stands coords a b c d
   unfolding stands between
   stands_meet p q s o r h ep eq es eo er =

@@ -7,23 +7,10 @@ ghost use Rattle.lists.specs.Search.{first};
 ghost use Rattle.lists.specs.Sort.{insert, sort_onto};
 ghost use Rattle.lists.specs.Regions.{put};
 ghost use Rattle.cutting.specs.Edges.{reversed_if};
-ghost use Rattle.exact.specs.Exact.{is_less};
 ghost use Rattle.cutting.specs.Cell.{windows, darts_along, own_darts, near_darts, edge_slots, reverse_mark, stands, stands_before};
 ghost use Rattle.cutting.specs.Walk.{slot};
 ghost use Rattle.cutting.specs.Lent.{slots_of, flat_edges};
 ghost use Rattle.dart_table.specs.Table.{table_in, with_darts, with_edge, with_edges, outline_with, Inserted, Added, Outlined};
-
-use exact::Order;
-
-fn is_less(o: Order) -> bool
-    ensures { result ≡ is_less o }
-{
-    match o {
-        Order::Less => true,
-        Order::Equal => false,
-        Order::Greater => false,
-    }
-}
 
 // Whether the slot from a to b stands before the one from c to d: at one node, by falling angle.
 fn stands(coords: &[f64], a: u32, b: u32, c: u32, d: u32) -> bool
@@ -35,7 +22,7 @@ fn stands(coords: &[f64], a: u32, b: u32, c: u32, d: u32) -> bool
     let p = plane::point_at(coords, a);
     let q = plane::point_at(coords, b);
     let s = plane::point_at(coords, d);
-    is_less(exact::compare_around(p.x, p.y, q.x, q.y, s.x, s.y))
+    exact::compare_around(p.x, p.y, q.x, q.y, s.x, s.y).is_lt()
 }
 
 // Where a slot from a to b goes among the first n.

@@ -11,8 +11,8 @@ use lib.Pow.{pow_pos}
 use lib.Arith.{digits_lt, digits_div, digits_mod}
 use Rattle.exact.specs.Exact.{ordered}
 use Rattle.exact.specs.InnerRows.{value, Row}
-use Rattle.exact.specs.declared.Order.{Order}
-use Rattle.exact.specs.declared.Order.TheVariants.{Less, Equal, Greater}
+use Rattle.std.specs.declared.cmp.Ordering.{Ordering}
+use Rattle.std.specs.declared.cmp.Ordering.TheVariants.{Less, Equal, Greater}
 use Rattle.exact.proofs.Orders.{ordered_equal, first_less, first_greater, first_same}
 use Rattle.exact.proofs.Cells.{place, weigh}
 
@@ -51,7 +51,7 @@ rest_under xs i = mod-lt (value (take i xs)) (pow_pos (32 * i))
 
 -- ---- after i cells: the carries, and how what is below them compares
 
-pub record State (p n : List ℕ) (order : Order) (u v i : ℕ) : Type 0 where
+pub record State (p n : List ℕ) (order : Ordering) (u v i : ℕ) : Type 0 where
   pub passed : i ≤ 136
   pub carry : u ≡ value (take i p) / 2 ^ (32 * i)
   pub carry' : v ≡ value (take i n) / 2 ^ (32 * i)
@@ -64,7 +64,7 @@ unfolding value
 start p n = record { passed = omega arith; carry = refl; carry' = refl; seen = sym (ordered_equal refl); small = omega arith; small' = omega arith }
 
 -- one more cell
-module _ {p n : List ℕ} {order : Order} {u v i : ℕ} (s : State p n order u v i) (rp : Row 64 p) (rn : Row 64 n) (h : i < 136) where
+module _ {p n : List ℕ} {order : Ordering} {u v i : ℕ} (s : State p n order u v i) (rp : Row 64 p) (rn : Row 64 n) (h : i < 136) where
   -- the carries of the next cell
   next : (xs : List ℕ) (w : ℕ) → Row 64 xs → w ≡ value (take i xs) / 2 ^ (32 * i)
       → (get_or xs i 0 + w) / 2 ^ 32 ≡ value (take (i + 1) xs) / 2 ^ (32 * (i + 1))
@@ -85,7 +85,7 @@ module _ {p n : List ℕ} {order : Order} {u v i : ℕ} (s : State p n order u v
   abbrev pub digit' : ℕ
   digit' = (get_or n i 0 + v) % 2 ^ 32
 
-  pub one_more : (o : Order)
+  pub one_more : (o : Ordering)
       → o ≡ ordered (digit * 2 ^ (32 * i) + value (take i p) % 2 ^ (32 * i)) (digit' * 2 ^ (32 * i) + value (take i n) % 2 ^ (32 * i))
       → State p n o ((get_or p i 0 + u) / 2 ^ 32) ((get_or n i 0 + v) / 2 ^ 32) (i + 1)
   one_more o e = record {
@@ -112,7 +112,7 @@ module _ {p n : List ℕ} {order : Order} {u v i : ℕ} (s : State p n order u v
       (s.seen ∙ sym (first_same digit digit' (rest_under p i) (rest_under n i) k l))
 
 -- ---- at the end
-module _ {p n : List ℕ} {order : Order} {u v i : ℕ} (s : State p n order u v i) (rp : Row 64 p) (rn : Row 64 n) (h : 136 ≤ i) where
+module _ {p n : List ℕ} {order : Ordering} {u v i : ℕ} (s : State p n order u v i) (rp : Row 64 p) (rn : Row 64 n) (h : 136 ≤ i) where
   whole : (xs : List ℕ) (w : ℕ) → Row 64 xs → w ≡ value (take i xs) / 2 ^ (32 * i) → w * 2 ^ (32 * i) + value (take i xs) % 2 ^ (32 * i) ≡ value xs
   whole xs w r e =
       ap (λ (x : ℕ). x * 2 ^ (32 * i) + value (take i xs) % 2 ^ (32 * i)) e ∙ div-add-mod' (value (take i xs)) (2 ^ (32 * i))

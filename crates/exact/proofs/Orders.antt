@@ -7,7 +7,7 @@ use native.Mathlib.Omega.{arith}
 use lib.Arith.{digits_lt}
 use borrow.Author.Tests.{lt-ltb, le-ltb}
 use Rattle.exact.specs.Exact.{ordered}
-use Rattle.exact.specs.declared.Order.TheVariants.{Less, Equal, Greater}
+use Rattle.std.specs.declared.cmp.Ordering.TheVariants.{Less, Equal, Greater}
 
 pub ordered_less : {a b : ℕ} → a < b → ordered a b ≡ Less
 unfolding ordered

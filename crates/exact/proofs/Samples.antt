@@ -6,8 +6,8 @@ use lib.IntN.{ℤ, pos, negsuc}
 use lib.Ieee.{Float, fin}
 use Rattle.exact.specs.Exact.{coord, mag, sign, signum, ordered}
 use Rattle.exact.specs.Angle.{angles, angles_number, orientation}
-use Rattle.exact.specs.declared.Order.{Order}
-use Rattle.exact.specs.declared.Order.TheVariants.{Less, Equal, Greater}
+use Rattle.std.specs.declared.cmp.Ordering.{Ordering}
+use Rattle.std.specs.declared.cmp.Ordering.TheVariants.{Less, Equal, Greater}
 
 -- 0, 1, -1, and the smallest float above 0
 abbrev o : Float
@@ -24,7 +24,7 @@ tiny = fin false 1 (negsuc 1073)
 
 -- K8: west, north, east, south stay in that order, each before all that follow it; a zero direction counts as east. Then a turn to the left,
 -- one to the right, none, and one by the smallest float there is.
-pub samples : ◌≡◌ {A = List Order}
+pub samples : ◌≡◌ {A = List Ordering}
     (angles j o o i ∷ angles j o i o ∷ angles j o o j ∷ angles o i i o ∷ angles o i o j ∷ angles i o o j ∷ angles o o i o
     ∷ orientation o o i o o i ∷ orientation o o o i i o ∷ orientation o o i i j j ∷ orientation o o i o i tiny ∷ [])
     (Less ∷ Less ∷ Less ∷ Less ∷ Less ∷ Less ∷ Equal

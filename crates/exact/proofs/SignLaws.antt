@@ -13,8 +13,8 @@ use Rattle.exact.specs.Exact.{coord, ordered, sign, signed, sign_number, signum}
 use Rattle.exact.specs.Inner.{size, signed_size}
 use Rattle.exact.specs.Angle.{part_at, within, cross_product, turn, turn_number, angles, angles_number}
 use Rattle.exact.specs.declared.parts.Parts.{Parts}
-use Rattle.exact.specs.declared.Order.{Order}
-use Rattle.exact.specs.declared.Order.TheVariants.{Less, Equal, Greater}
+use Rattle.std.specs.declared.cmp.Ordering.{Ordering}
+use Rattle.std.specs.declared.cmp.Ordering.TheVariants.{Less, Equal, Greater}
 use Rattle.exact.proofs.Orders.{ordered_less, ordered_greater, ordered_equal}
 use Rattle.exact.proofs.Integers.{minus_signed, sign_diff, signed_mul}
 use Rattle.exact.proofs.Fields.{Taken, coord_of}
@@ -145,9 +145,9 @@ some (suc p) e t = omega arith
 -- ---- two directions
 
 -- by the parts, where their order is o
-pub by_part : {s t : ℕ} (o : Order) (x y x' y' : ℤ) → s ≡ part_at (sign x) (sign y) → t ≡ part_at (sign x') (sign y') → ordered s t ≡ o
+pub by_part : {s t : ℕ} (o : Ordering) (x y x' y' : ℤ) → s ≡ part_at (sign x) (sign y) → t ≡ part_at (sign x') (sign y') → ordered s t ≡ o
     → within o (cross_product x y x' y') ≡ turn x y x' y'
-by_part o x y x' y' p q h = ap (λ (o : Order). within o (cross_product x y x' y')) (sym h ∙ ap₂ (λ (m n : ℕ). ordered m n) p q)
+by_part o x y x' y' p q h = ap (λ (o : Ordering). within o (cross_product x y x' y')) (sym h ∙ ap₂ (λ (m n : ℕ). ordered m n) p q)
 
 pub to_angles : {x y u v : Float} {a b c d : Parts} → Taken x a → Taken y b → Taken u c → Taken v d
     → turn (signed_size a) (signed_size b) (signed_size c) (signed_size d) ≡ angles x y u v
@@ -174,6 +174,6 @@ turn_number_lem x y x' y' =
     go false true z = refl
     go false false z = sign_number_lem z
 
-pub angles_number_lem : {r : Order} (x y u v : Float) → r ≡ angles x y u v → (r ≡ angles x y u v) × (sign_number r ≡ angles_number x y u v)
+pub angles_number_lem : {r : Ordering} (x y u v : Float) → r ≡ angles x y u v → (r ≡ angles x y u v) × (sign_number r ≡ angles_number x y u v)
 unfolding angles
 angles_number_lem x y u v e = (e, ap sign_number e ∙ turn_number_lem (coord x) (coord y) (coord u) (coord v))

@@ -37,7 +37,7 @@ use lib.Count.{count_leading_zeros, leading_top, leading_of_zero}
 use lib.Pow.{pow-add, pow_pos, pow_mono, shl_lt}
 use Rattle.exact.specs.Exact.{ordered}
 use Rattle.exact.specs.Inner.{Lead}
-use Rattle.exact.specs.declared.Order.TheVariants.{Less, Equal, Greater}
+use Rattle.std.specs.declared.cmp.Ordering.TheVariants.{Less, Equal, Greater}
 use Rattle.exact.proofs.Orders.{ordered_less, ordered_greater, ordered_equal, ordered_scale}
 
 -- ---- the shift by less than a word

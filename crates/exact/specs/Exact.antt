@@ -2,8 +2,9 @@
 use Rattle.std.specs.Prelude.{Bool, true, false, cond, ℕ, zero, suc, ◌-◌, ◌*◌, ◌/◌, ◌^◌, ltb, ℤ, pos, negsuc, neg_ℤ, Float}
 use Rattle.std.specs.Float.{nan, inf, fin}
 use Rattle.std.specs.Float.Ieee.{up, down, size}
-use Rattle.exact.specs.declared.Order.{Order}
-use Rattle.exact.specs.declared.Order.TheVariants.{Less, Equal, Greater}
+use Rattle.std.specs.declared.cmp.Ordering.{Ordering}
+use Rattle.std.specs.declared.cmp.Ordering.TheVariants.{Less, Equal, Greater}
+use Rattle.std.specs.Ordering.{is_lt, is_gt}
 use Rattle.exact.specs.declared.parts.Parts.{Parts}
 
 -- ---- a float in units of 2 ^ -1074. What is not finite counts as 0.
@@ -35,27 +36,23 @@ take_apart x = record { neg = minus x; m = mag x / 2 ^ (size (mag x) - 53); e = 
 
 -- ---- three-way comparisons
 
-unfoldable pub ordered : ℕ → ℕ → Order
+unfoldable pub ordered : ℕ → ℕ → Ordering
 ordered a b = cond (ltb a b) Less (cond (ltb b a) Greater Equal)
 
 -- a whole number compared with 0
-unfoldable pub sign : ℤ → Order
+unfoldable pub sign : ℤ → Ordering
 sign (pos zero) = Equal
 sign (pos (suc n)) = Greater
 sign (negsuc n) = Less
 
-abbrev pub is_less : Order → Bool
-is_less Less = true
-is_less Equal = false
-is_less Greater = false
+abbrev pub is_less : Ordering → Bool
+is_less o = is_lt o
 
-abbrev pub is_greater : Order → Bool
-is_greater Less = false
-is_greater Equal = false
-is_greater Greater = true
+abbrev pub is_greater : Ordering → Bool
+is_greater o = is_gt o
 
 -- the number of each case as a sign: -1, 0 or 1
-abbrev pub sign_number : Order → ℤ
+abbrev pub sign_number : Ordering → ℤ
 sign_number Less = negsuc 0
 sign_number Equal = pos 0
 sign_number Greater = pos 1

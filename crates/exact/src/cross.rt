@@ -3,12 +3,12 @@ ghost use Rattle.std.specs.Prelude.{◌≡◌, ◌*◌, eqb, ◌-ℤ◌, ◌*ℤ
 ghost use Rattle.exact.specs.Exact.{ordered, sign};
 ghost use Rattle.exact.specs.Inner.{Short, signed_size, size};
 
-use crate::Order;
 use crate::parts::Parts;
 use crate::words::{compare_scaled, product};
+use std::cmp::Ordering;
 
 // |a · b| against |c · d|, by the leading bits first.
-fn compare_products(a: Parts, b: Parts, c: Parts, d: Parts) -> Order
+fn compare_products(a: Parts, b: Parts, c: Parts, d: Parts) -> Ordering
     requires { (Short a) × (Short b) × (Short c) × (Short d) }
     ensures { result ≡ ordered (size a * size b) (size c * size d) }
 {
@@ -22,7 +22,7 @@ fn vanishes(a: Parts, b: Parts) -> bool
     if a.m == 0 { true } else { b.m == 0 }
 }
 
-pub(crate) fn cross_sign(a: Parts, b: Parts, c: Parts, d: Parts) -> Order
+pub(crate) fn cross_sign(a: Parts, b: Parts, c: Parts, d: Parts) -> Ordering
     requires { (Short a) × (Short b) × (Short c) × (Short d) }
     ensures { result ≡ sign (signed_size a *ℤ signed_size b -ℤ signed_size c *ℤ signed_size d) }
 {
@@ -37,8 +37,8 @@ pub(crate) fn cross_sign(a: Parts, b: Parts, c: Parts, d: Parts) -> Order
     }
     if vanishes(a, b) {
         if vanishes(c, d) {
-            return Order::Equal;
+            return Ordering::Equal;
         }
     }
-    if s { Order::Less } else { Order::Greater }
+    if s { Ordering::Less } else { Ordering::Greater }
 }

@@ -14,11 +14,3 @@ mod words; // numbers of two words
 pub use angle::{compare_angles, compare_around};
 pub use orient::orient2d;
 pub use parts::{Parts, is_finite};
-
-// How a number compares with another, or a direction; as a sign, how it compares with 0.
-#[derive(Clone, Copy)]
-pub enum Order {
-    Less,
-    Equal,
-    Greater,
-}

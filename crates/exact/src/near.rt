@@ -6,9 +6,9 @@ ghost use Rattle.exact.specs.Angle.{det};
 ghost use Rattle.exact.specs.Inner.{signed_size};
 ghost use Rattle.exact.specs.InnerNear.{Aligned, Close};
 
-use crate::Order;
 use crate::cross::cross_sign;
 use crate::parts::Parts;
+use std::cmp::Ordering;
 
 // p with the exponent base.
 fn align(p: Parts, base: usize) -> Parts
@@ -66,7 +66,7 @@ pub(crate) fn orient_near(
     cx: Parts,
     cy: Parts,
     base: usize,
-) -> Order
+) -> Ordering
     requires { (Close base ax) × (Close base ay) × (Close base bx) × (Close base by) × (Close base cx) × (Close base cy) × (base ≤ 2045) }
     ensures { result ≡ sign (det (signed_size ax) (signed_size ay) (signed_size bx) (signed_size by) (signed_size cx) (signed_size cy)) }
 {

@@ -4,10 +4,10 @@ ghost use Rattle.exact.specs.Exact.{coord, sign_number, signum};
 ghost use Rattle.exact.specs.Angle.{det, orientation};
 ghost use Rattle.exact.specs.InnerNear.{Holds};
 
-use crate::Order;
 use crate::near::orient_near;
 use crate::parts::{Parts, take_apart};
 use crate::rows::orient_far;
+use std::cmp::Ordering;
 
 // The least and the greatest exponent of some numbers that are not zero.
 #[derive(Clone, Copy)]
@@ -49,7 +49,7 @@ fn spread(a: Parts, b: Parts, c: Parts, d: Parts, e: Parts, f: Parts) -> Window
 
 // The sign of (ax−cx)(by−cy) − (ay−cy)(bx−cx): greater than 0 where c lies to the left of the line
 // from a to b.
-pub fn orient2d(ax: f64, ay: f64, bx: f64, by: f64, cx: f64, cy: f64) -> Order
+pub fn orient2d(ax: f64, ay: f64, bx: f64, by: f64, cx: f64, cy: f64) -> Ordering
     ensures { (result ≡ orientation ax ay bx by cx cy) × (sign_number result ≡ signum (det (coord ax) (coord ay) (coord bx) (coord by) (coord cx) (coord cy))) }
 {
     let pax = take_apart(ax);

@@ -7,9 +7,9 @@ ghost use Rattle.exact.specs.Angle.{det};
 ghost use Rattle.exact.specs.Inner.{Short, signed_size, size};
 ghost use Rattle.exact.specs.InnerRows.{RowAdded, RowGrown, Row, value};
 
-use crate::Order;
 use crate::parts::Parts;
 use crate::words::product;
+use std::cmp::Ordering;
 
 // v · 2^e is added to the number that the cells stand for. Nothing is carried.
 fn add_word(acc: &mut [u64; 136], v: u64, e: usize)
@@ -48,11 +48,11 @@ fn add_term(p: &mut [u64; 136], n: &mut [u64; 136], a: Parts, b: Parts, minus: b
 }
 
 // The two numbers compared, from the lowest cells up, each carry taken along.
-fn compare_cells(p: &[u64; 136], n: &[u64; 136]) -> Order
+fn compare_cells(p: &[u64; 136], n: &[u64; 136]) -> Ordering
     requires { Row 64 p.now × Row 64 n.now }
     ensures { result ≡ ordered (value p.now) (value n.now) }
 {
-    let mut order = Order::Equal;
+    let mut order = Ordering::Equal;
     let mut u: u64 = 0;
     let mut v: u64 = 0;
     let mut i: usize = 0;
@@ -62,25 +62,32 @@ fn compare_cells(p: &[u64; 136], n: &[u64; 136]) -> Order
         let x = a % 0x1_0000_0000;
         let y = b % 0x1_0000_0000;
         if x < y {
-            order = Order::Less;
+            order = Ordering::Less;
         } else if y < x {
-            order = Order::Greater;
+            order = Ordering::Greater;
         }
         u = a / 0x1_0000_0000;
         v = b / 0x1_0000_0000;
         i += 1;
     }
     if u < v {
-        Order::Less
+        Ordering::Less
     } else if v < u {
-        Order::Greater
+        Ordering::Greater
     } else {
         order
     }
 }
 
 // The sign of (ax−cx)(by−cy) − (ay−cy)(bx−cx).
-pub(crate) fn orient_far(ax: Parts, ay: Parts, bx: Parts, by: Parts, cx: Parts, cy: Parts) -> Order
+pub(crate) fn orient_far(
+    ax: Parts,
+    ay: Parts,
+    bx: Parts,
+    by: Parts,
+    cx: Parts,
+    cy: Parts,
+) -> Ordering
     requires { (Short ax) × (Short ay) × (Short bx) × (Short by) × (Short cx) × (Short cy) }
     ensures { result ≡ sign (det (signed_size ax) (signed_size ay) (signed_size bx) (signed_size by) (signed_size cx) (signed_size cy)) }
 {

@@ -4,7 +4,7 @@ ghost use Rattle.std.specs.Prelude.{◌≡◌, ◌*◌, ◌^◌, ◌<◌, ◌≤
 ghost use Rattle.exact.specs.Exact.{ordered};
 ghost use Rattle.exact.specs.Inner.{Lead, wide};
 
-use crate::Order;
+use std::cmp::Ordering;
 
 // The number hi · 2^64 + lo.
 #[derive(Clone, Copy)]
@@ -61,42 +61,46 @@ fn raise(w: Wide, k: u32) -> Wide
     }
 }
 
-fn compare(u: Wide, v: Wide) -> Order
+fn compare(u: Wide, v: Wide) -> Ordering
     ensures { result ≡ ordered (wide u) (wide v) }
 {
     if u.hi < v.hi {
-        Order::Less
+        Ordering::Less
     } else if v.hi < u.hi {
-        Order::Greater
+        Ordering::Greater
     } else if u.lo < v.lo {
-        Order::Less
+        Ordering::Less
     } else if v.lo < u.lo {
-        Order::Greater
+        Ordering::Greater
     } else {
-        Order::Equal
+        Ordering::Equal
     }
 }
 
 // u · 2^e against v · 2^f: by the places of their leading bits, and where those are the same, by
 // the words, each moved up until its leading bit is at the top.
-pub(crate) fn compare_scaled(u: Wide, e: usize, v: Wide, f: usize) -> Order
+pub(crate) fn compare_scaled(u: Wide, e: usize, v: Wide, f: usize) -> Ordering
     requires { (e ≤ 4090) × (f ≤ 4090) }
     ensures { result ≡ ordered (wide u * 2 ^ e) (wide v * 2 ^ f) }
 {
     let i = lead(u);
     let j = lead(v);
     if i == 128 {
-        return if j == 128 { Order::Equal } else { Order::Less };
+        return if j == 128 {
+            Ordering::Equal
+        } else {
+            Ordering::Less
+        };
     }
     if j == 128 {
-        return Order::Greater;
+        return Ordering::Greater;
     }
     let s = e + j as usize;
     let t = f + i as usize;
     if s < t {
-        Order::Less
+        Ordering::Less
     } else if t < s {
-        Order::Greater
+        Ordering::Greater
     } else {
         compare(raise(u, i), raise(v, j))
     }

@@ -1,7 +1,7 @@
 -- Answers as a number and a point in a lent list, for C. Assumes nothing.
 use Rattle.std.specs.Prelude.{List, [], ◌∷◌, cond, ℕ, ◌+◌, ◌*◌, ltb, Float, length, set}
-use Rattle.exact.specs.declared.Order.{Order}
-use Rattle.exact.specs.declared.Order.TheVariants.{Less, Equal, Greater}
+use Rattle.std.specs.declared.cmp.Ordering.{Ordering}
+use Rattle.std.specs.declared.cmp.Ordering.TheVariants.{Less, Equal, Greater}
 use Rattle.plane.specs.declared.Point.{Point}
 use Rattle.segments.specs.declared.Segment.{Segment}
 use Rattle.segments.specs.declared.PointId.{PointId}
@@ -12,7 +12,7 @@ use Rattle.polygons.specs.declared.Inner.{Inner}
 use Rattle.polygons.specs.declared.Inner.TheVariants.{Nowhere, Inside}
 
 -- 0 below, 1 zero, 2 above
-abbrev pub side_number : Order → ℕ
+abbrev pub side_number : Ordering → ℕ
 side_number Less = 0
 side_number Equal = 1
 side_number Greater = 2

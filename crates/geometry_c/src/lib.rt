@@ -9,19 +9,19 @@ ghost use Rattle.insides.specs.Inside.{contains_stable};
 ghost use Rattle.polygons.specs.Interior.{strict_interior_point};
 ghost use Rattle.geometry_c.specs.Numbers.{side_number, id_number, meet_number, new_point, meet_point, inner_number, inner_point, point_of, segment_from};
 
-use exact::Order;
 use plane::Point;
 use polygons::Inner;
 use segments::{Meeting, PointId, Segment};
+use std::cmp::Ordering;
 
 // 0 below, 1 zero, 2 above.
-fn side_number(o: Order) -> u8
+fn side_number(o: Ordering) -> u8
     ensures { result ≡ side_number o }
 {
     match o {
-        Order::Less => 0,
-        Order::Equal => 1,
-        Order::Greater => 2,
+        Ordering::Less => 0,
+        Ordering::Equal => 1,
+        Ordering::Greater => 2,
     }
 }
 

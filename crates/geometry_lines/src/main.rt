@@ -5,10 +5,10 @@
 
 ghost use Rattle.std.specs.Prelude.{◌<◌, ◌≤◌};
 
-use exact::Order;
 use plane::Point;
 use polygons::Inner;
 use segments::{Meeting, PointId, Segment};
+use std::cmp::Ordering;
 use std::io;
 use std::io::{BufWriter, Read, Write};
 
@@ -137,11 +137,11 @@ fn orient<W: Write>(out: &mut W, c: &[f64]) -> io::Result<()> {
     }
 }
 
-fn print_order<W: Write>(out: &mut W, o: Order) -> io::Result<()> {
+fn print_order<W: Write>(out: &mut W, o: Ordering) -> io::Result<()> {
     match o {
-        Order::Less => out.write_all(b"-1"),
-        Order::Equal => out.write_all(b"0"),
-        Order::Greater => out.write_all(b"1"),
+        Ordering::Less => out.write_all(b"-1"),
+        Ordering::Equal => out.write_all(b"0"),
+        Ordering::Greater => out.write_all(b"1"),
     }
 }
 
@@ -178,31 +178,12 @@ fn inside<W: Write>(out: &mut W, c: &[f64], rising: &[u32]) -> io::Result<()> {
     }
 }
 
-fn is_less(o: Order) -> bool {
-    match o {
-        Order::Less => true,
-        Order::Equal => false,
-        Order::Greater => false,
-    }
-}
-
-fn is_greater(o: Order) -> bool {
-    match o {
-        Order::Less => false,
-        Order::Equal => false,
-        Order::Greater => true,
-    }
-}
-
 // Whether neighbour i comes before neighbour j around point 0, equal directions as given.
 fn before(c: &[f64], i: usize, j: usize) -> bool {
     let px = x_of(c, 0);
     let py = y_of(c, 0);
     let o = exact::compare_around(px, py, x_of(c, i), y_of(c, i), x_of(c, j), y_of(c, j));
-    if i < j {
-        return !is_greater(o);
-    }
-    is_less(o)
+    if i < j { o.is_le() } else { o.is_lt() }
 }
 
 fn ones(b: bool) -> usize

@@ -5,8 +5,8 @@ use Rattle.std.specs.Float.Ieee.{lt, eq}
 use Rattle.std.specs.Float.Ieee.Scale.{finite}
 use Rattle.exact.specs.Exact.{is_less, is_greater}
 use Rattle.exact.specs.Angle.{orientation}
-use Rattle.exact.specs.declared.Order.{Order}
-use Rattle.exact.specs.declared.Order.TheVariants.{Equal}
+use Rattle.std.specs.declared.cmp.Ordering.{Ordering}
+use Rattle.std.specs.declared.cmp.Ordering.TheVariants.{Equal}
 use Rattle.plane.specs.Plane.{◌⊘◌, zero_f, one_f, between, dot, along}
 use Rattle.corners.specs.Corners.{corner_at, corner_after, corner_before, into_ccw2}
 use Rattle.plane.specs.declared.Point.{Point}
@@ -14,7 +14,7 @@ use Rattle.insides.specs.declared.Reached.{Reached}
 use Rattle.insides.specs.declared.Near.{Near}
 
 -- The exact sign of (ax−cx)(by−cy) − (ay−cy)(bx−cx). With a coordinate that is not finite there is no such number, and c is neither left nor right.
-unfoldable pub orient2d2 : Point → Point → Point → Order
+unfoldable pub orient2d2 : Point → Point → Point → Ordering
 orient2d2 a b c =
     cond ((finite a.x && finite a.y) && (finite b.x && finite b.y) && (finite c.x && finite c.y))
     (orientation a.x a.y b.x b.y c.x c.y) Equal

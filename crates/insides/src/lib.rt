@@ -2,13 +2,12 @@
 #![tactic(auto)]
 
 ghost use Rattle.std.specs.Prelude.{◌≡◌};
-ghost use Rattle.exact.specs.Exact.{is_less, is_greater};
 ghost use Rattle.corners.specs.Corners.{oriented};
 ghost use Rattle.insides.specs.Inside.{clamped, ortho_dist2, settle, nearer_edge, nearest, orient2d2, left_of, reflex, at_corner, contains_stable, inside};
 
 use corners::{after, corner_at, into_ccw2, previous};
-use exact::Order;
 use plane::Point;
+use std::cmp::Ordering;
 
 // The parameter of a projection, and the squared distance from it.
 #[derive(Clone, Copy)]
@@ -25,7 +24,7 @@ pub struct Near {
     pub at: usize,
 }
 
-fn orient2d2(a: Point, b: Point, c: Point) -> Order
+fn orient2d2(a: Point, b: Point, c: Point) -> Ordering
     ensures { result ≡ orient2d2 a b c }
 {
     let fa = exact::is_finite(a.x) & exact::is_finite(a.y);
@@ -34,7 +33,7 @@ fn orient2d2(a: Point, b: Point, c: Point) -> Order
     if fa & fb & fc {
         return exact::orient2d(a.x, a.y, b.x, b.y, c.x, c.y);
     }
-    Order::Equal
+    Ordering::Equal
 }
 
 fn clamped(t: f64) -> f64
@@ -115,32 +114,13 @@ fn nearest(coords: &[f64], corners: &[u32], back: bool, p: Point) -> Near
     b
 }
 
-fn is_less(o: Order) -> bool
-    ensures { result ≡ is_less o }
-{
-    match o {
-        Order::Less => true,
-        Order::Equal => false,
-        Order::Greater => false,
-    }
-}
-
-fn is_greater(o: Order) -> bool
-    ensures { result ≡ is_greater o }
-{
-    match o {
-        Order::Less => false,
-        Order::Equal => false, // the rim is outside
-        Order::Greater => true,
-    }
-}
-
 fn left_of(coords: &[f64], corners: &[u32], back: bool, i: usize, j: usize, p: Point) -> bool
     ensures { result ≡ left_of coords.now (oriented back corners.now) i j p }
 {
     let a = corner_at(coords, corners, back, i);
     let b = corner_at(coords, corners, back, j);
-    is_greater(orient2d2(a, b, p))
+    // The rim is outside.
+    orient2d2(a, b, p).is_gt()
 }
 
 fn reflex(coords: &[f64], corners: &[u32], back: bool, i: usize, j: usize, k: usize) -> bool
@@ -149,7 +129,7 @@ fn reflex(coords: &[f64], corners: &[u32], back: bool, i: usize, j: usize, k: us
     let a = corner_at(coords, corners, back, i);
     let b = corner_at(coords, corners, back, j);
     let c = corner_at(coords, corners, back, k);
-    is_less(orient2d2(a, b, c))
+    orient2d2(a, b, c).is_lt()
 }
 
 fn at_corner(coords: &[f64], corners: &[u32], back: bool, i: usize, p: Point) -> bool

@@ -7,7 +7,7 @@ pub returns : goal.returns
 unfolding left_of
 returns c =
     simp (
-      c.is_greater.ensures,
+      c.is_gt.ensures,
       ← c.orient2d2.ensures,
       ← c.corner_at-b.ensures,
       ← c.corner_at-a.ensures,

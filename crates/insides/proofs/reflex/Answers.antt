@@ -7,7 +7,7 @@ pub returns : goal.returns
 unfolding reflex
 returns c =
     simp (
-      c.is_less.ensures,
+      c.is_lt.ensures,
       ← c.orient2d2.ensures,
       ← c.corner_at-c.ensures,
       ← c.corner_at-b.ensures,

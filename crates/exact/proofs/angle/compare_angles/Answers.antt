@@ -1,7 +1,7 @@
 -- `exact::angle::compare_angles` meets its contract. Assumes nothing.
 use mathlib.Core.Path.{◌∙◌}
 use native.Mathlib.Nat.{le_antisymm}
-use Rattle.exact.specs.declared.Order.TheVariants.{Less, Equal, Greater}
+use Rattle.std.specs.declared.cmp.Ordering.TheVariants.{Less, Equal, Greater}
 use Rattle.exact.proofs.Orders.{ordered_less, ordered_greater, ordered_equal}
 use Rattle.exact.proofs.Fields.{Taken, taken, short}
 use Rattle.exact.proofs.SignLaws.{by_part, to_angles, angles_number_lem}
