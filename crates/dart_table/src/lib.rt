@@ -22,7 +22,7 @@ fn stands(coords: &[f64], a: u32, b: u32, c: u32, d: u32) -> bool
     let p = plane::point_at(coords, a);
     let q = plane::point_at(coords, b);
     let s = plane::point_at(coords, d);
-    exact::compare_around(p.x, p.y, q.x, q.y, s.x, s.y).is_lt()
+    exact::compare_around(p, q, s).is_lt()
 }
 
 // Where a slot from a to b goes among the first n.

@@ -15,7 +15,7 @@ use lib.Ieee.Bits.{of_bits-to_bits}
 use lib.Ieee.Digits.{size-lt, size-le}
 use lib.Ieee.Scale.{finite}
 use Rattle.exact.specs.Exact.{mag, minus, signed, coord, take_apart}
-use Rattle.exact.specs.Inner.{Short, size, signed_size}
+use Rattle.exact.specs.Inner.{Short, Taken, size, signed_size}
 use Rattle.exact.specs.declared.parts.Parts.{Parts}
 
 pub finite_not_nan : (x : Float) → T (finite x) → T (not (is_nan x))
@@ -32,14 +32,7 @@ strictly_between (inf false) = refl
 strictly_between (inf true) = refl
 strictly_between (fin s m e) = refl
 
--- ---- parts with the value of x. All 53 digits of the significand are used, or the exponent is 0: so there is one choice only
-
-pub record Taken (x : Float) (r : Parts) : Type 0 where
-  pub sign : r.neg ≡ minus x
-  pub value : size r ≡ mag x
-  pub digits : r.m < 2 ^ 53
-  pub range : r.e ≤ 2045
-  pub full : (r.e ≡ 0 → ⊥) → 2 ^ 52 ≤ r.m
+-- ---- parts with the value of x
 
 exponent_is : (m e : ℕ) → m < 2 ^ 53 → ((e ≡ 0 → ⊥) → 2 ^ 52 ≤ m) → binaryDigits (m * 2 ^ e) - 53 ≡ e
 exponent_is m zero h k = omega (arith, size-le (m * 2 ^ 0) 53 (omega arith))
@@ -69,13 +62,13 @@ abbrev pub parts : Bool → ℕ → ℕ → Parts
 parts s zero t = record { neg = s; m = t; e = 0 }
 parts s (suc f) t = record { neg = s; m = 2 ^ 52 + t; e = f }
 
-pub small : (s : Bool) (f t : ℕ) → f ≡ 0 → record { neg = s; m = t; e = 0 } ≡ parts s f t
+pub small : (s : Bool) (f t : ℕ) → f ≡ 0 → parts s f t ≡ record { neg = s; m = t; e = 0 }
 small s zero t h = refl
 small s (suc f) t h = absurd (omega arith)
 
-pub large : (s : Bool) (f t : ℕ) → (f ≡ 0 → ⊥) → record { neg = s; m = 2 ^ 52 + t; e = f - 1 } ≡ parts s f t
+pub large : (s : Bool) (f t : ℕ) → (f ≡ 0 → ⊥) → parts s f t ≡ record { neg = s; m = 2 ^ 52 + t; e = f - 1 }
 large s zero t h = absurd (h refl)
-large s (suc f) t h = λ i. record { neg = s; m = 2 ^ 52 + t; e = sub-one (suc f) i }
+large s (suc f) t h = λ i. record { neg = s; m = 2 ^ 52 + t; e = sym (sub-one (suc f)) i }
 
 -- what has the value a / 2 ^ 1074 has the size a
 value_mag : (v : Float) (s : Bool) (a : ℕ) → HasValue v s a (2 ^ 1074) → (minus v ≡ s) × (mag v ≡ a)

@@ -9,11 +9,10 @@ use lib.IntN.{◌-ℤ◌}
 use lib.Pow.{pow-add, pow_mono, shl_lt, shl_exact}
 use lib.Ieee.{Float}
 use Rattle.exact.specs.Exact.{signed}
-use Rattle.exact.specs.Inner.{Short, size, signed_size}
+use Rattle.exact.specs.Inner.{Short, Taken, size, signed_size}
 use Rattle.exact.specs.InnerNear.{Close, Aligned, Holds}
 use Rattle.exact.specs.declared.parts.Parts.{Parts}
 use Rattle.exact.specs.declared.orient.Window.{Window}
-use Rattle.exact.proofs.Fields.{Taken}
 use Rattle.exact.proofs.Integers.{minus_like_more, minus_like_less, minus_unlike}
 use Rattle.exact.proofs.SignLaws.{size_none}
 

@@ -10,14 +10,14 @@ use lib.Pow.{pow_pos}
 use lib.Ieee.{Float, unlike}
 use borrow.Author.Tests.{eq-eqb, ne_eqb, eqb-true}
 use Rattle.exact.specs.Exact.{coord, ordered, sign, signed, sign_number, signum}
-use Rattle.exact.specs.Inner.{size, signed_size}
+use Rattle.exact.specs.Inner.{Taken, size, signed_size}
 use Rattle.exact.specs.Angle.{part_at, within, cross_product, turn, turn_number, angles, angles_number}
 use Rattle.exact.specs.declared.parts.Parts.{Parts}
 use Rattle.std.specs.declared.cmp.Ordering.{Ordering}
 use Rattle.std.specs.declared.cmp.Ordering.TheVariants.{Less, Equal, Greater}
 use Rattle.exact.proofs.Orders.{ordered_less, ordered_greater, ordered_equal}
 use Rattle.exact.proofs.Integers.{minus_signed, sign_diff, signed_mul}
-use Rattle.exact.proofs.Fields.{Taken, coord_of}
+use Rattle.exact.proofs.Fields.{coord_of}
 
 -- ---- one number
 
@@ -174,6 +174,6 @@ turn_number_lem x y x' y' =
     go false true z = refl
     go false false z = sign_number_lem z
 
-pub angles_number_lem : {r : Ordering} (x y u v : Float) → r ≡ angles x y u v → (r ≡ angles x y u v) × (sign_number r ≡ angles_number x y u v)
+pub angles_number_lem : {r : Ordering} (x y u v : Float) → r ≡ angles x y u v → sign_number r ≡ angles_number x y u v
 unfolding angles
-angles_number_lem x y u v e = (e, ap sign_number e ∙ turn_number_lem (coord x) (coord y) (coord u) (coord v))
+angles_number_lem x y u v e = ap sign_number e ∙ turn_number_lem (coord x) (coord y) (coord u) (coord v)

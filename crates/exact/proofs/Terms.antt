@@ -8,12 +8,12 @@ use lib.IntN.{ℤ, neg_ℤ, ◌+ℤ◌, ◌-ℤ◌, ◌*ℤ◌}
 use lib.ListN.{get_or, replicate, length-replicate}
 use lib.Ieee.{Float, unlike}
 use Rattle.exact.specs.Exact.{coord, ordered, sign, sign_number, signum}
-use Rattle.exact.specs.Inner.{size, signed_size}
+use Rattle.exact.specs.Inner.{Taken, size, signed_size}
 use Rattle.exact.specs.InnerRows.{value, Row, RowAdded}
 use Rattle.exact.specs.Angle.{det, orientation}
 use Rattle.exact.specs.declared.parts.Parts.{Parts}
 use Rattle.std.specs.declared.cmp.Ordering.{Ordering}
-use Rattle.exact.proofs.Fields.{Taken, coord_of}
+use Rattle.exact.proofs.Fields.{coord_of}
 use Rattle.exact.proofs.SignLaws.{sign_number_lem}
 use Rattle.exact.proofs.Integers.{diff, diff_add, every, six, signed_mul, add_signed, sign_diff}
 
@@ -85,6 +85,6 @@ to_orientation ta tb tc td te tf = same_sign (coord_of ta) (coord_of tb) (coord_
 -- ---- the answer's number
 
 pub with_number : {r : Ordering} (ax ay bx by cx cy : Float) → r ≡ orientation ax ay bx by cx cy
-    → (r ≡ orientation ax ay bx by cx cy) × (sign_number r ≡ signum (det (coord ax) (coord ay) (coord bx) (coord by) (coord cx) (coord cy)))
+    → sign_number r ≡ signum (det (coord ax) (coord ay) (coord bx) (coord by) (coord cx) (coord cy))
 unfolding orientation
-with_number ax ay bx by cx cy e = (e, ap sign_number e ∙ sign_number_lem (det (coord ax) (coord ay) (coord bx) (coord by) (coord cx) (coord cy)))
+with_number ax ay bx by cx cy e = ap sign_number e ∙ sign_number_lem (det (coord ax) (coord ay) (coord bx) (coord by) (coord cx) (coord cy))

@@ -6,6 +6,7 @@ ghost use Rattle.exact.specs.Inner.{signed_size};
 
 use crate::cross::cross_sign;
 use crate::parts::{Parts, take_apart};
+use plane::{Point, between};
 use std::cmp::Ordering;
 
 // The part of the plane that a direction points into, by falling angle.
@@ -21,14 +22,15 @@ fn part_of(x: Parts, y: Parts) -> u8
     }
 }
 
-// Less where the direction x, y stands before u, v. A zero direction is east.
-pub fn compare_angles(x: f64, y: f64, u: f64, v: f64) -> Ordering
-    ensures { (result ≡ angles x y u v) × (sign_number result ≡ angles_number x y u v) }
+// Less where the direction v stands before w. A zero direction is east.
+pub fn compare_angles(v: Point, w: Point) -> Ordering
+    ensures value { result ≡ angles v.x v.y w.x w.y }
+    ensures number { sign_number result ≡ angles_number v.x v.y w.x w.y }
 {
-    let a = take_apart(x);
-    let b = take_apart(y);
-    let c = take_apart(u);
-    let d = take_apart(v);
+    let a = take_apart(v.x);
+    let b = take_apart(v.y);
+    let c = take_apart(w.x);
+    let d = take_apart(w.y);
     let s = part_of(a, b);
     let t = part_of(c, d);
     if s < t {
@@ -41,8 +43,10 @@ pub fn compare_angles(x: f64, y: f64, u: f64, v: f64) -> Ordering
 }
 
 // The order of the directions from p to a and from p to b, each a rounded difference.
-pub fn compare_around(px: f64, py: f64, ax: f64, ay: f64, bx: f64, by: f64) -> Ordering
-    ensures { (result ≡ around px py ax ay bx by) × (sign_number result ≡ around_number px py ax ay bx by) }
+#[tactic(auto, unfolding(plane::specs::Plane::between))]
+pub fn compare_around(p: Point, a: Point, b: Point) -> Ordering
+    ensures value { result ≡ around p.x p.y a.x a.y b.x b.y }
+    ensures number { sign_number result ≡ around_number p.x p.y a.x a.y b.x b.y }
 {
-    compare_angles(ax - px, ay - py, bx - px, by - py)
+    compare_angles(between(p, a), between(p, b))
 }

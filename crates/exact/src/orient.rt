@@ -7,6 +7,7 @@ ghost use Rattle.exact.specs.InnerNear.{Holds};
 use crate::near::orient_near;
 use crate::parts::{Parts, take_apart};
 use crate::rows::orient_far;
+use plane::Point;
 use std::cmp::Ordering;
 
 // The least and the greatest exponent of some numbers that are not zero.
@@ -47,17 +48,18 @@ fn spread(a: Parts, b: Parts, c: Parts, d: Parts, e: Parts, f: Parts) -> Window
     widen(widen(widen(widen(widen(widen(w, a), b), c), d), e), f)
 }
 
-// The sign of (ax−cx)(by−cy) − (ay−cy)(bx−cx): greater than 0 where c lies to the left of the line
-// from a to b.
-pub fn orient2d(ax: f64, ay: f64, bx: f64, by: f64, cx: f64, cy: f64) -> Ordering
-    ensures { (result ≡ orientation ax ay bx by cx cy) × (sign_number result ≡ signum (det (coord ax) (coord ay) (coord bx) (coord by) (coord cx) (coord cy))) }
+// The sign of (a.x−c.x)(b.y−c.y) − (a.y−c.y)(b.x−c.x): greater than 0 where c lies to the left of
+// the line from a to b.
+pub fn orient2d(a: Point, b: Point, c: Point) -> Ordering
+    ensures value { result ≡ orientation a.x a.y b.x b.y c.x c.y }
+    ensures number { sign_number result ≡ signum (det (coord a.x) (coord a.y) (coord b.x) (coord b.y) (coord c.x) (coord c.y)) }
 {
-    let pax = take_apart(ax);
-    let pay = take_apart(ay);
-    let pbx = take_apart(bx);
-    let pby = take_apart(by);
-    let pcx = take_apart(cx);
-    let pcy = take_apart(cy);
+    let pax = take_apart(a.x);
+    let pay = take_apart(a.y);
+    let pbx = take_apart(b.x);
+    let pby = take_apart(b.y);
+    let pcx = take_apart(c.x);
+    let pcy = take_apart(c.y);
     let w = spread(pax, pay, pbx, pby, pcx, pcy);
     if w.top <= w.base + 9 {
         orient_near(pax, pay, pbx, pby, pcx, pcy, w.base)

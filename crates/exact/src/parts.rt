@@ -2,6 +2,7 @@
 ghost use Rattle.std.specs.Prelude.{◌≡◌, T};
 ghost use Rattle.std.specs.Float.Ieee.Scale.{finite};
 ghost use Rattle.exact.specs.Exact.{take_apart};
+ghost use Rattle.exact.specs.Inner.{Taken};
 
 // The number ±m · 2^e, in units of 2^-1074.
 #[derive(Clone, Copy)]
@@ -20,7 +21,8 @@ pub fn is_finite(x: f64) -> bool
 
 // The sign, the significand and the exponent of a float. What is not finite counts as 0.
 pub(crate) fn take_apart(x: f64) -> Parts
-    ensures { result ≡ take_apart x }
+    ensures value { result ≡ take_apart x }
+    ensures taken { Taken x result }
 {
     if is_finite(x) {
         return take_finite(x);
@@ -34,7 +36,7 @@ pub(crate) fn take_apart(x: f64) -> Parts
 
 fn take_finite(x: f64) -> Parts
     requires { T (finite x) }
-    ensures { result ≡ take_apart x }
+    ensures { Taken x result }
 {
     let b = f64::to_bits(x);
     let neg = b >= 0x8000_0000_0000_0000;

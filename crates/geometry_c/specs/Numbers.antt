@@ -1,5 +1,5 @@
 -- Answers as a number and a point in a lent list, for C. Assumes nothing.
-use Rattle.std.specs.Prelude.{List, [], ◌∷◌, cond, ℕ, ◌+◌, ◌*◌, ltb, Float, length, set}
+use Rattle.std.specs.Prelude.{List, cond, ℕ, ◌+◌, ◌*◌, ltb, Float, length, set}
 use Rattle.std.specs.declared.cmp.Ordering.{Ordering}
 use Rattle.std.specs.declared.cmp.Ordering.TheVariants.{Less, Equal, Greater}
 use Rattle.plane.specs.declared.Point.{Point}

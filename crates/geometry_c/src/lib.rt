@@ -14,6 +14,12 @@ use polygons::Inner;
 use segments::{Meeting, PointId, Segment};
 use std::cmp::Ordering;
 
+fn point_of(x: f64, y: f64) -> Point
+    ensures { result ≡ point_of x y }
+{
+    Point { x, y }
+}
+
 // 0 below, 1 zero, 2 above.
 fn side_number(o: Ordering) -> u8
     ensures { result ≡ side_number o }
@@ -29,14 +35,14 @@ fn side_number(o: Ordering) -> u8
 pub extern "C" fn geometry_orient2d(ax: f64, ay: f64, bx: f64, by: f64, cx: f64, cy: f64) -> u8
     ensures { result ≡ side_number (orientation ax ay bx by cx cy) }
 {
-    side_number(exact::orient2d(ax, ay, bx, by, cx, cy))
+    side_number(exact::orient2d(point_of(ax, ay), point_of(bx, by), point_of(cx, cy)))
 }
 
 #[unsafe(no_mangle)]
 pub extern "C" fn geometry_angles(x: f64, y: f64, u: f64, v: f64) -> u8
     ensures { result ≡ side_number (angles x y u v) }
 {
-    side_number(exact::compare_angles(x, y, u, v))
+    side_number(exact::compare_angles(point_of(x, y), point_of(u, v)))
 }
 
 fn id_number(p: PointId) -> u8
@@ -99,8 +105,8 @@ fn segment_of(x: f64, y: f64, u: f64, v: f64) -> Segment
     ensures { result ≡ segment_from x y u v }
 {
     Segment {
-        a: Point { x, y },
-        b: Point { x: u, y: v },
+        a: point_of(x, y),
+        b: point_of(u, v),
     }
 }
 
@@ -180,5 +186,5 @@ pub extern "C" fn geometry_contains_stable(
 ) -> bool
     ensures { result ≡ contains_stable coords.now (oriented back corners.now) (point_of x y) }
 {
-    insides::contains_stable(coords, corners, back, Point { x, y })
+    insides::contains_stable(coords, corners, back, point_of(x, y))
 }

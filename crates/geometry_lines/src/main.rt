@@ -123,14 +123,7 @@ fn meet<W: Write>(out: &mut W, c: &[f64]) -> io::Result<()> {
 
 fn orient<W: Write>(out: &mut W, c: &[f64]) -> io::Result<()> {
     if c.len() == 6 {
-        let o = exact::orient2d(
-            x_of(c, 0),
-            y_of(c, 0),
-            x_of(c, 1),
-            y_of(c, 1),
-            x_of(c, 2),
-            y_of(c, 2),
-        );
+        let o = exact::orient2d(point(c, 0), point(c, 1), point(c, 2));
         print_order(out, o)
     } else {
         unread(out)
@@ -180,9 +173,7 @@ fn inside<W: Write>(out: &mut W, c: &[f64], rising: &[u32]) -> io::Result<()> {
 
 // Whether neighbour i comes before neighbour j around point 0, equal directions as given.
 fn before(c: &[f64], i: usize, j: usize) -> bool {
-    let px = x_of(c, 0);
-    let py = y_of(c, 0);
-    let o = exact::compare_around(px, py, x_of(c, i), y_of(c, i), x_of(c, j), y_of(c, j));
+    let o = exact::compare_around(point(c, 0), point(c, i), point(c, j));
     if i < j { o.is_le() } else { o.is_lt() }
 }
 

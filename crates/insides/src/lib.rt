@@ -31,7 +31,7 @@ fn orient2d2(a: Point, b: Point, c: Point) -> Ordering
     let fb = exact::is_finite(b.x) & exact::is_finite(b.y);
     let fc = exact::is_finite(c.x) & exact::is_finite(c.y);
     if fa & fb & fc {
-        return exact::orient2d(a.x, a.y, b.x, b.y, c.x, c.y);
+        return exact::orient2d(a, b, c);
     }
     Ordering::Equal
 }

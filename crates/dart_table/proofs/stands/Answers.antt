@@ -9,4 +9,4 @@ pub returns : goal.returns
 returns c =
     let g = c.args in
     stands_meet g.coords.now g.a g.b g.c g.d _ _ _ _ _ c.if-a-c.false c.point_at-p.ensures
-    c.point_at-q.ensures c.point_at-s.ensures c.compare_around.ensures.0 c.is_lt.ensures
+    c.point_at-q.ensures c.point_at-s.ensures c.compare_around.ensures.value c.is_lt.ensures

@@ -7,7 +7,7 @@ pub returns-then-fa-fb : goal.returns-then-fa-fb
 unfolding orient2d2
 returns-then-fa-fb c =
     simp (
-      c.orient2d.ensures.0,
+      c.orient2d.ensures.value,
       c.if-fa-fb.true,
       ← c.is_finite-6.ensures,
       ← c.is_finite-5.ensures,

@@ -8,7 +8,9 @@ pub take_finite-requires : goal.take_finite-requires
 take_finite-requires c = subst T (sym (sym c.is_finite.ensures ∙ c.if-is_finite.true)) tt
 
 pub returns-then-is_finite : goal.returns-then-is_finite
-returns-then-is_finite c = c.take_finite.ensures
+returns-then-is_finite c = record { value = settled _ c.take_finite.ensures; taken = c.take_finite.ensures }
 
 pub returns : goal.returns
-returns c = settled _ (not_finite _ (sym c.is_finite.ensures ∙ c.if-is_finite.false))
+returns c =
+    let t = not_finite c.args.x (sym c.is_finite.ensures ∙ c.if-is_finite.false) in
+    record { value = settled _ t; taken = t }
