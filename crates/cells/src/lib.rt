@@ -19,7 +19,6 @@ use corners::next_corner;
 use dart_table::{add_near_edge, add_own_edge};
 use dart_walk::{Counts, walk_dart_map};
 use edge_nodes::nodes_on;
-use lists::zero_u32;
 use outlines::{edges_meet, edges_repeat, lay_own_edge};
 use refusals::Refusal;
 use regions::{Regions, Run, part};
@@ -28,8 +27,8 @@ use regions::{Regions, Run, part};
 pub fn refused(why: Refusal, runs: &mut [u32], stops: &mut [u32]) -> Result<Counts, Refusal>
     ensures { cut result runs.new stops.new ≡ cut_as (refusal (number why)) runs.old stops.old }
 {
-    zero_u32(runs);
-    zero_u32(stops);
+    runs.fill(0);
+    stops.fill(0);
     Err(why)
 }
 

@@ -14,7 +14,7 @@ ghost use Rattle.cutting_cells.specs.Yields.{outcome_by, yield_of, treatment_of,
 use cells::cut_cell;
 use corners::next_corner;
 use dart_walk::Counts;
-use lists::copy_u32;
+use lists::copy_at;
 use outlines::edges_repeat;
 use pieces::{Keep, Listed, keep_of, place_pieces, refuse};
 use refusals::Refusal;
@@ -50,7 +50,7 @@ fn copy_cell(cell: &[u32], runs: &mut [u32], stops: &mut [u32]) -> Result<Counts
     if copy_repeats(cell) {
         return cells::refused(Refusal::RepeatedEdge, runs, stops);
     }
-    copy_u32(runs, 0, cell);
+    copy_at(runs, 0, cell);
     stops[0] = cell.len() as u32;
     Ok(Counts {
         pieces: 1,

@@ -12,6 +12,8 @@ ghost use Rattle.cutting.specs.Walk.{slot};
 ghost use Rattle.cutting.specs.Lent.{slots_of, flat_edges};
 ghost use Rattle.dart_table.specs.Table.{table_in, with_darts, with_edge, with_edges, outline_with, Inserted, Added, Outlined};
 
+use keys::SortedKey;
+
 // Whether the slot from a to b stands before the one from c to d: at one node, by falling angle.
 fn stands(coords: &[f64], a: u32, b: u32, c: u32, d: u32) -> bool
     ensures { result ≡ stands coords.now a b c d }
@@ -57,9 +59,9 @@ fn insert_slot(
         dst.new marks.new }
 {
     let k = place(coords, src, dst, n, a, b);
-    lists::insert_at_u32(src, n, k, a);
-    lists::insert_at_u32(dst, n, k, b);
-    lists::insert_at_u32(marks, n, k, mark);
+    lists::insert_at(src, n, k, a);
+    lists::insert_at(dst, n, k, b);
+    lists::insert_at(marks, n, k, mark);
 }
 
 // Adds the slot from a to b, and the one from b to a with the mark `back`, to the first n.
@@ -264,7 +266,7 @@ pub fn add_near_edge(
         ≡ with_edges coords.now (near_darts (record { edge = (a, b); nodes = nodes.now })) (table_in n src.old dst.old marks.old) }
 {
     if nodes.len() == 0 {
-        let k = keys::key(a, b);
+        let k = SortedKey::new(a, b);
         return add_edge(coords, k.first, k.second, src, dst, marks, n);
     }
     add_new(coords, nodes, src, dst, marks, n)

@@ -163,7 +163,7 @@ fn walk_table(
 {
     let mut own = [0u32; 1024];
     let mut heap = [0u32; 2048];
-    lists::copy_u32(&mut own, 0, marks);
+    lists::copy_at(&mut own, 0, marks);
     let top = fill_heap(outline, src, dst, n, &mut heap);
     walk_on(src, dst, n, top, &mut own[..n], &mut heap, nodes, stops)
 }
@@ -189,7 +189,7 @@ pub fn walk_dart_map(
     if walked.is_ok() {
         return walked;
     }
-    lists::zero_u32(nodes);
-    lists::zero_u32(stops);
+    nodes.fill(0);
+    stops.fill(0);
     walked
 }

@@ -20,7 +20,7 @@ ghost use Rattle.edge_nodes.specs.Lent.{listed, met_nodes, under_at, under, coll
 pub use chains::link_meetings;
 use chains::{head_of, next_of};
 use keys::same_key;
-use lists::{insert_at_f64, insert_at_u32};
+use lists::insert_at;
 use plane::point_at;
 use regions::{Regions, part};
 
@@ -91,8 +91,8 @@ fn insert_node(
 {
     let x = projection(coords, a, b, v);
     let k = place(along, n, x);
-    insert_at_f64(along, n, k, x);
-    insert_at_u32(nodes, n, k, v);
+    insert_at(along, n, k, x);
+    insert_at(nodes, n, k, v);
 }
 
 // The first node of edge e.

@@ -6,7 +6,7 @@ ghost use Rattle.lists.specs.Regions.{put};
 ghost use Rattle.snap.specs.Steps.{Below};
 ghost use Rattle.finding.specs.Nets.{plain, Fit, NetRoom, nets_of, edged, netted};
 
-use lists::copy_u32;
+use lists::copy_at;
 use neighbours::compute_descending;
 use snap::duplicates_from;
 use strips::build;
@@ -66,7 +66,7 @@ fn edges(
     let n = sn.len() + cn.len();
     duplicates_from(sc, sn, cc, cn, w);
     renumber(cn, w, entries);
-    copy_u32(w, copied, sn);
+    copy_at(w, copied, sn);
     let subject = compute_descending(w, se, copied, sn.len(), from, base, h, n);
     if lines {
         return NetPlaces {

@@ -9,7 +9,7 @@ ghost use Rattle.finding.specs.Found.{regions_by, refused_lists, found_of, both_
 
 use crate::numbering::{NetPlaces, nets};
 use edge_nodes::{link_meetings, overfull};
-use lists::{copy_f64, zero_f64, zero_u32};
+use lists::copy_at;
 use meetings::compute_intersections;
 use regions::{MeshRuns, Regions, Run, part};
 
@@ -25,8 +25,8 @@ pub struct Found {
 fn refused(oc: &mut [f64], w: &mut [u32], code: u32) -> Found
     ensures { record { answer = result; coords = oc.new; work = w.new } ≡ refused_lists code oc.old w.old }
 {
-    zero_f64(oc);
-    zero_u32(w);
+    oc.fill(0.0);
+    w.fill(0);
     let none = Run { from: 0, end: 0 };
     let mesh = MeshRuns {
         edges: none,
@@ -50,10 +50,10 @@ fn place_coords(sc: &[f64], cc: &[f64], oc: &mut [f64]) -> bool
     ensures { (result ≡ leb (length sc.now + length cc.now) (length oc.old))
         × (result ≡ true → oc.new ≡ front oc.old (sc.now ++ cc.now)) }
 {
-    if !copy_f64(oc, 0, sc) {
+    if !copy_at(oc, 0, sc) {
         return false;
     }
-    copy_f64(oc, sc.len(), cc)
+    copy_at(oc, sc.len(), cc)
 }
 
 // Whether over 256 nodes are collected under the key of an edge of either mesh.

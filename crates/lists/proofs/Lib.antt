@@ -1,9 +1,9 @@
 pub mod Search
 pub mod Gather
 pub mod Regions
-pub mod Fill
 pub mod Insert
 pub mod Sort
 pub mod Halving
 pub mod Rising
 pub mod Merging
+pub mod Library

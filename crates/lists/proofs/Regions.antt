@@ -1,13 +1,11 @@
 -- The laws of `run`, `front` and `put`: what a loop that fills a region of a list asks for. Assumes nothing.
 use mathlib.Core.Path.{◌≡◌, refl, sym, ap, ap₂, ◌∙◌}
-use mathlib.Core.Bool.{true, false}
 use mathlib.Core.List.{List, [], ◌∷◌, ◌++◌, append_assoc}
 use Prim.Native.Nat.{ℕ, suc, ◌+◌, ◌-◌, ◌≤◌, ◌<◌}
 use native.Mathlib.Nat.{le_of_eq, le_of_lt, le_trans, add-sub_of_le, zero-add, suc-add}
 use native.Mathlib.Numerals.{add-one}
 use native.Mathlib.Decide.{dec_le}
 use native.Mathlib.Omega.{arith}
-use lib.Dec.{leb}
 use lib.ListN.{length, get_or, set, take, drop, length-append, length-drop, take-append-drop, get_or-append}
 use lib.Seq.{
   length-take-le,
@@ -235,7 +233,7 @@ module _ {A : Type 0} where
     pub lent : take (length xs) (take (length w - b) (drop b w)) ≡ xs
     lent = ap (take (length xs)) part_is ∙ take_front (drop b w₀) xs
 
-  -- ---- a copy, element by element
+  -- ---- a copy, whole or element by element
 
   module _ (w : List A) (b : ℕ) (xs : List A) where
     pub copied_fits : b + length xs ≤ length w → copied w b xs ≡ put w b xs
@@ -253,9 +251,6 @@ module _ {A : Type 0} where
         go (yes h) = ap length (copied_fits h) ∙ length_put w b (omega arith) xs h
         go (no h) = ap length (copied_not (omega arith))
 
-    pub copy_refused : length w < b + length xs → (false ≡ leb (b + length xs) (length w)) × (w ≡ copied w b xs)
-    copy_refused h = (sym (lt-leb (b + length xs) (length w) h), sym (copied_not h))
-
     module _ (fits : b + length xs ≤ length w) where
       pub copy_start : w ≡ put w b (take 0 xs)
       copy_start = sym (put_none w b)
@@ -266,6 +261,3 @@ module _ {A : Type 0} where
           let one : take (i + 1) xs ≡ take i xs ++ (get_or xs i d ∷ []) = ap (λ (k : ℕ). take k xs) (add-one i) ∙ take-suc xs i d h in
           ap₂ (λ (u : List A) (k : ℕ). set u (b + k) (get_or xs i d)) e (sym n) ∙ put_store w b (omega arith) (take i xs) (get_or xs i d) d (omega arith)
           ∙ ap (put w b) (sym one)
-
-      pub copy_end : (v : List A) (i : ℕ) → length xs ≤ i → v ≡ put w b (take i xs) → (true ≡ leb (b + length xs) (length w)) × (v ≡ copied w b xs)
-      copy_end v i m e = (sym (le-leb (b + length xs) (length w) fits), e ∙ ap (put w b) (take_all i xs m) ∙ sym (copied_fits fits))

@@ -1,10 +1,31 @@
-// What every layer does with lent lists.
+// What every layer does with lent lists: one copied into another, and an element put in.
 #![tactic(auto)]
 
-mod bytes;
-mod floats;
-mod numbers;
+ghost use Rattle.std.specs.Prelude.{◌≡◌, ◌&&◌, ◌+◌, length, leb, ltb};
+ghost use Rattle.lists.specs.Regions.{copied, insert_at};
 
-pub use bytes::zero_u8;
-pub use floats::{copy_f64, insert_at_f64, zero_f64};
-pub use numbers::{copy_u32, insert_at_u32, zero_u32};
+// Copies src into dst, from `at` on. Answers whether it has its place there; nothing changes where not.
+pub fn copy_at<T: Copy>(dst: &mut [T], at: usize, src: &[T]) -> bool
+    ensures fits { result ≡ leb (at + length src.now) (length dst.old) }
+    ensures after { dst.new ≡ copied dst.old at src.now }
+{
+    if dst.len() < src.len() || dst.len() - src.len() < at {
+        return false;
+    }
+    dst[at..at + src.len()].copy_from_slice(src);
+    true
+}
+
+// Puts x into the first n entries at k; those from k on move up. Answers whether k and n have their place; nothing changes where not.
+pub fn insert_at<T: Copy>(xs: &mut [T], n: usize, k: usize, x: T) -> bool
+    ensures fits { result ≡ (leb k n && ltb n (length xs.old)) }
+    ensures after { xs.new ≡ insert_at xs.old n k x }
+{
+    if n < k || xs.len() <= n {
+        return false;
+    }
+    let moved = &mut xs[k..=n];
+    moved.rotate_right(1);
+    moved[0] = x;
+    true
+}

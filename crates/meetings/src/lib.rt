@@ -12,7 +12,6 @@ ghost use Rattle.meetings.specs.Booked.{edges_in, meetings_at};
 ghost use Rattle.meetings.specs.MeetingsFound.{MeetingsRoom, CutterIndexed, meetings_found};
 ghost use Rattle.meetings.specs.Steps.{edge_in, candidates_from, met_of, met_with, StandBefore, Ready, Answered};
 
-use lists::{zero_f64, zero_u32};
 use plane::point_at;
 use segments::{Meeting, PointId, Segment};
 use spatial_index::edge_bounds;
@@ -335,8 +334,8 @@ pub fn compute_intersections(
     let f = of_edges(oc, w, &mut found, placed, se, sn, ce, cn, ix, base, m);
     let code = f.code;
     if code != 0 {
-        zero_f64(oc);
-        zero_u32(w);
+        oc.fill(0.0);
+        w.fill(0);
         return Found {
             code,
             met: 0,

@@ -15,7 +15,6 @@ ghost use Rattle.neighbours.specs.Chains.{Chained, linked, Threaded};
 
 use corners::after;
 use keys::{edge_chain, same_key};
-use lists::zero_u32;
 
 // Whether some pair has the key of the edge a, b: those on its chain are looked at, from the last to the first.
 fn has_key(edges: &[u32], links: &[u32], h: usize, a: u32, b: u32) -> bool
@@ -144,8 +143,8 @@ pub fn compute_descending(
         scratch (zeros (h + n))) }
 {
     let t = scratch + (h + n);
-    zero_u32(&mut w[scratch..t]);
+    w[scratch..t].fill(0);
     let k = all_edges(w, cells, at, total, base, scratch, h, n);
-    zero_u32(&mut w[scratch..t]);
+    w[scratch..t].fill(0);
     k
 }

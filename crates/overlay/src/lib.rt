@@ -11,7 +11,6 @@ use cutting_cells::cut_meshes;
 use entry::entry;
 use finding::find;
 use indexing::index_meshes;
-use lists::{zero_f64, zero_u8, zero_u32};
 use passes::{write_families, write_kinds, write_parents};
 use views::MeshView;
 
@@ -138,14 +137,14 @@ fn clear(
     ensures { lent_lists oc.new on.new oe.new ok.new of.new om.new oi.new work.new
         ≡ cleared (lent_lists oc.old on.old oe.old ok.old of.old om.old oi.old work.old) }
 {
-    zero_f64(oc);
-    zero_u32(on);
-    zero_u32(oe);
-    zero_u8(ok);
-    zero_u32(of);
-    zero_u32(om);
-    zero_u32(oi);
-    zero_u32(work);
+    oc.fill(0.0);
+    on.fill(0);
+    oe.fill(0);
+    ok.fill(0);
+    of.fill(0);
+    om.fill(0);
+    oi.fill(0);
+    work.fill(0);
 }
 
 // Operation, meeting limit M; the subject's and the cutter's coordinates, node numbers, cell ends, kinds and families; the same five output lists, and
@@ -204,6 +203,6 @@ pub fn overlay(
         clear(oc, on, oe, ok, of, om, oi, work);
         return plain(code);
     }
-    zero_u32(work);
+    work.fill(0);
     a
 }

@@ -1,29 +1,13 @@
 -- A list comes to hold f of each tag in front, one after the other. Assumes nothing.
 use mathlib.Core.Path.{◌≡◌, refl, sym, ap, ◌∙◌}
-use mathlib.Core.Bool.{Bool, cond}
-use mathlib.Core.List.{List, [], ◌∷◌, ◌++◌, append-nil, map, map-append}
-use Prim.Native.Nat.{ℕ, ◌+◌, ◌*◌, ◌-◌, ◌/◌, ◌≤◌, ◌<◌}
-use native.Mathlib.Nat.{add-sub_of_le}
+use mathlib.Core.List.{List, [], ◌∷◌, append-nil, map, map-append}
+use Prim.Native.Nat.{ℕ, ◌+◌, ◌≤◌, ◌<◌}
 use native.Mathlib.Numerals.{add-one}
 use native.Mathlib.Omega.{arith}
-use lib.ListN.{length, get_or, set, take, length-map, length-set, get_or-append, get_or-eq_default}
-use lib.Seq.{take-suc, take_all, drop-length, length-take-le, get_or-append-add}
-use borrow.Author.Tests.{eq-eqb, ne_eqb}
+use lib.ListN.{length, get_or, set, take, length-map, length-set}
+use lib.Seq.{take-suc, take_all, drop-length, length-take-le}
 use Rattle.lists.specs.Regions.{front}
 use Rattle.lists.proofs.Regions.{front_behind, front_store}
-use Rattle.passes.specs.Tags.{kind_by}
-
--- ---- entry k of two lists one behind the other
-
-module _ (a b : List ℕ) (k : ℕ) where
-  pub in_first : k < length a → get_or a k 0 ≡ get_or (a ++ b) k 0
-  in_first h = sym (get_or-append a b 0 k h)
-
-  pub in_second : length a ≤ k → get_or b (k - length a) 0 ≡ get_or (a ++ b) k 0
-  in_second h = sym (ap (λ (j : ℕ). get_or (a ++ b) j 0) (sym (add-sub_of_le h)) ∙ get_or-append-add a b (k - length a) 0)
-
-  pub in_none : length a ≤ k → length b ≤ k - length a → 0 ≡ get_or (a ++ b) k 0
-  in_none h l = sym (get_or-eq_default b 0 l) ∙ in_second h
 
 -- ---- the pass
 
@@ -64,11 +48,3 @@ module _ (f : ℕ → ℕ) (tags list : List ℕ) (fits : length tags ≤ length
 pub in_place : (f : ℕ → ℕ) (tags : List ℕ) → front tags (map f tags) ≡ map f tags
 unfolding front
 in_place f tags = rw (length-map, drop-length, append-nil)
-
--- ---- kinds
-
-pub kind_copied : (sk ck : List ℕ) (t v : ℕ) → 2 * (t / 2) ≡ t → v ≡ get_or (sk ++ ck) (t / 2) 0 → v ≡ kind_by sk ck t
-kind_copied sk ck t v h e = e ∙ ap (λ (b : Bool). cond b (get_or (sk ++ ck) (t / 2) 0) 11) (sym (eq-eqb (2 * (t / 2)) t h))
-
-pub kind_cut : (sk ck : List ℕ) (t : ℕ) → (2 * (t / 2) ≡ t → ⊥) → 11 ≡ kind_by sk ck t
-kind_cut sk ck t h = ap (λ (b : Bool). cond b (get_or (sk ++ ck) (t / 2) 0) 11) (sym (ne_eqb (2 * (t / 2)) t h))

@@ -6,31 +6,17 @@ ghost use Rattle.std.specs.Prelude.{◌≡◌, ◌++◌, map, ◌≤◌, length,
 ghost use Rattle.lists.specs.Regions.{front};
 ghost use Rattle.passes.specs.Tags.{kind_by, family_by, mesh_by, cell_by};
 
-// Entry k of two lists one behind the other, 0 where there is none.
-fn kind_at(a: &[u8], b: &[u8], k: usize) -> u8
-    ensures { result ≡ get_or (a.now ++ b.now) k 0 }
-{
-    if k < a.len() {
-        return a[k];
-    }
-    let j = k - a.len();
-    if j < b.len() {
-        return b[j];
-    }
-    0
-}
+// The kind of what is cut out of a cell.
+const PGON: u8 = 11;
 
-fn family_at(a: &[u32], b: &[u32], k: usize) -> u32
-    ensures { result ≡ get_or (a.now ++ b.now) k 0 }
+// Entry k of two lists one behind the other, `none` where there is none.
+fn entry_at<T: Copy>(a: &[T], b: &[T], k: usize, none: T) -> T
+    ensures { result ≡ get_or (a.now ++ b.now) k none }
 {
-    if k < a.len() {
-        return a[k];
+    match a.get(k) {
+        Some(x) => *x,
+        None => b.get(k - a.len()).copied().unwrap_or(none),
     }
-    let j = k - a.len();
-    if j < b.len() {
-        return b[j];
-    }
-    0
 }
 
 // A copied cell keeps its kind, and what is cut out of a cell is a PGON.
@@ -38,20 +24,21 @@ fn kind_by(sk: &[u8], ck: &[u8], tag: u32) -> u8
     ensures { result ≡ kind_by sk.now ck.now tag }
 {
     let k = tag / 2;
-    if 2 * k == tag {
-        return kind_at(sk, ck, k as usize);
-    }
-    11
+    if 2 * k == tag { entry_at(sk, ck, k as usize, 0) } else { PGON }
 }
 
-// Where the subject has n cells: the mesh of the piece's cell, 0 the subject or 1 the cutter,
+// The family of the piece's cell.
+fn family_by(sf: &[u32], cf: &[u32], tag: u32) -> u32
+    ensures { result ≡ family_by sf.now cf.now tag }
+{
+    entry_at(sf, cf, (tag / 2) as usize, 0)
+}
+
+// Where the subject has n cells: the mesh of the piece's cell, 0 the subject or 1 the cutter, as the output lists number them,
 fn mesh_by(n: u32, tag: u32) -> u32
     ensures { result ≡ mesh_by n tag }
 {
-    if tag / 2 < n {
-        return 0;
-    }
-    1
+    u32::from(n <= tag / 2)
 }
 
 // and its number there.
@@ -59,10 +46,7 @@ fn cell_by(n: u32, tag: u32) -> u32
     ensures { result ≡ cell_by n tag }
 {
     let k = tag / 2;
-    if k < n {
-        return k;
-    }
-    k - n
+    if k < n { k } else { k - n }
 }
 
 // The kinds of the pieces with these tags, to the front of a list; sk and ck are those of the subject's and the cutter's cells.
@@ -70,9 +54,9 @@ pub fn write_kinds(tags: &[u32], sk: &[u8], ck: &[u8], ok: &mut [u8])
     requires { length tags.now ≤ length ok.old }
     ensures { ok.new ≡ front ok.old (map (kind_by sk.now ck.now) tags.now) }
 {
-    for i in 0..tags.len() {
-        let v = kind_by(sk, ck, tags[i]);
-        ok[i] = v;
+    // Written by index: of a list written through a zipped `iter_mut` a proof knows the length alone.
+    for (i, tag) in tags.iter().enumerate() {
+        ok[i] = kind_by(sk, ck, *tag);
     }
 }
 
@@ -82,12 +66,10 @@ pub fn write_parents(tags: &[u32], n: u32, om: &mut [u32], oi: &mut [u32])
     ensures { (om.new ≡ front om.old (map (mesh_by n) tags.now))
         × (oi.new ≡ front oi.old (map (cell_by n) tags.now)) }
 {
-    for i in 0..tags.len() {
-        let t = tags[i];
-        let mesh = mesh_by(n, t);
-        om[i] = mesh;
-        let cell = cell_by(n, t);
-        oi[i] = cell;
+    // By index, as the kinds are.
+    for (i, tag) in tags.iter().enumerate() {
+        om[i] = mesh_by(n, *tag);
+        oi[i] = cell_by(n, *tag);
     }
 }
 
@@ -95,9 +77,7 @@ pub fn write_parents(tags: &[u32], n: u32, om: &mut [u32], oi: &mut [u32])
 pub fn write_families(sf: &[u32], cf: &[u32], tags: &mut [u32])
     ensures { tags.new ≡ map (family_by sf.now cf.now) tags.old }
 {
-    for i in 0..tags.len() {
-        let t = tags[i];
-        let v = family_at(sf, cf, (t / 2) as usize);
-        tags[i] = v;
+    for tag in tags.iter_mut() {
+        *tag = family_by(sf, cf, *tag);
     }
 }

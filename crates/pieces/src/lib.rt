@@ -12,7 +12,7 @@ ghost use Rattle.strips.specs.Index.{Indexed};
 ghost use Rattle.pieces.specs.Pieces.{side_of, runs_of, cell_contains, CellPlaces, one_contains, keep_of, is_kept, tagged, Space, Placeable, placing, refused_by, placed_behind, BeforeZeroing};
 
 use insides::inside;
-use lists::{copy_u32, zero_u32};
+use lists::copy_at;
 use plane::Point;
 use polygons::{Inner, strict_interior_point};
 use rules::Bounds;
@@ -175,7 +175,7 @@ fn place_piece(
     if oe.len() < next {
         return false;
     }
-    if copy_u32(on, entries, piece) {
+    if copy_at(on, entries, piece) {
         oe[count] = (entries + piece.len()) as u32;
         ot[count] = tag;
         return true;
@@ -264,9 +264,9 @@ fn place_run(
 pub fn refuse(code: u32, on: &mut [u32], oe: &mut [u32], ot: &mut [u32]) -> Listed
     ensures { placing result on.new oe.new ot.new ≡ refused_by code on.old oe.old ot.old }
 {
-    zero_u32(on);
-    zero_u32(oe);
-    zero_u32(ot);
+    on.fill(0);
+    oe.fill(0);
+    ot.fill(0);
     Listed {
         code,
         count: 0,

@@ -181,11 +181,11 @@ fn clear_rest(
         × (ends.new ≡ zeroed_from cells ends.old) × (kinds.new ≡ zeroed_from cells kinds.old)
         × (families.new ≡ zeroed_from cells families.old) }
 {
-    lists::zero_f64(&mut coords[2 * points..]);
-    lists::zero_u32(&mut nodes[entries..]);
-    lists::zero_u32(&mut ends[cells..]);
-    lists::zero_u8(&mut kinds[cells..]);
-    lists::zero_u32(&mut families[cells..]);
+    coords[2 * points..].fill(0.0);
+    nodes[entries..].fill(0);
+    ends[cells..].fill(0);
+    kinds[cells..].fill(0);
+    families[cells..].fill(0);
 }
 
 // An input of at most 65,536 bytes: each lent list holds what is read of it, then zeros.

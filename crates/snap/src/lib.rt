@@ -8,7 +8,7 @@ ghost use Rattle.entry.specs.Mesh.{mesh};
 ghost use Rattle.rules.specs.Snap.{precedes, distance2, or_shifted, closest_within, weld};
 ghost use Rattle.snap.specs.Steps.{Below, AllPlaced, InOrder, used, place_of, indices_in_order, with_node, counted, merged, merged_full, counted_full, window_start, closer_node, number_by};
 
-use lists::{insert_at_u32, zero_u32};
+use lists::insert_at;
 use plane::{Point, point_at};
 
 // The nearest node so far, and the squared distance that the next must stay below.
@@ -25,7 +25,7 @@ fn mark_used(nodes: &[u32], marks: &mut [u32])
     requires { Below (length marks.old) nodes.now }
     ensures { marks.new ≡ used nodes.now (length marks.old) }
 {
-    zero_u32(marks);
+    marks.fill(0);
     let mut k: usize = 0;
     while k < nodes.len() {
         let v = nodes[k] as usize;
@@ -70,7 +70,7 @@ fn put_in_order(coords: &[f64], marks: &[u32], block: &mut [u32], k: usize, i: u
     }
     let v = i as u32;
     let p = place(coords, &block[..k], v);
-    insert_at_u32(block, k, p, v);
+    insert_at(block, k, p, v);
     k + 1
 }
 
@@ -255,5 +255,5 @@ pub fn duplicates_from(sc: &[f64], sn: &[u32], cc: &[f64], cn: &[u32], w: &mut [
     mark_used(sn, &mut w[n..end]);
     let count = sorted_indices_for(sc, &mut w[n..end]);
     number_nodes(sc, cc, w, count);
-    zero_u32(&mut w[n..end]);
+    w[n..end].fill(0);
 }

@@ -11,7 +11,7 @@ ghost use Rattle.strips.specs.Made.{Bounded, headed, Chained, Room};
 
 use crate::squares::{coordinate, narrowed, span_of, square_chain};
 use crate::things::{number_at, start_of, thing_bounds, thing_count};
-use lists::insert_at_u32;
+use lists::insert_at;
 
 fn lesser(a: usize, b: usize) -> usize
     ensures { result ≡ min a b }
@@ -94,7 +94,7 @@ fn put_in_order(coords: &[f64], w: &mut [u32], axis: usize, to: usize, i: usize,
 {
     let e = to + i;
     let p = place(coords, &w[to..e], axis, v);
-    insert_at_u32(&mut w[to..], i, p, v);
+    insert_at(&mut w[to..], i, p, v);
 }
 
 // Writes k samples in order from `to` on: the things' nodes stand from `from` up to `end`.

@@ -11,7 +11,7 @@ ghost use Rattle.strips.specs.Gathering.{Rises, put_rising, with_thing, with_thi
 use crate::building::chain_count;
 use crate::squares::{Span, halved, span_of, square_chain};
 use crate::things::{thing_bounds, thing_count};
-use lists::insert_at_u32;
+use lists::insert_at;
 use rules::Bounds;
 use spatial_index::bounds_meet;
 
@@ -50,11 +50,11 @@ fn put_rising(found: &mut [u32], k: usize, v: u32) -> usize
         return k;
     }
     if k < found.len() {
-        insert_at_u32(found, k, p, v);
+        insert_at(found, k, p, v);
         return k + 1;
     }
     if p < k {
-        insert_at_u32(found, k - 1, p, v);
+        insert_at(found, k - 1, p, v);
         return k;
     }
     k

@@ -7,4 +7,4 @@ pub returns : goal.returns
 unfolding cut_as
 returns c =
     let a = c.args in
-    ap₂ (cut_to (record { code = number a.why; pieces = 0; entries = 0 })) c.zero_u32.ensures c.zero_u32-2.ensures
+    ap₂ (cut_to (record { code = number a.why; pieces = 0; entries = 0 })) (c.fill.ensures.after (λ _ h. h)) (c.fill-2.ensures.after (λ _ h. h))

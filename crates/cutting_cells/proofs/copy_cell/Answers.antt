@@ -12,6 +12,6 @@ pub returns : goal.returns
 returns c =
     let a = c.args in
     let d = c.copy_repeats in
-    let copy = c.copy_u32 in
+    let copy = c.copy_at in
     copied_as a.cell.now a.runs.now a.stops.now d.result d.ensures copy.new.dst c.if-copy_repeats.false c.requires.0
-    c.requires.1 c.requires.2 copy.ensures.1
+    c.requires.1 c.requires.2 copy.ensures.after

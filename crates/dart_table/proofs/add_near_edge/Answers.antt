@@ -4,7 +4,7 @@ use Rattle.dart_table.proofs.add_near_edge.Goals as goal
 
 pub returns-then-nodes-eq0 : goal.returns-then-nodes-eq0
 returns-then-nodes-eq0 c =
-    near_whole _ _ _ _ _ _ c.if-nodes-eq0.true c.requires.0 _ _ c.key-k.ensures c.add_edge.ensures
+    near_whole _ _ _ _ _ _ c.if-nodes-eq0.true c.requires.0 _ _ c.new-k.ensures c.add_edge.ensures
 
 pub returns : goal.returns
 returns c =

@@ -6,5 +6,5 @@ pub returns : goal.returns
 returns c =
     slot_put c.args.coords.now c.args.src.now c.args.dst.now c.args.marks.now _ _ _ _ _ _ _ _
     c.place-k.ensures c.requires.0 c.requires.1 c.requires.2
-    c.insert_at_u32.ensures.1 c.insert_at_u32-2.ensures.1
-    c.insert_at_u32-3.ensures.1
+    c.insert_at.ensures.after c.insert_at-2.ensures.after
+    c.insert_at-3.ensures.after

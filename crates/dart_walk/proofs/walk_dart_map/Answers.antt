@@ -35,4 +35,4 @@ returns c =
     let g = c.args in
     let w = c.walk_table-walked in
     as_refused g.outline.now g.src.now g.dst.now g.marks.now g.n _ _ _ _ _ _ _ w.ensures (sym c.is_ok.ensures.value ∙ c.if-is_ok.false)
-    c.zero_u32.ensures c.zero_u32-2.ensures w.auto.nodes w.auto.stops
+    (c.fill.ensures.after (λ _ h. h)) (c.fill-2.ensures.after (λ _ h. h)) w.auto.nodes w.auto.stops

@@ -1,34 +1,36 @@
-use mathlib.Core.Path.{refl, sym, ◌∙◌}
-use Prim.Native.Nat.{◌+◌}
-use native.Mathlib.Omega.{arith}
-use Rattle.outlines.proofs.Flat.{among_rest, repeats_loop, repeats_here, repeats_next, repeats_end}
-use borrow.Author.Rules.{rules}
+use mathlib.Core.Path.{◌≡◌, sym, ap, ◌∙◌}
+use mathlib.Core.Bool.{Bool, true, ◌||◌}
+use mathlib.Core.List.{List, ◌∷◌, map}
+use Prim.Native.Nat.{ℕ}
+use Rattle.cutting.specs.Cell.{repeats}
+use Rattle.outlines.specs.Meets.{pair_of}
+use Rattle.outlines.proofs.Flat.{chunked, repeats_loop, repeats_on, repeats_none}
 use Rattle.outlines.proofs.edges_repeat.Goals as goal
+use Rattle.outlines.proofs.edges_repeat.Goals.{then-a-b-via-then-a-b, then-a-b-via-else-a-b+then-is_among}
 
-pub loop-i-init : goal.loop-i-init
-loop-i-init c = (search rules, refl)
+abbrev said : List (List ℕ) → Bool
+said es = repeats (map pair_of es)
+
+pub loop-a-init : goal.loop-a-init
+loop-a-init c = ap repeats (ap (map pair_of) c.as_chunks.ensures.front ∙ chunked c.args.edges.now)
 
 pub returns-then-a-b : goal.returns-then-a-b
 returns-then-a-b c =
-    let l = c.loop-i in
-    let t = c.loop-i-test.true in
-    sym (sym l.invariant.1 ∙ repeats_loop _ l.i t c.if-a-b.true)
+    let x = c.in-Some.field-0-0.now in
+    let es = c.in-Some.later.now in
+    let here : said (x ∷ es) ≡ true = elim c.then-a-b.branch [
+      | then-a-b-via-then-a-b w ↦ repeats_loop x es w.if-a-b.true
+      | then-a-b-via-else-a-b+then-is_among w ↦
+          repeats_on x es w.is_among.result w.if-a-b.false w.is_among.ensures ∙ ap (λ (t : Bool). t || said es) w.if-is_among.true
+    ] in
+    sym (sym c.loop-a.invariant ∙ ap said c.in-Some.ensures.cases.0 ∙ here)
 
-pub returns-then-is_among : goal.returns-then-is_among
-returns-then-is_among c =
-    let l = c.loop-i in
-    let t = c.loop-i-test.true in
-    let xs = c.args.edges.now in
-    let u = among_rest xs (l.i + 2) _ _ _ refl c.is_among.ensures in
-    sym (sym l.invariant.1 ∙ repeats_here _ l.i t c.if-a-b.false (u ∙ c.if-is_among.true))
-
-pub loop-i-preserved : goal.loop-i-preserved
-loop-i-preserved c =
-    let l = c.loop-i in
-    let t = c.loop-i-test.true in
-    let xs = c.args.edges.now in
-    let u = among_rest xs (l.i + 2) _ _ _ refl c.is_among.ensures in
-    (omega (arith, t), sym (repeats_next _ l.i t c.if-a-b.false (u ∙ c.if-is_among.false)) ∙ l.invariant.1)
+pub loop-a-preserved : goal.loop-a-preserved
+loop-a-preserved c =
+    let x = c.in-Some.field-0-0.now in
+    let es = c.in-Some.later.now in
+    sym (ap said c.in-Some.ensures.cases.0 ∙ repeats_on x es c.is_among.result c.if-a-b.false c.is_among.ensures
+    ∙ ap (λ (t : Bool). t || said es) c.if-is_among.false) ∙ c.loop-a.invariant
 
 pub returns : goal.returns
-returns c = sym (sym c.loop-i.invariant.1 ∙ repeats_end _ c.loop-i.i c.loop-i-test.false)
+returns c = sym (sym c.loop-a.invariant ∙ repeats_none c.loop-a.rest.now c.in_default.ensures.cases)

@@ -1,13 +1,14 @@
--- `outlines::edges_repeat` meets its contract: the edges from `i` on say what all say. Assumes nothing.
+-- `outlines::edges_repeat` meets its contract: the edges that are left say what all say. Assumes nothing.
 use mathlib.Core.Path.{◌≡◌}
-use Prim.Native.Nat.{◌-◌, ◌≤◌}
-use lib.ListN.{length, drop}
+use mathlib.Core.List.{map}
+use lib.ListN.{length}
 use Rattle.cutting.specs.Cell.{repeats}
 use Rattle.cutting.specs.Lent.{pairs}
+use Rattle.outlines.specs.Meets.{pair_of}
 use Rattle.outlines.proofs.edges_repeat.Given as goal
 
-abbrev pub invariant-loop-i : goal.invariant-loop-i
-invariant-loop-i l = (l.i ≤ length l.edges) × (repeats (pairs (drop l.i l.edges)) ≡ repeats (pairs l.edges))
+abbrev pub invariant-loop-a : goal.invariant-loop-a
+invariant-loop-a l = repeats (map pair_of l.rest) ≡ repeats (pairs l.edges)
 
-abbrev pub decreases-loop-i : goal.decreases-loop-i
-decreases-loop-i l = length l.edges - l.i
+abbrev pub decreases-loop-a : goal.decreases-loop-a
+decreases-loop-a l = length l.rest

@@ -1,24 +1,51 @@
+use mathlib.Core.Path.{◌≡◌, sym, ap, subst, ◌∙◌}
+use mathlib.Core.Bool.{Bool}
+use mathlib.Core.List.{List}
+use Prim.Native.Nat.{ℕ, ◌≤◌}
 use native.Mathlib.Omega.{arith}
-use lib.ListN.{length-set}
-use Rattle.outlines.proofs.Flat.{laying_start, laying_turn, laying_end}
+use lib.ListN.{length, take}
+use Rattle.std.specs.declared.slice.Windows.{Windows}
+use Rattle.cutting.specs.Edges.{reversed_if}
+use Rattle.outlines.specs.Meets.{pair_of}
+use Rattle.outlines.proofs.Flat.{Laying, laying_start, laying_turn, laying_end}
 use Rattle.outlines.proofs.lay_along.Goals as goal
+use Rattle.outlines.proofs.lay_along.Goals.{then-inv, else-inv}
 
-pub loop-i-init : goal.loop-i-init
-loop-i-init c = laying_start _ _ _
+pub loop-pair-init : goal.loop-pair-init
+loop-pair-init c =
+    let a = c.args in
+    let i = c.into_iter-pair-iterator in
+    let w = c.windows-pair-items in
+    let size : i.result.size ≡ 2 = ap (λ (s : Windows ℕ). s.size) i.ensures.into_iter_gives ∙ w.ensures.size in
+    let rest : i.result.rest.now ≡ a.nodes.now = ap (λ (s : Windows ℕ). s.rest.now) i.ensures.into_iter_gives ∙ w.ensures.rest in (
+      omega arith,
+      tt,
+      size,
+      subst (λ (l : List ℕ). Laying a.inv a.nodes.now a.darts.now a.darts.now l 0) (sym rest) (laying_start a.inv a.nodes.now a.darts.now),
+    )
 
-pub bounds-darts-k-in-loop-i : goal.bounds-darts-k-in-loop-i
-bounds-darts-k-in-loop-i c =
-    let l = c.loop-i in
-    let p = c.requires in
-    let t = c.loop-i-test.true in
-    omega (arith, length-set l.darts l.k c.either-a.result, l.invariant.same, l.invariant.count, p, t)
-
-pub loop-i-preserved : goal.loop-i-preserved
-loop-i-preserved c =
-    let l = c.loop-i in
-    let p = c.requires in
-    let t = c.loop-i-test.true in
-    laying_turn _ _ _ _ _ _ l.invariant c.either-a.result c.either-b.result t (omega (arith, p, l.invariant.count, t)) c.either-a.ensures c.either-b.ensures
+pub loop-pair-preserved : goal.loop-pair-preserved
+loop-pair-preserved c =
+    let a = c.args in
+    let l = c.loop-pair in
+    let h = c.in-Some.ensures.steps in
+    let p = c.in-Some.pair.now in
+    let v = l.invariant.3 in
+    let long : 2 ≤ length l.pair-iterator.rest.now = omega (arith, h.1.0, l.invariant.2) in
+    let is : p ≡ take 2 l.pair-iterator.rest.now = h.1.1 ∙ ap (λ (n : ℕ). take n l.pair-iterator.rest.now) l.invariant.2 in
+    let dart : c.if-inv.a ≡ reversed_if a.inv (pair_of p) = elim c.if-inv.branch [
+      | then-inv w ↦ w.a-is ∙ sym (ap (λ (t : Bool). reversed_if t (pair_of p)) w.if-inv.true)
+      | else-inv w ↦ w.a-is ∙ sym (ap (λ (t : Bool). reversed_if t (pair_of p)) w.if-inv.false)
+    ] in (
+      omega (arith, h.0, l.invariant.2),
+      tt,
+      h.0 ∙ l.invariant.2,
+      laying_turn a.inv a.nodes.now a.darts.now l.darts l.pair-iterator.rest.now l.k v p c.next.new.self.rest.now c.if-inv.a long is h.1.2 dart
+          (omega (arith, v.count, v.low, long, c.requires)),
+    )
 
 pub returns : goal.returns
-returns c = laying_end _ _ _ _ _ _ c.loop-i.invariant c.loop-i-test.false
+returns c =
+    let a = c.args in
+    let l = c.loop-pair in
+    laying_end a.inv a.nodes.now a.darts.now l.darts l.pair-iterator.rest.now l.k l.invariant.3 (omega (arith, c.in-None.ensures.steps.1.0, l.invariant.2))

@@ -62,4 +62,4 @@ returns c =
     } in
     let a = c.run-a.result in
     done g.op g.m subject cutter lent (refused_with c.entry.result) c.entry.ensures.refusal (ap refused_with c.in_default.is) a.code a.pieces a.points
-    a.doubled left c.run-a.ensures c.zero_u32.new.s c.if-code-ne0.false c.zero_u32.ensures kept.work
+    a.doubled left c.run-a.ensures c.fill.new.self c.if-code-ne0.false (c.fill.ensures.after (λ _ h. h)) kept.work

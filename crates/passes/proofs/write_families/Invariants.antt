@@ -3,5 +3,5 @@ use Rattle.passes.specs.Tags.{family_by}
 use Rattle.passes.proofs.Written.{Written}
 use Rattle.passes.proofs.write_families.Given as goal
 
-abbrev pub invariant-loop-i : goal.invariant-loop-i
-invariant-loop-i l = Written (family_by l.sf l.cf) l.initial.tags l.initial.tags l.tags l.i
+abbrev pub invariant-loop-tag : goal.invariant-loop-tag
+invariant-loop-tag l = Written (family_by l.sf l.cf) l.initial.tags l.initial.tags l.tags l.tag-index

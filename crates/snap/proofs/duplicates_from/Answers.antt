@@ -58,7 +58,7 @@ returns c =
     let marks-last-by-mark-used = c.mark_used.new.marks in
     let marks-last-by-mark-used2 = c.mark_used-2.new.marks in
     let s-last-by-sorted-indices-for = c.sorted_indices_for-count.new.s in
-    let s-last-by-zero-u32 = c.zero_u32.new.s in
+    let s-last-by-fill = c.fill.new.self in
     let w-last = c.number_nodes.new.w in
     let n = length c.args.cc.now / 2 in
     let k = n + length c.args.sc.now / 2 - n in
@@ -67,4 +67,4 @@ returns c =
     s-last-by-sorted-indices-for c.sorted_indices_for-count.result c.mark_used.ensures c.mark_used-2.ensures
     c.sorted_indices_for-count.ensures.0
     c.sorted_indices_for-count.ensures.1 refl (omega arith)
-    w-last s-last-by-zero-u32 c.number_nodes.ensures c.zero_u32.ensures
+    w-last s-last-by-fill c.number_nodes.ensures (c.fill.ensures.after (λ _ h. h))

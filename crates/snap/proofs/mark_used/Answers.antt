@@ -8,18 +8,18 @@ use Rattle.snap.proofs.mark_used.Goals as goal
 
 pub loop-k-init : goal.loop-k-init
 loop-k-init c =
-    let z = c.zero_u32 in (omega arith, refl, mark_zero _ (length c.args.marks.now) z.new.s z.ensures)
+    let z = c.fill in (omega arith, refl, mark_zero _ (length c.args.marks.now) z.new.self (z.ensures.after (λ _ h. h)))
 
 pub bounds-marks-v : goal.bounds-marks-v
 bounds-marks-v c =
-    let s-kept = c.zero_u32.auto.s in
+    let s-kept = c.fill.auto.self in
     let l = c.loop-k in
     omega (arith, c.requires l.k c.loop-k-test.true, s-kept)
 
 pub loop-k-preserved : goal.loop-k-preserved
 loop-k-preserved c =
-    let s-last = c.zero_u32.new.s in
-    let s-kept = c.zero_u32.auto.s in
+    let s-last = c.fill.new.self in
+    let s-kept = c.fill.auto.self in
     let l = c.loop-k in
     let m₀ = s-last in
     let within : get_or c.args.nodes.now l.k 0 < length m₀ = omega (arith, c.requires l.k c.loop-k-test.true, s-kept) in
@@ -28,6 +28,6 @@ loop-k-preserved c =
 pub returns : goal.returns
 returns c =
     let l = c.loop-k in
-    let z = c.zero_u32 in
+    let z = c.fill in
     let nodes = c.args.nodes.now in
-    mark_end nodes (length z.new.s) l.marks l.k l.invariant.0 c.loop-k-test.false l.invariant.2 ∙ ap (used nodes) z.auto.s
+    mark_end nodes (length z.new.self) l.marks l.k l.invariant.0 c.loop-k-test.false l.invariant.2 ∙ ap (used nodes) z.auto.self

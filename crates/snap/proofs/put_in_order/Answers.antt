@@ -13,7 +13,7 @@ slice_bounds-place-end-2 c = sym (length-take-le _ _ (omega arith))
 
 pub returns : goal.returns
 returns c =
-    let ins = c.insert_at_u32 in
+    let ins = c.insert_at in
     let pl = c.place-p in
     put_in_lem c.args.coords.now c.args.marks.now c.args.block.now c.args.k c.args.i pl.result ins.new.xs
-    c.if-marks-i-eq0.false c.requires.0 pl.ensures.0 pl.ensures.1 ins.ensures.1
+    c.if-marks-i-eq0.false c.requires.0 pl.ensures.0 pl.ensures.1 ins.ensures.after

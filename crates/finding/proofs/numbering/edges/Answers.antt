@@ -7,7 +7,7 @@ pub compute_descending-subject-requires : goal.compute_descending-subject-requir
 compute_descending-subject-requires c =
     let w-kept-by-duplicates-from = c.duplicates_from.auto.w in
     let w-kept-by-renumber = c.renumber.auto.w in
-    let dst-kept = c.copy_u32.auto.dst in (
+    let dst-kept = c.copy_at.auto.dst in (
       omega arith,
       omega arith,
       omega (arith, c.requires.2, w-kept-by-duplicates-from, w-kept-by-renumber, dst-kept),
@@ -22,11 +22,11 @@ returns-then-lines c =
     let w-last-by-duplicates-from = c.duplicates_from.new.w in
     let w-last-by-renumber = c.renumber.new.w in
     let w-last-by-compute-descending = c.compute_descending-subject.new.w in
-    let dst-last = c.copy_u32.new.dst in
+    let dst-last = c.copy_at.new.dst in
     lines_end c.args.lines c.args.sc.now c.args.cc.now c.args.sn.now c.args.se.now
     c.args.cn.now c.args.ce.now c.requires.0 c.requires.1 c.args.w.now
     c.requires.2 w-last-by-duplicates-from w-last-by-renumber dst-last w-last-by-compute-descending c.compute_descending-subject.result
-    c.duplicates_from.ensures c.renumber.ensures c.copy_u32.ensures.1
+    c.duplicates_from.ensures c.renumber.ensures c.copy_at.ensures.after
     c.compute_descending-subject.ensures c.if-lines.true
 
 pub compute_descending-cutter-requires : goal.compute_descending-cutter-requires
@@ -34,7 +34,7 @@ compute_descending-cutter-requires c =
     let w-kept-by-duplicates-from = c.duplicates_from.auto.w in
     let w-kept-by-renumber = c.renumber.auto.w in
     let w-kept-by-compute-descending = c.compute_descending-subject.auto.w in
-    let dst-kept = c.copy_u32.auto.dst in (
+    let dst-kept = c.copy_at.auto.dst in (
       omega arith,
       omega arith,
       omega (arith, c.requires.2, w-kept-by-duplicates-from, w-kept-by-renumber, dst-kept, w-kept-by-compute-descending),
@@ -50,10 +50,10 @@ returns c =
     let w-last-by-renumber = c.renumber.new.w in
     let w-last-by-compute-descending = c.compute_descending-subject.new.w in
     let w-last-by-compute-descending2 = c.compute_descending-cutter.new.w in
-    let dst-last = c.copy_u32.new.dst in
+    let dst-last = c.copy_at.new.dst in
     cells_end_lem c.args.lines c.args.sc.now c.args.cc.now c.args.sn.now c.args.se.now
     c.args.cn.now c.args.ce.now c.requires.0 c.requires.1 c.args.w.now
     c.requires.2 w-last-by-duplicates-from w-last-by-renumber dst-last w-last-by-compute-descending c.compute_descending-subject.result
-    c.duplicates_from.ensures c.renumber.ensures c.copy_u32.ensures.1
+    c.duplicates_from.ensures c.renumber.ensures c.copy_at.ensures.after
     c.compute_descending-subject.ensures c.if-lines.false
     w-last-by-compute-descending2 c.compute_descending-cutter.result c.compute_descending-cutter.ensures

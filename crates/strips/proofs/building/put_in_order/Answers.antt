@@ -7,4 +7,4 @@ pub returns : goal.returns
 returns c =
     let a = c.args in
     inserted (is_before a.coords.now a.axis) a.w.now a.to a.i a.v c.place-p.result c.requires.1 _
-    c.place-p.ensures.0 _ c.insert_at_u32.ensures.1 refl
+    c.place-p.ensures.0 _ c.insert_at.ensures.after refl

@@ -21,14 +21,14 @@ pub returns-then-k-found : goal.returns-then-k-found
 returns-then-k-found c =
     let a = c.args in
     put_more a.found.now a.k c.rising_place-p.result a.v c.requires.0 c.rising_place-p.ensures.0
-    (sym c.stands_at.ensures ∙ c.if-stands_at.false) c.if-k-found.true _ c.insert_at_u32.ensures.1
+    (sym c.stands_at.ensures ∙ c.if-stands_at.false) c.if-k-found.true _ c.insert_at.ensures.after
 
 pub returns-then-p-k : goal.returns-then-p-k
 returns-then-p-k c =
     let a = c.args in
     put_full a.found.now a.k c.rising_place-p.result a.v c.requires.0 c.rising_place-p.ensures.0
     (sym c.stands_at.ensures ∙ c.if-stands_at.false) (omega (arith, c.if-k-found.false)) c.if-p-k.true _
-    c.insert_at_u32-then-p-k.ensures.1
+    c.insert_at-then-p-k.ensures.after
 
 pub returns : goal.returns
 returns c =
