@@ -6,7 +6,7 @@ ghost use Rattle.exact.specs.Inner.{signed_size};
 
 use crate::cross::cross_sign;
 use crate::parts::{Parts, take_apart};
-use plane::{Point, between};
+use plane::Point;
 use std::cmp::Ordering;
 
 // The part of the plane that a direction points into, by falling angle.
@@ -48,5 +48,5 @@ pub fn compare_around(p: Point, a: Point, b: Point) -> Ordering
     ensures value { result ≡ around p.x p.y a.x a.y b.x b.y }
     ensures number { sign_number result ≡ around_number p.x p.y a.x a.y b.x b.y }
 {
-    compare_angles(between(p, a), between(p, b))
+    compare_angles(a - p, b - p)
 }

@@ -48,14 +48,14 @@ fn clamped(t: f64) -> f64
     t
 }
 
+#[tactic(auto, unfolding(crate::specs::Inside::ortho_dist2))]
 fn ortho_dist2(p: Point, a: Point, b: Point) -> Reached
     ensures { result ≡ ortho_dist2 p a b }
 {
-    let ab = plane::between(a, b);
-    let ap = plane::between(a, p);
-    let t = clamped(plane::dot(ab, ap) / plane::dot(ab, ab));
-    let v = plane::between(p, plane::along(a, t, ab));
-    let d = plane::dot(v, v);
+    let ab = b - a;
+    let t = clamped(ab.dot(p - a) / ab.dot(ab));
+    let v = a.along(t, ab) - p;
+    let d = v.dot(v);
     Reached { t, d }
 }
 

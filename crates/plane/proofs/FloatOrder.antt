@@ -2,15 +2,18 @@
 -- that order, and two numbers are below, level or above. So all but NaN are ordered by `lt`, with -0 and +0 level. Assumes nothing.
 use mathlib.Core.Path.{◌≡◌, refl, sym, ◌∙◌}
 use mathlib.Core.Logic.{inl, inr}
-use mathlib.Core.Bool.{Bool, true, false, not, ◌&&◌, true≢false}
+use mathlib.Core.Bool.{Bool, true, false, cond, not, ◌&&◌, ◌||◌, true≢false}
 use Prim.Native.Nat.{ℕ, ◌+◌, ◌*◌, ◌<◌, ◌≤◌, zero-le}
 use native.Mathlib.Nat.{eq-zero-or-pos, mul-pos, zero-mul}
 use native.Mathlib.Omega.{arith}
 use lib.Dec.{ltb, eqb}
-use lib.Ieee.{Float, nan, inf, fin, up, down, below, level, lt, eq}
+use lib.Ieee.{Float, nan, inf, fin, up, down, below, level, is_nan, lt, le, eq}
 use lib.Ieee.Fits.{down_pos}
 use lib.Ieee.Positive.{through}
 use borrow.Author.Tests.{ltb-true, ltb-false, lt-ltb, le-ltb, eq-eqb, eqb-true}
+use Rattle.std.specs.declared.option.Option.TheVariants.{Some, None}
+use Rattle.std.specs.declared.cmp.Ordering.TheVariants.{Less, Equal, Greater}
+use Rattle.std.specs.Ordering.{float_partial_cmp, partial_le, is_some_and, is_le}
 
 -- ---- two fractions
 
@@ -147,6 +150,24 @@ lt_irrefl x = go (lt x x) refl
     go : (b : Bool) → lt x x ≡ b → lt x x ≡ false
     go true e = lt_asym x x e
     go false e = e
+
+-- the library's words for a number, and for `<=` by its order of floats
+pub number_not_nan : (x : Float) → not (is_nan x) ≡ eq x x
+unfolding is_nan eq
+number_not_nan nan = refl
+number_not_nan (inf false) = refl
+number_not_nan (inf true) = refl
+number_not_nan (fin s m e) = sym (level_self s (m * up e * down e))
+
+pub partial_le_floats : (x y : Float) → partial_le float_partial_cmp x y ≡ le x y
+unfolding le
+partial_le_floats x y = go (lt x y) (eq x y) (lt y x)
+  where
+    go : (a b c : Bool) → is_some_and is_le (cond a (Some Less) (cond b (Some Equal) (cond c (Some Greater) None))) ≡ a || b
+    go true b c = refl
+    go false true c = refl
+    go false false true = refl
+    go false false false = refl
 
 -- ---- level ones
 

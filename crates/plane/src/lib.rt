@@ -4,40 +4,60 @@
 
 ghost use Rattle.std.specs.Prelude.{◌≡◌, get_or};
 ghost use Rattle.std.specs.Float.{nan};
-ghost use Rattle.plane.specs.Plane.{between, dot, along, magnitude, point_at};
+ghost use Rattle.plane.specs.Plane.{between, dot, cross, along, magnitude, point_at};
 
-#[derive(Clone, Copy)]
+use std::ops::Sub;
+
+#[derive(Clone, Copy, Debug, PartialEq)]
 pub struct Point {
     pub x: f64,
     pub y: f64,
 }
 
-// From p to q.
-pub fn between(p: Point, q: Point) -> Point
-    ensures { result ≡ between p q }
-{
-    Point {
-        x: q.x - p.x,
-        y: q.y - p.y,
+impl Sub for Point {
+    type Output = Point;
+
+    ghost sub_gives = { λ q p step. step ≡ between p q };
+
+    // The step from `start`.
+    #[tactic(auto, unfolding(crate::specs::Plane::between))]
+    fn sub(self, start: Point) -> Point
+        ensures { result ≡ between start self }
+    {
+        Point {
+            x: self.x - start.x,
+            y: self.y - start.y,
+        }
     }
 }
 
-pub fn dot(v: Point, w: Point) -> f64
-    ensures { result ≡ dot v w }
-{
-    v.x * w.x + v.y * w.y
-}
+impl Point {
+    pub fn dot(self, other: Point) -> f64
+        ensures { result ≡ dot self other }
+    {
+        self.x * other.x + self.y * other.y
+    }
 
-// p + t v.
-pub fn along(p: Point, t: f64, v: Point) -> Point
-    ensures { result ≡ along p t v }
-{
-    Point {
-        x: p.x + t * v.x,
-        y: p.y + t * v.y,
+    pub fn cross(self, other: Point) -> f64
+        ensures { result ≡ cross self other }
+    {
+        self.x * other.y - self.y * other.x
+    }
+
+    // t steps on from here.
+    #[tactic(auto, unfolding(crate::specs::Plane::along))]
+    pub fn along(self, t: f64, step: Point) -> Point
+        ensures { result ≡ along self t step }
+    {
+        Point {
+            x: self.x + t * step.x,
+            y: self.y + t * step.y,
+        }
     }
 }
 
+// Not `abs`, which makes +0 of −0: the definition keeps the sign of a zero.
+#[tactic(auto, unfolding(crate::specs::Plane::magnitude))]
 pub fn magnitude(x: f64) -> f64
     ensures { result ≡ magnitude x }
 {
@@ -48,17 +68,16 @@ pub fn magnitude(x: f64) -> f64
 fn coordinate(coords: &[f64], i: usize) -> f64
     ensures { result ≡ get_or coords.now i nan }
 {
-    if i < coords.len() {
-        return coords[i];
-    }
-    0.0 / 0.0
+    coords.get(i).copied().unwrap_or(f64::NAN)
 }
 
+#[tactic(auto, unfolding(crate::specs::Plane::point_at))]
 pub fn point_at(coords: &[f64], n: u32) -> Point
     ensures { result ≡ point_at coords.now n }
 {
     let i = 2 * (n as usize);
-    let x = coordinate(coords, i);
-    let y = coordinate(coords, i + 1);
-    Point { x, y }
+    Point {
+        x: coordinate(coords, i),
+        y: coordinate(coords, i + 1),
+    }
 }

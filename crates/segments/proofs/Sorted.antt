@@ -6,6 +6,9 @@ use mathlib.Core.List.{List, [], ◌∷◌}
 use Prim.Native.Nat.{ℕ, ◌<◌}
 use lib.Dec.{T, eqb, lit<}
 use lib.Ieee.{Float, lt}
+use lib.ListN.{length}
+use native.Mathlib.Omega.{arith}
+use Rattle.std.specs.List.{list_all}
 use Rattle.lists.specs.Gather.{tally}
 use Rattle.lists.specs.Sort.{insert, sort_onto}
 use Rattle.lists.proofs.Sort.{sorted_tally}
@@ -234,6 +237,23 @@ module _ (ts : List Float) where
     pub exchanges : sweep (0 ∷ 1 ∷ 0 ∷ 2 ∷ 1 ∷ 0 ∷ []) (values P1 P2 P3 P4) (ends P1 P2 P3 P4) ≡ in_order ts
     unfolding in_order sort_onto insert
     exchanges = through ∙ sym (ap (insert lower P4) first_three ∙ all_four)
+
+-- of four, each is a number where each is, one after the other
+pub orderable_all : (ts : List Float) → length ts ≡ 4 → list_all is_number ts ≡ orderable ts
+orderable_all (a ∷ b ∷ c ∷ d ∷ []) h =
+    go (is_number a) (is_number b) (is_number c) (is_number d)
+  where
+    go : (p q r s : Bool) → (p && (q && (r && (s && true)))) ≡ p && q && r && s
+    go false q r s = refl
+    go true false r s = refl
+    go true true false s = refl
+    go true true true false = refl
+    go true true true true = refl
+orderable_all [] h = absurd (omega arith)
+orderable_all (a ∷ []) h = absurd (omega arith)
+orderable_all (a ∷ b ∷ []) h = absurd (omega arith)
+orderable_all (a ∷ b ∷ c ∷ []) h = absurd (omega arith)
+orderable_all (a ∷ b ∷ c ∷ d ∷ e ∷ ts) h = absurd (omega arith)
 
 swept_four : (a b c d : Float) → orderable (a ∷ b ∷ c ∷ d ∷ []) ≡ true → swept (a ∷ b ∷ c ∷ d ∷ []) ≡ in_order (a ∷ b ∷ c ∷ d ∷ [])
 unfolding swept

@@ -2,30 +2,42 @@
 #![tactic(auto)]
 
 ghost use Rattle.std.specs.Prelude.{◌≡◌, ◌<◌};
-ghost use Rattle.plane.specs.Plane.{cross, larger, scale, tolerance, in_unit};
-ghost use Rattle.segments.specs.Colinear.{spread, parameters, orderable, is_first, is_second, first_then_second, of_order, colinear};
+ghost use Rattle.plane.specs.Plane.{is_number, larger, scale, tolerance, in_unit};
+ghost use Rattle.segments.specs.Code.{id_code};
+ghost use Rattle.segments.specs.Colinear.{spread, parameters, orderable, of_order, colinear};
 ghost use Rattle.segments.specs.Meet.{near, settled, crossing, meeting};
 ghost use Rattle.segments.specs.Scans.{exchanged, exchanged_ids, swept};
 
-use plane::{Point, along, between, dot, magnitude};
+use plane::{Point, magnitude};
 
-#[derive(Clone, Copy)]
+#[derive(Clone, Copy, Debug, PartialEq)]
 pub struct Segment {
     pub a: Point,
     pub b: Point,
 }
 
 // The ends of the first segment, then those of the second.
-#[derive(Clone, Copy)]
+#[derive(Clone, Copy, Debug, PartialEq, Eq)]
 pub enum PointId {
-    P1,
+    P1 = 1,
     P2,
     P3,
     P4,
 }
 
+// Document 01's number of an end.
+impl From<PointId> for u8 {
+    ghost from_gives = { λ id n. n ≡ id_code id };
+
+    fn from(id: PointId) -> u8
+        ensures { result ≡ id_code id }
+    {
+        id as u8
+    }
+}
+
 // No meeting; at one of the four ends; at a new point; all along between two of the ends.
-#[derive(Clone, Copy)]
+#[derive(Clone, Copy, Debug, PartialEq)]
 pub enum Meeting {
     Apart,
     Existing(PointId),
@@ -33,20 +45,17 @@ pub enum Meeting {
     Overlap(PointId, PointId),
 }
 
-// ---- The plane
+// ---- Sizes
 
-fn cross(v: Point, w: Point) -> f64
-    ensures { result ≡ cross v w }
-{
-    v.x * w.y - v.y * w.x
-}
-
+// Not `max`, which takes the other one where one is no number.
+#[tactic(auto, unfolding(plane::specs::Plane::larger))]
 fn larger(x: f64, y: f64) -> f64
     ensures { result ≡ larger x y }
 {
     if x < y { y } else { x }
 }
 
+#[tactic(auto, unfolding(plane::specs::Plane::scale))]
 fn scale(v: Point, w: Point) -> f64
     ensures { result ≡ scale v w }
 {
@@ -56,17 +65,18 @@ fn scale(v: Point, w: Point) -> f64
     )
 }
 
+#[tactic(auto, unfolding(plane::specs::Plane::tolerance))]
 fn tolerance(v: Point, w: Point) -> f64
     ensures { result ≡ tolerance v w }
 {
     let s = scale(v, w);
-    64.0 * (s * s) * 0.0000000000000002220446049250313080847263336181640625
+    64.0 * (s * s) * f64::EPSILON
 }
 
 fn in_unit(t: f64) -> bool
     ensures { result ≡ in_unit t }
 {
-    (0.0 <= t) & (t <= 1.0)
+    (0.0..=1.0).contains(&t)
 }
 
 // ---- The four ends along one line
@@ -76,13 +86,14 @@ fn spread(p: f64, q: f64, r: f64, s: f64) -> [f64; 4]
 {
     let m = (p + q + r + s) / 4.0;
     let d = q - p;
-    [(p - m) / d, (q - m) / d, (r - m) / d, (s - m) / d]
+    [p, q, r, s].map(|x| (x - m) / d)
 }
 
+#[tactic(auto, unfolding(crate::specs::Colinear::parameters))]
 fn parameters(s: Segment, o: Segment) -> [f64; 4]
     ensures { result ≡ parameters s o }
 {
-    let v = between(s.a, s.b);
+    let v = s.b - s.a;
     if magnitude(v.y) < magnitude(v.x) {
         spread(s.a.x, s.b.x, o.a.x, o.b.x)
     } else {
@@ -90,49 +101,39 @@ fn parameters(s: Segment, o: Segment) -> [f64; 4]
     }
 }
 
+#[tactic(auto, using(plane::proofs::FloatOrder::number_not_nan))]
+fn is_number(t: f64) -> bool
+    ensures { result ≡ is_number t }
+{
+    !t.is_nan()
+}
+
 fn orderable(ts: [f64; 4]) -> bool
     ensures { result ≡ orderable ts }
 {
-    let a = ts[0];
-    let b = ts[1];
-    let c = ts[2];
-    let d = ts[3];
-    (a == a) & (b == b) & (c == c) & (d == d)
+    ts.iter().all(|t| is_number(*t))
 }
 
-// The parameters at i and i + 1, exchanged where the second is the lower one.
-fn exchanged(ts: [f64; 4], i: usize) -> [f64; 4]
-    requires { i < 3 }
-    ensures { result ≡ exchanged ts i }
-{
-    let j = i + 1;
-    let x = ts[i];
-    let y = ts[j];
-    let mut r = ts;
-    if y < x {
-        r[i] = y;
-        r[j] = x;
-        r
-    } else {
-        r
-    }
+// The four ends, and beside each its parameter.
+#[derive(Clone, Copy)]
+struct Ends {
+    ts: [f64; 4],
+    ids: [PointId; 4],
 }
 
-// Their ids, exchanged where the parameters are.
-fn exchanged_ids(ts: [f64; 4], ids: [PointId; 4], i: usize) -> [PointId; 4]
-    requires { i < 3 }
-    ensures { result ≡ exchanged_ids ts ids i }
-{
-    let j = i + 1;
-    let p = ids[i];
-    let q = ids[j];
-    let mut r = ids;
-    if ts[j] < ts[i] {
-        r[i] = q;
-        r[j] = p;
-        r
-    } else {
-        r
+impl Ends {
+    // Those at i and i + 1 exchanged where the second has the lower parameter.
+    #[tactic(auto, unfolding(crate::specs::Scans::exchanged, crate::specs::Scans::exchanged_ids))]
+    fn exchanged(mut self, i: usize) -> Ends
+        requires { i < 3 }
+        ensures parameters { result.ts ≡ exchanged self.ts i }
+        ensures ids { result.ids ≡ exchanged_ids self.ts self.ids i }
+    {
+        if self.ts[i + 1] < self.ts[i] {
+            self.ts.swap(i, i + 1);
+            self.ids.swap(i, i + 1);
+        }
+        self
     }
 }
 
@@ -140,63 +141,28 @@ fn exchanged_ids(ts: [f64; 4], ids: [PointId; 4], i: usize) -> [PointId; 4]
 fn in_order(ts: [f64; 4]) -> [PointId; 4]
     ensures { result ≡ swept ts }
 {
-    let i0 = [PointId::P1, PointId::P2, PointId::P3, PointId::P4];
-    let i1 = exchanged_ids(ts, i0, 0);
-    let t1 = exchanged(ts, 0);
-    let i2 = exchanged_ids(t1, i1, 1);
-    let t2 = exchanged(t1, 1);
-    let i3 = exchanged_ids(t2, i2, 0);
-    let t3 = exchanged(t2, 0);
-    let i4 = exchanged_ids(t3, i3, 2);
-    let t4 = exchanged(t3, 2);
-    let i5 = exchanged_ids(t4, i4, 1);
-    let t5 = exchanged(t4, 1);
-    exchanged_ids(t5, i5, 0)
-}
-
-fn is_first(p: PointId) -> bool
-    ensures { result ≡ is_first p }
-{
-    match p {
-        PointId::P1 => true,
-        PointId::P2 => false,
-        PointId::P3 => false,
-        PointId::P4 => false,
+    let mut ends = Ends {
+        ts,
+        ids: [PointId::P1, PointId::P2, PointId::P3, PointId::P4],
+    };
+    for i in [0, 1, 0, 2, 1, 0] {
+        ends = ends.exchanged(i);
     }
+    ends.ids
 }
 
-fn is_second(p: PointId) -> bool
-    ensures { result ≡ is_second p }
-{
-    match p {
-        PointId::P1 => false,
-        PointId::P2 => true,
-        PointId::P3 => false,
-        PointId::P4 => false,
-    }
-}
-
-// Whether p is P1 and q is P2.
-fn leads(p: PointId, q: PointId) -> bool
-    ensures { result ≡ first_then_second p q }
-{
-    is_first(p) & is_second(q)
-}
-
+#[tactic(auto, unfolding(crate::specs::Colinear::of_order, crate::specs::Colinear::first_then_second))]
 fn of_order(ids: [PointId; 4]) -> Meeting
     ensures { result ≡ of_order ids }
 {
-    let p = ids[0];
-    let q = ids[1];
-    let r = ids[2];
-    let s = ids[3];
-    if leads(p, q) | leads(r, s) {
-        return Meeting::Apart;
-    }
-    if leads(p, r) | leads(p, s) | leads(q, s) | leads(q, r) {
-        Meeting::Overlap(q, r)
-    } else {
-        Meeting::Apart
+    use PointId::{P1, P2};
+    match ids {
+        [P1, P2, _, _] | [_, _, P1, P2] => Meeting::Apart,
+        [P1, a, P2, _] => Meeting::Overlap(a, P2),
+        [P1, a, b, P2] => Meeting::Overlap(a, b),
+        [_, P1, a, P2] => Meeting::Overlap(P1, a),
+        [_, P1, P2, _] => Meeting::Overlap(P1, P2),
+        _ => Meeting::Apart,
     }
 }
 
@@ -213,57 +179,59 @@ fn colinear(s: Segment, o: Segment) -> Meeting
 
 // ---- The meeting
 
+#[tactic(auto, unfolding(crate::specs::Meet::near))]
 fn near(p: Point, q: Point, eps: f64) -> bool
     ensures { result ≡ near p q eps }
 {
-    let v = between(q, p);
-    dot(v, v) < eps
+    let v = p - q;
+    v.dot(v) < eps
 }
 
+// The first end that is near the point, else the point.
+#[tactic(auto, unfolding(crate::specs::Meet::settled))]
 fn settled(s: Segment, o: Segment, p: Point, eps: f64) -> Meeting
     ensures { result ≡ settled s o p eps }
 {
     if near(s.a, p, eps) {
-        return Meeting::Existing(PointId::P1);
+        Meeting::Existing(PointId::P1)
+    } else if near(s.b, p, eps) {
+        Meeting::Existing(PointId::P2)
+    } else if near(o.a, p, eps) {
+        Meeting::Existing(PointId::P3)
+    } else if near(o.b, p, eps) {
+        Meeting::Existing(PointId::P4)
+    } else {
+        Meeting::New(p.x, p.y)
     }
-    if near(s.b, p, eps) {
-        return Meeting::Existing(PointId::P2);
-    }
-    if near(o.a, p, eps) {
-        return Meeting::Existing(PointId::P3);
-    }
-    if near(o.b, p, eps) {
-        return Meeting::Existing(PointId::P4);
-    }
-    Meeting::New(p.x, p.y)
 }
 
+#[tactic(auto, unfolding(crate::specs::Meet::crossing))]
 fn crossing(s: Segment, o: Segment, v1: Point, v2: Point, v3: Point, eps: f64) -> Meeting
     ensures { result ≡ crossing s o v1 v2 v3 eps }
 {
-    let d = cross(v1, v2);
-    let t = cross(v3, v2) / d;
-    let u = cross(v3, v1) / d;
-    if in_unit(t) & in_unit(u) {
-        settled(s, o, along(s.a, t, v1), eps)
+    let d = v1.cross(v2);
+    let t = v3.cross(v2) / d;
+    let u = v3.cross(v1) / d;
+    if in_unit(t) && in_unit(u) {
+        settled(s, o, s.a.along(t, v1), eps)
     } else {
         Meeting::Apart
     }
 }
 
 impl Segment {
+    #[tactic(auto, unfolding(crate::specs::Meet::meeting))]
     pub fn intersect(self, other: Segment) -> Meeting
         ensures { result ≡ meeting self other }
     {
-        let v1 = between(self.a, self.b);
-        let v2 = between(other.a, other.b);
-        let v3 = between(self.a, other.a);
+        let v1 = self.b - self.a;
+        let v2 = other.b - other.a;
+        let v3 = other.a - self.a;
         let eps = tolerance(v1, v2);
-        if (dot(v2, v2) < eps) | (dot(v1, v1) < eps) {
-            return Meeting::Apart;
-        }
-        if magnitude(cross(v1, v2)) < eps {
-            if eps < magnitude(cross(v3, v1)) {
+        if v2.dot(v2) < eps || v1.dot(v1) < eps {
+            Meeting::Apart
+        } else if magnitude(v1.cross(v2)) < eps {
+            if eps < magnitude(v3.cross(v1)) {
                 Meeting::Apart
             } else {
                 colinear(self, other)

@@ -1,9 +1,8 @@
 -- `plane::coordinate` meets its contract. Assumes nothing.
-use mathlib.Core.Path.{sym}
-use lib.Ieee.{nan, div, of_bits}
-use Rattle.plane.proofs.Laws.{get_or_over}
+use Rattle.std.proofs.Common.{arith}
+use lib.Ieee.{nan, of_bits}
 use Rattle.plane.proofs.coordinate.Goals as goal
 
 pub returns : goal.returns
-unfolding div of_bits
-returns c = sym (get_or_over c.args.coords.now c.args.i nan c.if-i-coords.false)
+unfolding of_bits
+returns c = rw (c.unwrap_or.ensures, c.copied.ensures) (c.get.ensures.lookup.4 (omega arith) nan)

@@ -1,21 +1,13 @@
--- `segments::in_order` meets its contract: each answer is what the tests that led there pick.
--- Assumes nothing.
+-- `segments::in_order` meets its contract: each turn takes the first exchange of those that are left. Assumes nothing.
+use Rattle.std.proofs.Common.{[], ◌∷◌, refl, arith, ℕ, drop-cons, add-one}
 use Rattle.segments.specs.Scans.{swept}
 use Rattle.segments.proofs.in_order.Goals as goal
 
-pub returns : goal.returns
+pub loop-i-init : goal.loop-i-init
 unfolding swept
-returns c =
-    simp (
-      c.exchanged_ids.ensures,
-      ← c.exchanged-t5.ensures,
-      ← c.exchanged_ids-i5.ensures,
-      ← c.exchanged-t4.ensures,
-      ← c.exchanged_ids-i4.ensures,
-      ← c.exchanged-t3.ensures,
-      ← c.exchanged_ids-i3.ensures,
-      ← c.exchanged-t2.ensures,
-      ← c.exchanged_ids-i2.ensures,
-      ← c.exchanged-t1.ensures,
-      ← c.exchanged_ids-i1.ensures,
-    )
+loop-i-init c = refl
+
+pub loop-i-preserved : goal.loop-i-preserved
+loop-i-preserved c =
+    let d = drop-cons {A = ℕ} (0 ∷ 1 ∷ 0 ∷ 2 ∷ 1 ∷ 0 ∷ []) c.loop-i.i-index 0 (omega arith) in
+    rw (c.exchanged-ends.ensures.parameters, c.exchanged-ends.ensures.ids, add-one) (rw d at c.loop-i.invariant)
