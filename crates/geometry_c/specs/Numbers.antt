@@ -3,9 +3,9 @@ use Rattle.std.specs.Prelude.{List, cond, ℕ, ◌+◌, ◌*◌, ltb, Float, len
 use Rattle.std.specs.declared.cmp.Ordering.{Ordering}
 use Rattle.std.specs.declared.cmp.Ordering.TheVariants.{Less, Equal, Greater}
 use Rattle.plane.specs.declared.Point.{Point}
+use Rattle.segments.specs.Code.{id_code}
 use Rattle.segments.specs.declared.Segment.{Segment}
 use Rattle.segments.specs.declared.PointId.{PointId}
-use Rattle.segments.specs.declared.PointId.TheVariants.{P1, P2, P3, P4}
 use Rattle.segments.specs.declared.Meeting.{Meeting}
 use Rattle.segments.specs.declared.Meeting.TheVariants.{Apart, Existing, New, Overlap}
 use Rattle.polygons.specs.declared.Inner.{Inner}
@@ -18,10 +18,7 @@ side_number Equal = 1
 side_number Greater = 2
 
 abbrev pub id_number : PointId → ℕ
-id_number P1 = 1
-id_number P2 = 2
-id_number P3 = 3
-id_number P4 = 4
+id_number = id_code
 
 -- 0 none, 1 to 4 one of P1 to P4, 5 a new point, 10 p + q two of P1 to P4
 abbrev pub meet_number : Meeting → ℕ

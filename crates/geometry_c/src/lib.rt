@@ -7,11 +7,11 @@ ghost use Rattle.segments.specs.Meet.{meeting};
 ghost use Rattle.corners.specs.Corners.{oriented, turned};
 ghost use Rattle.insides.specs.Inside.{contains_stable};
 ghost use Rattle.polygons.specs.Interior.{strict_interior_point};
-ghost use Rattle.geometry_c.specs.Numbers.{side_number, id_number, meet_number, new_point, meet_point, inner_number, inner_point, point_of, segment_from};
+ghost use Rattle.geometry_c.specs.Numbers.{side_number, meet_number, new_point, meet_point, inner_number, inner_point, point_of, segment_from};
 
 use plane::Point;
 use polygons::Inner;
-use segments::{Meeting, PointId, Segment};
+use segments::{Meeting, Segment};
 use std::cmp::Ordering;
 
 fn point_of(x: f64, y: f64) -> Point
@@ -45,27 +45,15 @@ pub extern "C" fn geometry_angles(x: f64, y: f64, u: f64, v: f64) -> u8
     side_number(exact::compare_angles(point_of(x, y), point_of(u, v)))
 }
 
-fn id_number(p: PointId) -> u8
-    ensures value { result ≡ id_number p }
-    ensures upper_bound { result ≤ 4 }
-{
-    match p {
-        PointId::P1 => 1,
-        PointId::P2 => 2,
-        PointId::P3 => 3,
-        PointId::P4 => 4,
-    }
-}
-
 // 0 none, 1 to 4 an end, 5 a new point, 10 p + q two ends.
 fn meet_number(m: Meeting) -> u8
     ensures { result ≡ meet_number m }
 {
     match m {
         Meeting::Apart => 0,
-        Meeting::Existing(p) => id_number(p),
-        Meeting::New(x, y) => 5,
-        Meeting::Overlap(p, q) => 10 * id_number(p) + id_number(q),
+        Meeting::Existing(p) => u8::from(p),
+        Meeting::New(_, _) => 5,
+        Meeting::Overlap(p, q) => 10 * u8::from(p) + u8::from(q),
     }
 }
 
@@ -83,20 +71,8 @@ fn put(point: &mut [f64], x: f64, y: f64)
 fn put_meeting(m: Meeting, point: &mut [f64])
     ensures { point.new ≡ meet_point m point.old }
 {
-    match m {
-        Meeting::Apart => {
-            return;
-        }
-        Meeting::Existing(p) => {
-            return;
-        }
-        Meeting::New(x, y) => {
-            put(point, x, y);
-            return;
-        }
-        Meeting::Overlap(p, q) => {
-            return;
-        }
+    if let Meeting::New(x, y) = m {
+        put(point, x, y);
     }
 }
 
@@ -126,9 +102,7 @@ pub extern "C" fn geometry_meet(
     ensures value { result ≡ meet_number (meeting (segment_from x1 y1 x2 y2) (segment_from x3 y3 x4 y4)) }
     ensures point_after { point.new ≡ meet_point (meeting (segment_from x1 y1 x2 y2) (segment_from x3 y3 x4 y4)) point.old }
 {
-    let s = segment_of(x1, y1, x2, y2);
-    let o = segment_of(x3, y3, x4, y4);
-    let m = s.intersect(o);
+    let m = segment_of(x1, y1, x2, y2).intersect(segment_of(x3, y3, x4, y4));
     put_meeting(m, point);
     meet_number(m)
 }
