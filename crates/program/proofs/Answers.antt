@@ -2,31 +2,29 @@
 use mathlib.Core.Path.{◌≡◌, refl, ap, subst, ◌∙◌}
 use mathlib.Core.Bool.{Bool, true, false, cond}
 use mathlib.Core.List.{List, [], ◌++◌}
-use Prim.Native.Nat.{ℕ, ◌+◌, ◌*◌, ◌/◌, ◌≤◌}
+use Prim.Native.Nat.{ℕ, ◌+◌, ◌≤◌}
 use native.Mathlib.Omega.{arith}
 use lib.Dec.{eqb}
 use lib.ListN.{length, take, length-append}
-use lib.Seq.{length-take-le}
 use lib.Ieee.{Float}
 use borrow.Author.Tests.{eq-eqb, ne_eqb}
 use Rattle.lists.specs.Regions.{zeros, fzeros}
 use Rattle.cutting.specs.Setting.{ours}
-use Rattle.entry.specs.Mesh.{Mesh}
+use Rattle.entry.specs.Mesh.{Mesh, mesh, node_count}
 use Rattle.rules.specs.Meetings.{added_by, scene_of}
 use Rattle.rules.specs.Overlay.{Lists, Result, lent_lists, result_of, answered as succeeded, answered_with, overlay_of}
 use Rattle.rules.proofs.Endings.{Ending, input, state_met, success, ending, input_refused, state_refused, succeeds}
 use Rattle.rules.proofs.Lengths.{accepted_fits}
 use Rattle.text.specs.Text.{Answer, answer_text}
 use Rattle.text.specs.Read.{input_from}
-use Rattle.text.specs.Given.{Given, Parsed, none, got, limits}
+use Rattle.text.specs.Given.{Given, Parsed, ReadMesh, Limits, limits}
+use Rattle.std.specs.Prelude.{None, Some}
 use Rattle.printing.specs.Page.{Place, Prints}
 use Rattle.printing.specs.Told.{told}
 use Rattle.printing.specs.declared.Listing.{Listing}
 use Rattle.printing.specs.declared.Answer.{Answer as Printed}
 use Rattle.printing.specs.declared.Answer.TheVariants as printed
-use Rattle.reading.specs.declared.Counts.{Counts}
-use Rattle.reading.specs.Seen.{mesh_seen}
-use Rattle.program.specs.Answered.{read_limits, lent, blank, result_told, answer_given, answer_to}
+use Rattle.program.specs.Answered.{read_limits, lent, blank, result_told, overlay_told, answer_given, answer_to}
 use Rattle.program.specs.Printed.{printed_of}
 
 -- ---- what is printed
@@ -84,44 +82,43 @@ module _ (op m : ℕ) (s c : Mesh) where
     pub nodes_fit_lem : n ≤ 1024 → n + q ≤ 4294967295
     nodes_fit_lem h = omega (arith, h, points_few, ap (λ (r : Result). r.points) same)
 
-    pub cut_printed : (g : Printed) (v : Listing) (r : Place) (o u : List ℕ) → g ≡ printed_of n code p q d → shown v l.work ≡ l → Prints r o u (answer_text (told g v))
-        → Prints r o u (answer_text (result_told n (overlay_of op m s c blank)))
-    unfolding blank
-    cut_printed g v r o u e f h =
-        let text : told g v ≡ result_told n (overlay_of op m s c lists) =
-        ap (λ x. told x v) e ∙ printed_told n code p q d v l.work ∙ ap (λ x. result_told n (result_of code p q d x)) f ∙ ap (result_told n) same in
+    pub cut_printed : (g : Printed) (v : Listing) (r : Place) (o u : List ℕ) → n ≡ node_count s + node_count c → g ≡ printed_of n code p q d → shown v l.work ≡ l
+        → Prints r o u (answer_text (told g v)) → Prints r o u (answer_text (overlay_told op m s c))
+    unfolding blank overlay_told
+    cut_printed g v r o u z e f h =
+        let text : told g v ≡ result_told (node_count s + node_count c) (overlay_of op m s c lists) =
+        ap (λ x. told x v) e ∙ printed_told n code p q d v l.work ∙ ap (λ x. result_told n (result_of code p q d x)) f ∙ ap (result_told n) same
+        ∙ ap (λ k. result_told k (overlay_of op m s c lists)) z in
         rw text at h
 
 -- ---- what was read
 
-most_read : limits (length (fzeros 1024)) (length (zeros 2048)) (length (zeros 512)) (length (zeros 512)) (length (zeros 512)) ≡ read_limits
-unfolding limits
-most_read = refl
+pub same_front : {cs cs' : List Float} {ns ns' es es' ks ks' fs fs' : List ℕ} (p n k : ℕ) → cs ≡ cs' → ns ≡ ns' → es ≡ es' → ks ≡ ks' → fs ≡ fs'
+    → mesh (take p cs) (take n ns) (take k es) (take k ks) (take k fs) ≡ mesh (take p cs') (take n ns') (take k es') (take k ks') (take k fs')
+same_front p n k a b d e f = rw (a, b, d, e, f)
 
 module _ (s : List ℕ) where
-  abbrev read_of : Parsed Given
-  read_of =
-      input_from (limits (length (fzeros 1024)) (length (zeros 2048)) (length (zeros 512)) (length (zeros 512)) (length (zeros 512)))
-      (limits (length (fzeros 1024)) (length (zeros 2048)) (length (zeros 512)) (length (zeros 512)) (length (zeros 512))) s
+  abbrev whole : Limits
+  whole = limits (length (fzeros 1024)) (length (zeros 2048)) (length (zeros 512)) (length (zeros 512)) (length (zeros 512))
 
-  answer_read : (g : Parsed Given) → g ≡ read_of → answer_text (answer_given g) ≡ answer_to s
+  most_read : whole ≡ read_limits
+  unfolding limits
+  most_read = refl
+
+  answer_read : (g : Parsed Given) → g ≡ input_from whole whole s → answer_text (answer_given g) ≡ answer_to s
   unfolding answer_to
   answer_read g e = ap (λ x. answer_text (answer_given x)) (e ∙ ap (λ l. input_from l l s) most_read)
 
   -- malformed
-  pub unread_printed : (v : Listing) (r : Place) (o u : List ℕ) → none ≡ read_of → Prints r o u (answer_text (told printed.Unread v)) → Prints r o u (answer_to s)
+  pub unread_printed : (v : Listing) (r : Place) (o u : List ℕ) → None ≡ input_from whole whole s → Prints r o u (answer_text (told printed.Unread v)) → Prints r o u (answer_to s)
   unfolding told answer_given
-  unread_printed v r o u e h = rw (answer_read none e) at h
+  unread_printed v r o u e h = rw (answer_read None e) at h
 
   -- read, and overlaid
-  pub read_printed : (op m n : ℕ) (f g : Counts) (sc : List Float) (sn se sk sf : List ℕ) (cc₁ : List Float) (cn ce ck cf o u : List ℕ) (r : Place)
-      → got (record { first = record { op = op; m = m }; subject = mesh_seen f sc sn se sk sf; cutter = mesh_seen g cc₁ cn ce ck cf }) [] ≡ read_of
-      → 2 * f.points ≤ length sc → 2 * g.points ≤ length cc₁ → n ≡ f.points + g.points
-      → Prints r o u (answer_text (result_told n (overlay_of op m (lent (mesh_seen f sc sn se sk sf)) (lent (mesh_seen g cc₁ cn ce ck cf)) blank)))
-      → Prints r o u (answer_to s)
+  pub read_printed : (op m : ℕ) (subject cutter : ReadMesh) (x y : Mesh) (o u : List ℕ) (r : Place)
+      → Some (record { first = record { op = op; m = m }; subject = subject; cutter = cutter }, []) ≡ input_from whole whole s
+      → Prints r o u (answer_text (overlay_told op m x y)) → x ≡ lent subject → y ≡ lent cutter → Prints r o u (answer_to s)
   unfolding answer_given
-  read_printed op m n f g sc sn se sk sf cc₁ cn ce ck cf o u r e h k z w =
-      let nodes : n ≡ length (take (2 * f.points) sc) / 2 + length (take (2 * g.points) cc₁) / 2 =
-      omega (arith, z, length-take-le (2 * f.points) sc h, length-take-le (2 * g.points) cc₁ k) in
-      let answer : ℕ → List ℕ = λ x. answer_text (result_told x (overlay_of op m (lent (mesh_seen f sc sn se sk sf)) (lent (mesh_seen g cc₁ cn ce ck cf)) blank)) in
-      subst (Prints r o u) (ap answer nodes ∙ answer_read _ e) w
+  read_printed op m subject cutter x y o u r e h f g =
+      let text : answer_text (overlay_told op m x y) ≡ answer_to s = rw (f, g) (answer_read _ e) in
+      subst (Prints r o u) text h

@@ -19,15 +19,16 @@ use Rattle.text.specs.Text.{
   cell_text,
   numbers_text,
 }
-use Rattle.text.specs.Given.{Parsed, got, Given}
+use Rattle.text.specs.Given.{Parsed, Given}
+use Rattle.std.specs.Prelude.{Some}
 use Rattle.text.specs.Inputs.{given, read}
 use Rattle.text.proofs.Samples.{k1, k1_text, k1_printed, k1_read}
 use Rattle.printing.specs.Told.{bits}
-use Rattle.program.specs.Answered.{blank, result_told, answer_given, answer_to}
+use Rattle.program.specs.Answered.{blank, result_told, overlay_told, answer_given, answer_to}
 
 -- what is printed for K1 as it was read, by computation through `overlay_of`
-k1_printed_lem : answer_text (answer_given (got (given k1) [])) ≡ k1_printed
-unfolding answer_given result_told blank bits read right_by answer_text listing_text count_text nodes_text node_text hex hex_to glyph decimal decimal_to pieces_text
+k1_printed_lem : answer_text (answer_given (Some (given k1, []))) ≡ k1_printed
+unfolding answer_given overlay_told result_told blank bits read right_by answer_text listing_text count_text nodes_text node_text hex hex_to glyph decimal decimal_to pieces_text
     piece_text piece_lines cell_text numbers_text
 k1_printed_lem = refl
 

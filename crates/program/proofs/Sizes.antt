@@ -23,12 +23,13 @@ use Rattle.rules.proofs.Endings.{Ending, input, state_met, success, ending, inpu
 use Rattle.rules.proofs.Lengths.{accepted_fits, lengths_kept}
 use Rattle.text.specs.Text.{piece_lines, unread, refused, overlay, answer_text}
 use Rattle.text.specs.Read.{input_from}
-use Rattle.text.specs.Given.{Given, Parsed, none, got}
+use Rattle.text.specs.Given.{Given, Parsed}
+use Rattle.std.specs.Prelude.{None, Some}
 use Rattle.text.proofs.Sizes.{Rising, no_end, end, overlay_size, refused_size}
 use Rattle.std.specs.Prelude.{Ok, is_ok}
 use Rattle.printing.specs.Page.{Place, Prints, room_for, laid_over}
 use Rattle.printing.specs.Told.{bits}
-use Rattle.program.specs.Answered.{read_limits, lent, blank, result_told, answer_given, answer_to}
+use Rattle.program.specs.Answered.{read_limits, lent, blank, result_told, overlay_told, answer_given, answer_to}
 
 -- ---- where pieces end
 
@@ -93,9 +94,9 @@ unfolding answer_text
 unread_size = omega arith
 
 answered_size : (g : Parsed Given) → length (answer_text (answer_given g)) ≤ 278580
-unfolding answer_given
-answered_size none = unread_size
-answered_size (got g t) = told_size g.first.op g.first.m (lent g.subject) (lent g.cutter) _
+unfolding answer_given overlay_told
+answered_size None = unread_size
+answered_size (Some (g, t)) = told_size g.first.op g.first.m (lent g.subject) (lent g.cutter) _
 
 -- every answer
 pub answer_size : (t : List ℕ) → length (answer_to t) ≤ 278580

@@ -1,11 +1,11 @@
 -- What the program answers to a text. Assumes nothing.
-use Rattle.std.specs.Prelude.{ℕ, ◌+◌, ◌*◌, cond, List, eqb, take}
+use Rattle.std.specs.Prelude.{ℕ, ◌+◌, ◌*◌, cond, List, eqb, take, None, Some}
 use Rattle.lists.specs.Regions.{zeros, fzeros}
 use Rattle.entry.specs.Mesh.{Mesh, mesh, node_count}
 use Rattle.rules.specs.Overlay.{Lists, Result, lent_lists, overlay_of}
 use Rattle.text.specs.Text.{piece_lines, Answer, unread, refused, overlay, answer_text}
 use Rattle.text.specs.Read.{input_from}
-use Rattle.text.specs.Given.{ReadMesh, Limits, Given, Parsed, none, got, at_most}
+use Rattle.text.specs.Given.{ReadMesh, Limits, Given, Parsed, at_most}
 use Rattle.printing.specs.Told.{bits}
 
 -- the most that is read of a mesh: 512 nodes, 512 cells, 2,048 entries
@@ -29,13 +29,14 @@ result_told nodes r =
     (piece_lines 0 l.nodes (take r.pieces l.ends) l.kinds l.families l.meshes l.cells) r.pieces r.points r.doubled)
     (refused r.code)
 
+-- what is told of the overlay of two meshes, into the program's lists
+unfoldable pub overlay_told : ℕ → ℕ → Mesh → Mesh → Answer
+overlay_told op m s c = result_told (node_count s + node_count c) (overlay_of op m s c blank)
+
 -- what was read, or that nothing was
 unfoldable pub answer_given : Parsed Given → Answer
-answer_given none = unread
-answer_given (got g t) =
-    let s = lent g.subject in
-    let c = lent g.cutter in
-    result_told (node_count s + node_count c) (overlay_of g.first.op g.first.m s c blank)
+answer_given None = unread
+answer_given (Some (g, t)) = overlay_told g.first.op g.first.m (lent g.subject) (lent g.cutter)
 
 -- the bytes that the program writes for the bytes t
 unfoldable pub answer_to : List ℕ → List ℕ

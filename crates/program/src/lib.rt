@@ -3,15 +3,15 @@
 
 ghost use Rattle.std.specs.Prelude.{◌≡◌, ◌+◌, ◌≤◌, length};
 ghost use Rattle.lists.specs.Regions.{front};
-ghost use Rattle.entry.specs.Mesh.{mesh};
-ghost use Rattle.rules.specs.Overlay.{overlay_of};
+ghost use Rattle.mesh_view.specs.Shown.{mesh_of};
 ghost use Rattle.text.specs.Text.{answer_text};
 ghost use Rattle.printing.specs.Page.{Prints};
-ghost use Rattle.program.specs.Answered.{blank, result_told, answer_to};
+ghost use Rattle.program.specs.Answered.{overlay_told, answer_to};
 ghost use Rattle.program.specs.Printed.{printed_of};
 
 use printing::{Answer, Counts, Full, Listing};
-use reading::Input;
+use reading::MeshLists;
+use views::{MeshView, OutputView};
 
 // what is printed of an overlay's answer: `nodes` are those of both meshes
 fn told(nodes: u32, a: overlay::Answer) -> Answer
@@ -31,26 +31,17 @@ fn told(nodes: u32, a: overlay::Answer) -> Answer
     }
 }
 
-// the answer for two meshes as read, of `nodes` nodes
+// the answer for two meshes as read
 fn cut<'a, 'b>(
     op: u32,
     m: u32,
-    nodes: u32,
-    sc: &'a [f64],
-    sn: &'a [u32],
-    se: &'a [u32],
-    sk: &'a [u8],
-    sf: &'a [u32],
-    cc: &'b [f64],
-    cn: &'b [u32],
-    ce: &'b [u32],
-    ck: &'b [u8],
-    cf: &'b [u32],
+    subject: MeshView<'a>,
+    cutter: MeshView<'b>,
     out: &mut [u8],
 ) -> Result<usize, Full>
-    requires { nodes ≤ 1024 }
-    ensures { Prints result out.old out.new (answer_text (result_told nodes (overlay_of op m (mesh sc.now sn.now se.now sk.now sf.now)
-        (mesh cc.now cn.now ce.now ck.now cf.now) blank))) }
+    requires subject_nodes { length subject.coords.now ≤ 1024 }
+    requires cutter_nodes { length cutter.coords.now ≤ 1024 }
+    ensures { Prints result out.old out.new (answer_text (overlay_told op m (mesh_of subject.entry) (mesh_of cutter.entry))) }
 {
     let mut oc = [0.0; 4096];
     let mut on = [0u32; 8192];
@@ -60,10 +51,17 @@ fn cut<'a, 'b>(
     let mut om = [0u32; 2048];
     let mut oi = [0u32; 2048];
     let mut work = [0u32; 16384];
-    let a = mesh_view::overlay_lists(
-        op, m, sc, sn, se, sk, sf, cc, cn, ce, ck, cf, &mut oc, &mut on, &mut oe, &mut ok, &mut of,
-        &mut om, &mut oi, &mut work,
-    );
+    let nodes = (subject.coords.len() / 2 + cutter.coords.len() / 2) as u32;
+    let pieces = OutputView {
+        coords: &mut oc,
+        nodes: &mut on,
+        ends: &mut oe,
+        kinds: &mut ok,
+        families: &mut of,
+        meshes: &mut om,
+        cells: &mut oi,
+    };
+    let a = mesh_view::overlay_views(op, m, subject, cutter, pieces, &mut work);
     let lists = Listing {
         coords: &oc,
         nodes: &on,
@@ -90,41 +88,38 @@ pub fn answer(s: &[u8], out: &mut [u8]) -> Result<usize, Full>
     let mut ce = [0u32; 512];
     let mut ck = [0u8; 512];
     let mut cf = [0u32; 512];
-    let r = reading::read_input(
-        s, &mut sc, &mut sn, &mut se, &mut sk, &mut sf, &mut cc, &mut cn, &mut ce, &mut ck, &mut cf,
-    );
-    let Input::Read {
-        op,
-        m,
-        subject,
-        cutter,
-    } = r
-    else {
+    let mut subject_lists = MeshLists {
+        coords: &mut sc,
+        nodes: &mut sn,
+        ends: &mut se,
+        kinds: &mut sk,
+        families: &mut sf,
+    };
+    let mut cutter_lists = MeshLists {
+        coords: &mut cc,
+        nodes: &mut cn,
+        ends: &mut ce,
+        kinds: &mut ck,
+        families: &mut cf,
+    };
+    let Some(input) = reading::read_input(s, &mut subject_lists, &mut cutter_lists) else {
         return printing::print_answer(out, Answer::Unread, &Listing::default());
     };
-    let nodes = (subject.points + cutter.points) as u32;
-    let sp = 2 * subject.points;
-    let si = subject.entries;
-    let sh = subject.cells;
-    let cp = 2 * cutter.points;
-    let ci = cutter.entries;
-    let ch = cutter.cells;
-    cut(
-        op,
-        m,
-        nodes,
-        &sc[..sp],
-        &sn[..si],
-        &se[..sh],
-        &sk[..sh],
-        &sf[..sh],
-        &cc[..cp],
-        &cn[..ci],
-        &ce[..ch],
-        &ck[..ch],
-        &cf[..ch],
-        out,
-    )
+    let subject = MeshView {
+        coords: &sc[..2 * input.subject.points],
+        nodes: &sn[..input.subject.entries],
+        ends: &se[..input.subject.cells],
+        kinds: &sk[..input.subject.cells],
+        families: &sf[..input.subject.cells],
+    };
+    let cutter = MeshView {
+        coords: &cc[..2 * input.cutter.points],
+        nodes: &cn[..input.cutter.entries],
+        ends: &ce[..input.cutter.cells],
+        kinds: &ck[..input.cutter.cells],
+        families: &cf[..input.cutter.cells],
+    };
+    cut(input.op, input.m, subject, cutter, out)
 }
 
 // The same in a list that holds any answer: how many bytes it has.

@@ -1,13 +1,17 @@
--- The answers of the code that reads meshes and inputs, as what was read and the rest of the text s. Assumes nothing.
-use Rattle.std.specs.Prelude.{ℕ, ◌-◌, ◌*◌, ◌≤◌, ◌≡◌, List, [], ◌++◌, length, take, drop, Float}
+-- The answers of the code that reads meshes and inputs, as what was read and the rest of the text. Assumes nothing.
+use Rattle.std.specs.Prelude.{ℕ, ◌-◌, ◌*◌, ◌≤◌, ◌≡◌, List, [], ◌++◌, length, take, drop, Float, Option, None, Some, option_map}
 use Rattle.lists.specs.Regions.{zeros, fzeros}
-use Rattle.text.specs.Given.{Parsed, none, got, ReadMesh, Given}
-use Rattle.reading.specs.declared.MeshRead.{MeshRead}
-use Rattle.reading.specs.declared.MeshRead.TheVariants as mesh
+use Rattle.text.specs.Given.{Parsed, ReadMesh, Limits, limits, Given}
+use Rattle.reading_lines.specs.Lines.{Kept}
 use Rattle.reading.specs.declared.Counts.{Counts}
+use Rattle.reading.specs.declared.MeshLists.{MeshLists}
 use Rattle.reading.specs.declared.Input.{Input}
-use Rattle.reading.specs.declared.Input.TheVariants as input
 
+-- what lists of these lengths hold
+abbrev pub limits_of : MeshLists → Limits
+limits_of l = limits (length l.coords.now) (length l.nodes.now) (length l.ends.now) (length l.kinds.now) (length l.families.now)
+
+-- the mesh in the front of the lists
 abbrev pub mesh_seen : Counts → List Float → List ℕ → List ℕ → List ℕ → List ℕ → ReadMesh
 mesh_seen c cs ns es ks fs =
     record {
@@ -15,31 +19,42 @@ mesh_seen c cs ns es ks fs =
       cells = record { nodes = take c.entries ns; ends = take c.cells es; kinds = take c.cells ks; families = take c.cells fs };
     }
 
-abbrev pub mesh_as : MeshRead → List ℕ → List Float → List ℕ → List ℕ → List ℕ → List ℕ → Parsed ReadMesh
-mesh_as (mesh.At c n) s cs ns es ks fs = got (mesh_seen c cs ns es ks fs) (drop n s)
-mesh_as mesh.No s cs ns es ks fs = none
+abbrev pub mesh_of : Counts → MeshLists → ReadMesh
+mesh_of c l = mesh_seen c l.coords.now l.nodes.now l.ends.now l.kinds.now l.families.now
 
-abbrev pub mesh_end : MeshRead → ℕ
-mesh_end (mesh.At c n) = n
-mesh_end mesh.No = 0
+abbrev pub input_seen : Input → MeshLists → MeshLists → Given
+input_seen i s c = record { first = record { op = i.op; m = i.m }; subject = mesh_of i.subject s; cutter = mesh_of i.cutter c }
 
-abbrev pub input_as : Input → List Float → List ℕ → List ℕ → List ℕ → List ℕ → List Float → List ℕ → List ℕ → List ℕ → List ℕ → Parsed Given
-input_as (input.Read op m s c) sc sn se sk sf cc cn ce ck cf =
-    got (record { first = record { op = op; m = m }; subject = mesh_seen s sc sn se sk sf; cutter = mesh_seen c cc cn ce ck cf }) []
-input_as input.Unread sc sn se sk sf cc cn ce ck cf = none
+abbrev pub input_as : Option Input → MeshLists → MeshLists → Parsed Given
+input_as r s c = option_map (λ i. (input_seen i s c, [])) r
+
+abbrev pub nothing : Counts
+nothing = record { points = 0; cells = 0; entries = 0 }
 
 -- how much of the lists an answer speaks of
-abbrev pub counts_of : MeshRead → Counts
-counts_of (mesh.At c n) = c
-counts_of mesh.No = record { points = 0; cells = 0; entries = 0 }
+abbrev pub subject_of : Option Input → Counts
+subject_of (Some i) = i.subject
+subject_of None = nothing
 
-abbrev pub subject_of : Input → Counts
-subject_of (input.Read op m s c) = s
-subject_of input.Unread = record { points = 0; cells = 0; entries = 0 }
+abbrev pub cutter_of : Option Input → Counts
+cutter_of (Some i) = i.cutter
+cutter_of None = nothing
 
-abbrev pub cutter_of : Input → Counts
-cutter_of (input.Read op m s c) = c
-cutter_of input.Unread = record { points = 0; cells = 0; entries = 0 }
+-- the lists have as many places
+pub record Within (c : Counts) (l : MeshLists) : Type 0 where
+  pub points : 2 * c.points ≤ length l.coords.now
+  pub entries : c.entries ≤ length l.nodes.now
+  pub to_ends : c.cells ≤ length l.ends.now
+  pub to_kinds : c.cells ≤ length l.kinds.now
+  pub to_families : c.cells ≤ length l.families.now
+
+-- the same lists, written or not
+pub record SameLists (l m : MeshLists) : Type 0 where
+  pub coords : Kept l.coords m.coords
+  pub nodes : Kept l.nodes m.nodes
+  pub ends : Kept l.ends m.ends
+  pub kinds : Kept l.kinds m.kinds
+  pub families : Kept l.families m.families
 
 -- a list with zeros from n on
 abbrev pub zeroed_from : ℕ → List ℕ → List ℕ
@@ -48,15 +63,19 @@ zeroed_from n l = take n l ++ zeros (length l - n)
 abbrev pub fzeroed_from : ℕ → List Float → List Float
 fzeroed_from n l = take n l ++ fzeros (length l - n)
 
--- how many places of five lists of these lengths an answer speaks of, and the places after those hold zeros
-pub record MeshRest (c : Counts) (coords nodes ends kinds families : ℕ) (cs : List Float) (ns es ks fs : List ℕ) : Type 0 where
-  pub points : 2 * c.points ≤ coords
-  pub entries : c.entries ≤ nodes
-  pub to_ends : c.cells ≤ ends
-  pub to_kinds : c.cells ≤ kinds
-  pub to_families : c.cells ≤ families
-  pub rest_coords : drop (2 * c.points) cs ≡ fzeros (coords - 2 * c.points)
-  pub rest_nodes : drop c.entries ns ≡ zeros (nodes - c.entries)
-  pub rest_ends : drop c.cells es ≡ zeros (ends - c.cells)
-  pub rest_kinds : drop c.cells ks ≡ zeros (kinds - c.cells)
-  pub rest_families : drop c.cells fs ≡ zeros (families - c.cells)
+-- the lists l with zeros after a mesh
+pub record Zeroed (c : Counts) (l m : MeshLists) : Type 0 where
+  pub coords : m.coords.now ≡ fzeroed_from (2 * c.points) l.coords.now
+  pub nodes : m.nodes.now ≡ zeroed_from c.entries l.nodes.now
+  pub ends : m.ends.now ≡ zeroed_from c.cells l.ends.now
+  pub kinds : m.kinds.now ≡ zeroed_from c.cells l.kinds.now
+  pub families : m.families.now ≡ zeroed_from c.cells l.families.now
+
+-- how many places of the lists l an answer speaks of, and the places after those hold zeros in m
+pub record MeshRest (c : Counts) (l m : MeshLists) : Type 0 where
+  pub within : Within c l
+  pub coords : drop (2 * c.points) m.coords.now ≡ fzeros (length l.coords.now - 2 * c.points)
+  pub nodes : drop c.entries m.nodes.now ≡ zeros (length l.nodes.now - c.entries)
+  pub ends : drop c.cells m.ends.now ≡ zeros (length l.ends.now - c.cells)
+  pub kinds : drop c.cells m.kinds.now ≡ zeros (length l.kinds.now - c.cells)
+  pub families : drop c.cells m.families.now ≡ zeros (length l.families.now - c.cells)

@@ -1,3 +1,3 @@
+pub mod Patterns
 pub mod Loops
 pub mod Many
-pub mod Patterns

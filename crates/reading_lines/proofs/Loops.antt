@@ -1,91 +1,120 @@
 -- One turn of each reading loop, over plain lists and numbers. Assumes nothing.
-use mathlib.Core.Path.{◌≡◌}
-use mathlib.Core.List.{List, ◌∷◌}
-use Prim.Native.Nat.{ℕ, suc, ◌+◌, ◌-◌, ◌*◌, ◌≤◌, ◌<◌}
-use native.Mathlib.Numerals.{add-one}
-use native.Mathlib.Omega.{arith}
-use borrow.Author.Tests.{lt-ltb, le-ltb, le-leb, lt-leb, eq-eqb, ne_eqb}
-use lib.ListN.{length, get_or, drop, drop_of_length-le}
-use lib.Seq.{drop-cons}
-use Rattle.text.specs.Read.{no, past, word_from, more_from, decimal_from, hex_from, digit_val, hex_val}
-use Rattle.text.specs.Given.{none, got}
+use Rattle.std.proofs.Common.{◌≡◌, ℕ, suc, ◌+◌, ◌-◌, ◌*◌, ◌<◌, ◌≤◌, List, [], ◌∷◌, ◌++◌, length, get_or, take, drop, add-one, arith, drop-cons, take-append-drop, Some, None, ◌≢◌, refl, zero}
+use borrow.Author.Tests.{lt-ltb, le-ltb, le-leb, lt-leb, ne_eqb}
+use lib.ListN.{drop_of_length-le, length-drop}
+use lib.Seq.{take_all}
+use lib.Dec.{ltb, eqb}
+use lib.Pointwise.{pointwise}
+use Rattle.std.specs.Prelude.{Option, MatchOption, option_copied}
+use denote.Ref.{Bor}
+use native.Mathlib.Nat.{le_refl}
+use mathlib.Core.Bool.{Bool, true, false, cond, ◌&&◌}
+use Rattle.text.specs.Given.{Parsed}
+use Rattle.text.specs.Read.{word_from, more_from, decimal_from, hex_from, digit_val, hex_val}
+
+-- what stands after a word, where the list begins with it
+word_stripped : (w s : List ℕ) → word_from w s ≡ cond (pointwise eqb (take (length w) s) w) (Some (drop (length w) s)) None
+unfolding word_from
+word_stripped [] s = refl
+word_stripped (c ∷ w) [] = refl
+word_stripped (c ∷ w) (b ∷ s) = go (eqb b c) (word_stripped w s)
+  where
+    go : (x : Bool) → word_from w s ≡ cond (pointwise eqb (take (length w) s) w) (Some (drop (length w) s)) None
+        → cond x (word_from w s) None ≡ cond (x && pointwise eqb (take (length w) s) w) (Some (drop (length w) s)) None
+    go true e = e
+    go false e = refl
+
+pub stripped : (w s : List ℕ) (r : Option (Bor (List ℕ)))
+    → MatchOption r (pointwise eqb (take (length w) s) w ≡ false)
+    (λ x. (pointwise eqb (take (length w) s) w ≡ true) × (x.now ≡ drop (length w) s) × (length x.now + length w ≡ length s))
+    → option_copied r ≡ word_from w s
+stripped w s None h = rw (word_stripped w s, h) refl
+stripped w s (Some x) (h, e, l) = rw (word_stripped w s, h, e) refl
 
 -- the list from i on, at an element
 pub head_at : (s : List ℕ) (i : ℕ) → i < length s → drop i s ≡ get_or s i 0 ∷ drop (i + 1) s
 head_at s i h = rw (add-one, drop-cons s i 0)
 
-module _ (w s : List ℕ) (at i : ℕ) where
-  pub word_end : length w ≤ i → word_from (drop i w) (drop (at + i) s) ≡ past (drop (at + i) s)
-  unfolding word_from
-  word_end h = rw (drop_of_length-le w h)
-
-  pub word_out : i < length w → length s ≤ at + i → word_from (drop i w) (drop (at + i) s) ≡ no
-  unfolding word_from
-  word_out h g = rw (head_at w i h, drop_of_length-le s g)
-
-  pub word_other : i < length w → at + i < length s → (get_or s (at + i) 0 ≡ get_or w i 0 → ⊥) → word_from (drop i w) (drop (at + i) s) ≡ no
-  unfolding word_from
-  word_other h g e = rw (head_at w i h, head_at s (at + i) g, ne_eqb _ _ e)
-
-  pub word_same : i < length w → at + i < length s → get_or s (at + i) 0 ≡ get_or w i 0 → word_from (drop i w) (drop (at + i) s) ≡ word_from (drop (i + 1) w) (drop (at + (i + 1)) s)
-  unfolding word_from
-  word_same h g e = let one : at + (i + 1) ≡ at + i + 1 = omega arith in rw (one, head_at w i h, head_at s (at + i) g, eq-eqb _ _ e)
-
-module _ (s : List ℕ) (v i : ℕ) where
-  pub more_end : length s ≤ i → more_from v (drop i s) ≡ got v (drop i s)
+module _ (v : ℕ) (s : List ℕ) (i : ℕ) where
+  pub more_end : length s ≤ i → more_from v (drop i s) ≡ Some (v, [])
   unfolding more_from
   more_end h = rw (drop_of_length-le s h)
 
-  module _ (d : ℕ) (h : i < length s) (e : d ≡ digit_val (get_or s i 0)) where
-    pub more_stop : 10 ≤ d → more_from v (drop i s) ≡ got v (drop i s)
+  module _ (h : i < length s) where
+    pub more_stop : 10 ≤ digit_val (get_or s i 0) → more_from v (drop i s) ≡ Some (v, take (length s - i) (drop i s))
     unfolding more_from
-    more_stop g = rw (head_at s i h, ← e, le-ltb _ _ g)
+    more_stop g = rw (take_all (length s - i) (drop i s) (simp length-drop (le_refl _)), head_at s i h, le-ltb _ _ g)
 
-    pub more_over : d < 10 → 4294967295 < v * 10 + d → more_from v (drop i s) ≡ none
-    unfolding more_from
-    more_over g k = rw (head_at s i h, ← e, lt-ltb _ _ g, lt-leb _ _ k)
+    module _ (d : ℕ) (e : d ≡ digit_val (get_or s i 0)) (g : d < 10) where
+      pub more_over : 4294967296 ≤ v * 10 + d → more_from v (drop i s) ≡ None
+      unfolding more_from
+      more_over k = rw (head_at s i h, ← e, lt-ltb _ _ g, lt-leb _ _ k)
 
-    pub more_step : d < 10 → v * 10 + d ≤ 4294967295 → more_from v (drop i s) ≡ more_from (v * 10 + d) (drop (i + 1) s)
-    unfolding more_from
-    more_step g k = rw (head_at s i h, ← e, lt-ltb _ _ g, le-leb _ _ k)
+      pub more_step : v * 10 + d < 4294967296 → more_from v (drop i s) ≡ more_from (v * 10 + d) (drop (i + 1) s)
+      unfolding more_from
+      more_step k = let l : v * 10 + d ≤ 4294967295 = omega arith in rw (head_at s i h, ← e, lt-ltb _ _ g, le-leb _ _ l)
 
-    pub decimal_bad : 10 ≤ d → decimal_from (drop i s) ≡ none
-    unfolding decimal_from
-    decimal_bad g = rw (head_at s i h, ← e, le-ltb _ _ g)
+pub ruleset more_steps = (more_end, more_stop, more_over, more_step)
 
-    pub decimal_zero : d < 10 → d ≡ 0 → decimal_from (drop i s) ≡ got 0 (drop (i + 1) s)
-    unfolding decimal_from
-    decimal_zero g k = rw (head_at s i h, ← e, lt-ltb _ _ g, eq-eqb _ _ k)
-
-    pub decimal_more : d < 10 → (d ≡ 0 → ⊥) → decimal_from (drop i s) ≡ more_from d (drop (i + 1) s)
-    unfolding decimal_from
-    decimal_more g k = rw (head_at s i h, ← e, lt-ltb _ _ g, ne_eqb _ _ k)
-
-pub decimal_out : (s : List ℕ) (i : ℕ) → length s ≤ i → decimal_from (drop i s) ≡ none
+pub decimal_none : (s : List ℕ) → length s ≡ 0 → decimal_from s ≡ None
 unfolding decimal_from
-decimal_out s i h = rw (drop_of_length-le s h)
+decimal_none [] h = refl
+decimal_none (b ∷ s) h = absurd (omega arith)
 
-module _ (s : List ℕ) (v at i : ℕ) (l : i < 16) where
-  left : 16 - i ≡ suc (16 - (i + 1))
-  left = omega arith
+module _ (b : ℕ) (t : List ℕ) where
+  pub decimal_bad : 10 ≤ digit_val b → decimal_from (b ∷ t) ≡ None
+  unfolding decimal_from
+  decimal_bad g = rw (le-ltb _ _ g)
 
-  pub hex_out : length s ≤ at + i → hex_from (16 - i) v (drop (at + i) s) ≡ none
-  unfolding hex_from
-  hex_out h = rw (left, drop_of_length-le s h)
+  pub decimal_zero : digit_val b ≡ 0 → decimal_from (b ∷ t) ≡ Some (0, t)
+  unfolding decimal_from
+  decimal_zero e = rw e
 
-  module _ (d : ℕ) (h : at + i < length s) (e : d ≡ hex_val (get_or s (at + i) 0)) where
-    pub hex_bad : 16 ≤ d → hex_from (16 - i) v (drop (at + i) s) ≡ none
-    unfolding hex_from
-    hex_bad g = rw (left, head_at s (at + i) h, ← e, le-ltb _ _ g)
+  pub decimal_more : digit_val b < 10 → digit_val b ≢ 0 → decimal_from (b ∷ t) ≡ more_from (digit_val b) t
+  unfolding decimal_from
+  decimal_more g k = rw (lt-ltb _ _ g, ne_eqb _ _ k)
 
-    pub hex_over : d < 16 → 1152921504606846976 ≤ v → hex_from (16 - i) v (drop (at + i) s) ≡ none
-    unfolding hex_from
-    hex_over g k = rw (left, head_at s (at + i) h, ← e, lt-ltb _ _ g, le-ltb _ _ k)
+pub ruleset decimal_steps = (decimal_none, decimal_bad, decimal_zero, decimal_more)
 
-    pub hex_step : d < 16 → v < 1152921504606846976 → hex_from (16 - i) v (drop (at + i) s) ≡ hex_from (16 - (i + 1)) (v * 16 + d) (drop (at + (i + 1)) s)
-    unfolding hex_from
-    hex_step g k = let one : at + (i + 1) ≡ at + i + 1 = omega arith in rw (one, left, head_at s (at + i) h, ← e, lt-ltb _ _ g, lt-ltb _ _ k)
-
-pub hex_end : (s : List ℕ) (v at i : ℕ) → 16 ≤ i → hex_from (16 - i) v (drop (at + i) s) ≡ got v (drop (at + i) s)
+pub hex_short : (k v : ℕ) (s : List ℕ) → length s < k → hex_from k v s ≡ None
 unfolding hex_from
-hex_end s v at i h = let z : 16 - i ≡ 0 = omega arith in rw z
+hex_short zero v s h = absurd (omega arith)
+hex_short (suc k) v [] h = refl
+hex_short (suc k) v (b ∷ s) h = rw (hex_short k (v * 16 + hex_val b) s (omega arith)) (go (ltb (hex_val b) 16) (ltb v 1152921504606846976))
+  where
+    go : (x y : Bool) → ◌≡◌ {A = Parsed ℕ} (cond x (cond y None None) None) None
+    go true true = refl
+    go true false = refl
+    go false y = refl
+
+pub parts_join : (s w t : List ℕ) (n : ℕ) → w ≡ take n s → t ≡ drop n s → w ++ t ≡ s
+parts_join s w t n e f = rw (e, f, take-append-drop)
+
+-- the digits of w, of which i are read, and what follows
+module _ (v : ℕ) (w t : List ℕ) (i : ℕ) where
+  pub hex_end : i ≡ 16 → length w ≡ 16 → hex_from (16 - i) v (drop i w ++ t) ≡ Some (v, t)
+  unfolding hex_from
+  hex_end e l = let h : length w ≤ i = omega arith in let z : 16 - i ≡ 0 = omega arith in rw (z, drop_of_length-le w h)
+
+  module _ (l : length w ≡ 16) (h : i < length w) where
+    left : 16 - i ≡ suc (16 - (i + 1))
+    left = omega arith
+
+    pub hex_bad : 16 ≤ hex_val (get_or w i 0) → hex_from (16 - i) v (drop i w ++ t) ≡ None
+    unfolding hex_from
+    hex_bad g = rw (left, head_at w i h, le-ltb _ _ g)
+
+    pub hex_over : 18446744073709551616 ≤ v * 16 → hex_from (16 - i) v (drop i w ++ t) ≡ None
+    unfolding hex_from
+    hex_over k = let m : 1152921504606846976 ≤ v = omega arith in rw (left, head_at w i h, le-ltb _ _ m) (go (ltb (hex_val (get_or w i 0)) 16))
+      where
+        go : (x : Bool) → ◌≡◌ {A = Parsed ℕ} (cond x None None) None
+        go true = refl
+        go false = refl
+
+    pub hex_step : (d : ℕ) → d ≡ hex_val (get_or w i 0) → d < 16 → v * 16 < 18446744073709551616
+        → hex_from (16 - i) v (drop i w ++ t) ≡ hex_from (16 - (i + 1)) (v * 16 + d) (drop (i + 1) w ++ t)
+    unfolding hex_from
+    hex_step d e g k = let m : v < 1152921504606846976 = omega arith in rw (left, head_at w i h, ← e, lt-ltb _ _ g, lt-ltb _ _ m)
+
+pub ruleset hex_steps = (hex_short, hex_end, hex_bad, hex_over, hex_step)

@@ -1,228 +1,173 @@
 // Lines: what is read of them stands in the front of the lent lists.
-ghost use Rattle.std.specs.Prelude.{◌≡◌, [], ◌-◌, ◌*◌, ◌≤◌, length, take, drop};
+ghost use Rattle.std.specs.Prelude.{◌≡◌, [], ◌/◌, ◌*◌, ◌≤◌, length, take, IfSome};
 ghost use Rattle.text.specs.Read.{node_from, nodes_from, entries_from, head_from, cell_from, cells_from, first_from, empty};
-ghost use Rattle.reading_lines.specs.Lines.{node_as, node_end, nodes_as, entries_as, count_end, count_of, head_as, head_end};
-ghost use Rattle.reading_lines.specs.Lines.{cell_as, cell_end, cell_count, cells_as, cells_end, cells_count, cells_entries, first_as, first_end};
+ghost use Rattle.reading_lines.specs.Lines.{read_by, node_of, heading_of, cell_of, cells_of, first_of, SameCellLists};
 
-use crate::words;
-use crate::words::{Number, Pattern, Step};
+use crate::words::{
+    CELL, CLOSE, NEWLINE, NODE, OVERLAY, SPACE, coordinate_of, read_decimal, read_hex, read_word,
+};
 
 #[derive(Clone, Copy)]
-pub enum NodeRead {
-    At(f64, f64, usize),
-    No,
-}
-
-// how many there are now, and the place after them
-#[derive(Clone, Copy)]
-pub enum Count {
-    At(usize, usize),
-    No,
+pub struct Node {
+    pub x: f64,
+    pub y: f64,
 }
 
 #[derive(Clone, Copy)]
-pub enum Head {
-    At(u8, u32, usize),
-    No,
+pub struct Heading {
+    pub kind: u8,
+    pub family: u32,
 }
 
-// cells, entries, place
+// a cell line, whose corners stand in a lent list
 #[derive(Clone, Copy)]
-pub enum CellsRead {
-    At(usize, usize, usize),
-    No,
+pub struct Cell {
+    pub heading: Heading,
+    pub corners: usize,
 }
 
-// kind, family, entries now, place
-#[derive(Clone, Copy)]
-pub enum CellRead {
-    At(u8, u32, usize, usize),
-    No,
+// the lists that cells are read into
+#[derive(Drop)]
+pub struct CellLists<'a> {
+    pub nodes: &'a mut [u32],
+    pub ends: &'a mut [u32],
+    pub kinds: &'a mut [u8],
+    pub families: &'a mut [u32],
 }
 
-// operation, M, place
 #[derive(Clone, Copy)]
-pub enum First {
-    At(u32, u32, usize),
-    No,
+pub struct CellCounts {
+    pub cells: usize,
+    pub entries: usize,
+}
+
+#[derive(Clone, Copy)]
+pub struct First {
+    pub op: u32,
+    pub m: u32,
 }
 
 // a node line after its word
-pub fn read_node(s: &[u8], at: usize) -> NodeRead
-    requires { at ≤ length s.now }
-    ensures { (node_as result s.now ≡ node_from (drop at s.now)) × (node_end result ≤ length s.now) }
+#[tactic(auto, unfolding(text::specs::Read::node_from, text::specs::Read::and_then, text::specs::Read::after_word))]
+pub fn read_node(s: &[u8]) -> Option<(Node, &[u8])>
+    ensures { read_by node_of result ≡ node_from s.now }
 {
-    let p = words::read_hex(s, at);
-    let Pattern::At(x, a) = p else {
-        return NodeRead::No;
+    let (x, s) = read_hex(s)?;
+    let s = read_word(s, SPACE)?;
+    let (y, s) = read_hex(s)?;
+    let s = read_word(s, CLOSE)?;
+    let node = Node {
+        x: coordinate_of(x),
+        y: coordinate_of(y),
     };
-    let w = words::space(s, a);
-    let Step::Past(b) = w else {
-        return NodeRead::No;
-    };
-    let q = words::read_hex(s, b);
-    let Pattern::At(y, c) = q else {
-        return NodeRead::No;
-    };
-    let z = words::close(s, c);
-    let Step::Past(d) = z else {
-        return NodeRead::No;
-    };
-    NodeRead::At(words::coordinate_of(x), words::coordinate_of(y), d)
-}
-
-// at most `room` node lines
-pub fn read_nodes(s: &[u8], at: usize, room: usize, coords: &mut [f64]) -> Count
-    requires { (at ≤ length s.now) × (2 * room ≤ length coords.old) }
-    ensures { (nodes_as result s.now coords.new ≡ nodes_from room [] (drop at s.now)) × (count_end result ≤ length s.now) × (count_of result ≤ room) }
-{
-    let mut k = 0;
-    let mut p = at;
-    while k < room {
-        let w = words::node_word(s, p);
-        let Step::Past(a) = w else {
-            return Count::At(k, p);
-        };
-        let n = read_node(s, a);
-        let NodeRead::At(x, y, b) = n else {
-            return Count::No;
-        };
-        coords[2 * k] = x;
-        coords[2 * k + 1] = y;
-        k += 1;
-        p = b;
-    }
-    Count::At(k, p)
-}
-
-// numbers with a space before each, put behind the first `from` of the list, up to `room` in all
-pub fn read_entries(s: &[u8], at: usize, from: usize, room: usize, nodes: &mut [u32]) -> Count
-    requires { (at ≤ length s.now) × (from ≤ room) × (room ≤ length nodes.old) }
-    ensures { (entries_as result s.now nodes.new ≡ entries_from (room - from) (take from nodes.old) (drop at s.now))
-        × (count_end result ≤ length s.now) × (count_of result ≤ room) }
-{
-    let mut k = from;
-    let mut p = at;
-    while k < room {
-        let w = words::space(s, p);
-        let Step::Past(a) = w else {
-            return Count::At(k, p);
-        };
-        let n = words::read_decimal(s, a);
-        let Number::At(v, b) = n else {
-            return Count::No;
-        };
-        nodes[k] = v;
-        k += 1;
-        p = b;
-    }
-    Count::At(k, p)
+    Some((node, s))
 }
 
 // a cell line's kind and family
-pub fn read_head(s: &[u8], at: usize) -> Head
-    requires { at ≤ length s.now }
-    ensures { (head_as result s.now ≡ head_from (drop at s.now)) × (head_end result ≤ length s.now) }
+#[tactic(auto, unfolding(text::specs::Read::head_from, text::specs::Read::and_then, text::specs::Read::after_word))]
+pub fn read_head(s: &[u8]) -> Option<(Heading, &[u8])>
+    ensures { read_by heading_of result ≡ head_from s.now }
 {
-    let p = words::read_decimal(s, at);
-    let Number::At(kind, a) = p else {
-        return Head::No;
-    };
-    if 255 < kind {
-        return Head::No;
-    }
-    let w = words::space(s, a);
-    let Step::Past(b) = w else {
-        return Head::No;
-    };
-    let q = words::read_decimal(s, b);
-    let Number::At(family, c) = q else {
-        return Head::No;
-    };
-    Head::At(kind as u8, family, c)
-}
-
-// a cell line after its word
-pub fn read_cell(s: &[u8], at: usize, from: usize, room: usize, nodes: &mut [u32]) -> CellRead
-    requires { (at ≤ length s.now) × (from ≤ room) × (room ≤ length nodes.old) }
-    ensures { (cell_as result s.now nodes.new ≡ cell_from room (take from nodes.old) (drop at s.now))
-        × (cell_end result ≤ length s.now) × (cell_count result ≤ room) }
-{
-    let h = read_head(s, at);
-    let Head::At(kind, family, b) = h else {
-        return CellRead::No;
-    };
-    let n = read_entries(s, b, from, room, nodes);
-    let Count::At(f, d) = n else {
-        return CellRead::No;
-    };
-    let z = words::close(s, d);
-    let Step::Past(q) = z else {
-        return CellRead::No;
-    };
-    CellRead::At(kind, family, f, q)
-}
-
-// at most `room` cell lines, of at most `most` entries in all
-pub fn read_cells(
-    s: &[u8],
-    at: usize,
-    room: usize,
-    most: usize,
-    nodes: &mut [u32],
-    ends: &mut [u32],
-    kinds: &mut [u8],
-    families: &mut [u32],
-) -> CellsRead
-    requires { (at ≤ length s.now) × (most ≤ length nodes.old) × (most ≤ 4294967295) × (room ≤ length ends.old) × (room ≤ length kinds.old) × (room ≤ length families.old) }
-    ensures { (cells_as result s.now nodes.new ends.new kinds.new families.new
-        ≡ cells_from most room empty (drop at s.now)) × (cells_end result ≤ length s.now) × (cells_count result ≤ room) × (cells_entries result ≤ most) }
-{
-    let mut k = 0;
-    let mut e = 0;
-    let mut p = at;
-    while k < room {
-        let w = words::cell_word(s, p);
-        let Step::Past(a) = w else {
-            return CellsRead::At(k, e, p);
-        };
-        let n = read_cell(s, a, e, most, nodes);
-        let CellRead::At(kind, family, f, q) = n else {
-            return CellsRead::No;
-        };
-        ends[k] = f as u32;
-        kinds[k] = kind;
-        families[k] = family;
-        k += 1;
-        e = f;
-        p = q;
-    }
-    CellsRead::At(k, e, p)
+    let (kind, s) = read_decimal(s)?;
+    let kind = u8::try_from(kind).ok()?;
+    let s = read_word(s, SPACE)?;
+    let (family, s) = read_decimal(s)?;
+    Some((Heading { kind, family }, s))
 }
 
 // the first line
-pub fn read_first(s: &[u8]) -> First
-    ensures { (first_as result s.now ≡ first_from s.now) × (first_end result ≤ length s.now) }
+#[tactic(auto, unfolding(text::specs::Read::first_from, text::specs::Read::and_then, text::specs::Read::after_word))]
+pub fn read_first(s: &[u8]) -> Option<(First, &[u8])>
+    ensures { read_by first_of result ≡ first_from s.now }
 {
-    let w = words::overlay_word(s, 0);
-    let Step::Past(a) = w else {
-        return First::No;
-    };
-    let p = words::read_decimal(s, a);
-    let Number::At(op, b) = p else {
-        return First::No;
-    };
-    let v = words::space(s, b);
-    let Step::Past(c) = v else {
-        return First::No;
-    };
-    let q = words::read_decimal(s, c);
-    let Number::At(m, d) = q else {
-        return First::No;
-    };
-    let z = words::newline(s, d);
-    let Step::Past(e) = z else {
-        return First::No;
-    };
-    First::At(op, m, e)
+    let s = read_word(s, OVERLAY)?;
+    let (op, s) = read_decimal(s)?;
+    let s = read_word(s, SPACE)?;
+    let (m, s) = read_decimal(s)?;
+    let s = read_word(s, NEWLINE)?;
+    Some((First { op, m }, s))
+}
+
+// Node lines, as many as the list has room for: how many there are, and the text after them. The list is written by index, since after a loop over
+// chunks_exact_mut a proof knows its length and no element.
+#[tactic(auto, using(crate::proofs::Many::nodes_steps))]
+pub fn read_nodes<'a>(s: &'a [u8], coords: &mut [f64]) -> Option<(usize, &'a [u8])>
+    ensures read { read_by (λ n. take (2 * n) coords.new) result ≡ nodes_from (length coords.old / 2) [] s.now }
+    ensures within { IfSome result (λ p. 2 * p.0 ≤ length coords.old) }
+{
+    let mut rest = s;
+    let room = coords.len() / 2;
+    for k in 0..room {
+        let Some(line) = read_word(rest, NODE) else {
+            return Some((k, rest));
+        };
+        let (node, after) = read_node(line)?;
+        coords[2 * k] = node.x;
+        coords[2 * k + 1] = node.y;
+        rest = after;
+    }
+    Some((room, rest))
+}
+
+// numbers with a space before each, as many as the list has room for: how many there are, and the text after them
+#[tactic(auto, using(crate::proofs::Many::entries_steps))]
+pub fn read_entries<'a>(s: &'a [u8], nodes: &mut [u32]) -> Option<(usize, &'a [u8])>
+    ensures read { read_by (λ n. take n nodes.new) result ≡ entries_from (length nodes.old) [] s.now }
+    ensures within { IfSome result (λ p. p.0 ≤ length nodes.old) }
+{
+    let mut rest = s;
+    for k in 0..nodes.len() {
+        let Some(number) = read_word(rest, SPACE) else {
+            return Some((k, rest));
+        };
+        let (node, after) = read_decimal(number)?;
+        nodes[k] = node;
+        rest = after;
+    }
+    Some((nodes.len(), rest))
+}
+
+// a cell line after its word: its corners stand in the front of the list
+#[tactic(auto, unfolding(text::specs::Read::cell_from, text::specs::Read::and_then, text::specs::Read::after_word))]
+pub fn read_cell<'a>(s: &'a [u8], nodes: &mut [u32]) -> Option<(Cell, &'a [u8])>
+    ensures read { read_by (λ c. cell_of c nodes.new) result ≡ cell_from (length nodes.old) [] s.now }
+    ensures within { IfSome result (λ p. p.0.corners ≤ length nodes.old) }
+{
+    let (heading, s) = read_head(s)?;
+    let (corners, s) = read_entries(s, nodes)?;
+    let s = read_word(s, CLOSE)?;
+    Some((Cell { heading, corners }, s))
+}
+
+// Cell lines, as many as the lists have room for: how many there are, with how many entries, and the text after them. Written by index, as above.
+#[tactic(auto, using(crate::proofs::Many::cells_steps))]
+pub fn read_cells<'a>(s: &'a [u8], lists: &mut CellLists) -> Option<(CellCounts, &'a [u8])>
+    requires few { length lists.old.nodes.now ≤ 4294967295 }
+    requires kinds { length lists.old.ends.now ≤ length lists.old.kinds.now }
+    requires families { length lists.old.ends.now ≤ length lists.old.families.now }
+    ensures read { read_by (λ n. cells_of n lists.new) result ≡ cells_from (length lists.old.nodes.now) (length lists.old.ends.now) empty s.now }
+    ensures within { IfSome result (λ p. (p.0.cells ≤ length lists.old.ends.now) × (p.0.entries ≤ length lists.old.nodes.now)) }
+    ensures same_lists { SameCellLists lists.new lists.old }
+{
+    let mut rest = s;
+    let mut entries = 0;
+    let room = lists.ends.len();
+    for k in 0..room {
+        let Some(line) = read_word(rest, CELL) else {
+            return Some((CellCounts { cells: k, entries }, rest));
+        };
+        let (cell, after) = read_cell(line, &mut lists.nodes[entries..])?;
+        entries += cell.corners;
+        lists.ends[k] = entries as u32;
+        lists.kinds[k] = cell.heading.kind;
+        lists.families[k] = cell.heading.family;
+        rest = after;
+    }
+    Some((
+        CellCounts {
+            cells: room,
+            entries,
+        },
+        rest,
+    ))
 }

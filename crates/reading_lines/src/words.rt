@@ -1,137 +1,89 @@
-// Words and numbers: each function takes the whole text and a place in it, and answers what stands there and the place after it.
-ghost use Rattle.std.specs.Prelude.{◌≡◌, ◌≤◌, ◌<◌, length, drop};
-ghost use Rattle.text.specs.Text.{space, newline, close, node_word, cell_word, mesh_word, overlay_word};
+// Words and numbers: each function answers what stands at the front of the text, and the text after it.
+ghost use Rattle.std.specs.Prelude.{◌≡◌, ◌≤◌, ◌<◌, MatchOption, option_copied};
 ghost use Rattle.text.specs.Read.{digit_val, hex_val, word_from, more_from, decimal_from, hex_from};
 ghost use Rattle.text.specs.Given.{coordinate};
-ghost use Rattle.reading_lines.specs.Lines.{step_as, step_end, number_as, number_end, pattern_as, pattern_end};
+ghost use Rattle.reading_lines.specs.Lines.{read_as};
 
-#[derive(Clone, Copy)]
-pub enum Step {
-    Past(usize),
-    No,
-}
+pub const SPACE: &[u8] = b" ";
 
-#[derive(Clone, Copy)]
-pub enum Number {
-    At(u32, usize),
-    No,
-}
+pub const NEWLINE: &[u8] = b"\n";
 
-#[derive(Clone, Copy)]
-pub enum Pattern {
-    At(u64, usize),
-    No,
-}
+pub const CLOSE: &[u8] = b")\n";
 
-// a decimal digit's number, or 255
-pub fn digit_of(b: u8) -> u64
-    ensures { result ≡ digit_val b }
+pub const NODE: &[u8] = b"(node ";
+
+pub const CELL: &[u8] = b"(cell ";
+
+pub const MESH: &[u8] = b"(mesh\n";
+
+pub const OVERLAY: &[u8] = b"(overlay ";
+
+#[tactic(auto, using(std::proofs::lemmas::Bool::Decides::nat_tests), unfolding(text::specs::Read::digit_val))]
+pub fn digit_of(b: u8) -> Option<u32>
+    ensures { MatchOption result (10 ≤ digit_val b) (λ d. (d ≡ digit_val b) × (d < 10)) }
 {
-    if b < 48 {
-        return 255;
+    match b {
+        b'0'..=b'9' => Some(u32::from(b - b'0')),
+        _ => None,
     }
-    if b < 58 {
-        return wide(b - 48);
-    }
-    255
 }
 
-// a small hexadecimal digit's number, or 255
-pub fn hex_of(b: u8) -> u64
-    ensures { result ≡ hex_val b }
+// a small hexadecimal digit
+#[tactic(auto, using(std::proofs::lemmas::Bool::Decides::nat_tests), unfolding(text::specs::Read::hex_val, text::specs::Read::digit_val))]
+pub fn hex_of(b: u8) -> Option<u64>
+    ensures { MatchOption result (16 ≤ hex_val b) (λ d. (d ≡ hex_val b) × (d < 16)) }
 {
-    if b < 97 {
-        return digit_of(b);
+    match b {
+        b'0'..=b'9' => Some(u64::from(b - b'0')),
+        b'a'..=b'f' => Some(u64::from(b - b'a' + 10)),
+        _ => None,
     }
-    if b < 103 {
-        return wide(b - 87);
-    }
-    255
 }
 
-pub fn wide(b: u8) -> u64
-    ensures { result ≡ b }
+// the text after the word w
+pub fn read_word<'a>(s: &'a [u8], w: &[u8]) -> Option<&'a [u8]>
+    ensures { option_copied result ≡ word_from w.now s.now }
 {
-    b as u64
-}
-
-// the word w at a place
-pub fn read_word(s: &[u8], at: usize, w: &[u8]) -> Step
-    requires { at ≤ length s.now }
-    ensures { (step_as result s.now ≡ word_from w.now (drop at s.now)) × (step_end result ≤ length s.now) }
-{
-    let mut i = 0;
-    while i < w.len() {
-        if s.len() <= at + i {
-            return Step::No;
-        }
-        if s[at + i] != w[i] {
-            return Step::No;
-        }
-        i += 1;
-    }
-    Step::Past(at + i)
+    s.strip_prefix(w)
 }
 
 // the digits after the first ones, whose number is v
-pub fn read_more(s: &[u8], at: usize, first: u64) -> Number
-    requires { (at ≤ length s.now) × (first < 10) }
-    ensures { (number_as result s.now ≡ more_from first (drop at s.now)) × (number_end result ≤ length s.now) }
+#[tactic(auto, using(crate::proofs::Loops::more_steps))]
+pub fn read_more(first: u32, s: &[u8]) -> Option<(u32, &[u8])>
+    ensures { read_as result ≡ more_from first s.now }
 {
     let mut v = first;
-    let mut i = at;
-    while i < s.len() {
-        let d = digit_of(s[i]);
-        if 10 <= d {
-            return Number::At(v as u32, i);
-        }
-        if 4294967295 < v * 10 + d {
-            return Number::No;
-        }
-        v = v * 10 + d;
-        i += 1;
+    for (i, b) in s.iter().enumerate() {
+        let Some(d) = digit_of(*b) else {
+            return Some((v, &s[i..]));
+        };
+        v = v.checked_mul(10)?.checked_add(d)?;
     }
-    Number::At(v as u32, i)
+    Some((v, &[]))
 }
 
-pub fn read_decimal(s: &[u8], at: usize) -> Number
-    requires { at ≤ length s.now }
-    ensures { (number_as result s.now ≡ decimal_from (drop at s.now)) × (number_end result ≤ length s.now) }
+#[tactic(auto, using(crate::proofs::Loops::decimal_steps))]
+pub fn read_decimal(s: &[u8]) -> Option<(u32, &[u8])>
+    ensures { read_as result ≡ decimal_from s.now }
 {
-    if s.len() <= at {
-        return Number::No;
-    }
-    let d = digit_of(s[at]);
-    if 10 <= d {
-        return Number::No;
-    }
+    let (b, rest) = s.split_first()?;
+    let d = digit_of(*b)?;
     if d == 0 {
-        return Number::At(0, at + 1);
+        return Some((0, rest));
     }
-    read_more(s, at + 1, d)
+    read_more(d, rest)
 }
 
-pub fn read_hex(s: &[u8], at: usize) -> Pattern
-    requires { at ≤ length s.now }
-    ensures { (pattern_as result s.now ≡ hex_from 16 0 (drop at s.now)) × (pattern_end result ≤ length s.now) }
+#[tactic(auto, using(crate::proofs::Loops::hex_steps))]
+pub fn read_hex(s: &[u8]) -> Option<(u64, &[u8])>
+    ensures { read_as result ≡ hex_from 16 0 s.now }
 {
+    let (digits, rest) = s.split_at_checked(16)?;
     let mut v: u64 = 0;
-    let mut i = 0;
-    while i < 16 {
-        if s.len() <= at + i {
-            return Pattern::No;
-        }
-        let d = hex_of(s[at + i]);
-        if 16 <= d {
-            return Pattern::No;
-        }
-        if 1152921504606846976 <= v {
-            return Pattern::No;
-        }
-        v = v * 16 + d;
-        i += 1;
+    for b in digits {
+        v = v.checked_mul(16)? + hex_of(*b)?;
     }
-    Pattern::At(v, at + i)
+    Some((v, rest))
 }
 
 // a NaN's pattern is no argument of from_bits
@@ -145,53 +97,4 @@ pub fn coordinate_of(bits: u64) -> f64
         return f64::from_bits(bits);
     }
     0.0 / 0.0
-}
-
-pub fn space(s: &[u8], at: usize) -> Step
-    requires { at ≤ length s.now }
-    ensures { (step_as result s.now ≡ word_from space (drop at s.now)) × (step_end result ≤ length s.now) }
-{
-    read_word(s, at, b" ")
-}
-
-pub fn newline(s: &[u8], at: usize) -> Step
-    requires { at ≤ length s.now }
-    ensures { (step_as result s.now ≡ word_from newline (drop at s.now)) × (step_end result ≤ length s.now) }
-{
-    read_word(s, at, b"\n")
-}
-
-pub fn close(s: &[u8], at: usize) -> Step
-    requires { at ≤ length s.now }
-    ensures { (step_as result s.now ≡ word_from close (drop at s.now)) × (step_end result ≤ length s.now) }
-{
-    read_word(s, at, b")\n")
-}
-
-pub fn node_word(s: &[u8], at: usize) -> Step
-    requires { at ≤ length s.now }
-    ensures { (step_as result s.now ≡ word_from node_word (drop at s.now)) × (step_end result ≤ length s.now) }
-{
-    read_word(s, at, b"(node ")
-}
-
-pub fn cell_word(s: &[u8], at: usize) -> Step
-    requires { at ≤ length s.now }
-    ensures { (step_as result s.now ≡ word_from cell_word (drop at s.now)) × (step_end result ≤ length s.now) }
-{
-    read_word(s, at, b"(cell ")
-}
-
-pub fn mesh_word(s: &[u8], at: usize) -> Step
-    requires { at ≤ length s.now }
-    ensures { (step_as result s.now ≡ word_from mesh_word (drop at s.now)) × (step_end result ≤ length s.now) }
-{
-    read_word(s, at, b"(mesh\n")
-}
-
-pub fn overlay_word(s: &[u8], at: usize) -> Step
-    requires { at ≤ length s.now }
-    ensures { (step_as result s.now ≡ word_from overlay_word (drop at s.now)) × (step_end result ≤ length s.now) }
-{
-    read_word(s, at, b"(overlay ")
 }

@@ -4,6 +4,8 @@ use mathlib.Core.List.{List, [], ◌++◌, append_assoc, map}
 use Prim.Native.Nat.{ℕ, ◌≤◌}
 use lib.ListN.{length}
 use lib.Seq.{take-length}
+use Rattle.std.specs.Prelude.{None, Some}
+use Rattle.std.proofs.lemmas.Option.{some_pair_parts}
 use Rattle.text.specs.Text.{
   space,
   close,
@@ -22,18 +24,18 @@ use Rattle.text.specs.Text.{
   first_text,
   input_text,
 }
-use Rattle.text.specs.Read.{no, and_then, after_word, word_from, cells_from, mesh_from, first_from, input_from, empty}
-use Rattle.text.specs.Given.{Parsed, got, coordinate, Limits, Given}
+use Rattle.text.specs.Read.{and_then, after_word, word_from, cells_from, mesh_from, first_from, input_from, empty}
+use Rattle.text.specs.Given.{Parsed, coordinate, Limits, Given}
 use Rattle.text.proofs.Inverse.{word_self}
 use Rattle.text.specs.Inputs.{Rises, no_cells, cell, Fine, read, Within, Input, text_of, given, Readable}
 use Rattle.text.proofs.Lines.{nodes_read, cells_read, so_far, before_stop, stop_space, stop_newline}
 use Rattle.text.proofs.Whole.{mesh_read, input_read}
 
-no_cell_close : (t : List ℕ) → word_from cell_word (close ++ t) ≡ no
+no_cell_close : (t : List ℕ) → word_from cell_word (close ++ t) ≡ None
 unfolding word_from
 no_cell_close t = refl
 
-no_node : {ns es ks fs : List ℕ} {n m : ℕ} (t : List ℕ) → Rises ns n es ks fs m → word_from node_word (cells_text n ns es ks fs ++ (close ++ t)) ≡ no
+no_node : {ns es ks fs : List ℕ} {n m : ℕ} (t : List ℕ) → Rises ns n es ks fs m → word_from node_word (cells_text n ns es ks fs ++ (close ++ t)) ≡ None
 unfolding cells_text cell_text word_from
 no_node t no_cells = refl
 no_node t (cell h g hk hf c d) = refl
@@ -43,14 +45,14 @@ unfolding mesh_text body_text
 mesh_apart m t = simp append_assoc
 
 whole_cells : (c e : ℕ) (ns es ks fs t : List ℕ) → Rises ns 0 es ks fs (length ns) → length es ≤ c → length ns ≤ e
-    → cells_from e c empty (cells_text 0 ns es ks fs ++ (close ++ t)) ≡ got (record { nodes = ns; ends = es; kinds = ks; families = fs }) (close ++ t)
+    → cells_from e c empty (cells_text 0 ns es ks fs ++ (close ++ t)) ≡ Some (record { nodes = ns; ends = es; kinds = ks; families = fs }, close ++ t)
 unfolding so_far
 whole_cells c e ns es ks fs t r l h =
     cells_read e ns c [] [] [] (close ++ t) r l h (no_cell_close t)
-    ∙ ap (λ (l : List ℕ). got (record { nodes = l; ends = es; kinds = ks; families = fs }) (close ++ t)) (take-length ns)
+    ∙ ap (λ (l : List ℕ). Some (record { nodes = l; ends = es; kinds = ks; families = fs }, close ++ t)) (take-length ns)
 
 -- a mesh within its limits is read back
-pub mesh_back : (l : Limits) (m : Bits) (t : List ℕ) → Fine m → Within l m → mesh_from l (mesh_text m ++ t) ≡ got (read m) t
+pub mesh_back : (l : Limits) (m : Bits) (t : List ℕ) → Fine m → Within l m → mesh_from l (mesh_text m ++ t) ≡ Some (read m, t)
 unfolding read
 mesh_back l m t f w =
     ap (mesh_from l) (mesh_apart m t)
@@ -65,7 +67,7 @@ unfolding first_text
 first_apart op m t = simp append_assoc
 
 first_line : (op m : ℕ) (t : List ℕ) → op ≤ 4294967295 → m ≤ 4294967295
-    → first_from (overlay_word ++ (decimal op ++ (space ++ (decimal m ++ (newline ++ t))))) ≡ got (record { op = op; m = m }) t
+    → first_from (overlay_word ++ (decimal op ++ (space ++ (decimal m ++ (newline ++ t))))) ≡ Some (record { op = op; m = m }, t)
 unfolding first_from and_then after_word
 first_line op m t h g =
     rw (
@@ -76,11 +78,11 @@ first_line op m t h g =
       word_self newline t,
     )
 
-pub first_back : (op m : ℕ) (t : List ℕ) → op ≤ 4294967295 → m ≤ 4294967295 → first_from (first_text op m ++ t) ≡ got (record { op = op; m = m }) t
+pub first_back : (op m : ℕ) (t : List ℕ) → op ≤ 4294967295 → m ≤ 4294967295 → first_from (first_text op m ++ t) ≡ Some (record { op = op; m = m }, t)
 first_back op m t h g = ap first_from (first_apart op m t) ∙ first_line op m t h g
 
 -- an input is read back from its text
-pub input_back : (l k : Limits) (i : Input) → Readable l k i → input_from l k (text_of i) ≡ got (given i) []
+pub input_back : (l k : Limits) (i : Input) → Readable l k i → input_from l k (text_of i) ≡ Some (given i, [])
 unfolding input_text
 input_back l k i r =
     let s = mesh_text i.subject in
@@ -93,5 +95,5 @@ input_back l k i r =
 -- two inputs of one text are the same input
 pub one_text : (l k : Limits) (i j : Input) → Readable l k i → Readable l k j → text_of i ≡ text_of j → given i ≡ given j
 one_text l k i j r q e =
-    let same : ◌≡◌ {A = Parsed Given} (got (given i) []) (got (given j) []) = sym (input_back l k i r) ∙ ap (input_from l k) e ∙ input_back l k j q in
-    cc
+    let same : ◌≡◌ {A = Parsed Given} (Some (given i, [])) (Some (given j, [])) = sym (input_back l k i r) ∙ ap (input_from l k) e ∙ input_back l k j q in
+    (some_pair_parts _ _ _ _ same).0

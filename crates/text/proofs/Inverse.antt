@@ -7,13 +7,13 @@ use native.Mathlib.Omega.{arith}
 use borrow.Author.Tests.{lt-ltb, le-ltb, le-leb, eq-eqb, ne_eqb, ltb-true, ltb-false}
 use lib.Dec.{ltb}
 use lib.Seq.{append_snoc}
+use Rattle.std.specs.Prelude.{Some}
 use Rattle.text.specs.Text.{decimal_to, decimal, glyph, hex_to, hex}
-use Rattle.text.specs.Read.{past, word_from, digit_val, hex_val}
+use Rattle.text.specs.Read.{word_from, digit_val, hex_val}
 use Rattle.text.specs.Read.{more_from, decimal_from, hex_from}
-use Rattle.text.specs.Given.{got}
 
 -- ---- words
-pub word_self : (w t : List ℕ) → word_from w (w ++ t) ≡ past t
+pub word_self : (w t : List ℕ) → word_from w (w ++ t) ≡ Some t
 unfolding word_from
 word_self [] t = refl
 word_self (c ∷ w) t = rw (eq-eqb c c refl) (word_self w t)
@@ -32,7 +32,7 @@ more_digit v d t h g = rw (digit d h, lt-ltb _ _ h, le-leb _ _ g)
 from_zero : (d : ℕ) (t : List ℕ) → d < 10 → more_from 0 ((48 + d) ∷ t) ≡ more_from d t
 from_zero d t h = let e : 0 * 10 + d ≡ d = omega arith in more_digit 0 d t h (omega arith) ∙ ap (λ (m : ℕ). more_from m t) e
 
-more_stop : (v b : ℕ) (t : List ℕ) → 10 ≤ digit_val b → more_from v (b ∷ t) ≡ got v (b ∷ t)
+more_stop : (v b : ℕ) (t : List ℕ) → 10 ≤ digit_val b → more_from v (b ∷ t) ≡ Some (v, b ∷ t)
 unfolding more_from
 more_stop v b t h = rw (le-ltb _ _ h)
 
@@ -86,7 +86,7 @@ first_digit d t h g = rw (digit d g, lt-ltb _ _ g, ne_eqb d 0 (λ z. omega arith
 lead_read : (l t : List ℕ) → Lead l → decimal_from (l ++ t) ≡ more_from 0 (l ++ t)
 lead_read l t r = rw r.is (first_digit r.d (r.rest ++ t) r.above r.below)
 
-zero_read : (b : ℕ) (t : List ℕ) → decimal_from (decimal 0 ++ (b ∷ t)) ≡ got 0 (b ∷ t)
+zero_read : (b : ℕ) (t : List ℕ) → decimal_from (decimal 0 ++ (b ∷ t)) ≡ Some (0, b ∷ t)
 unfolding decimal decimal_to decimal_from digit_val
 zero_read b t = refl
 
@@ -94,7 +94,7 @@ pub few_tens : (n : ℕ) → n ≤ 4294967295 → n < tens 10
 unfolding tens
 few_tens n h = omega arith
 
-above : (m b : ℕ) (t : List ℕ) → suc m ≤ 4294967295 → 10 ≤ digit_val b → decimal_from (decimal (suc m) ++ (b ∷ t)) ≡ got (suc m) (b ∷ t)
+above : (m b : ℕ) (t : List ℕ) → suc m ≤ 4294967295 → 10 ≤ digit_val b → decimal_from (decimal (suc m) ++ (b ∷ t)) ≡ Some (suc m, b ∷ t)
 unfolding decimal
 above m b t h g =
     lead_read (decimal_to 10 (suc m)) (b ∷ t) (lead 10 (suc m) (omega arith) (few_tens (suc m) h))
@@ -102,7 +102,7 @@ above m b t h g =
     ∙ more_stop (suc m) b t g
 
 -- a decimal and a byte that is no digit
-pub decimal_read : (n b : ℕ) (t : List ℕ) → n ≤ 4294967295 → 10 ≤ digit_val b → decimal_from (decimal n ++ (b ∷ t)) ≡ got n (b ∷ t)
+pub decimal_read : (n b : ℕ) (t : List ℕ) → n ≤ 4294967295 → 10 ≤ digit_val b → decimal_from (decimal n ++ (b ∷ t)) ≡ Some (n, b ∷ t)
 decimal_read zero b t h g = zero_read b t
 decimal_read (suc m) b t h g = above m b t h g
 
@@ -143,10 +143,10 @@ few_sixteens : (n : ℕ) → n < 18446744073709551616 → n < sixteens 16
 unfolding sixteens
 few_sixteens n h = h
 
-hex_none : (v : ℕ) (t : List ℕ) → hex_from 0 v t ≡ got v t
+hex_none : (v : ℕ) (t : List ℕ) → hex_from 0 v t ≡ Some (v, t)
 unfolding hex_from
 hex_none v t = refl
 
-pub hex_read : (n : ℕ) (t : List ℕ) → n < 18446744073709551616 → hex_from 16 0 (hex n ++ t) ≡ got n t
+pub hex_read : (n : ℕ) (t : List ℕ) → n < 18446744073709551616 → hex_from 16 0 (hex n ++ t) ≡ Some (n, t)
 unfolding hex
 hex_read n t h = hex_all 16 16 0 n t refl (few_sixteens n h) h ∙ hex_none n t

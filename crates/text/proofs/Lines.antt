@@ -8,27 +8,28 @@ use borrow.Author.Tests.{le-leb}
 use lib.ListN.{length, take, drop, length-drop}
 use lib.Seq.{length-take-le, take-add}
 use lib.Ieee.{Float}
+use Rattle.std.specs.Prelude.{None, Some}
 use Rattle.text.specs.Text.{space, close, newline, node_word, cell_word, decimal, hex, node_text, nodes_text, numbers_text, cell_text, cells_text}
-use Rattle.text.specs.Read.{no, if_word, and_then, after_word, word_from, digit_val, decimal_from, repeated, node_from}
+use Rattle.text.specs.Read.{if_word, and_then, after_word, word_from, digit_val, decimal_from, repeated, node_from}
 use Rattle.text.specs.Read.{node_step, nodes_from, entry_step, entries_from, head_from, cell_from, add_cell, cell_step, cells_from}
-use Rattle.text.specs.Given.{Parsed, got, coordinate, Cells}
+use Rattle.text.specs.Given.{Parsed, coordinate, Cells}
 use Rattle.text.specs.Inputs.{Coords, no_coords, pair, Small, no_numbers, small, Rises, no_cells, cell}
 use Rattle.text.proofs.Repeats.{repeated_stop}
 use Rattle.text.proofs.Inverse.{word_self, decimal_read, hex_read}
 
 -- ---- one more of many
-one : {A : Type 0} (w : List ℕ) (f : A → List ℕ → Parsed A) (k : ℕ) (a a₁ : A) (u t : List ℕ) → f a u ≡ got a₁ t → repeated w f (suc k) a (w ++ u) ≡ repeated w f k a₁ t
+one : {A : Type 0} (w : List ℕ) (f : A → List ℕ → Parsed A) (k : ℕ) (a a₁ : A) (u t : List ℕ) → f a u ≡ Some (a₁, t) → repeated w f (suc k) a (w ++ u) ≡ repeated w f k a₁ t
 unfolding repeated if_word and_then
 one w f k a a₁ u t e = rw (word_self w u, e)
 
 -- ---- node lines
 pub node_read : (x y : ℕ) (t : List ℕ) → x < 18446744073709551616 → y < 18446744073709551616
-    → node_from (hex x ++ (space ++ (hex y ++ (close ++ t)))) ≡ got (coordinate x ∷ coordinate y ∷ []) t
+    → node_from (hex x ++ (space ++ (hex y ++ (close ++ t)))) ≡ Some (coordinate x ∷ coordinate y ∷ [], t)
 unfolding node_from and_then after_word
 node_read x y t h g = rw (hex_read x (space ++ (hex y ++ (close ++ t))) h, word_self space (hex y ++ (close ++ t)), hex_read y (close ++ t) g, word_self close t)
 
 node_step_lem : (x y : ℕ) (cs : List Float) (t : List ℕ) → x < 18446744073709551616 → y < 18446744073709551616
-    → node_step cs (hex x ++ (space ++ (hex y ++ (close ++ t)))) ≡ got (cs ++ (coordinate x ∷ coordinate y ∷ [])) t
+    → node_step cs (hex x ++ (space ++ (hex y ++ (close ++ t)))) ≡ Some (cs ++ (coordinate x ∷ coordinate y ∷ []), t)
 unfolding node_step and_then
 node_step_lem x y cs t h g = rw (node_read x y t h g)
 
@@ -36,12 +37,12 @@ node_apart : (x y : ℕ) (bs t : List ℕ) → nodes_text (x ∷ y ∷ bs) ++ t 
 unfolding nodes_text node_text
 node_apart x y bs t = simp append_assoc
 
-none_left : (k : ℕ) (cs : List Float) (t : List ℕ) → word_from node_word t ≡ no → repeated node_word node_step k cs (nodes_text [] ++ t) ≡ got (cs ++ []) t
+none_left : (k : ℕ) (cs : List Float) (t : List ℕ) → word_from node_word t ≡ None → repeated node_word node_step k cs (nodes_text [] ++ t) ≡ Some (cs ++ [], t)
 unfolding nodes_text
-none_left k cs t s = repeated_stop node_word node_step cs t k s ∙ ap (λ (l : List Float). got l t) (sym (append-nil cs))
+none_left k cs t s = repeated_stop node_word node_step cs t k s ∙ ap (λ (l : List Float). Some (l, t)) (sym (append-nil cs))
 
-pub nodes_read : {bs : List ℕ} (k : ℕ) (cs : List Float) (t : List ℕ) → Coords bs → length bs ≤ 2 * k → word_from node_word t ≡ no
-    → nodes_from k cs (nodes_text bs ++ t) ≡ got (cs ++ map coordinate bs) t
+pub nodes_read : {bs : List ℕ} (k : ℕ) (cs : List Float) (t : List ℕ) → Coords bs → length bs ≤ 2 * k → word_from node_word t ≡ None
+    → nodes_from k cs (nodes_text bs ++ t) ≡ Some (cs ++ map coordinate bs, t)
 unfolding nodes_from
 nodes_read k cs t no_coords l s = none_left k cs t s
 nodes_read zero cs t (pair hx hy c) l s = absurd (not-suc-le-zero l)
@@ -50,7 +51,7 @@ nodes_read (suc k) cs t (pair {x} {y} {bs} hx hy c) l s =
     ∙ one node_word node_step k cs (cs ++ (coordinate x ∷ coordinate y ∷ [])) (hex x ++ (space ++ (hex y ++ (close ++ (nodes_text bs ++ t))))) (nodes_text bs ++ t)
     (node_step_lem x y cs (nodes_text bs ++ t) hx hy)
     ∙ nodes_read k (cs ++ (coordinate x ∷ coordinate y ∷ [])) t c (omega arith) s
-    ∙ ap (λ (l : List Float). got l t) (append_assoc cs (coordinate x ∷ coordinate y ∷ []) (map coordinate bs))
+    ∙ ap (λ (l : List Float). Some (l, t)) (append_assoc cs (coordinate x ∷ coordinate y ∷ []) (map coordinate bs))
 
 -- ---- numbers
 -- a text that does not go on with a digit
@@ -72,7 +73,7 @@ pub stop_newline : (t : List ℕ) → Stop (newline ++ t)
 unfolding digit_val
 stop_newline t = record { b = 10; rest = t; is = refl; stops = omega arith }
 
-pub before_stop : (n : ℕ) (t : List ℕ) → n ≤ 4294967295 → Stop t → decimal_from (decimal n ++ t) ≡ got n t
+pub before_stop : (n : ℕ) (t : List ℕ) → n ≤ 4294967295 → Stop t → decimal_from (decimal n ++ t) ≡ Some (n, t)
 before_stop n t h s = rw s.is (decimal_read n s.b s.rest h s.stops)
 
 pub stop_numbers : (ns t : List ℕ) → Stop (numbers_text ns ++ (close ++ t))
@@ -84,19 +85,19 @@ number_apart : (n : ℕ) (ns t : List ℕ) → numbers_text (n ∷ ns) ++ t ≡ 
 unfolding numbers_text
 number_apart n ns t = simp append_assoc
 
-entry_step_lem : (n : ℕ) (ns t : List ℕ) → n ≤ 4294967295 → Stop t → entry_step ns (decimal n ++ t) ≡ got (ns ++ (n ∷ [])) t
+entry_step_lem : (n : ℕ) (ns t : List ℕ) → n ≤ 4294967295 → Stop t → entry_step ns (decimal n ++ t) ≡ Some (ns ++ (n ∷ []), t)
 unfolding entry_step and_then
 entry_step_lem n ns t h s = rw (before_stop n t h s)
 
-no_space : (t : List ℕ) → word_from space (close ++ t) ≡ no
+no_space : (t : List ℕ) → word_from space (close ++ t) ≡ None
 unfolding word_from
 no_space t = refl
 
-no_more : (k : ℕ) (ns t : List ℕ) → repeated space entry_step k ns (numbers_text [] ++ (close ++ t)) ≡ got (ns ++ []) (close ++ t)
+no_more : (k : ℕ) (ns t : List ℕ) → repeated space entry_step k ns (numbers_text [] ++ (close ++ t)) ≡ Some (ns ++ [], close ++ t)
 unfolding numbers_text
-no_more k ns t = repeated_stop space entry_step ns (close ++ t) k (no_space t) ∙ ap (λ (l : List ℕ). got l (close ++ t)) (sym (append-nil ns))
+no_more k ns t = repeated_stop space entry_step ns (close ++ t) k (no_space t) ∙ ap (λ (l : List ℕ). Some (l, close ++ t)) (sym (append-nil ns))
 
-pub entries_read : {ms : List ℕ} (k : ℕ) (ns t : List ℕ) → Small ms → length ms ≤ k → entries_from k ns (numbers_text ms ++ (close ++ t)) ≡ got (ns ++ ms) (close ++ t)
+pub entries_read : {ms : List ℕ} (k : ℕ) (ns t : List ℕ) → Small ms → length ms ≤ k → entries_from k ns (numbers_text ms ++ (close ++ t)) ≡ Some (ns ++ ms, close ++ t)
 unfolding entries_from
 entries_read k ns t no_numbers l = no_more k ns t
 entries_read zero ns t (small h c) l = absurd (not-suc-le-zero l)
@@ -105,16 +106,16 @@ entries_read (suc k) ns t (small {n} {ns = ms} h c) l =
     ∙ one space entry_step k ns (ns ++ (n ∷ [])) (decimal n ++ (numbers_text ms ++ (close ++ t))) (numbers_text ms ++ (close ++ t))
     (entry_step_lem n ns (numbers_text ms ++ (close ++ t)) h (stop_numbers ms t))
     ∙ entries_read k (ns ++ (n ∷ [])) t c (le_of_suc-le-suc l)
-    ∙ ap (λ (l : List ℕ). got l (close ++ t)) (append_assoc ns (n ∷ []) ms)
+    ∙ ap (λ (l : List ℕ). Some (l, close ++ t)) (append_assoc ns (n ∷ []) ms)
 
 -- ---- cell lines
-pub head_read : (k f : ℕ) (t : List ℕ) → k ≤ 255 → f ≤ 4294967295 → Stop t → head_from (decimal k ++ (space ++ (decimal f ++ t))) ≡ got (record { kind = k; family = f }) t
+pub head_read : (k f : ℕ) (t : List ℕ) → k ≤ 255 → f ≤ 4294967295 → Stop t → head_from (decimal k ++ (space ++ (decimal f ++ t))) ≡ Some (record { kind = k; family = f }, t)
 unfolding head_from and_then after_word
 head_read k f t h g s =
     rw (before_stop k (space ++ (decimal f ++ t)) (omega arith) (stop_space (decimal f ++ t)), le-leb k 255 h, word_self space (decimal f ++ t), before_stop f t g s)
 
 pub cell_read : (room k f : ℕ) (ns ms t : List ℕ) → k ≤ 255 → f ≤ 4294967295 → Small ms → length ns + length ms ≤ room
-    → cell_from room ns (decimal k ++ (space ++ (decimal f ++ (numbers_text ms ++ (close ++ t))))) ≡ got (record { heading = record { kind = k; family = f }; nodes = ns ++ ms }) t
+    → cell_from room ns (decimal k ++ (space ++ (decimal f ++ (numbers_text ms ++ (close ++ t))))) ≡ Some (record { heading = record { kind = k; family = f }; nodes = ns ++ ms }, t)
 unfolding cell_from and_then after_word
 cell_read room k f ns ms t h g c l =
     rw (head_read k f (numbers_text ms ++ (close ++ t)) h g (stop_numbers ms t), entries_read (room - length ns) ns t c (omega arith), word_self close t)
@@ -133,7 +134,7 @@ so_far ns n es ks fs = record { nodes = take n ns; ends = es; kinds = ks; famili
 
 cell_step_lem : (room n e k f : ℕ) (ns xs ys zs t : List ℕ) → n ≤ e → e ≤ length ns → e ≤ room → k ≤ 255 → f ≤ 4294967295 → Small (take (e - n) (drop n ns))
     → cell_step room (so_far ns n xs ys zs) (decimal k ++ (space ++ (decimal f ++ (numbers_text (take (e - n) (drop n ns)) ++ (close ++ t)))))
-    ≡ got (so_far ns e (xs ++ (e ∷ [])) (ys ++ (k ∷ [])) (zs ++ (f ∷ []))) t
+    ≡ Some (so_far ns e (xs ++ (e ∷ [])) (ys ++ (k ∷ [])) (zs ++ (f ∷ [])), t)
 unfolding cell_step and_then add_cell so_far
 cell_step_lem room n e k f ns xs ys zs t h g r hk hf c =
     let l : length (take n ns) ≡ n = length-take-le n ns (le_trans h g) in
@@ -141,13 +142,13 @@ cell_step_lem room n e k f ns xs ys zs t h g r hk hf c =
     let z : length (take e ns) ≡ e = length-take-le e ns g in
     rw (cell_read room k f (take n ns) (take (e - n) (drop n ns)) t hk hf c (omega arith), upto ns n e h, z)
 
-no_word : (k room n : ℕ) (ns xs ys zs t : List ℕ) → word_from cell_word t ≡ no
-    → repeated cell_word (cell_step room) k (so_far ns n xs ys zs) (cells_text n ns [] [] [] ++ t) ≡ got (so_far ns n (xs ++ []) (ys ++ []) (zs ++ [])) t
+no_word : (k room n : ℕ) (ns xs ys zs t : List ℕ) → word_from cell_word t ≡ None
+    → repeated cell_word (cell_step room) k (so_far ns n xs ys zs) (cells_text n ns [] [] [] ++ t) ≡ Some (so_far ns n (xs ++ []) (ys ++ []) (zs ++ []), t)
 unfolding cells_text so_far
 no_word k room n ns xs ys zs t s = rw (append-nil xs, append-nil ys, append-nil zs) (repeated_stop cell_word (cell_step room) (so_far ns n xs ys zs) t k s)
 
-pub cells_read : (room : ℕ) (ns : List ℕ) {n m : ℕ} {es ks fs : List ℕ} (k : ℕ) (xs ys zs t : List ℕ) → Rises ns n es ks fs m → length es ≤ k → length ns ≤ room → word_from cell_word t ≡ no
-    → cells_from room k (so_far ns n xs ys zs) (cells_text n ns es ks fs ++ t) ≡ got (so_far ns m (xs ++ es) (ys ++ ks) (zs ++ fs)) t
+pub cells_read : (room : ℕ) (ns : List ℕ) {n m : ℕ} {es ks fs : List ℕ} (k : ℕ) (xs ys zs t : List ℕ) → Rises ns n es ks fs m → length es ≤ k → length ns ≤ room → word_from cell_word t ≡ None
+    → cells_from room k (so_far ns n xs ys zs) (cells_text n ns es ks fs ++ t) ≡ Some (so_far ns m (xs ++ es) (ys ++ ks) (zs ++ fs), t)
 unfolding cells_from
 cells_read room ns {n} k xs ys zs t no_cells l r s = no_word k room n ns xs ys zs t s
 cells_read room ns zero xs ys zs t (cell h g hk hf c d) l r s = absurd (not-suc-le-zero l)
@@ -157,6 +158,6 @@ cells_read room ns {n} {m} (suc j) xs ys zs t (cell {e = e} {k = k} {f = f} {es 
     (decimal k ++ (space ++ (decimal f ++ (numbers_text (take (e - n) (drop n ns)) ++ (close ++ (cells_text e ns es ks fs ++ t)))))) (cells_text e ns es ks fs ++ t)
     (cell_step_lem room n e k f ns xs ys zs (cells_text e ns es ks fs ++ t) h g (le_trans g r) hk hf c)
     ∙ cells_read room ns j (xs ++ (e ∷ [])) (ys ++ (k ∷ [])) (zs ++ (f ∷ [])) t d (le_of_suc-le-suc l) r s
-    ∙ ap (λ (u : List ℕ). got (so_far ns m u (ys ++ (k ∷ []) ++ ks) (zs ++ (f ∷ []) ++ fs)) t) (append_assoc xs (e ∷ []) es)
-    ∙ ap (λ (u : List ℕ). got (so_far ns m (xs ++ (e ∷ es)) u (zs ++ (f ∷ []) ++ fs)) t) (append_assoc ys (k ∷ []) ks)
-    ∙ ap (λ (u : List ℕ). got (so_far ns m (xs ++ (e ∷ es)) (ys ++ (k ∷ ks)) u) t) (append_assoc zs (f ∷ []) fs)
+    ∙ ap (λ (u : List ℕ). Some (so_far ns m u (ys ++ (k ∷ []) ++ ks) (zs ++ (f ∷ []) ++ fs), t)) (append_assoc xs (e ∷ []) es)
+    ∙ ap (λ (u : List ℕ). Some (so_far ns m (xs ++ (e ∷ es)) u (zs ++ (f ∷ []) ++ fs), t)) (append_assoc ys (k ∷ []) ks)
+    ∙ ap (λ (u : List ℕ). Some (so_far ns m (xs ++ (e ∷ es)) (ys ++ (k ∷ ks)) u, t)) (append_assoc zs (f ∷ []) fs)

@@ -7,58 +7,60 @@ use native.Mathlib.Omega.{arith}
 use borrow.Author.Tests.{lt-ltb, le-ltb, ltb-true, ltb-false, leb-true, eqb-true, eqb-false}
 use lib.Dec.{ltb, leb, eqb}
 use lib.Seq.{append_snoc}
+use Rattle.std.specs.Prelude.{None, Some}
+use Rattle.std.proofs.lemmas.Option.{some_pair_parts}
 use Rattle.text.specs.Text.{decimal_to, decimal, glyph, hex_to, hex}
-use Rattle.text.specs.Read.{Rest, no, past, if_word, and_then, after_word, word_from, digit_val, hex_val, more_from, decimal_from, hex_from, repeated}
-use Rattle.text.specs.Given.{Parsed, none, got}
+use Rattle.text.specs.Read.{Rest, if_word, and_then, after_word, word_from, digit_val, hex_val, more_from, decimal_from, hex_from, repeated}
+use Rattle.text.specs.Given.{Parsed}
 use Rattle.text.proofs.Inverse.{tens, small, sixteens}
 
 -- ---- what was read came from its parts
 module _ {A : Type 0} where
-  pub none_got : {a : A} {u : List ℕ} → none ≡ got a u → ⊥
+  pub none_got : {a : A} {u : List ℕ} → ◌≡◌ {A = Parsed A} None (Some (a, u)) → ⊥
   none_got e = let z : ◌≡◌ {A = ℕ} 0 1 = cc in omega arith
 
   pub record Then {B : Type 0} (p : Parsed B) (f : B → List ℕ → Parsed A) (a : A) (u : List ℕ) : Type 0 where
     pub value : B
     pub rest : List ℕ
-    pub first : p ≡ got value rest
-    pub second : f value rest ≡ got a u
+    pub first : p ≡ Some (value, rest)
+    pub second : f value rest ≡ Some (a, u)
 
-  pub then_got : {B : Type 0} {a : A} {u : List ℕ} (p : Parsed B) (f : B → List ℕ → Parsed A) → and_then p f ≡ got a u → Then p f a u
+  pub then_got : {B : Type 0} {a : A} {u : List ℕ} (p : Parsed B) (f : B → List ℕ → Parsed A) → and_then p f ≡ Some (a, u) → Then p f a u
   unfolding and_then
-  then_got none f e = absurd (none_got e)
-  then_got (got b t) f e = record { value = b; rest = t; first = refl; second = e }
+  then_got None f e = absurd (none_got e)
+  then_got (Some (b, t)) f e = record { value = b; rest = t; first = refl; second = e }
 
   pub record After (r : Rest) (f : List ℕ → Parsed A) (a : A) (u : List ℕ) : Type 0 where
     pub rest : List ℕ
-    pub word : r ≡ past rest
-    pub second : f rest ≡ got a u
+    pub word : r ≡ Some rest
+    pub second : f rest ≡ Some (a, u)
 
-  pub after_got : {a : A} {u : List ℕ} (r : Rest) (f : List ℕ → Parsed A) → after_word r f ≡ got a u → After r f a u
+  pub after_got : {a : A} {u : List ℕ} (r : Rest) (f : List ℕ → Parsed A) → after_word r f ≡ Some (a, u) → After r f a u
   unfolding after_word
-  after_got no f e = absurd (none_got e)
-  after_got (past t) f e = record { rest = t; word = refl; second = e }
+  after_got None f e = absurd (none_got e)
+  after_got (Some t) f e = record { rest = t; word = refl; second = e }
 
-  pub cond_got : {a : A} {u : List ℕ} (b : Bool) (p : Parsed A) → cond b p none ≡ got a u → (b ≡ true) × (p ≡ got a u)
+  pub cond_got : {a : A} {u : List ℕ} (b : Bool) (p : Parsed A) → cond b p None ≡ Some (a, u) → (b ≡ true) × (p ≡ Some (a, u))
   cond_got true p e = (refl, e)
   cond_got false p e = absurd (none_got e)
 
-  pub same_value : {a b : A} {t u : List ℕ} → got a t ≡ got b u → a ≡ b
-  same_value e = cc
+  pub same_value : {a b : A} {t u : List ℕ} → ◌≡◌ {A = Parsed A} (Some (a, t)) (Some (b, u)) → a ≡ b
+  same_value e = (some_pair_parts _ _ _ _ e).0
 
-  pub same_rest : {a b : A} {t u : List ℕ} → got a t ≡ got b u → t ≡ u
-  same_rest e = cc
+  pub same_rest : {a b : A} {t u : List ℕ} → ◌≡◌ {A = Parsed A} (Some (a, t)) (Some (b, u)) → t ≡ u
+  same_rest e = (some_pair_parts _ _ _ _ e).1
 
-  pub moved : {a b : A} {t u : List ℕ} (P : A → List ℕ → Type 0) → got a t ≡ got b u → P a t → P b u
+  pub moved : {a b : A} {t u : List ℕ} (P : A → List ℕ → Type 0) → ◌≡◌ {A = Parsed A} (Some (a, t)) (Some (b, u)) → P a t → P b u
   moved {a} {b} {t} P e p = subst (λ (l : List ℕ). P b l) (same_rest e) (subst (λ (x : A). P x t) (same_value e) p)
 
 -- ---- words
-pub word_only : {u : List ℕ} (w t : List ℕ) → word_from w t ≡ past u → t ≡ w ++ u
+pub word_only : {u : List ℕ} (w t : List ℕ) → word_from w t ≡ Some u → t ≡ w ++ u
 unfolding word_from
 word_only [] t e = cc
 word_only (c ∷ w) [] e = absurd (let z : ◌≡◌ {A = ℕ} 0 1 = cc in omega arith)
 word_only {u} (c ∷ w) (b ∷ t) e = go (λ h. word_only w t h) (eqb b c) refl e
   where
-    go : (word_from w t ≡ past u → t ≡ w ++ u) → (x : Bool) → eqb b c ≡ x → cond x (word_from w t) no ≡ past u → b ∷ t ≡ c ∷ (w ++ u)
+    go : (word_from w t ≡ Some u → t ≡ w ++ u) → (x : Bool) → eqb b c ≡ x → cond x (word_from w t) None ≡ Some u → b ∷ t ≡ c ∷ (w ++ u)
     go ih true h g = rw (eqb-true b c h, ih g)
     go ih false h g = absurd (let z : ◌≡◌ {A = ℕ} 0 1 = cc in omega arith)
 
@@ -102,14 +104,14 @@ pub record Printed (n : ℕ) (t u : List ℕ) : Type 0 where
   pub is : t ≡ decimal n ++ u
   pub fits : n ≤ 4294967295
 
-more_only : {n : ℕ} {u : List ℕ} (v : ℕ) (t : List ℕ) → 1 ≤ v → v ≤ 4294967295 → more_from v t ≡ got n u → Printed n (decimal v ++ t) u
+more_only : {n : ℕ} {u : List ℕ} (v : ℕ) (t : List ℕ) → 1 ≤ v → v ≤ 4294967295 → more_from v t ≡ Some (n, u) → Printed n (decimal v ++ t) u
 unfolding more_from
 more_only v [] h l e = let p : v ≡ _ = same_value e in let q : [] ≡ _ = same_rest e in record { is = rw (p, q); fits = rw (sym p) l }
 more_only {n} {u} v (b ∷ t) h l e = go (λ i j f. more_only (v * 10 + digit_val b) t i j f) (ltb (digit_val b) 10) refl (leb (v * 10 + digit_val b) 4294967295) refl e
   where
-    go : (1 ≤ v * 10 + digit_val b → v * 10 + digit_val b ≤ 4294967295 → more_from (v * 10 + digit_val b) t ≡ got n u → Printed n (decimal (v * 10 + digit_val b) ++ t) u)
+    go : (1 ≤ v * 10 + digit_val b → v * 10 + digit_val b ≤ 4294967295 → more_from (v * 10 + digit_val b) t ≡ Some (n, u) → Printed n (decimal (v * 10 + digit_val b) ++ t) u)
         → (x : Bool) → ltb (digit_val b) 10 ≡ x → (y : Bool) → leb (v * 10 + digit_val b) 4294967295 ≡ y
-        → cond x (cond y (more_from (v * 10 + digit_val b) t) none) (got v (b ∷ t)) ≡ got n u → Printed n (decimal v ++ (b ∷ t)) u
+        → cond x (cond y (more_from (v * 10 + digit_val b) t) None) (Some (v, b ∷ t)) ≡ Some (n, u) → Printed n (decimal v ++ (b ∷ t)) u
     go ih true f true g k =
         let d : digit_val b < 10 = ltb-true (digit_val b) 10 f in
         let m : v * 10 + digit_val b ≤ 4294967295 = leb-true (v * 10 + digit_val b) 4294967295 g in
@@ -133,12 +135,12 @@ positive : (m : ℕ) → (m ≡ 0 → ⊥) → 1 ≤ m
 positive zero h = absurd (h refl)
 positive (suc m) h = omega arith
 
-pub decimal_only : {n : ℕ} {u : List ℕ} (t : List ℕ) → decimal_from t ≡ got n u → Printed n t u
+pub decimal_only : {n : ℕ} {u : List ℕ} (t : List ℕ) → decimal_from t ≡ Some (n, u) → Printed n t u
 unfolding decimal_from
 decimal_only [] e = absurd (none_got e)
 decimal_only {n} {u} (b ∷ t) e = go (ltb (digit_val b) 10) refl (eqb (digit_val b) 0) refl e
   where
-    go : (x : Bool) → ltb (digit_val b) 10 ≡ x → (y : Bool) → eqb (digit_val b) 0 ≡ y → cond x (cond y (got 0 t) (more_from (digit_val b) t)) none ≡ got n u → Printed n (b ∷ t) u
+    go : (x : Bool) → ltb (digit_val b) 10 ≡ x → (y : Bool) → eqb (digit_val b) 0 ≡ y → cond x (cond y (Some (0, t)) (more_from (digit_val b) t)) None ≡ Some (n, u) → Printed n (b ∷ t) u
     go true f true g k =
         let d : digit_val b < 10 = ltb-true (digit_val b) 10 f in
         let z : digit_val b ≡ 0 = eqb-true (digit_val b) 0 g in
@@ -186,7 +188,7 @@ record Digits (i n : ℕ) (t u : List ℕ) : Type 0 where
   is : t ≡ hex_to i n ++ u
   fits : n < sixteens i
 
-hex_from_lem : {n : ℕ} {u : List ℕ} (k i j v : ℕ) (t : List ℕ) → i ≡ k + j → v < sixteens j → hex_from k v t ≡ got n u → Digits i n (hex_to j v ++ t) u
+hex_from_lem : {n : ℕ} {u : List ℕ} (k i j v : ℕ) (t : List ℕ) → i ≡ k + j → v < sixteens j → hex_from k v t ≡ Some (n, u) → Digits i n (hex_to j v ++ t) u
 unfolding hex_from sixteens
 hex_from_lem zero i j v t h l e =
     let p : v ≡ _ = same_value e in
@@ -197,7 +199,7 @@ hex_from_lem (suc k) i j v [] h l e = absurd (none_got e)
 hex_from_lem {n} {u} (suc k) i j v (b ∷ t) h l e =
     go (λ g f. hex_from_lem k i (suc j) (v * 16 + hex_val b) t (omega arith) g f)
   where
-    go : (v * 16 + hex_val b < sixteens j * 16 → hex_from k (v * 16 + hex_val b) t ≡ got n u → Digits i n (hex_to (suc j) (v * 16 + hex_val b) ++ t) u)
+    go : (v * 16 + hex_val b < sixteens j * 16 → hex_from k (v * 16 + hex_val b) t ≡ Some (n, u) → Digits i n (hex_to (suc j) (v * 16 + hex_val b) ++ t) u)
         → Digits i n (hex_to j v ++ (b ∷ t)) u
     go ih =
         let c = cond_got (ltb (hex_val b) 16) _ e in
@@ -216,7 +218,7 @@ pub record Pattern (n : ℕ) (t u : List ℕ) : Type 0 where
   pub is : t ≡ hex n ++ u
   pub fits : n < 18446744073709551616
 
-pub hex_only : {n : ℕ} {u : List ℕ} (t : List ℕ) → hex_from 16 0 t ≡ got n u → Pattern n t u
+pub hex_only : {n : ℕ} {u : List ℕ} (t : List ℕ) → hex_from 16 0 t ≡ Some (n, u) → Pattern n t u
 unfolding hex hex_to sixteens
 hex_only t e = let r = hex_from_lem 16 16 0 0 t refl (omega arith) e in record { is = r.is; fits = r.fits }
 
@@ -225,25 +227,25 @@ module _ {A : Type 0} (w : List ℕ) (f : A → List ℕ → Parsed A) where
   -- n times the word and what f reads after it
   pub data Turns : ℕ → A → A → List ℕ → List ℕ → Type 0 where
     no_more : {a : A} {t : List ℕ} → Turns zero a a t t
-    turn : {n : ℕ} {a a₁ b : A} {t t₁ t₂ u : List ℕ} → t ≡ w ++ t₁ → f a t₁ ≡ got a₁ t₂ → Turns n a₁ b t₂ u → Turns (suc n) a b t u
+    turn : {n : ℕ} {a a₁ b : A} {t t₁ t₂ u : List ℕ} → t ≡ w ++ t₁ → f a t₁ ≡ Some (a₁, t₂) → Turns n a₁ b t₂ u → Turns (suc n) a b t u
 
   pub record Turned (k : ℕ) (a b : A) (t u : List ℕ) : Type 0 where
     pub count : ℕ
     pub most : count ≤ k
     pub turns : Turns count a b t u
 
-  stopped : {a b : A} {t u : List ℕ} (k : ℕ) → got a t ≡ got b u → Turned k a b t u
+  stopped : {a b : A} {t u : List ℕ} (k : ℕ) → ◌≡◌ {A = Parsed A} (Some (a, t)) (Some (b, u)) → Turned k a b t u
   stopped {a} {t = t} k e = moved (λ b u. Turned k a b t u) e (record { count = 0; most = omega arith; turns = no_more })
 
-  pub repeated_only : {b : A} {u : List ℕ} (k : ℕ) (a : A) (t : List ℕ) → repeated w f k a t ≡ got b u → Turned k a b t u
+  pub repeated_only : {b : A} {u : List ℕ} (k : ℕ) (a : A) (t : List ℕ) → repeated w f k a t ≡ Some (b, u) → Turned k a b t u
   unfolding repeated if_word
   repeated_only zero a t e = stopped zero e
   repeated_only {b} {u} (suc k) a t e = go (λ a₁ t₂ g. repeated_only k a₁ t₂ g) (word_from w t) refl e
     where
-      go : ((a₁ : A) (t₂ : List ℕ) → repeated w f k a₁ t₂ ≡ got b u → Turned k a₁ b t₂ u) → (r : Rest) → word_from w t ≡ r
-          → if_word r (λ t₁. and_then (f a t₁) (λ a₁ t₂. repeated w f k a₁ t₂)) (got a t) ≡ got b u → Turned (suc k) a b t u
-      go ih no h g = stopped (suc k) g
-      go ih (past t₁) h g =
+      go : ((a₁ : A) (t₂ : List ℕ) → repeated w f k a₁ t₂ ≡ Some (b, u) → Turned k a₁ b t₂ u) → (r : Rest) → word_from w t ≡ r
+          → if_word r (λ t₁. and_then (f a t₁) (λ a₁ t₂. repeated w f k a₁ t₂)) (Some (a, t)) ≡ Some (b, u) → Turned (suc k) a b t u
+      go ih None h g = stopped (suc k) g
+      go ih (Some t₁) h g =
           let p = then_got (f a t₁) (λ a₁ t₂. repeated w f k a₁ t₂) g in
           let r = ih p.value p.rest p.second in
           record { count = suc r.count; most = omega (arith, r.most); turns = turn (word_only w t h) p.first r.turns }

@@ -7,9 +7,10 @@ use borrow.Author.Tests.{leb-true, eqb-true}
 use lib.Dec.{leb, eqb}
 use lib.ListN.{length}
 use lib.Ieee.{Float}
+use Rattle.std.specs.Prelude.{None, Some}
 use Rattle.text.specs.Text.{space, newline, close, overlay_word, mesh_word, node_word, cell_word, decimal, nodes_text, cells_text, Bits, mesh_text, first_text, input_text}
 use Rattle.text.specs.Read.{word_from, decimal_from, repeated, node_step, nodes_from, cell_step, cells_from, mesh_from, first_from, input_from, empty}
-use Rattle.text.specs.Given.{Parsed, none, got, coordinate, Cells, Limits, ReadMesh, First, Given}
+use Rattle.text.specs.Given.{Parsed, coordinate, Cells, Limits, ReadMesh, First, Given}
 use Rattle.text.specs.Inputs.{Fine, read, Within, Input, text_of, given, Readable}
 use Rattle.text.proofs.Inputs.{mesh_apart, first_apart, input_back}
 use Rattle.text.proofs.Only.{then_got, after_got, cond_got, moved, none_got, same_value, same_rest, word_only, decimal_only, repeated_only}
@@ -27,7 +28,7 @@ same_mesh : (m : Bits) (cs : List Float) (cl : Cells) → cs ≡ map coordinate 
 unfolding read
 same_mesh m cs cl p q r s t = rw (← p, ← q, ← r, ← s, ← t)
 
-mesh_only : {m : ReadMesh} {u : List ℕ} (l : Limits) (t : List ℕ) → mesh_from l t ≡ got m u → MeshOf l m t u
+mesh_only : {m : ReadMesh} {u : List ℕ} (l : Limits) (t : List ℕ) → mesh_from l t ≡ Some (m, u) → MeshOf l m t u
 unfolding mesh_from nodes_from cells_from read
 mesh_only l t e =
     let a = after_got (word_from mesh_word t) _ e in
@@ -57,7 +58,7 @@ record FirstOf (h : First) (t u : List ℕ) : Type 0 where
   m : h.m ≤ 4294967295
   is : t ≡ first_text h.op h.m ++ u
 
-first_only : {h : First} {u : List ℕ} (t : List ℕ) → first_from t ≡ got h u → FirstOf h t u
+first_only : {h : First} {u : List ℕ} (t : List ℕ) → first_from t ≡ Some (h, u) → FirstOf h t u
 unfolding first_from
 first_only t e =
     let a = after_got (word_from overlay_word t) _ e in
@@ -93,7 +94,7 @@ empty_rest (x ∷ l) e = absurd (omega (arith, e))
 same_given : (f : First) {s s' c c' : ReadMesh} → s ≡ s' → c ≡ c' → ◌≡◌ {A = Given} (record { first = f; subject = s; cutter = c }) (record { first = f; subject = s'; cutter = c' })
 same_given f p q = rw (p, q)
 
-pub input_only : {g : Given} {u : List ℕ} (l k : Limits) (t : List ℕ) → input_from l k t ≡ got g u → InputOf l k g t
+pub input_only : {g : Given} {u : List ℕ} (l k : Limits) (t : List ℕ) → input_from l k t ≡ Some (g, u) → InputOf l k g t
 unfolding input_from input_text
 input_only l k t e =
     let z = cond_got (leb (length t) 65536) _ e in
@@ -128,12 +129,12 @@ input_only l k t e =
 
 -- a text is unread exactly where it is the text of no input
 module _ (l k : Limits) (t : List ℕ) where
-  pub unread_none : input_from l k t ≡ none → (i : Input) → Readable l k i → text_of i ≡ t → ⊥
+  pub unread_none : input_from l k t ≡ None → (i : Input) → Readable l k i → text_of i ≡ t → ⊥
   unread_none e i r q = none_got (sym e ∙ ap (input_from l k) (sym q) ∙ input_back l k i r)
 
-  pub none_unread : ((i : Input) → Readable l k i → text_of i ≡ t → ⊥) → input_from l k t ≡ none
+  pub none_unread : ((i : Input) → Readable l k i → text_of i ≡ t → ⊥) → input_from l k t ≡ None
   none_unread h = go (input_from l k t) refl
     where
-      go : (p : Parsed Given) → input_from l k t ≡ p → p ≡ none
-      go none e = refl
-      go (got g u) e = let r = input_only l k t e in absurd (h r.input r.readable (sym r.is))
+      go : (p : Parsed Given) → input_from l k t ≡ p → p ≡ None
+      go None e = refl
+      go (Some (g, u)) e = let r = input_only l k t e in absurd (h r.input r.readable (sym r.is))

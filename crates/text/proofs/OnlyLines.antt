@@ -8,10 +8,11 @@ use lib.Dec.{leb}
 use lib.ListN.{length, take, drop, length-append}
 use lib.Seq.{take_at, drop_at}
 use lib.Ieee.{Float}
+use Rattle.std.specs.Prelude.{Some}
 use Rattle.text.specs.Text.{space, close, node_word, cell_word, decimal, hex, node_text, nodes_text, numbers_text, cells_text}
 use Rattle.text.specs.Read.{word_from, decimal_from, hex_from, repeated, node_from, node_step}
 use Rattle.text.specs.Read.{entry_step, entries_from, Heading, head_from, Cell, cell_from, add_cell, cell_step}
-use Rattle.text.specs.Given.{got, coordinate, Cells}
+use Rattle.text.specs.Given.{coordinate, Cells}
 use Rattle.text.specs.Inputs.{Coords, no_coords, pair, Small, no_numbers, small, Rises, no_cells, cell}
 use Rattle.text.proofs.Lines.{cell_apart}
 use Rattle.text.proofs.Only.{then_got, after_got, cond_got, moved, same_value, same_rest, word_only, decimal_only, hex_only, Turns, no_more, turn, repeated_only}
@@ -25,7 +26,7 @@ record Node (p : List Float) (t u : List ℕ) : Type 0 where
   coords : p ≡ coordinate x ∷ coordinate y ∷ []
   is : t ≡ hex x ++ (space ++ (hex y ++ (close ++ u)))
 
-node_only : {p : List Float} {u : List ℕ} (t : List ℕ) → node_from t ≡ got p u → Node p t u
+node_only : {p : List Float} {u : List ℕ} (t : List ℕ) → node_from t ≡ Some (p, u) → Node p t u
 unfolding node_from
 node_only t e =
     let a = then_got (hex_from 16 0 t) _ e in
@@ -100,7 +101,7 @@ record Head (h : Heading) (t u : List ℕ) : Type 0 where
   family : h.family ≤ 4294967295
   is : t ≡ decimal h.kind ++ (space ++ (decimal h.family ++ u))
 
-head_only : {h : Heading} {u : List ℕ} (t : List ℕ) → head_from t ≡ got h u → Head h t u
+head_only : {h : Heading} {u : List ℕ} (t : List ℕ) → head_from t ≡ Some (h, u) → Head h t u
 unfolding head_from
 head_only t e =
     let a = then_got (decimal_from t) _ e in
@@ -125,7 +126,7 @@ record Line (room : ℕ) (ns : List ℕ) (x : Cell) (t u : List ℕ) : Type 0 wh
   nodes : x.nodes ≡ ns ++ own
   is : t ≡ decimal x.heading.kind ++ (space ++ (decimal x.heading.family ++ (numbers_text own ++ (close ++ u))))
 
-cell_only : {x : Cell} {u : List ℕ} (room : ℕ) (ns t : List ℕ) → cell_from room ns t ≡ got x u → Line room ns x t u
+cell_only : {x : Cell} {u : List ℕ} (room : ℕ) (ns t : List ℕ) → cell_from room ns t ≡ Some (x, u) → Line room ns x t u
 unfolding cell_from entries_from
 cell_only room ns t e =
     let a = then_got (head_from t) _ e in

@@ -5,6 +5,7 @@ use mathlib.Core.List.{List, [], ◌∷◌, ◌++◌}
 use Prim.Native.Nat.{ℕ}
 use Prim.Native.String.{String}
 use lib.Dec.{T}
+use Rattle.std.specs.Prelude.{None, Some}
 use Rattle.text.specs.Text.{
   bytes,
   Bits,
@@ -33,7 +34,7 @@ use Rattle.text.specs.Text.{
 }
 use Rattle.text.specs.Read.{input_from, first_from, mesh_from, nodes_from, cells_from, repeated, node_step, node_from, entry_step, entries_from, head_from, cell_from}
 use Rattle.text.specs.Read.{add_cell, cell_step, decimal_from, more_from, hex_from, digit_val, hex_val, word_from, after_word, and_then, if_word}
-use Rattle.text.specs.Given.{none, got, Limits, at_most, limits}
+use Rattle.text.specs.Given.{Limits, at_most, limits}
 use Rattle.text.specs.Inputs.{Input, text_of, given, read}
 
 abbrev pub texts : List String → List ℕ
@@ -98,7 +99,7 @@ k1_text_lem : text_of k1 ≡ k1_text
 unfolding input_text first_text mesh_text body_text nodes_text node_text hex hex_to glyph decimal decimal_to cells_text cell_text numbers_text
 k1_text_lem = refl
 
-pub k1_read : input_from most most k1_text ≡ got (given k1) []
+pub k1_read : input_from most most k1_text ≡ Some (given k1, [])
 unfolding input_from first_from mesh_from nodes_from cells_from repeated node_step node_from entry_step entries_from head_from cell_from add_cell cell_step decimal_from more_from hex_from digit_val
     hex_val word_from after_word and_then if_word read
 k1_read = refl
@@ -144,7 +145,7 @@ parent_printed = refl
 
 -- ---- read or not
 abbrev is_read : List ℕ → Bool
-is_read t = elim (input_from most most t) [ none ↦ false | got g u ↦ true ]
+is_read t = elim (input_from most most t) [ None ↦ false | Some (g, u) ↦ true ]
 
 abbrev every : (String → Bool) → List String → Bool
 every p [] = true

@@ -5,12 +5,13 @@ use Prim.Native.Nat.{ℕ, ◌/◌, ◌≤◌, ◌<◌, min}
 use borrow.Author.Tests.{le-leb, lt-leb, eq-eqb, ne_eqb}
 use lib.ListN.{length}
 use lib.Ieee.{Float}
+use Rattle.std.specs.Prelude.{None, Some}
 use Rattle.text.specs.Text.{mesh_word, close}
-use Rattle.text.specs.Read.{no, past, and_then, after_word, word_from, nodes_from, cells_from, mesh_from, first_from, input_from, empty}
-use Rattle.text.specs.Given.{none, got, Cells, Limits, at_most, limits, ReadMesh, First}
+use Rattle.text.specs.Read.{and_then, after_word, word_from, nodes_from, cells_from, mesh_from, first_from, input_from, empty}
+use Rattle.text.specs.Given.{Cells, Limits, at_most, limits, ReadMesh, First}
 
-pub mesh_read : (l : Limits) (t t₁ t₂ t₃ t₄ : List ℕ) (cs : List Float) (cl : Cells) → word_from mesh_word t ≡ past t₁ → nodes_from l.nodes [] t₁ ≡ got cs t₂
-    → cells_from l.entries l.cells empty t₂ ≡ got cl t₃ → word_from close t₃ ≡ past t₄ → mesh_from l t ≡ got (record { coords = cs; cells = cl }) t₄
+pub mesh_read : (l : Limits) (t t₁ t₂ t₃ t₄ : List ℕ) (cs : List Float) (cl : Cells) → word_from mesh_word t ≡ Some t₁ → nodes_from l.nodes [] t₁ ≡ Some (cs, t₂)
+    → cells_from l.entries l.cells empty t₂ ≡ Some (cl, t₃) → word_from close t₃ ≡ Some t₄ → mesh_from l t ≡ Some (record { coords = cs; cells = cl }, t₄)
 unfolding mesh_from and_then after_word
 mesh_read l t t₁ t₂ t₃ t₄ cs cl e₁ e₂ e₃ e₄ = rw (e₁, e₂, e₃, e₄)
 
@@ -20,35 +21,35 @@ unfolding limits
 limited c n e k f points some more cells entries t p₁ p₂ p₃ p₄ p₅ = rw (p₁, p₅, p₄, p₃, p₂)
 
 module _ (l k : Limits) (t : List ℕ) where
-  pub input_long : 65536 < length t → input_from l k t ≡ none
+  pub input_long : 65536 < length t → input_from l k t ≡ None
   unfolding input_from
   input_long h = rw (lt-leb _ _ h)
 
   module _ (h : length t ≤ 65536) where
-    pub input_no_first : first_from t ≡ none → input_from l k t ≡ none
+    pub input_no_first : first_from t ≡ None → input_from l k t ≡ None
     unfolding input_from and_then
     input_no_first e = rw (le-leb _ _ h, e)
 
-    module _ (f : First) (t₁ : List ℕ) (e₁ : first_from t ≡ got f t₁) where
-      pub input_no_subject : mesh_from l t₁ ≡ none → input_from l k t ≡ none
+    module _ (f : First) (t₁ : List ℕ) (e₁ : first_from t ≡ Some (f, t₁)) where
+      pub input_no_subject : mesh_from l t₁ ≡ None → input_from l k t ≡ None
       unfolding input_from and_then
       input_no_subject e = rw (le-leb _ _ h, e₁, e)
 
-      module _ (s : ReadMesh) (t₂ : List ℕ) (e₂ : mesh_from l t₁ ≡ got s t₂) where
-        pub input_no_cutter : mesh_from k t₂ ≡ none → input_from l k t ≡ none
+      module _ (s : ReadMesh) (t₂ : List ℕ) (e₂ : mesh_from l t₁ ≡ Some (s, t₂)) where
+        pub input_no_cutter : mesh_from k t₂ ≡ None → input_from l k t ≡ None
         unfolding input_from and_then
         input_no_cutter e = rw (le-leb _ _ h, e₁, e₂, e)
 
-        module _ (c : ReadMesh) (t₃ : List ℕ) (e₃ : mesh_from k t₂ ≡ got c t₃) where
-          pub input_no_close : word_from close t₃ ≡ no → input_from l k t ≡ none
+        module _ (c : ReadMesh) (t₃ : List ℕ) (e₃ : mesh_from k t₂ ≡ Some (c, t₃)) where
+          pub input_no_close : word_from close t₃ ≡ None → input_from l k t ≡ None
           unfolding input_from and_then after_word
           input_no_close e = rw (le-leb _ _ h, e₁, e₂, e₃, e)
 
-          module _ (t₄ : List ℕ) (e₄ : word_from close t₃ ≡ past t₄) where
-            pub input_more : (length t₄ ≡ 0 → ⊥) → input_from l k t ≡ none
+          module _ (t₄ : List ℕ) (e₄ : word_from close t₃ ≡ Some t₄) where
+            pub input_more : (length t₄ ≡ 0 → ⊥) → input_from l k t ≡ None
             unfolding input_from and_then after_word
             input_more z = rw (le-leb _ _ h, e₁, e₂, e₃, e₄, ne_eqb _ _ z)
 
-            pub input_read : length t₄ ≡ 0 → input_from l k t ≡ got (record { first = f; subject = s; cutter = c }) []
+            pub input_read : length t₄ ≡ 0 → input_from l k t ≡ Some (record { first = f; subject = s; cutter = c }, [])
             unfolding input_from and_then after_word
             input_read z = rw (le-leb _ _ h, e₁, e₂, e₃, e₄, eq-eqb _ _ z)

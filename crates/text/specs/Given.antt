@@ -1,12 +1,11 @@
 -- What is read of a text. Assumes nothing.
-use Rattle.std.specs.Prelude.{ℕ, ◌/◌, min, List, Float}
+use Rattle.std.specs.Prelude.{ℕ, ◌/◌, min, List, Float, Option}
 use Rattle.std.specs.Float.Ieee.{of_bits}
 use Rattle.std.specs.Float.{binary64}
 
--- what was read, and what follows
-pub data Parsed (A : Type 0) : Type 0 where
-  none : Parsed A
-  got : A → List ℕ → Parsed A
+-- what was read, and what follows it
+abbrev pub Parsed : Type 0 → Type 0
+Parsed A = Option (A × List ℕ)
 
 abbrev pub coordinate : ℕ → Float
 coordinate b = of_bits binary64 b

@@ -1,32 +1,31 @@
 -- Reading, as a function of the rest of the text. proofs/Inputs.antt shows that it undoes printing, proofs/OnlyInputs.antt that nothing but printed text is read.
 -- Assumes nothing.
-use Rattle.std.specs.Prelude.{ℕ, zero, suc, ◌+◌, ◌-◌, ◌*◌, cond, List, [], ◌∷◌, ◌++◌, length, ltb, leb, eqb, Float}
-use Rattle.text.specs.Given.{Parsed, none, got, coordinate, Cells, ReadMesh, Limits, First, Given}
+use Rattle.std.specs.Prelude.{ℕ, zero, suc, ◌+◌, ◌-◌, ◌*◌, cond, List, [], ◌∷◌, ◌++◌, length, ltb, leb, eqb, Float, Option, None, Some}
+use Rattle.text.specs.Given.{Parsed, coordinate, Cells, ReadMesh, Limits, First, Given}
 use Rattle.text.specs.Text.{node_word, cell_word, mesh_word, overlay_word, space, newline, close}
 
--- what follows a word, or no such word
-pub data Rest : Type 0 where
-  no : Rest
-  past : List ℕ → Rest
+-- what follows a word, where it stands there
+abbrev pub Rest : Type 0
+Rest = Option (List ℕ)
 
 module _ {A : Type 0} where
   unfoldable pub if_word : Rest → (List ℕ → Parsed A) → Parsed A → Parsed A
-  if_word no f d = d
-  if_word (past t) f d = f t
+  if_word None f d = d
+  if_word (Some t) f d = f t
 
   unfoldable pub after_word : Rest → (List ℕ → Parsed A) → Parsed A
-  after_word no f = none
-  after_word (past t) f = f t
+  after_word None f = None
+  after_word (Some t) f = f t
 
   unfoldable pub and_then : {B : Type 0} → Parsed B → (B → List ℕ → Parsed A) → Parsed A
-  and_then none f = none
-  and_then (got b t) f = f b t
+  and_then None f = None
+  and_then (Some (b, t)) f = f b t
 
 -- ---- words and numbers
 unfoldable pub word_from : List ℕ → List ℕ → Rest
-word_from [] t = past t
-word_from (c ∷ w) [] = no
-word_from (c ∷ w) (b ∷ t) = cond (eqb b c) (word_from w t) no
+word_from [] t = Some t
+word_from (c ∷ w) [] = None
+word_from (c ∷ w) (b ∷ t) = cond (eqb b c) (word_from w t) None
 
 unfoldable pub digit_val : ℕ → ℕ
 digit_val b = cond (ltb b 48) 255 (cond (ltb b 58) (b - 48) 255)
@@ -36,27 +35,27 @@ hex_val b = cond (ltb b 97) (digit_val b) (cond (ltb b 103) (b - 87) 255)
 
 -- more digits, of a number that begins with v
 unfoldable pub more_from : ℕ → List ℕ → Parsed ℕ
-more_from v [] = got v []
+more_from v [] = Some (v, [])
 more_from v (b ∷ t) =
     cond (ltb (digit_val b) 10)
-    (cond (leb (v * 10 + digit_val b) 4294967295) (more_from (v * 10 + digit_val b) t) none)
-    (got v (b ∷ t))
+    (cond (leb (v * 10 + digit_val b) 4294967295) (more_from (v * 10 + digit_val b) t) None)
+    (Some (v, b ∷ t))
 
 unfoldable pub decimal_from : List ℕ → Parsed ℕ
-decimal_from [] = none
-decimal_from (b ∷ t) = cond (ltb (digit_val b) 10) (cond (eqb (digit_val b) 0) (got 0 t) (more_from (digit_val b) t)) none
+decimal_from [] = None
+decimal_from (b ∷ t) = cond (ltb (digit_val b) 10) (cond (eqb (digit_val b) 0) (Some (0, t)) (more_from (digit_val b) t)) None
 
 -- k more hexadecimal digits, of a number that begins with v
 unfoldable pub hex_from : ℕ → ℕ → List ℕ → Parsed ℕ
-hex_from zero v t = got v t
-hex_from (suc k) v [] = none
-hex_from (suc k) v (b ∷ t) = cond (ltb (hex_val b) 16) (cond (ltb v 1152921504606846976) (hex_from k (v * 16 + hex_val b) t) none) none
+hex_from zero v t = Some (v, t)
+hex_from (suc k) v [] = None
+hex_from (suc k) v (b ∷ t) = cond (ltb (hex_val b) 16) (cond (ltb v 1152921504606846976) (hex_from k (v * 16 + hex_val b) t) None) None
 
 -- ---- lines
 -- up to k times the word w and what f reads after it
 unfoldable pub repeated : {A : Type 0} → List ℕ → (A → List ℕ → Parsed A) → ℕ → A → List ℕ → Parsed A
-repeated w f zero a t = got a t
-repeated w f (suc k) a t = if_word (word_from w t) (λ t₁. and_then (f a t₁) (λ a₁ t₂. repeated w f k a₁ t₂)) (got a t)
+repeated w f zero a t = Some (a, t)
+repeated w f (suc k) a t = if_word (word_from w t) (λ t₁. and_then (f a t₁) (λ a₁ t₂. repeated w f k a₁ t₂)) (Some (a, t))
 
 -- a node line after its word
 unfoldable pub node_from : List ℕ → Parsed (List Float)
@@ -65,16 +64,16 @@ node_from t =
     (λ x t₁. after_word (word_from space t₁)
     (λ t₂. and_then (hex_from 16 0 t₂)
     (λ y t₃. after_word (word_from close t₃)
-    (λ t₄. got (coordinate x ∷ coordinate y ∷ []) t₄))))
+    (λ t₄. Some (coordinate x ∷ coordinate y ∷ [], t₄)))))
 
 unfoldable pub node_step : List Float → List ℕ → Parsed (List Float)
-node_step cs t = and_then (node_from t) (λ p t₁. got (cs ++ p) t₁)
+node_step cs t = and_then (node_from t) (λ p t₁. Some (cs ++ p, t₁))
 
 unfoldable pub nodes_from : ℕ → List Float → List ℕ → Parsed (List Float)
 nodes_from k cs t = repeated node_word node_step k cs t
 
 unfoldable pub entry_step : List ℕ → List ℕ → Parsed (List ℕ)
-entry_step ns t = and_then (decimal_from t) (λ n t₁. got (ns ++ (n ∷ [])) t₁)
+entry_step ns t = and_then (decimal_from t) (λ n t₁. Some (ns ++ (n ∷ []), t₁))
 
 unfoldable pub entries_from : ℕ → List ℕ → List ℕ → Parsed (List ℕ)
 entries_from k ns t = repeated space entry_step k ns t
@@ -88,8 +87,8 @@ unfoldable pub head_from : List ℕ → Parsed Heading
 head_from t =
     and_then (decimal_from t)
     (λ k t₁. cond (leb k 255)
-    (after_word (word_from space t₁) (λ t₂. and_then (decimal_from t₂) (λ f t₃. got (record { kind = k; family = f }) t₃)))
-    none)
+    (after_word (word_from space t₁) (λ t₂. and_then (decimal_from t₂) (λ f t₃. Some (record { kind = k; family = f }, t₃))))
+    None)
 
 pub record Cell : Type 0 where
   pub heading : Heading
@@ -101,7 +100,7 @@ cell_from room ns t =
     and_then (head_from t)
     (λ h t₁. and_then (entries_from (room - length ns) ns t₁)
     (λ ms t₂. after_word (word_from close t₂)
-    (λ t₃. got (record { heading = h; nodes = ms }) t₃)))
+    (λ t₃. Some (record { heading = h; nodes = ms }, t₃))))
 
 unfoldable pub add_cell : Cells → Cell → Cells
 add_cell cs x =
@@ -113,7 +112,7 @@ add_cell cs x =
     }
 
 unfoldable pub cell_step : ℕ → Cells → List ℕ → Parsed Cells
-cell_step room cs t = and_then (cell_from room cs.nodes t) (λ x t₁. got (add_cell cs x) t₁)
+cell_step room cs t = and_then (cell_from room cs.nodes t) (λ x t₁. Some (add_cell cs x, t₁))
 
 unfoldable pub cells_from : ℕ → ℕ → Cells → List ℕ → Parsed Cells
 cells_from room k cs t = repeated cell_word (cell_step room) k cs t
@@ -127,7 +126,7 @@ mesh_from l t =
     (λ t₁. and_then (nodes_from l.nodes [] t₁)
     (λ cs t₂. and_then (cells_from l.entries l.cells empty t₂)
     (λ cl t₃. after_word (word_from close t₃)
-    (λ t₄. got (record { coords = cs; cells = cl }) t₄))))
+    (λ t₄. Some (record { coords = cs; cells = cl }, t₄)))))
 
 unfoldable pub first_from : List ℕ → Parsed First
 first_from t =
@@ -136,7 +135,7 @@ first_from t =
     (λ op t₂. after_word (word_from space t₂)
     (λ t₃. and_then (decimal_from t₃)
     (λ m t₄. after_word (word_from newline t₄)
-    (λ t₅. got (record { op = op; m = m }) t₅)))))
+    (λ t₅. Some (record { op = op; m = m }, t₅))))))
 
 -- an input of at most 65,536 bytes, its two meshes within their limits, and nothing after it
 unfoldable pub input_from : Limits → Limits → List ℕ → Parsed Given
@@ -146,5 +145,5 @@ input_from l k t =
     (λ h t₁. and_then (mesh_from l t₁)
     (λ s t₂. and_then (mesh_from k t₂)
     (λ c t₃. after_word (word_from close t₃)
-    (λ t₄. cond (eqb (length t₄) 0) (got (record { first = h; subject = s; cutter = c }) []) none)))))
-    none
+    (λ t₄. cond (eqb (length t₄) 0) (Some (record { first = h; subject = s; cutter = c }, [])) None)))))
+    None

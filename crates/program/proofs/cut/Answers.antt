@@ -1,21 +1,19 @@
 -- `program::cut` meets its contract. Assumes nothing.
-use mathlib.Core.Path.{refl}
-use Rattle.entry.specs.Mesh.{mesh}
+use Rattle.std.proofs.Common.{arith, refl}
+use Rattle.mesh_view.specs.Shown.{mesh_of}
 use Rattle.program.proofs.Answers.{nodes_fit_lem, cut_printed}
 use Rattle.program.proofs.cut.Goals as goal
 
 pub told-requires : goal.told-requires
 told-requires c =
     let a = c.args in
-    let r = c.overlay_lists-a.result in
-    nodes_fit_lem a.op a.m (mesh a.sc.now a.sn.now a.se.now a.sk.now a.sf.now) (mesh a.cc.now a.cn.now a.ce.now a.ck.now a.cf.now)
-    a.nodes r.code r.pieces r.points r.doubled _ c.overlay_lists-a.ensures c.requires
+    let r = c.overlay_views-a.result in
+    nodes_fit_lem a.op a.m (mesh_of a.subject) (mesh_of a.cutter) _ r.code r.pieces r.points r.doubled _ c.overlay_views-a.ensures (omega arith)
 
 pub returns : goal.returns
 returns c =
     let a = c.args in
-    let r = c.overlay_lists-a.result in
+    let r = c.overlay_views-a.result in
     let p = c.print_answer in
-    cut_printed a.op a.m (mesh a.sc.now a.sn.now a.se.now a.sk.now a.sf.now) (mesh a.cc.now a.cn.now a.ce.now a.ck.now a.cf.now)
-    a.nodes r.code r.pieces r.points r.doubled _ c.overlay_lists-a.ensures
-    c.told.result _ p.result a.out.now p.new.out c.told.ensures refl p.ensures
+    cut_printed a.op a.m (mesh_of a.subject) (mesh_of a.cutter) _ r.code r.pieces r.points r.doubled _ c.overlay_views-a.ensures
+    c.told.result _ p.result a.out.now p.new.out refl c.told.ensures refl p.ensures

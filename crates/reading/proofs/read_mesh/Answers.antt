@@ -1,18 +1,11 @@
--- `reading::read_mesh` meets its contract. Assumes nothing.
-use native.Mathlib.Omega.{arith}
-use mathlib.Core.Path.{◌∙◌}
-use Rattle.text.proofs.Whole.{limited}
+use Rattle.std.proofs.Common.{rules, arith}
+use Rattle.std.proofs.lemmas.Grind.{common_steps}
+use Rattle.reading.proofs.Rest.{read_fronts}
 use Rattle.reading.proofs.read_mesh.Goals as goal
 
-pub returns : goal.returns
-returns c = (
-  c.read_within.ensures.0 ∙ limited _ _ _ _ _ _ _ _ _ _ _
-      c.least-points.ensures c.least-some.ensures c.least-more.ensures
-      c.least-cells.ensures c.least-entries.ensures,
-  c.read_within.ensures.1,
-  omega arith,
-  omega arith,
-  omega arith,
-  omega arith,
-  omega arith,
-)
+pub returns-clause-read : goal.returns-clause-read
+returns-clause-read c =
+    let k = c.read_within.auto in
+    read_fronts _ c.read_within.new.coords _ c.read_within.new.nodes _ c.read_within.new.ends _ c.read_within.new.kinds _ c.read_within.new.families _ _ _ _
+    k.coords k.nodes k.ends (search rules) (search rules) c.read_within.result c.read_within.ensures.within _ _ _ _ _
+    (grind (arith, common_steps)) (grind (arith, common_steps)) (grind (arith, common_steps)) c.read_within.ensures.read

@@ -1,58 +1,32 @@
-use mathlib.Core.Path.{◌≡◌, sym, ◌∙◌}
-use Prim.Native.Nat.{◌≤◌, zero-le}
-use native.Mathlib.Nat.{le_trans}
-use native.Mathlib.Omega.{arith}
-use lib.ListN.{length, length-set}
-use Rattle.reading_lines.proofs.Many.{cells_stop, cells_end_lem, cells_bad, cells_turn}
+use Rattle.std.proofs.Common.{◌≡◌, ◌-◌, [], refl, sym, ap, ◌∙◌, arith, length, length-drop, take, drop}
+use Rattle.std.proofs.Math.ListN.{length-set}
+use Rattle.std.proofs.Math.Seq.{length-take-le}
+use borrow.Rule.Slice.PartMut.{same_len_mid}
+use Rattle.text.specs.Read.{cell_from}
+use Rattle.reading_lines.proofs.Many.{cells_turn}
 use Rattle.reading_lines.proofs.lines.read_cells.Goals as goal
-
-pub returns-in_default : goal.returns-in_default
-returns-in_default c = (
-  sym (cells_stop c.args.s.now c.args.room c.args.most c.loop-k.k c.loop-k.e c.loop-k.p
-      c.loop-k.nodes c.loop-k.ends c.loop-k.kinds c.loop-k.families
-      (sym c.in_default.ensures.0)) ∙ c.loop-k.invariant.7,
-  c.loop-k.invariant.1,
-  c.loop-k.invariant.0,
-  c.loop-k.invariant.2,
-)
-
-pub returns-in_default-n : goal.returns-in_default-n
-returns-in_default-n c = (
-  sym (cells_bad c.args.s.now c.args.room c.args.most c.loop-k.k c.loop-k.e c.loop-k.p
-      c.loop-k.nodes c.loop-k.ends c.loop-k.kinds c.loop-k.families c.loop-k-test.true c.in-Past.a
-      (sym c.in-Past.ensures.0) (sym c.in_default-n.ensures.0))
-      ∙ c.loop-k.invariant.7,
-  zero-le,
-  zero-le,
-  zero-le,
-)
 
 pub loop-k-preserved : goal.loop-k-preserved
 loop-k-preserved c =
-    let nodes-last = c.read_cell-n.new.nodes in
-    let nodes-kept = c.read_cell-n.auto.nodes in
-    let h : c.in-At.f ≤ c.args.most = c.in-At.ensures.2 in
-    let k : length nodes-last ≡ length c.args.nodes.now = nodes-kept ∙ c.loop-k.invariant.3 in (
-      omega (arith, c.loop-k-test.true),
-      c.in-At.ensures.1,
-      h,
-      k,
-      simp length-set c.loop-k.invariant.4,
-      simp length-set c.loop-k.invariant.5,
-      simp length-set c.loop-k.invariant.6,
-      sym (cells_turn c.args.s.now c.args.room c.args.most c.loop-k.k c.loop-k.e c.loop-k.p
-          c.loop-k.nodes c.loop-k.ends c.loop-k.kinds c.loop-k.families c.loop-k-test.true c.in-Past.a
-          (sym c.in-Past.ensures.0) c.in-At.kind c.in-At.family
-          c.in-At.f c.in-At.q nodes-last (rw c.loop-k.invariant.4 c.requires.3)
-          (rw c.loop-k.invariant.5 c.requires.4) (rw c.loop-k.invariant.6 c.requires.5) (le_trans h (rw k c.requires.1))
-          (sym c.in-At.ensures.0)) ∙ c.loop-k.invariant.7,
-    )
-
-pub returns : goal.returns
-returns c = (
-  sym (cells_end_lem c.args.s.now c.args.room c.args.most c.loop-k.k c.loop-k.e c.loop-k.p
-      c.loop-k.nodes c.loop-k.ends c.loop-k.kinds c.loop-k.families c.loop-k-test.false) ∙ c.loop-k.invariant.7,
-  c.loop-k.invariant.1,
-  c.loop-k.invariant.0,
-  c.loop-k.invariant.2,
-)
+    let i = c.loop-k.invariant in
+    let s = i.same_lists in
+    let ns = c.loop-k.lists.nodes.now in
+    let n = c.loop-k.entries in
+    let kept = c.read_cell.auto.nodes in
+    let lent : length (take (length ns - n) (drop n ns)) ≡ length ns - n
+    = length-take-le (length ns - n) (drop n ns) (omega (arith, length-drop n ns)) in
+    let left : length c.args.lists.now.nodes.now - n ≡ length (take (length ns - n) (drop n ns)) = omega (arith, lent, s.nodes.long) in
+    record {
+      entries = omega (arith, c.in_ok-cell.ensures.within, lent, s.nodes.long, i.entries);
+      same_lists =
+          record {
+            nodes = record { name = s.nodes.name; long = same_len_mid n (length ns - n) ns c.read_cell.new.nodes kept ∙ s.nodes.long };
+            ends = record { name = s.ends.name; long = simp length-set s.ends.long };
+            kinds = record { name = s.kinds.name; long = simp length-set s.kinds.long };
+            families = record { name = s.families.name; long = simp length-set s.families.long };
+          };
+      so_far =
+          sym (cells_turn _ _ n ns _ _ _ _ _ s.nodes.long i.entries c.loop-k-test.true _ (sym c.in-Some.ensures) _ _ _ c.read_cell.new.nodes _ _
+          (omega (arith, s.ends.long)) (omega (arith, s.kinds.long)) (omega (arith, s.families.long)) (omega (arith, c.in_ok-cell.ensures.within, kept)) refl
+          (ap (λ k. cell_from k [] c.in-Some.line.now) left ∙ sym c.in_ok-cell.ensures.read)) ∙ i.so_far;
+    }
