@@ -20,7 +20,7 @@ use pieces::{Keep, Listed, keep_of, place_pieces, refuse};
 use refusals::Refusal;
 use regions::{Indexes, MeshIndex, MeshRuns, Regions, Run, part};
 use spatial_index::bounds2;
-use strips::gather;
+use strips::{Index, Things};
 
 // ---- A cell that is copied
 
@@ -126,15 +126,16 @@ fn overlay_cell(
     let edges = t.other.edges;
     let near = part(w, edges);
     let bounds = bounds2(coords, cell);
-    let n = gather(
+    let things = Things {
         coords,
-        near,
-        &ends[..0],
-        part(w, t.index.edges),
-        bounds,
-        0,
-        found,
-    );
+        nodes: near,
+        ends: &ends[..0],
+    };
+    let index = Index {
+        things,
+        numbers: part(w, t.index.edges),
+    };
+    let n = index.gather(bounds, 0, found);
     let mut runs = [0u32; 1024];
     let mut stops = [0u32; 1024];
     let outcome = outcome_of(

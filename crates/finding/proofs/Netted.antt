@@ -4,10 +4,11 @@ use mathlib.Core.Bool.{Bool, false, cond}
 use mathlib.Core.List.{List, [], ◌++◌}
 use Prim.Native.Nat.{ℕ, ◌+◌, ◌*◌, ◌-◌, ◌≤◌}
 use native.Mathlib.Omega.{arith}
-use lib.ListN.{length}
+use lib.ListN.{length, take, drop}
+use lib.Seq.{take-take}
 use lib.Ieee.{Float}
-use Rattle.lists.specs.Regions.{run, put}
-use Rattle.lists.proofs.Regions.{length_put, run_before, run_put}
+use Rattle.lists.specs.Regions.{run, front, put}
+use Rattle.lists.proofs.Regions.{drop_take, length_put, run_before, run_put}
 use Rattle.cutting.specs.Edges.{Edge}
 use Rattle.cutting.specs.Lent.{flat_edges}
 use Rattle.cutting.proofs.Pairs.{ends_length}
@@ -135,9 +136,30 @@ module _ (lines : Bool) (sc cc : List Float) (sn se cn ce : List ℕ) (fs : Fit 
             omega (arith, count_lent, b.1),
           )
 
-      pub nets_end : (w₂ : List ℕ) → w₂ ≡ put w₁ r.index (index_of coords (run w₁ r.at (end - r.at)) []) → (r ≡ nets_of lines s c) × (w₂ ≡ netted lines s c w₀)
+      nets_end : (w₂ : List ℕ) → w₂ ≡ put w₁ r.index (index_of coords (run w₁ r.at (end - r.at)) []) → (r ≡ nets_of lines s c) × (w₂ ≡ netted lines s c w₀)
       unfolding netted
       nets_end w₂ d = (
         got.0,
         d ∙ (λ i. put (got.1 i) (at_is i) (index_of (is i) (lent i) [])),
       )
+
+      -- the edges as they are lent, before the index, and the room for it
+      module _ (before behind : List ℕ) (b_is : before ≡ take r.index w₁) (room_is : length behind + r.index ≡ length w₁) where
+        part_lent : take (end - r.at) (drop r.at before) ≡ run w₁ r.at (end - r.at)
+        unfolding run
+        part_lent =
+            ap (λ (u : List ℕ). take (end - r.at) (drop r.at u)) b_is
+            ∙ ap (take (end - r.at)) (drop_take w₁ r.at r.index (omega (arith, build_asked.0, build_asked.1)) (omega (arith, build_asked.2)))
+            ∙ take-take (end - r.at) (r.index - r.at) (drop r.at w₁) (omega (arith, build_asked.1))
+
+        pub few_lent : thing_count (take (end - r.at) (drop r.at before)) [] ≤ 65536
+        few_lent = omega (arith, build_asked.3, ap (λ (l : List ℕ). thing_count l []) part_lent)
+
+        pub room_lent : index_size (thing_count (take (end - r.at) (drop r.at before)) []) ≤ length behind
+        room_lent = omega (arith, build_asked.2, room_is, ap (λ (l : List ℕ). index_size (thing_count l [])) part_lent)
+
+        pub nets_written : (made : List ℕ) → behind ≡ drop r.index w₁ → made ≡ front behind (index_of coords (take (end - r.at) (drop r.at before)) [])
+            → (r ≡ nets_of lines s c) × (before ++ made ≡ netted lines s c w₀)
+        unfolding put
+        nets_written made e f =
+            nets_end (before ++ made) (ap₂ (λ (u v : List ℕ). u ++ v) b_is (f ∙ ap₂ (λ (u v : List ℕ). front u (index_of coords v [])) e part_lent))

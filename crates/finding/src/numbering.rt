@@ -9,7 +9,7 @@ ghost use Rattle.finding.specs.Nets.{plain, Fit, NetRoom, nets_of, edged, netted
 use lists::copy_at;
 use neighbours::compute_descending;
 use snap::duplicates_from;
-use strips::build;
+use strips::Things;
 
 // Where the cutter's entries begin, then the subject's; where the subject's edges begin and how many there are; the same of the cutter's; where the index
 // of these begins; where there is room behind it.
@@ -113,6 +113,13 @@ pub(crate) fn nets(
     let n = edges(lines, sc, sn, se, cc, cn, ce, w);
     let from = n.at;
     let end = from + 2 * n.cutter;
-    build(coords, w, from, end, &sn[..0], n.index);
+    let (before, ix) = w.split_at_mut(n.index);
+    let before: &[u32] = before;
+    let things = Things {
+        coords,
+        nodes: &before[from..end],
+        ends: &sn[..0],
+    };
+    things.build(ix);
     n
 }

@@ -4,10 +4,11 @@ use mathlib.Core.List.{List, [], ◌++◌, append-nil, append_assoc}
 use Prim.Native.Nat.{ℕ, ◌+◌, ◌-◌, ◌≤◌}
 use native.Mathlib.Nat.{add_assoc}
 use native.Mathlib.Omega.{arith}
-use lib.ListN.{length, length-append}
+use lib.ListN.{length, take, drop, length-append}
+use lib.Seq.{take-take}
 use lib.Ieee.{Float}
-use Rattle.lists.specs.Regions.{run, put}
-use Rattle.lists.proofs.Regions.{length_run, length_put, run_before, run_put, put_append}
+use Rattle.lists.specs.Regions.{run, front, put}
+use Rattle.lists.proofs.Regions.{length_put, drop_take, run_before, run_put, put_append}
 use Rattle.entry.specs.Mesh.{Rising}
 use Rattle.regions.specs.declared.Run.{Run}
 use Rattle.regions.specs.declared.MeshRuns.{MeshRuns}
@@ -17,7 +18,7 @@ use Rattle.regions.specs.Runs.{Within, run_in}
 use Rattle.strips.specs.Things.{thing_count}
 use Rattle.strips.specs.Index.{index_size, index_of, Indexed}
 use Rattle.strips.proofs.IndexAt.{length_index}
-use Rattle.indexing.specs.Indexes.{edge_index, cell_index, mesh_index, mesh_index_at, indexes, indexes_at, MeshIndexed, mesh_size, MeshAsks, Asks}
+use Rattle.indexing.specs.Indexes.{edge_index, cell_index, mesh_index, mesh_index_at, indexes, indexes_at, MeshIndexed, mesh_size, RunAsks, MeshAsks, Asks}
 
 -- ---- regions before what is written
 
@@ -26,36 +27,23 @@ pub run_kept : (w xs : List ℕ) (b : ℕ) → b ≤ length w → (r : Run) → 
 unfolding run_in
 run_kept w xs b h r i = run_before w b h xs r.from (r.end - r.from) (omega (arith, i.rises, i.fits))
 
-pub run_long : (w : List ℕ) (r : Run) → Within r (length w) → length (run_in w r) ≡ r.end - r.from
-unfolding run_in
-run_long w r i = length_run w r.from (r.end - r.from) (omega (arith, i.rises, i.fits))
+-- what `index_run` leaves
+abbrev pub Built : List Float → List ℕ → Run → List ℕ → ℕ → Run → List ℕ → Type 0
+Built coords w r ends at x w' =
+    (x ≡ record { from = at; end = at + length (index_of coords (run_in w r) ends) }) × (w' ≡ put w at (index_of coords (run_in w r) ends))
 
--- what `build` asks for the things of the run r that end at `ends`
-abbrev pub BuildAsks : List ℕ → Run → List ℕ → ℕ → Type 0
-BuildAsks w r ends at =
-    (r.from ≤ r.end) × (r.end ≤ at) × (at + index_size (thing_count (run w r.from (r.end - r.from)) ends) ≤ length w)
-    × (thing_count (run w r.from (r.end - r.from)) ends ≤ 65536) × Rising ends (r.end - r.from)
+module _ (coords : List Float) (w : List ℕ) (r : Run) (ends : List ℕ) (at : ℕ) (ok : RunAsks w r ends at) where
+  pub run_lent : (nodes before : List ℕ) → before ≡ take at w → nodes ≡ run_in before r → nodes ≡ run_in w r
+  unfolding run_in run
+  run_lent nodes before b e =
+      e ∙ ap (λ (u : List ℕ). take (r.end - r.from) (drop r.from u)) b ∙ ap (take (r.end - r.from)) (drop_take w r.from at (omega (arith, ok.lies.rises, ok.lies.fits)) (omega (arith, ok.room)))
+      ∙ take-take (r.end - r.from) (at - r.from) (drop r.from w) (omega (arith, ok.lies.fits))
 
-build_asked : (w : List ℕ) (r : Run) (ends : List ℕ) (at : ℕ) → Within r at → Rising ends (length (run_in w r)) → thing_count (run_in w r) ends ≤ 65536
-    → at + index_size (thing_count (run_in w r) ends) ≤ length w → BuildAsks w r ends at
-unfolding run_in
-build_asked w r ends at lies up few room = (
-  lies.rises,
-  lies.fits,
-  room,
-  few,
-  λ i h. ((up i h).0, omega (arith, (up i h).1, run_long w r (record { rises = lies.rises; fits = omega (arith, lies.fits, room) }))),
-)
-
--- what it leaves
-abbrev pub Built : List Float → List ℕ → Run → List ℕ → ℕ → ℕ → List ℕ → Type 0
-Built coords w r ends at e w' =
-    (e ≡ at + index_size (thing_count (run w r.from (r.end - r.from)) ends)) × (w' ≡ put w at (index_of coords (run w r.from (r.end - r.from)) ends))
-
-built_is : (coords : List Float) (w : List ℕ) (r : Run) (ends : List ℕ) (at e : ℕ) (w' : List ℕ) → Built coords w r ends at e w'
-    → (e ≡ at + length (index_of coords (run_in w r) ends)) × (w' ≡ put w at (index_of coords (run_in w r) ends))
-unfolding run_in
-built_is coords w r ends at e w' h = (h.0 ∙ ap (λ (k : ℕ). at + k) (sym (length_index coords (run_in w r) ends)), h.1)
+  pub run_written : (nodes before behind ix : List ℕ) → nodes ≡ run_in w r → before ≡ take at w → behind ≡ drop at w → ix ≡ front behind (index_of coords nodes ends)
+      → before ++ ix ≡ put w at (index_of coords (run_in w r) ends)
+  unfolding put
+  run_written nodes before behind ix n b e f =
+      ap₂ (λ (u v : List ℕ). u ++ v) b (f ∙ ap₂ (λ (u v : List ℕ). front u (index_of coords v ends)) e n)
 
 -- ---- `index_mesh`
 
@@ -72,12 +60,12 @@ module _ (coords : List Float) (w : List ℕ) (m : MeshRuns) (ends : List ℕ) (
   at_low : at ≤ length w
   at_low = omega (arith, ok.room)
 
-  pub edges_asked : BuildAsks w m.edges [] at
-  edges_asked = build_asked w m.edges [] at ok.edges (λ i h. absurd (omega (arith, h))) ok.few_edges (omega (arith, ok.room))
+  pub edges_asked : RunAsks w m.edges [] at
+  edges_asked = record { lies = ok.edges; rising = λ i h. absurd (omega (arith, h)); few = ok.few_edges; room = omega (arith, ok.room) }
 
-  module _ (e : ℕ) (w₁ : List ℕ) (first : Built coords w m.edges [] at e w₁) where
-    one : (e ≡ at + length (index_of coords (run_in w m.edges) [])) × (w₁ ≡ put w at (index_of coords (run_in w m.edges) []))
-    one = built_is coords w m.edges [] at e w₁ first
+  module _ (x : Run) (w₁ : List ℕ) (one : Built coords w m.edges [] at x w₁) where
+    middle_is : x.end ≡ at + length ix
+    middle_is = ap (λ (r : Run). r.end) one.0
 
     kept : run_in w₁ m.entries ≡ run_in w m.entries
     kept = ap (λ (v : List ℕ). run_in v m.entries) one.1 ∙ run_kept w ix at at_low m.entries ok.entries
@@ -85,27 +73,23 @@ module _ (coords : List Float) (w : List ℕ) (m : MeshRuns) (ends : List ℕ) (
     long : length w₁ ≡ length w
     long = ap length one.1 ∙ length_put w at at_low ix (omega (arith, ok.room, edges_size))
 
-    pub cells_asked : BuildAsks w₁ m.entries ends e
+    pub cells_asked : RunAsks w₁ m.entries ends x.end
     cells_asked =
-        build_asked w₁ m.entries ends e (record { rises = ok.entries.rises; fits = omega (arith, ok.entries.fits, one.0) })
-        (subst (λ (l : List ℕ). Rising ends (length l)) (sym kept) ok.rising)
-        (subst (λ (l : List ℕ). thing_count l ends ≤ 65536) (sym kept) ok.few_cells)
-        (subst (λ (l : List ℕ). e + index_size (thing_count l ends) ≤ length w₁) (sym kept) (omega (arith, one.0, edges_size, ok.room, long)))
+        record {
+          lies = record { rises = ok.entries.rises; fits = omega (arith, ok.entries.fits, middle_is) };
+          rising = subst (λ (l : List ℕ). Rising ends (length l)) (sym kept) ok.rising;
+          few = subst (λ (l : List ℕ). thing_count l ends ≤ 65536) (sym kept) ok.few_cells;
+          room = subst (λ (l : List ℕ). x.end + index_size (thing_count l ends) ≤ length w₁) (sym kept) (omega (arith, middle_is, edges_size, ok.room, long));
+        }
 
-    pub mesh_end_lem : (c : ℕ) (w₂ : List ℕ) → Built coords w₁ m.entries ends e c w₂
-        → (record { edges = record { from = at; end = e }; cells = record { from = e; end = c } } ≡ mesh_index_at coords w m ends at)
-        × (w₂ ≡ put w at (mesh_index coords w m ends))
-    mesh_end_lem c w₂ second = (
-      (λ i. record { edges = record { from = at; end = one.0 i }; cells = record { from = one.0 i; end = end_is i } }),
-      two.1 ∙ (λ i. put (one.1 i) (one.0 i) (index_of coords (kept i) ends))
-          ∙ put_append w at at_low ix (cell_index coords w m ends) (omega (arith, ok.room, edges_size)),
-    )
-      where
-        two : (c ≡ e + length (index_of coords (run_in w₁ m.entries) ends)) × (w₂ ≡ put w₁ e (index_of coords (run_in w₁ m.entries) ends))
-        two = built_is coords w₁ m.entries ends e c w₂ second
-
-        end_is : c ≡ at + length ix + length (cell_index coords w m ends)
-        end_is = two.0 ∙ (λ i. one.0 i + length (index_of coords (kept i) ends))
+    pub mesh_end_lem : (y : Run) (w₂ : List ℕ) → Built coords w₁ m.entries ends x.end y w₂
+        → (record { edges = x; cells = y } ≡ mesh_index_at coords w m ends at) × (w₂ ≡ put w at (mesh_index coords w m ends))
+    mesh_end_lem y w₂ two =
+        let here : y ≡ record { from = at + length ix; end = at + length ix + length (cell_index coords w m ends) } =
+        two.0 ∙ ap₂ (λ (a : ℕ) (l : List ℕ). record { from = a; end = a + length (index_of coords l ends) }) middle_is kept in (
+          (λ i. record { edges = one.0 i; cells = here i }),
+          two.1 ∙ (λ i. put (one.1 i) (middle_is i) (index_of coords (kept i) ends)) ∙ put_append w at at_low ix (cell_index coords w m ends) (omega (arith, ok.room, edges_size)),
+        )
 
 -- ---- `index_meshes`
 

@@ -1,6 +1,7 @@
 -- The indexes of both meshes, behind the links of the working list. Assumes nothing.
 use Rattle.std.specs.Prelude.{List, [], ◌++◌, ℕ, ◌+◌, ◌≤◌, length, Float}
 use Rattle.entry.specs.Mesh.{Rising}
+use Rattle.regions.specs.declared.Run.{Run}
 use Rattle.regions.specs.declared.MeshRuns.{MeshRuns}
 use Rattle.regions.specs.declared.Regions.{Regions}
 use Rattle.regions.specs.declared.MeshIndex.{MeshIndex}
@@ -48,6 +49,13 @@ pub record MeshIndexed (coords : List Float) (w : List ℕ) (m : MeshRuns) (ends
 -- how many numbers the indexes of a mesh take
 abbrev pub mesh_size : List ℕ → MeshRuns → List ℕ → ℕ
 mesh_size w m ends = index_size (thing_count (run_in w m.edges) []) + index_size (thing_count (run_in w m.entries) ends)
+
+-- for the things of a run
+pub record RunAsks (w : List ℕ) (r : Run) (ends : List ℕ) (at : ℕ) : Type 0 where
+  pub lies : Within r at
+  pub rising : Rising ends (length (run_in w r))
+  pub few : thing_count (run_in w r) ends ≤ 65536
+  pub room : at + index_size (thing_count (run_in w r) ends) ≤ length w
 
 -- for a mesh
 pub record MeshAsks (w : List ℕ) (m : MeshRuns) (ends : List ℕ) (at : ℕ) : Type 0 where

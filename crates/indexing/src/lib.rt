@@ -1,12 +1,34 @@
 // The indexes of both meshes' edges and cells, behind the links of the working list: by them the cells find what is near.
 #![tactic(auto)]
 
-ghost use Rattle.std.specs.Prelude.{◌≡◌};
+ghost use Rattle.std.specs.Prelude.{◌≡◌, ◌+◌, length};
 ghost use Rattle.lists.specs.Regions.{put};
-ghost use Rattle.indexing.specs.Indexes.{mesh_index, mesh_index_at, indexes, indexes_at, MeshAsks, Asks};
+ghost use Rattle.regions.specs.Runs.{run_in};
+ghost use Rattle.strips.specs.Index.{index_of};
+ghost use Rattle.indexing.specs.Indexes.{mesh_index, mesh_index_at, indexes, indexes_at, RunAsks, MeshAsks, Asks};
 
-use regions::{Indexes, MeshIndex, MeshRuns, Regions, Run};
-use strips::build;
+use regions::{Indexes, MeshIndex, MeshRuns, Regions, Run, part};
+use strips::Things;
+
+// That of the things of a run, which end at `ends`, from `at` on: where it stands.
+fn index_run(coords: &[f64], w: &mut [u32], r: Run, ends: &[u32], at: usize) -> Run
+    requires { RunAsks w.old r ends.now at }
+    ensures { (result ≡ record { from = at; end = at + length (index_of coords.now (run_in w.old r) ends.now) })
+        × (w.new ≡ put w.old at (index_of coords.now (run_in w.old r) ends.now)) }
+{
+    let (before, ix) = w.split_at_mut(at);
+    let nodes = part(before, r);
+    let things = Things {
+        coords,
+        nodes,
+        ends,
+    };
+    let size = things.build(ix);
+    Run {
+        from: at,
+        end: at + size,
+    }
+}
 
 // Those of one mesh, from `at` on: of its edges, and behind it of its cells, which end at `ends`.
 fn index_mesh(coords: &[f64], w: &mut [u32], m: MeshRuns, ends: &[u32], at: usize) -> MeshIndex
@@ -14,12 +36,9 @@ fn index_mesh(coords: &[f64], w: &mut [u32], m: MeshRuns, ends: &[u32], at: usiz
     ensures { (result ≡ mesh_index_at coords.now w.old m ends.now at)
         × (w.new ≡ put w.old at (mesh_index coords.now w.old m ends.now)) }
 {
-    let e = build(coords, w, m.edges.from, m.edges.end, &ends[..0], at);
-    let c = build(coords, w, m.entries.from, m.entries.end, ends, e);
-    MeshIndex {
-        edges: Run { from: at, end: e },
-        cells: Run { from: e, end: c },
-    }
+    let edges = index_run(coords, w, m.edges, &ends[..0], at);
+    let cells = index_run(coords, w, m.entries, ends, edges.end);
+    MeshIndex { edges, cells }
 }
 
 // Those of both meshes, behind the links; the cells end at se and at ce.

@@ -15,7 +15,7 @@ ghost use Rattle.meetings.specs.Steps.{edge_in, candidates_from, met_of, met_wit
 use plane::point_at;
 use segments::{Meeting, PointId, Segment};
 use spatial_index::edge_bounds;
-use strips::{gather, index_size};
+use strips::{Index, Things, index_size};
 
 // The refusal or 0, how many meetings there are, and the number of the next new point.
 #[derive(Clone, Copy)]
@@ -235,7 +235,16 @@ fn gather_near(
     let b = w[se + 2 * i + 1];
     let bounds = edge_bounds(coords, a, b);
     let edges = &w[ce..ce + 2 * cn];
-    gather(coords, edges, &w[..0], &w[ix..end], bounds, from, found)
+    let things = Things {
+        coords,
+        nodes: edges,
+        ends: &w[..0],
+    };
+    let index = Index {
+        things,
+        numbers: &w[ix..end],
+    };
+    index.gather(bounds, from, found)
 }
 
 // Adds those of the subject's edge i with all its candidates to those found: as many at a time as `found` has places.

@@ -16,7 +16,7 @@ use lists::copy_at;
 use plane::Point;
 use polygons::{Inner, strict_interior_point};
 use rules::Bounds;
-use strips::gather;
+use strips::{Index, Things};
 
 // Whether the operation keeps those pieces of a mesh that lie inside the other, and those that don't.
 #[derive(Clone, Copy)]
@@ -71,7 +71,14 @@ fn one_contains(coords: &[f64], nodes: &[u32], ends: &[u32], js: &[u32], p: Poin
 }
 
 // Whether some cell holds the point: those whose boxes hold it are asked, 64 at a time.
-fn some_holds(coords: &[f64], nodes: &[u32], ends: &[u32], ix: &[u32], x: f64, y: f64) -> bool
+fn some_holds<'a>(
+    coords: &'a [f64],
+    nodes: &'a [u32],
+    ends: &'a [u32],
+    ix: &'a [u32],
+    x: f64,
+    y: f64,
+) -> bool
     requires { Indexed coords.now nodes.now ends.now ix.now }
     ensures { result ≡ some_holds coords.now (runs_of nodes.now ends.now) (Inside x y) }
 {
@@ -82,10 +89,19 @@ fn some_holds(coords: &[f64], nodes: &[u32], ends: &[u32], ix: &[u32], x: f64, y
         right: x,
         high: y,
     };
+    let things = Things {
+        coords,
+        nodes,
+        ends,
+    };
+    let index = Index {
+        things,
+        numbers: ix,
+    };
     let mut found = [0u32; 64];
     let mut from: usize = 0;
     while from < ends.len() {
-        let n = gather(coords, nodes, ends, ix, b, from, &mut found);
+        let n = index.gather(b, from, &mut found);
         if one_contains(coords, nodes, ends, &found[..n], p) {
             return true;
         }

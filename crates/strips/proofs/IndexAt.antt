@@ -4,10 +4,12 @@ use mathlib.Core.List.{List, ◌++◌}
 use Prim.Native.Nat.{ℕ, ◌+◌, ◌*◌, ◌/◌, ◌<◌}
 use native.Mathlib.Omega.{arith}
 use lib.ListN.{length, get_or, take, drop, length-append, get_or-append}
-use lib.Seq.{take_at, drop_at, drop-drop, get_or-drop, get_or-append-add}
+use lib.Seq.{take_at, drop_at, drop-drop, get_or-append-add}
 use lib.Ieee.{Float}
 use Rattle.lists.specs.Gather.{each}
 use Rattle.lists.proofs.Gather.{length_each, get_or_each}
+use Rattle.strips.specs.declared.squares.Axis.{Axis}
+use Rattle.strips.specs.declared.squares.Axis.TheVariants.{X, Y}
 use Rattle.strips.specs.Things.{thing_count}
 use Rattle.strips.specs.Index.{strip_count, chain_count, index_size, sample_count, samples_of, picked, bounds_of, head_at, next_at, links_of, chain_at, level_count, index_of}
 
@@ -40,16 +42,16 @@ module _ (coords : List Float) (nodes ends : List ℕ) where
   abbrev h : ℕ
   h = chain_count (thing_count nodes ends)
 
-  abbrev X : List ℕ
-  X = bounds_of coords nodes ends 0
+  abbrev xs : List ℕ
+  xs = bounds_of coords nodes ends X
 
-  abbrev Y : List ℕ
-  Y = bounds_of coords nodes ends 1
+  abbrev ys : List ℕ
+  ys = bounds_of coords nodes ends Y
 
   abbrev L : List ℕ
   L = links_of (chain_at coords nodes ends) (thing_count nodes ends) (chain_count (thing_count nodes ends))
 
-  pub length_bounds : (axis : ℕ) → length (bounds_of coords nodes ends axis) ≡ strip_count (thing_count nodes ends)
+  pub length_bounds : (axis : Axis) → length (bounds_of coords nodes ends axis) ≡ strip_count (thing_count nodes ends)
   unfolding bounds_of picked
   length_bounds axis = length_each side (λ t. get_or (samples_of coords nodes ends axis (sample_count n)) (t * sample_count n / side) 0)
 
@@ -61,41 +63,25 @@ module _ (coords : List Float) (nodes ends : List ℕ) where
   unfolding index_of
   index_levels = refl
 
-  behind_header : drop 2 (index_of coords nodes ends) ≡ X ++ (Y ++ L)
+  behind_header : drop 2 (index_of coords nodes ends) ≡ xs ++ (ys ++ L)
   unfolding index_of
   behind_header = refl
 
-  behind_x : drop (2 + side) (index_of coords nodes ends) ≡ Y ++ L
-  behind_x = sym (drop-drop side 2 (index_of coords nodes ends)) ∙ ap (drop side) behind_header ∙ drop_at X (Y ++ L) side (length_bounds 0)
+  behind_x : drop (2 + side) (index_of coords nodes ends) ≡ ys ++ L
+  behind_x = sym (drop-drop side 2 (index_of coords nodes ends)) ∙ ap (drop side) behind_header ∙ drop_at xs (ys ++ L) side (length_bounds X)
 
   -- the parts
-  pub index_x : take (strip_count (thing_count nodes ends)) (drop 2 (index_of coords nodes ends)) ≡ bounds_of coords nodes ends 0
-  index_x = ap (take side) behind_header ∙ take_at X (Y ++ L) side (length_bounds 0)
+  pub index_x : take (strip_count (thing_count nodes ends)) (drop 2 (index_of coords nodes ends)) ≡ bounds_of coords nodes ends X
+  index_x = ap (take side) behind_header ∙ take_at xs (ys ++ L) side (length_bounds X)
 
-  pub index_y : take (strip_count (thing_count nodes ends)) (drop (2 + strip_count (thing_count nodes ends)) (index_of coords nodes ends)) ≡ bounds_of coords nodes ends 1
-  index_y = ap (take side) behind_x ∙ take_at Y L side (length_bounds 1)
+  pub index_y : take (strip_count (thing_count nodes ends)) (drop (2 + strip_count (thing_count nodes ends)) (index_of coords nodes ends)) ≡ bounds_of coords nodes ends Y
+  index_y = ap (take side) behind_x ∙ take_at ys L side (length_bounds Y)
 
   pub index_links : drop (2 + strip_count (thing_count nodes ends) + strip_count (thing_count nodes ends)) (index_of coords nodes ends)
       ≡ links_of (chain_at coords nodes ends) (thing_count nodes ends) (chain_count (thing_count nodes ends))
-  index_links = sym (drop-drop side (2 + side) (index_of coords nodes ends)) ∙ ap (drop side) behind_x ∙ drop_at Y L side (length_bounds 1)
+  index_links = sym (drop-drop side (2 + side) (index_of coords nodes ends)) ∙ ap (drop side) behind_x ∙ drop_at ys L side (length_bounds Y)
 
   pub length_index : length (index_of coords nodes ends) ≡ index_size (thing_count nodes ends)
   unfolding index_of
   length_index =
-      omega (arith, length-append X (Y ++ L), length-append Y L, length_bounds 0, length_bounds 1, length_links (chain_at coords nodes ends) n h)
-
-  -- ---- the same by places
-
-  from : (k i : ℕ) (l : List ℕ) → drop k (index_of coords nodes ends) ≡ l → get_or (index_of coords nodes ends) (k + i) 0 ≡ get_or l i 0
-  from k i l e = sym (get_or-drop k (index_of coords nodes ends) i 0) ∙ ap (λ (u : List ℕ). get_or u i 0) e
-
-  pub index_x_at : (t : ℕ) → t < strip_count (thing_count nodes ends) → get_or (index_of coords nodes ends) (2 + t) 0 ≡ get_or (bounds_of coords nodes ends 0) t 0
-  index_x_at t l = from 2 t (X ++ (Y ++ L)) behind_header ∙ get_or-append X (Y ++ L) 0 t (omega (arith, length_bounds 0))
-
-  pub index_y_at : (t : ℕ) → t < strip_count (thing_count nodes ends)
-      → get_or (index_of coords nodes ends) (2 + strip_count (thing_count nodes ends) + t) 0 ≡ get_or (bounds_of coords nodes ends 1) t 0
-  index_y_at t l = from (2 + side) t (Y ++ L) behind_x ∙ get_or-append Y L 0 t (omega (arith, length_bounds 1))
-
-  pub index_link_at : (i : ℕ) → get_or (index_of coords nodes ends) (2 + strip_count (thing_count nodes ends) + strip_count (thing_count nodes ends) + i) 0
-      ≡ get_or (links_of (chain_at coords nodes ends) (thing_count nodes ends) (chain_count (thing_count nodes ends))) i 0
-  index_link_at i = from (2 + side + side) i L index_links
+      omega (arith, length-append xs (ys ++ L), length-append ys L, length_bounds X, length_bounds Y, length_links (chain_at coords nodes ends) n h)

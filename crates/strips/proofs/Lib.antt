@@ -4,7 +4,6 @@ pub mod Spans
 pub mod Sizes
 pub mod Samples
 pub mod Linking
-pub mod OnChains
 pub mod IndexAt
 pub mod Making
 pub mod Rising

@@ -1,107 +1,124 @@
--- Things put on chains by any function, the last one first. Assumes nothing.
-use mathlib.Core.Path.{◌≡◌, refl, sym, ap, ap₂, ◌∙◌}
+-- Things put on chains, the last one first. Assumes nothing.
+use mathlib.Core.Path.{◌≡◌, refl, sym, ap, ◌∙◌}
+use mathlib.Core.Bool.{Bool, true, false, cond}
 use mathlib.Core.List.{List}
-use Prim.Native.Nat.{ℕ, suc, ◌+◌, ◌-◌, ◌≤◌, ◌<◌, max}
-use native.Mathlib.Nat.{le_antisymm}
+use Prim.Native.Nat.{ℕ, suc, ◌+◌, ◌*◌, ◌-◌, ◌≤◌, ◌<◌, max}
+use native.Mathlib.Nat.{max-le}
 use native.Mathlib.Decide.{ℕ_discrete}
 use native.Mathlib.Omega.{arith}
-use lib.ListN.{length, get_or, set, length-set}
-use lib.Seq.{get_or-set_same, get_or-set_other}
-use borrow.Author.Tests.{eq-eqb, ne_eqb}
+use lib.Dec.{ltb}
+use lib.ListN.{length, get_or, set, length-set, replicate}
+use lib.Ieee.{Float}
+use Rattle.std.proofs.lemmas.List.{get_or-replicate}
+use lib.Seq.{ext_get_or, get_or-set_same, get_or-set_other}
+use borrow.Author.Tests.{eq-eqb, ne_eqb, ltb-true}
 use Rattle.lists.specs.Search.{first}
-use Rattle.lists.specs.Gather.{gathered, each}
-use Rattle.lists.specs.Regions.{put}
+use Rattle.lists.specs.Gather.{each}
 use Rattle.lists.proofs.Search.{first_on, first_here, first_end_lem}
-use Rattle.lists.proofs.Gather.{each_more, length_each}
-use Rattle.lists.proofs.Regions.{put_none, put_store}
-use Rattle.strips.specs.Index.{on_chain, next_at, above}
-use Rattle.strips.specs.Made.{headed, Chained}
+use Rattle.lists.proofs.Gather.{length_each, get_or_each}
+use Rattle.strips.specs.declared.squares.Span.{Span}
+use Rattle.rules.specs.declared.Bounds.{Bounds}
+use Rattle.strips.specs.Things.{thing_count, thing_box}
+use Rattle.strips.specs.Squares.{span_of, narrowed, square_chain}
+use Rattle.strips.specs.Index.{chain_count, span_by, chain_by, on_chain, head_at, next_at, above}
 
--- ---- `fill`
+chain_low : (h : ℕ) (s : Span) (x y : ℕ) → 0 < h → square_chain h s x y < h
+unfolding square_chain
+chain_low h s x y some = go (ltb (s.at + y * s.side + x) h) refl
+  where
+    go : (t : Bool) → ltb (s.at + y * s.side + x) h ≡ t → cond t (s.at + y * s.side + x) 0 < h
+    go true e = ltb-true (s.at + y * s.side + x) h e
+    go false e = some
 
--- the first i of the n numbers from b on are v
-abbrev pub Filling : List ℕ → ℕ → ℕ → ℕ → ℕ → List ℕ → Type 0
-Filling w₀ b n v i w = (i ≤ n) × (length w ≡ length w₀) × (w ≡ put w₀ b (each i (λ _. v)))
+-- ---- one thing
 
-module _ (w₀ : List ℕ) (b n v : ℕ) (fits : b + n ≤ length w₀) where
-  pub fill_start : Filling w₀ b n v 0 w₀
-  unfolding gathered
-  fill_start = (omega arith, refl, sym (put_none w₀ b))
+module _ (coords : List Float) (xs ys nodes ends : List ℕ) (j h c : ℕ) (b : Bounds) (s₀ s : Span) (b_is : b ≡ thing_box coords nodes ends j)
+    (s₀-is : s₀ ≡ span_of coords xs ys b) (s_is : s ≡ narrowed 512 s₀) where
+  pub thing_span : s ≡ span_by coords xs ys nodes ends j
+  thing_span = s_is ∙ ap (narrowed 512) (s₀-is ∙ ap (span_of coords xs ys) b_is)
 
-  pub fill_turn : (i : ℕ) (w : List ℕ) → Filling w₀ b n v i w → i < n → Filling w₀ b n v (i + 1) (set w (b + i) v)
-  fill_turn i w inv h =
-      let l : length (each i (λ _. v)) ≡ i = length_each i (λ _. v) in (
-        omega arith,
-        length-set w (b + i) v ∙ inv.1,
-        ap₂ (λ (u : List ℕ) (k : ℕ). set u (b + k) v) inv.2 (sym l) ∙ put_store w₀ b (omega arith) (each i (λ _. v)) v 0 (omega (arith, l)) ∙ ap (put w₀ b)
-            (sym (each_more i (λ _. v))),
-      )
+  pub thing_chain : h ≡ chain_count (thing_count nodes ends) → c ≡ square_chain h s s.x0 s.y0 → c ≡ chain_by coords xs ys nodes ends j
+  unfolding chain_by
+  thing_chain h-is c-is =
+      let t : Span = span_by coords xs ys nodes ends j in
+      c-is ∙ ap (λ (u : Span). square_chain h u u.x0 u.y0) thing_span ∙ ap (λ (k : ℕ). square_chain k t t.x0 t.y0) h-is
 
-  pub fill_end : (i : ℕ) (w : List ℕ) → Filling w₀ b n v i w → n ≤ i → w ≡ put w₀ b (each n (λ _. v))
-  fill_end i w inv h =
-      let z : i ≡ n = le_antisymm inv.0 h in
-      inv.2 ∙ ap (λ (k : ℕ). put w₀ b (each k (λ _. v))) z
+-- the chain of a thing is one of them
+pub chain_by_low : (coords : List Float) (xs ys nodes ends : List ℕ) (j : ℕ) → chain_by coords xs ys nodes ends j < chain_count (thing_count nodes ends)
+unfolding chain_by
+chain_by_low coords xs ys nodes ends j =
+    let t : Span = span_by coords xs ys nodes ends j in
+    chain_low (chain_count (thing_count nodes ends)) t t.x0 t.y0 (omega arith)
 
--- ---- chains by f
+-- what `fill` leaves
+pub filled : (h n : ℕ) (heads : List ℕ) → heads ≡ replicate h n → length heads ≡ h → (c : ℕ) → c < length heads → get_or heads c 0 ≡ n
+filled h n heads e l c b = ap (λ (u : List ℕ). get_or u c 0) e ∙ get_or-replicate h c n 0 (omega (arith, l))
 
-module _ (f : ℕ → ℕ) (h n heads nexts : ℕ) (w₀ : List ℕ) (apart : heads + h ≤ nexts) (fits : nexts + n ≤ length w₀) where
+-- ---- chains by f; thing j is on level g j
+
+module _ (f g : ℕ → ℕ) (h n : ℕ) where
+  -- the things from q on are on chains
+  pub record Linked (q : ℕ) (heads nexts : List ℕ) (levels : ℕ) : Type 0 where
+    pub wide : length heads ≡ h
+    pub long : length nexts ≡ n
+    pub head : (c : ℕ) → c < h → get_or heads c 0 ≡ first (on_chain f c) q n
+    pub next : (p : ℕ) → q ≤ p → p < n → get_or nexts p 0 ≡ next_at f n p
+    pub highest : levels ≡ above g q (n - q)
+    pub few : levels ≤ 513
+
   -- no thing is on a chain yet
-  pub link_start : ((c : ℕ) → c < h → get_or w₀ (heads + c) 0 ≡ n) → Chained f h n heads nexts n w₀ w₀
-  link_start none =
+  pub link_start : (heads nexts : List ℕ) → length heads ≡ h → length nexts ≡ n → ((c : ℕ) → c < h → get_or heads c 0 ≡ n) → Linked n heads nexts 0
+  unfolding above
+  link_start heads nexts wide long none =
+      let z : n - n ≡ 0 = omega arith in
       record {
-        long = refl;
+        wide = wide;
+        long = long;
         head = λ c b. none c b ∙ sym (first_end_lem (on_chain f c) n n (omega arith));
         next = λ p a b. absurd (omega arith);
-        before = λ i b. refl;
-        behind = λ i b. refl;
+        highest = ap (above g n) (sym z);
+        few = omega arith;
       }
 
   -- thing q goes before those on its chain
-  module _ (q : ℕ) (w : List ℕ) (low : f q < h) (l : q < n) (inv : Chained f h n heads nexts (q + 1) w₀ w) where
-    abbrev c : ℕ
-    c = f q
-
-    abbrev v : List ℕ
-    v = set w (nexts + q) (get_or w (heads + c) 0)
-
-    long_v : length v ≡ length w
-    long_v = length-set w (nexts + q) (get_or w (heads + c) 0)
-
-    other : (i : ℕ) → (i ≡ nexts + q → ⊥) → (i ≡ heads + c → ⊥) → get_or (set v (heads + c) q) i 0 ≡ get_or w i 0
-    other i a b = get_or-set_other v (heads + c) i q 0 b ∙ get_or-set_other w (nexts + q) i (get_or w (heads + c) 0) 0 a
-
-    head_turn : (k : ℕ) → k < h → Dec (k ≡ c) → get_or (set v (heads + c) q) (heads + k) 0 ≡ first (on_chain f k) q n
+  module _ (q : ℕ) (heads nexts : List ℕ) (levels : ℕ) (low : f q < h) (l : q < n) (inv : Linked (q + 1) heads nexts levels) where
+    head_turn : (k : ℕ) → k < h → Dec (k ≡ f q) → get_or (set heads (f q) q) k 0 ≡ first (on_chain f k) q n
     head_turn k b (yes e) =
-        ap (λ (j : ℕ). get_or (set v (heads + c) q) (heads + j) 0) e ∙ get_or-set_same v (heads + c) q 0 (omega (arith, long_v, inv.long))
+        ap (λ (j : ℕ). get_or (set heads (f q) q) j 0) e ∙ get_or-set_same heads (f q) q 0 (omega (arith, inv.wide))
         ∙ sym (first_here (on_chain f k) q n l (eq-eqb (f q) k (sym e)))
-    head_turn k b (no e) =
-        other (heads + k) (λ z. omega (arith, z)) (λ z. e (omega (arith, z))) ∙ inv.head k b
-        ∙ first_on (on_chain f k) q n l (ne_eqb (f q) k (λ z. e (sym z)))
+    head_turn k b (no e) = get_or-set_other heads (f q) k q 0 e ∙ inv.head k b ∙ first_on (on_chain f k) q n l (ne_eqb (f q) k (λ z. e (sym z)))
 
-    next_turn : (p : ℕ) → q ≤ p → p < n → Dec (p ≡ q) → get_or (set v (heads + c) q) (nexts + p) 0 ≡ next_at f n p
+    next_turn : (p : ℕ) → q ≤ p → p < n → Dec (p ≡ q) → get_or (set nexts q (get_or heads (f q) 0)) p 0 ≡ next_at f n p
     next_turn p a b (yes e) =
-        ap (λ (j : ℕ). get_or (set v (heads + c) q) (nexts + j) 0) e ∙ get_or-set_other v (heads + c) (nexts + q) q 0 (λ z. omega (arith, z))
-        ∙ get_or-set_same w (nexts + q) (get_or w (heads + c) 0) 0 (omega (arith, inv.long)) ∙ inv.head c low
-        ∙ ap (λ (j : ℕ). first (on_chain f (f j)) (j + 1) n) (sym e)
-    next_turn p a b (no e) = other (nexts + p) (λ z. e (omega (arith, z))) (λ z. omega (arith, z)) ∙ inv.next p (omega (arith, e)) b
+        ap (λ (j : ℕ). get_or (set nexts q (get_or heads (f q) 0)) j 0) e ∙ get_or-set_same nexts q (get_or heads (f q) 0) 0 (omega (arith, inv.long))
+        ∙ inv.head (f q) low ∙ ap (λ (j : ℕ). first (on_chain f (f j)) (j + 1) n) (sym e)
+    next_turn p a b (no e) = get_or-set_other nexts q p (get_or heads (f q) 0) 0 e ∙ inv.next p (omega (arith, e)) b
 
-    pub link_turn : (w' : List ℕ) → w' ≡ headed w heads nexts (f q) q → Chained f h n heads nexts q w₀ w'
-    unfolding headed
-    link_turn w' e =
-        let at : (i : ℕ) → get_or w' i 0 ≡ get_or (set v (heads + c) q) i 0 = λ i. ap (λ (u : List ℕ). get_or u i 0) e in
+    highest_turn : (r : ℕ) → r ≡ max (g q + 1) levels → r ≡ above g q (n - q)
+    unfolding above
+    highest_turn r r_is =
+        let one : q + 1 ≡ suc q = omega arith in
+        let left : n - q ≡ suc (n - (q + 1)) = omega arith in
+        r_is ∙ ap (max (g q + 1)) (inv.highest ∙ ap (λ (k : ℕ). above g k (n - (q + 1))) one) ∙ ap (above g q) (sym left)
+
+    pub link_turn : (heads' nexts' : List ℕ) (m r : ℕ) → heads' ≡ set heads (f q) q → nexts' ≡ set nexts q (get_or heads (f q) 0) → m ≡ g q → m ≤ 512 → r ≡ max (m + 1) levels
+        → Linked q heads' nexts' r
+    link_turn heads' nexts' m r a b m_is m_low r_is =
         record {
-          long = ap length e ∙ length-set v (heads + c) q ∙ long_v ∙ inv.long;
-          head = λ k b. at (heads + k) ∙ head_turn k b (ℕ_discrete k c);
-          next = λ p a b. at (nexts + p) ∙ next_turn p a b (ℕ_discrete p q);
-          before = λ i b. at i ∙ other i (λ z. omega (arith, z)) (λ z. omega (arith, z)) ∙ inv.before i b;
-          behind = λ i a. at i ∙ other i (λ z. omega (arith, z)) (λ z. omega (arith, z)) ∙ inv.behind i a;
+          wide = ap length a ∙ length-set heads (f q) q ∙ inv.wide;
+          long = ap length b ∙ length-set nexts q (get_or heads (f q) 0) ∙ inv.long;
+          head = λ k c. ap (λ (u : List ℕ). get_or u k 0) a ∙ head_turn k c (ℕ_discrete k (f q));
+          next = λ p c d. ap (λ (u : List ℕ). get_or u p 0) b ∙ next_turn p c d (ℕ_discrete p q);
+          highest = highest_turn r (r_is ∙ ap (λ (k : ℕ). max (k + 1) levels) m_is);
+          few = omega (arith, r_is, max-le {a = m + 1} {b = levels} {k = 513} (omega arith) inv.few);
         }
 
--- ---- one more than the highest
+  pub link_heads : (heads nexts : List ℕ) (levels : ℕ) → Linked 0 heads nexts levels → heads ≡ each h (head_at f n)
+  link_heads heads nexts levels inv =
+      ext_get_or 0 heads (each h (head_at f n)) (inv.wide ∙ sym (length_each h (head_at f n)))
+      (λ i l. inv.head i (omega (arith, inv.wide)) ∙ sym (get_or_each h (head_at f n) i 0 (omega (arith, inv.wide))))
 
-pub above_more : (f : ℕ → ℕ) (q n r m : ℕ) → q < n → m ≡ above f (q + 1) (n - (q + 1)) → r ≡ max (f q + 1) m → r ≡ above f q (n - q)
-unfolding above
-above_more f q n r m h e r_is =
-    let one : q + 1 ≡ suc q = omega arith in
-    let left : n - q ≡ suc (n - (q + 1)) = omega arith in
-    r_is ∙ ap (max (f q + 1)) (e ∙ ap (λ (k : ℕ). above f k (n - (q + 1))) one) ∙ ap (above f q) (sym left)
+  pub link_nexts : (heads nexts : List ℕ) (levels : ℕ) → Linked 0 heads nexts levels → nexts ≡ each n (next_at f n)
+  link_nexts heads nexts levels inv =
+      ext_get_or 0 nexts (each n (next_at f n)) (inv.long ∙ sym (length_each n (next_at f n)))
+      (λ i l. inv.next i (omega arith) (omega (arith, inv.long)) ∙ sym (get_or_each n (next_at f n) i 0 (omega (arith, inv.long))))

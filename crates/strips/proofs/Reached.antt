@@ -15,6 +15,8 @@ use Rattle.lists.proofs.Search.{and_true, or_false}
 use Rattle.lists.proofs.Gather.{in_gathered}
 use Rattle.rules.specs.declared.Bounds.{Bounds}
 use Rattle.rules.specs.SpatialIndex.{boxes_meet}
+use Rattle.strips.specs.declared.squares.Axis.{Axis}
+use Rattle.strips.specs.declared.squares.Axis.TheVariants.{X, Y}
 use Rattle.strips.specs.declared.squares.Span.{Span}
 use Rattle.strips.specs.Squares.{coordinate_of, strip_of, span_of, halved, is_wide, narrowed, square_chain}
 use Rattle.strips.specs.Index.{on_chain, above}
@@ -45,7 +47,7 @@ touch_halved s t h =
     }
 
 module _ (coords : List Float) (xs ys : List ℕ) (some_x : 0 < length xs) (some_y : 0 < length ys) where
-  mono : (bounds : List ℕ) (axis : ℕ) (v w : Float) → 0 < length bounds → le v w ≡ true → strip_of coords bounds axis v ≤ strip_of coords bounds axis w
+  mono : (bounds : List ℕ) (axis : Axis) (v w : Float) → 0 < length bounds → le v w ≡ true → strip_of coords bounds axis v ≤ strip_of coords bounds axis w
   unfolding strip_of
   mono bounds axis v w some h = strip_mono (length bounds) (λ i. coordinate_of coords axis (get_or bounds i 0)) v w 0 (length bounds) some h
 
@@ -57,10 +59,10 @@ module _ (coords : List Float) (xs ys : List ℕ) (some_x : 0 < length xs) (some
       let two = and_true (le e.left b.right && le b.left e.right) (le e.low b.high) three.0 in
       let one = and_true (le e.left b.right) (le b.left e.right) two.0 in
       record {
-        x_low = mono xs 0 e.left b.right some_x one.0;
-        x_high = mono xs 0 b.left e.right some_x one.1;
-        y_low = mono ys 1 e.low b.high some_y two.1;
-        y_high = mono ys 1 b.low e.high some_y three.1;
+        x_low = mono xs X e.left b.right some_x one.0;
+        x_high = mono xs X b.left e.right some_x one.1;
+        y_low = mono ys Y e.low b.high some_y two.1;
+        y_high = mono ys Y b.low e.high some_y three.1;
         at_same = refl;
         side_same = refl;
       }
@@ -68,8 +70,8 @@ module _ (coords : List Float) (xs ys : List ℕ) (some_x : 0 < length xs) (some
   pub reach_small : (e : Bounds) → ((span_of coords xs ys e).x1 < length xs) × ((span_of coords xs ys e).y1 < length ys)
   unfolding span_of strip_of
   reach_small e = (
-    omega (arith, strip_to (length xs) (λ i. coordinate_of coords 0 (get_or xs i 0)) e.right 0 (length xs) some_x),
-    omega (arith, strip_to (length ys) (λ i. coordinate_of coords 1 (get_or ys i 0)) e.high 0 (length ys) some_y),
+    omega (arith, strip_to (length xs) (λ i. coordinate_of coords X (get_or xs i 0)) e.right 0 (length xs) some_x),
+    omega (arith, strip_to (length ys) (λ i. coordinate_of coords Y (get_or ys i 0)) e.high 0 (length ys) some_y),
   )
 
 -- ---- on a chain that is gone over

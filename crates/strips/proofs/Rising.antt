@@ -9,7 +9,11 @@ use native.Mathlib.Omega.{arith}
 use lib.Dec.{ltb, leb, eqb}
 use lib.ListN.{length, get_or, take, drop, length-take}
 use lib.Seq.{take_all, take_at, take-take, get_or-take, length-take-le}
-use borrow.Author.Tests.{ltb-true, ltb-false, eqb-false, lt-ltb, le-ltb, le-leb, lt-leb}
+use borrow.Author.Tests.{ltb-true, ltb-false, eqb-false, eq-eqb, ne_eqb, lt-ltb, le-ltb, le-leb, lt-leb}
+use Rattle.std.specs.List.Sorted.{IsBinarySearchResult}
+use Rattle.std.specs.Ordering.{nat_cmp}
+use Rattle.std.proofs.lemmas.List.Sorted.{searched}
+use Rattle.std.proofs.Common.{Ok, Err}
 use Rattle.lists.specs.Search.{seek, first}
 use Rattle.lists.specs.Regions.{front, put_in, insert_at}
 use Rattle.lists.proofs.Search.{first_le, first_turn, first_here, first_shift}
@@ -21,29 +25,53 @@ use Rattle.strips.specs.Gathering.{Rises, put_rising}
 -- ---- where it goes
 
 module _ (xs : List ℕ) (v : ℕ) where
-  -- those from i on are no lower than v
-  abbrev pub Passed : ℕ → Type 0
-  Passed i = (i ≤ length xs) × (i < length xs → leb v (get_or xs i 0) ≡ true)
+  -- v stands at i
+  pub place_there : Rises xs → (i : ℕ) → i < length xs → get_or xs i 0 ≡ v
+      → (i ≡ first (λ k. leb v (get_or xs k 0)) 0 (length xs)) × ((ltb i (length xs) && eqb (get_or xs i 0) v) ≡ true)
+  place_there rise i h e = (
+    first_turn (λ k. leb v (get_or xs k 0)) 0 i (length xs) (omega arith) (omega arith) (λ k _ m. lt-leb v (get_or xs k 0) (omega (arith, rise k i m h, e)))
+        (λ _. le-leb v (get_or xs i 0) (omega (arith, e))),
+    ap₂ (λ (a b : Bool). a && b) (lt-ltb i (length xs) h) (eq-eqb (get_or xs i 0) v e),
+  )
 
-  pub passed_start : Passed (length xs)
-  passed_start = (omega arith, λ l. absurd (omega arith))
-
-  pub passed_turn : (i : ℕ) → Passed i → 0 < i → v ≤ get_or xs (i - 1) 0 → Passed (i - 1)
-  passed_turn i inv h l = (omega (arith, inv.0), λ m. le-leb v (get_or xs (i - 1) 0) l)
-
-  -- all before it are below v
-  pub passed_here : (i : ℕ) → Rises xs → Passed i → 0 < i → get_or xs (i - 1) 0 < v
-      → (i ≡ first (λ k. leb v (get_or xs k 0)) 0 (length xs)) × (i ≤ length xs)
-  passed_here i rise inv h l = (first_turn (λ k. leb v (get_or xs k 0)) 0 i (length xs) (omega arith) inv.0 (λ k _ m. lt-leb v (get_or xs k 0) (low k m (dec_lt k (i - 1)))) inv.1, inv.0)
+  -- it goes to p: those before are below it, and those from there on above
+  pub place_new : (p : ℕ) → p ≤ length xs → ((k : ℕ) → k < p → get_or xs k 0 < v) → ((k : ℕ) → p ≤ k → k < length xs → v < get_or xs k 0)
+      → (p ≡ first (λ k. leb v (get_or xs k 0)) 0 (length xs)) × ((ltb p (length xs) && eqb (get_or xs p 0) v) ≡ false)
+  place_new p h below over = (
+    first_turn (λ k. leb v (get_or xs k 0)) 0 p (length xs) (omega arith) h (λ k _ m. lt-leb v (get_or xs k 0) (below k m))
+        (λ l. le-leb v (get_or xs p 0) (omega (arith, over p (omega arith) l))),
+    none (dec_lt p (length xs)),
+  )
     where
-      low : (k : ℕ) → k < i → Dec (k < i - 1) → get_or xs k 0 < v
-      low k m (yes a) = omega (arith, rise k (i - 1) a (omega (arith, inv.0, h)), l)
-      low k m (no a) =
-          let z : k ≡ i - 1 = omega (arith, a, m) in
-          omega (arith, ap (λ (j : ℕ). get_or xs j 0) z, l)
+      none : Dec (p < length xs) → (ltb p (length xs) && eqb (get_or xs p 0) v) ≡ false
+      none (yes l) = ap₂ (λ (a b : Bool). a && b) (lt-ltb p (length xs) l) (ne_eqb (get_or xs p 0) v (λ e. omega (arith, e, over p (omega arith) l)))
+      none (no l) = ap (λ (a : Bool). a && eqb (get_or xs p 0) v) (le-ltb p (length xs) (omega arith))
 
-  pub passed_end : (i : ℕ) → Passed i → i ≤ 0 → (i ≡ first (λ k. leb v (get_or xs k 0)) 0 (length xs)) × (i ≤ length xs)
-  passed_end i inv h = (first_turn (λ k. leb v (get_or xs k 0)) 0 i (length xs) (omega arith) inv.0 (λ k _ m. absurd (omega arith)) inv.1, inv.0)
+  risen : Rises xs → (i j : ℕ) → i ≤ j → j < length xs → get_or xs i 0 ≤ get_or xs j 0
+  risen rise i j h l = go (dec_lt i j)
+    where
+      go : Dec (i < j) → get_or xs i 0 ≤ get_or xs j 0
+      go (yes a) = omega (arith, rise i j a l)
+      go (no a) =
+          let z : i ≡ j = omega (arith, a, h) in
+          omega (arith, ap (λ (k : ℕ). get_or xs k 0) z)
+
+-- ---- what a binary search among the first k says
+
+module _ (found : List ℕ) (k v : ℕ) (rise : Rises (take k found)) where
+  pub found_there : (i : ℕ) → IsBinarySearchResult (λ y. nat_cmp y v) (take k found) (Ok i)
+      → (i ≡ first (λ j. leb v (get_or (take k found) j 0)) 0 (length (take k found)))
+      × ((ltb i (length (take k found)) && eqb (get_or (take k found) i 0) v) ≡ true)
+  found_there i h =
+      let at = searched (take k found) v (Ok i) h (risen (take k found) v rise) in
+      place_there (take k found) v rise i at.0 at.1
+
+  pub found_new : (p : ℕ) → IsBinarySearchResult (λ y. nat_cmp y v) (take k found) (Err p)
+      → (p ≡ first (λ j. leb v (get_or (take k found) j 0)) 0 (length (take k found)))
+      × ((ltb p (length (take k found)) && eqb (get_or (take k found) p 0) v) ≡ false)
+  found_new p h =
+      let at = searched (take k found) v (Err p) h (risen (take k found) v rise) in
+      place_new (take k found) v p at.0 at.1 at.2
 
 -- ---- put in at its place
 

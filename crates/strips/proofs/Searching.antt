@@ -8,18 +8,20 @@ use Prim.Native.Nat.{ℕ, zero, suc, ◌+◌, ◌-◌, ◌≤◌, ◌<◌}
 use native.Mathlib.Nat.{max-le}
 use native.Mathlib.Omega.{arith}
 use lib.ListN.{length, get_or, take, drop, length-drop}
-use lib.Seq.{take_all}
+use lib.Seq.{take_all, take_at, drop_at, drop-drop}
 use lib.Ieee.{Float}
-use Rattle.lists.proofs.Gather.{gathered_at}
+use Rattle.lists.specs.Gather.{each}
+use Rattle.lists.proofs.Gather.{gathered_at, length_each, get_or_each}
 use Rattle.rules.specs.declared.Bounds.{Bounds}
+use Rattle.strips.specs.declared.squares.Axis.TheVariants.{X, Y}
 use Rattle.strips.specs.declared.squares.Span.{Span}
 use Rattle.strips.specs.Things.{thing_count, thing_box, thing_meets}
 use Rattle.strips.specs.Squares.{span_of, halved, is_wide, narrowed, square_chain}
-use Rattle.strips.specs.Index.{strip_count, chain_count, index_size, bounds_of, span_by, chain_by, on_chain, links_of, above, chain_at, level_count, Indexed}
+use Rattle.strips.specs.Index.{strip_count, chain_count, index_size, bounds_of, span_by, chain_by, on_chain, head_at, next_at, links_of, above, chain_at, level_count, index_of}
 use Rattle.strips.specs.Meeting.{things_meeting}
 use Rattle.strips.specs.Gathering.{with_things, is_wanted, on_chains, in_row, in_level, in_levels, Chains}
 use Rattle.strips.proofs.Sizes.{side_range}
-use Rattle.strips.proofs.IndexAt.{length_bounds, length_links, links_head, links_next, length_index, index_side, index_levels, index_x, index_y, index_links}
+use Rattle.strips.proofs.IndexAt.{length_bounds, length_index, index_side, index_levels, index_x, index_y, index_links}
 use Rattle.strips.proofs.Reached.{touch_start, reach_small, on_levels, above_each}
 use Rattle.strips.proofs.Complete.{all_found}
 
@@ -77,84 +79,97 @@ module _ (coords : List Float) (nodes ends : List ℕ) where
   abbrev n : ℕ
   n = thing_count nodes ends
 
-  abbrev X : List ℕ
-  X = bounds_of coords nodes ends 0
+  abbrev xs : List ℕ
+  xs = bounds_of coords nodes ends X
 
-  abbrev Y : List ℕ
-  Y = bounds_of coords nodes ends 1
+  abbrev ys : List ℕ
+  ys = bounds_of coords nodes ends Y
 
-  some_x : 0 < length X
-  some_x = omega (arith, length_bounds coords nodes ends 0, (side_range n).0)
+  some_x : 0 < length xs
+  some_x = omega (arith, length_bounds coords nodes ends X, (side_range n).0)
 
-  some_y : 0 < length Y
-  some_y = omega (arith, length_bounds coords nodes ends 1, (side_range n).0)
+  some_y : 0 < length ys
+  some_y = omega (arith, length_bounds coords nodes ends Y, (side_range n).0)
 
-  level_zero : (e : Bounds) → (span_of coords X Y e).level ≡ 0
+  level_zero : (e : Bounds) → (span_of coords xs ys e).level ≡ 0
   unfolding span_of
   level_zero e = refl
 
   pub levels_few : level_count coords nodes ends ≤ 513
-  levels_few = above_low (λ j. (span_by coords X Y nodes ends j).level) 512 0 n
-      (λ j. omega (arith, narrowed_level 512 (span_of coords X Y (thing_box coords nodes ends j)), level_zero (thing_box coords nodes ends j)))
+  levels_few = above_low (λ j. (span_by coords xs ys nodes ends j).level) 512 0 n
+      (λ j. omega (arith, narrowed_level 512 (span_of coords xs ys (thing_box coords nodes ends j)), level_zero (thing_box coords nodes ends j)))
 
   -- each thing that meets b is on a chain that is gone over
   reached : (b : Bounds) (j : ℕ) → j < n → thing_meets coords nodes ends b j ≡ true
-      → Memᴰ j (in_levels (chain_at coords nodes ends) n (chain_count n) (span_of coords X Y b) (level_count coords nodes ends))
+      → Memᴰ j (in_levels (chain_at coords nodes ends) n (chain_count n) (span_of coords xs ys b) (level_count coords nodes ends))
   unfolding chain_by
   reached b j l meets =
       let e : Bounds = thing_box coords nodes ends j in
-      let small = reach_small coords X Y some_x some_y e in
-      on_levels (chain_at coords nodes ends) n (chain_count n) j l 512 (level_count coords nodes ends) (span_of coords X Y e) (span_of coords X Y b)
-      (omega (arith, small.0, small.1, length_bounds coords nodes ends 0, length_bounds coords nodes ends 1, (side_range n).1)) (touch_start coords X Y some_x some_y e b meets)
-      (omega (arith, level_zero e, above_each (λ i. (span_by coords X Y nodes ends i).level) 0 n j (omega arith) (omega (arith, l)))) refl
+      let small = reach_small coords xs ys some_x some_y e in
+      on_levels (chain_at coords nodes ends) n (chain_count n) j l 512 (level_count coords nodes ends) (span_of coords xs ys e) (span_of coords xs ys b)
+      (omega (arith, small.0, small.1, length_bounds coords nodes ends X, length_bounds coords nodes ends Y, (side_range n).1)) (touch_start coords xs ys some_x some_y e b meets)
+      (omega (arith, level_zero e, above_each (λ i. (span_by coords xs ys nodes ends i).level) 0 n j (omega arith) (omega (arith, l)))) refl
 
   pub search_found : (most : ℕ) (b : Bounds) (from h levels : ℕ) (s : Span) → h ≡ chain_count (thing_count nodes ends)
-      → s ≡ span_of coords (bounds_of coords nodes ends 0) (bounds_of coords nodes ends 1) b
+      → s ≡ span_of coords (bounds_of coords nodes ends X) (bounds_of coords nodes ends Y) b
       → levels ≡ level_count coords nodes ends
       → with_things most (is_wanted coords nodes ends b from) [] (in_levels (chain_at coords nodes ends) (thing_count nodes ends) h s levels) ≡ take most
       (things_meeting coords nodes ends b from)
   search_found most b from h levels s h-is s_is levels-is = rw (h-is, s_is, levels-is)
       (all_found most (thing_meets coords nodes ends b) from n
-      (in_levels (chain_at coords nodes ends) n (chain_count n) (span_of coords X Y b) (level_count coords nodes ends))
-      (λ j m. levels_low (chain_at coords nodes ends) n (chain_count n) j (level_count coords nodes ends) (span_of coords X Y b) m) (λ j l e. reached b j l e))
+      (in_levels (chain_at coords nodes ends) n (chain_count n) (span_of coords xs ys b) (level_count coords nodes ends))
+      (λ j m. levels_low (chain_at coords nodes ends) n (chain_count n) j (level_count coords nodes ends) (span_of coords xs ys b) m) (λ j l e. reached b j l e))
 
   -- ---- the index read
 
-  module _ (ix : List ℕ) (indexed : Indexed coords nodes ends ix) where
+  module _ (ix : List ℕ) (is : ix ≡ index_of coords nodes ends) where
     pub index_long : length ix ≡ index_size (thing_count nodes ends)
-    index_long = ap length indexed.is ∙ length_index coords nodes ends
+    index_long = ap length is ∙ length_index coords nodes ends
 
     pub side_read : get_or ix 0 0 ≡ strip_count (thing_count nodes ends)
-    side_read = ap (λ (l : List ℕ). get_or l 0 0) indexed.is ∙ index_side coords nodes ends
+    side_read = ap (λ (l : List ℕ). get_or l 0 0) is ∙ index_side coords nodes ends
 
     pub levels_read : get_or ix 1 0 ≡ level_count coords nodes ends
-    levels_read = ap (λ (l : List ℕ). get_or l 1 0) indexed.is ∙ index_levels coords nodes ends
+    levels_read = ap (λ (l : List ℕ). get_or l 1 0) is ∙ index_levels coords nodes ends
 
-    module _ (s : ℕ) (s_is : s ≡ strip_count (thing_count nodes ends)) where
-      pub xs_read : take (2 + s - 2) (drop 2 ix) ≡ bounds_of coords nodes ends 0
-      xs_read =
-          let z : 2 + s - 2 ≡ strip_count n = omega (arith, s_is) in
-          ap₂ (λ (k : ℕ) (l : List ℕ). take k (drop 2 l)) z indexed.is ∙ index_x coords nodes ends
+    whole : take (length ix - 2) (drop 2 ix) ≡ drop 2 ix
+    whole = take_all (length ix - 2) (drop 2 ix) (omega (arith, length-drop 2 ix))
 
-      pub ys_read : take (2 + s + s - (2 + s)) (drop (2 + s) ix) ≡ bounds_of coords nodes ends 1
-      ys_read =
-          let z : 2 + s + s - (2 + s) ≡ strip_count n = omega (arith, s_is) in
-          let y : 2 + s ≡ 2 + strip_count n = omega (arith, s_is) in
-          ap₂ (λ (k i : ℕ). take k (drop i ix)) z y ∙ ap (λ (l : List ℕ). take (strip_count n) (drop (2 + strip_count n) l)) indexed.is ∙ index_y coords nodes ends
+    -- its parts, split off one by one: the nodes at which strips begin, by x and by y, and the chains
+    pub xs_read : (l : List ℕ) → l ≡ take (get_or ix 0 0) (take (length ix - 2) (drop 2 ix)) → l ≡ bounds_of coords nodes ends X
+    xs_read l e = e ∙ ap₂ take side_read whole ∙ ap (λ (u : List ℕ). take (strip_count n) (drop 2 u)) is ∙ index_x coords nodes ends
 
-      links_read : take (length ix - (2 + s + s)) (drop (2 + s + s) ix) ≡ links_of (chain_at coords nodes ends) n (chain_count n)
-      links_read =
-          let y : 2 + s + s ≡ 2 + strip_count n + strip_count n = omega (arith, s_is) in
-          take_all (length ix - (2 + s + s)) (drop (2 + s + s) ix) (omega (arith, length-drop (2 + s + s) ix)) ∙ ap₂ drop y indexed.is ∙ index_links coords nodes ends
+    module _ (rest : List ℕ) (rest-is : rest ≡ drop (get_or ix 0 0) (take (length ix - 2) (drop 2 ix))) where
+      behind : rest ≡ drop (2 + strip_count n) (index_of coords nodes ends)
+      behind = rest-is ∙ ap₂ drop side_read whole ∙ drop-drop (strip_count n) 2 ix ∙ ap (drop (2 + strip_count n)) is
 
-      pub chains_read : (h : ℕ) → h ≡ chain_count (thing_count nodes ends) → Chains coords nodes ends (take (length ix - (2 + s + s)) (drop (2 + s + s) ix)) h
-      chains_read h h-is = rw (h-is, links_read) (
-          record {
-            rising = indexed.rising;
-            few = indexed.few;
-            chained = record {
-              long = length_links (chain_at coords nodes ends) n (chain_count n);
-              head = links_head (chain_at coords nodes ends) n (chain_count n);
-              next = links_next (chain_at coords nodes ends) n (chain_count n);
-            };
-          })
+      pub ys_read : (l : List ℕ) → l ≡ take (get_or ix 0 0) rest → l ≡ bounds_of coords nodes ends Y
+      ys_read l e = e ∙ ap₂ take side_read behind ∙ index_y coords nodes ends
+
+      pub links_read : (l : List ℕ) → l ≡ drop (get_or ix 0 0) rest
+          → l ≡ links_of (chain_at coords nodes ends) (thing_count nodes ends) (chain_count (thing_count nodes ends))
+      links_read l e = e ∙ ap₂ drop side_read behind ∙ drop-drop (strip_count n) (2 + strip_count n) (index_of coords nodes ends) ∙ index_links coords nodes ends
+
+  abbrev links : List ℕ
+  links = links_of (chain_at coords nodes ends) n (chain_count n)
+
+  heads_are : take (chain_count n) links ≡ each (chain_count n) (head_at (chain_at coords nodes ends) n)
+  unfolding links_of
+  heads_are = take_at _ _ (chain_count n) (length_each (chain_count n) (head_at (chain_at coords nodes ends) n))
+
+  nexts_are : drop (chain_count n) links ≡ each n (next_at (chain_at coords nodes ends) n)
+  unfolding links_of
+  nexts_are = drop_at _ _ (chain_count n) (length_each (chain_count n) (head_at (chain_at coords nodes ends) n))
+
+  pub chains_read : (heads nexts l : List ℕ) → l ≡ links_of (chain_at coords nodes ends) (thing_count nodes ends) (chain_count (thing_count nodes ends))
+      → heads ≡ take (chain_count (thing_count nodes ends)) l → nexts ≡ drop (chain_count (thing_count nodes ends)) l → Chains coords nodes ends heads nexts
+  chains_read heads nexts l l-is a b =
+      let x : heads ≡ each (chain_count n) (head_at (chain_at coords nodes ends) n) = a ∙ ap (take (chain_count n)) l-is ∙ heads_are in
+      let y : nexts ≡ each n (next_at (chain_at coords nodes ends) n) = b ∙ ap (drop (chain_count n)) l-is ∙ nexts_are in
+      let wide : length heads ≡ chain_count n = ap length x ∙ length_each (chain_count n) (head_at (chain_at coords nodes ends) n) in
+      record {
+        some = omega (arith, wide);
+        long = ap length y ∙ length_each n (next_at (chain_at coords nodes ends) n);
+        head = λ c h. ap (λ (u : List ℕ). get_or u c 0) x ∙ get_or_each (chain_count n) (head_at (chain_at coords nodes ends) n) c 0 (omega (arith, wide));
+        next = λ j h. ap (λ (u : List ℕ). get_or u j 0) y ∙ get_or_each n (next_at (chain_at coords nodes ends) n) j 0 h;
+      }

@@ -25,17 +25,16 @@ module _ (n : ℕ) where
   unfolding strip_count
   root_start = (omega arith, omega arith, refl)
 
-  pub root_small : (s : ℕ) → s < 256 → (s + 1) * (s + 1) ≤ 65536
-  root_small s h = mul-le-mul {n₁ = s + 1} {m₁ = s + 1} {n₂ = 256} {m₂ = 256} (omega arith) (omega arith)
-
   pub root_turn : (s : ℕ) → Rooting n s → s < 256 → (s + 1) * (s + 1) ≤ n → Rooting n (s + 1)
   root_turn s inv h l = (omega arith, omega arith, first_on (below n) s 256 h (le-ltb n ((s + 1) * (s + 1)) l) ∙ inv.2)
 
   pub root_here : (s : ℕ) → Rooting n s → s < 256 → n < (s + 1) * (s + 1) → (s ≡ strip_count n) × (1 ≤ s) × (s ≤ 256)
   root_here s inv h l = (sym (first_here (below n) s 256 h (lt-ltb n ((s + 1) * (s + 1)) l)) ∙ inv.2, inv.0, inv.1)
 
-  pub root_end : (s : ℕ) → Rooting n s → 256 ≤ s → (s ≡ strip_count n) × (1 ≤ s) × (s ≤ 256)
-  root_end s inv h = (sym (first_end_lem (below n) s 256 h) ∙ inv.2, inv.0, inv.1)
+  pub root_end : (s : ℕ) → Rooting n s → 256 ≤ s → (256 ≡ strip_count n) × (1 ≤ 256) × (256 ≤ 256)
+  root_end s inv h =
+      let z : 256 ≡ s = omega (arith, inv.1) in
+      (z ∙ sym (first_end_lem (below n) s 256 h) ∙ inv.2, omega arith, omega arith)
 
   -- ---- how large
 

@@ -10,6 +10,7 @@ use lib.ListN.{length}
 use lib.Ieee.{Float}
 use borrow.Author.Tests.{lt-ltb, le-ltb, ltb-true}
 use Rattle.rules.specs.declared.Bounds.{Bounds}
+use Rattle.strips.specs.declared.squares.Axis.TheVariants.{X, Y}
 use Rattle.strips.specs.declared.squares.Span.{Span}
 use Rattle.strips.specs.Squares.{strip_of, span_of, halved, is_wide, narrowed, square_chain, Small}
 
@@ -32,8 +33,8 @@ halved_small s h l =
 
 -- the strips of a box, one by one
 module _ (coords : List Float) (xs ys : List ℕ) (b : Bounds) (x0 x1 y0 y1 : ℕ) where
-  pub span_made : (x0 ≡ strip_of coords xs 0 b.left) × (x0 < length xs) → (x1 ≡ strip_of coords xs 0 b.right) × (x1 < length xs)
-      → (y0 ≡ strip_of coords ys 1 b.low) × (y0 < length ys) → (y1 ≡ strip_of coords ys 1 b.high) × (y1 < length ys)
+  pub span_made : (x0 ≡ strip_of coords xs X b.left) × (x0 < length xs) → (x1 ≡ strip_of coords xs X b.right) × (x1 < length xs)
+      → (y0 ≡ strip_of coords ys Y b.low) × (y0 < length ys) → (y1 ≡ strip_of coords ys Y b.high) × (y1 < length ys)
       → length ys ≡ length xs → length xs ≤ 256 → (s : Span)
       → s ≡ record { x0 = x0; x1 = x1; y0 = y0; y1 = y1; at = 0; side = length xs; level = 0 } → (s ≡ span_of coords xs ys b) × Small s × (s.level ≡ 0)
   unfolding span_of

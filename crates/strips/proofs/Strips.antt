@@ -2,12 +2,27 @@
 use mathlib.Core.Path.{◌≡◌, refl, sym, ap, ◌∙◌}
 use mathlib.Core.Bool.{Bool, true, false, true≢false}
 use mathlib.Core.List.{List}
-use Prim.Native.Nat.{ℕ, zero, suc, ◌+◌, ◌-◌, ◌/◌, ◌≤◌, ◌<◌}
+use Prim.Native.Nat.{ℕ, zero, suc, ◌+◌, ◌*◌, ◌-◌, ◌/◌, ◌≤◌, ◌<◌}
 use native.Mathlib.Omega.{arith}
 use lib.ListN.{length, get_or}
-use lib.Ieee.{Float, le}
+use lib.Ieee.{Float, nan, le}
 use Rattle.spatial_index.proofs.FloatLe.{le_trans}
+use Rattle.strips.specs.declared.squares.Axis.{Axis}
+use Rattle.strips.specs.declared.squares.Axis.TheVariants.{X, Y}
 use Rattle.strips.specs.Squares.{coordinate_of, strip, strip_of}
+
+-- ---- a coordinate
+
+module _ (coords : List Float) (axis : Axis) (v i : ℕ) where
+  pub coordinate_x : axis ≡ X → i ≡ 2 * v → get_or coords i nan ≡ coordinate_of coords axis v
+  unfolding coordinate_of
+  coordinate_x a e = rw (a, e)
+
+  pub coordinate_y : axis ≡ Y → i ≡ 2 * v + 1 → get_or coords i nan ≡ coordinate_of coords axis v
+  unfolding coordinate_of
+  coordinate_y a e = rw (a, e)
+
+-- ---- a strip
 
 pub strip_from : (f : ℕ) (t : ℕ → Float) (v : Float) (lo n : ℕ) → lo ≤ strip f t v lo n
 unfolding strip
@@ -61,7 +76,7 @@ strip_one (suc f) t v lo n e = go (le (t (lo + n / 2)) v) (strip_one f t v (lo +
     go true g h = omega (arith, g, e)
     go false g h = h
 
-module _ (coords : List Float) (bounds : List ℕ) (axis : ℕ) (v : Float) where
+module _ (coords : List Float) (bounds : List ℕ) (axis : Axis) (v : Float) where
   abbrev begins : ℕ → Float
   begins i = coordinate_of coords axis (get_or bounds i 0)
 

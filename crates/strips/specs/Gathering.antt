@@ -1,12 +1,11 @@
 -- How `gather` goes over the chains, and puts in one thing after the other: what only inner functions' contracts cite. Assumes nothing.
-use Rattle.std.specs.Prelude.{◌≡◌, Bool, true, false, cond, ◌&&◌, List, [], ◌∷◌, ◌++◌, ℕ, zero, suc, ◌+◌, ◌-◌, ◌<◌, ◌≤◌, ltb, leb, eqb, length, take, get_or, Float}
+use Rattle.std.specs.Prelude.{◌≡◌, Bool, true, false, cond, ◌&&◌, List, [], ◌∷◌, ◌++◌, ℕ, zero, suc, ◌+◌, ◌-◌, ◌<◌, ltb, leb, eqb, length, take, get_or, Float}
 use Rattle.lists.specs.Search.{first}
 use Rattle.lists.specs.Gather.{gathered, places}
 use Rattle.rules.specs.declared.Bounds.{Bounds}
 use Rattle.strips.specs.declared.squares.Span.{Span}
 use Rattle.strips.specs.Things.{thing_count, thing_meets}
 use Rattle.strips.specs.Squares.{halved, square_chain}
-use Rattle.entry.specs.Mesh.{Rising}
 use Rattle.strips.specs.Index.{on_chain, next_at, chain_at}
 
 -- each is below those behind it
@@ -50,14 +49,13 @@ module _ (f : ℕ → ℕ) (n h : ℕ) where
   in_levels s zero = []
   in_levels s (suc m) = in_level s ++ in_levels (halved s) m
 
--- the list holds the heads of h chains by f, and the next one of each of n things
-pub record Links (f : ℕ → ℕ) (n h : ℕ) (links : List ℕ) : Type 0 where
-  pub long : length links ≡ h + n
-  pub head : (c : ℕ) → c < h → get_or links c 0 ≡ first (on_chain f c) 0 n
-  pub next : (j : ℕ) → j < n → get_or links (h + j) 0 ≡ next_at f n j
+-- the lists hold the heads of chains by f, and the next one of each of n things
+pub record Links (f : ℕ → ℕ) (n : ℕ) (heads nexts : List ℕ) : Type 0 where
+  pub some : 0 < length heads
+  pub long : length nexts ≡ n
+  pub head : (c : ℕ) → c < length heads → get_or heads c 0 ≡ first (on_chain f c) 0 n
+  pub next : (j : ℕ) → j < n → get_or nexts j 0 ≡ next_at f n j
 
--- the list chains these things
-pub record Chains (coords : List Float) (nodes ends links : List ℕ) (h : ℕ) : Type 0 where
-  pub rising : Rising ends (length nodes)
-  pub few : thing_count nodes ends ≤ 65536
-  pub chained : Links (chain_at coords nodes ends) (thing_count nodes ends) h links
+-- the lists chain these things
+abbrev pub Chains : List Float → List ℕ → List ℕ → List ℕ → List ℕ → Type 0
+Chains coords nodes ends heads nexts = Links (chain_at coords nodes ends) (thing_count nodes ends) heads nexts

@@ -5,6 +5,8 @@ use Rattle.lists.specs.Search.{first}
 use Rattle.lists.specs.Gather.{each}
 use Rattle.lists.specs.Sort.{sorted}
 use Rattle.entry.specs.Mesh.{Rising}
+use Rattle.strips.specs.declared.squares.Axis.{Axis}
+use Rattle.strips.specs.declared.squares.Axis.TheVariants.{X, Y}
 use Rattle.strips.specs.declared.squares.Span.{Span}
 use Rattle.strips.specs.Things.{thing_count, start_of, thing_box}
 use Rattle.strips.specs.Squares.{coordinate_of, span_of, narrowed, square_chain}
@@ -25,7 +27,7 @@ index_size n = 2 + 2 * strip_count n + chain_count n + n
 
 -- ---- the nodes at which strips begin
 
-abbrev pub is_before : List Float → ℕ → ℕ → ℕ → Bool
+abbrev pub is_before : List Float → Axis → ℕ → ℕ → Bool
 is_before coords axis v u = lt (coordinate_of coords axis v) (coordinate_of coords axis u)
 
 abbrev pub sample_count : ℕ → ℕ
@@ -36,7 +38,7 @@ unfoldable pub sample_node : List ℕ → List ℕ → ℕ → ℕ → ℕ
 sample_node nodes ends k i = get_or nodes (start_of ends (i * thing_count nodes ends / k)) 0
 
 -- k samples, in order
-unfoldable pub samples_of : List Float → List ℕ → List ℕ → ℕ → ℕ → List ℕ
+unfoldable pub samples_of : List Float → List ℕ → List ℕ → Axis → ℕ → List ℕ
 samples_of coords nodes ends axis k = sorted (is_before coords axis) (each k (sample_node nodes ends k))
 
 -- of k numbers `side` evenly spread ones
@@ -44,7 +46,7 @@ unfoldable pub picked : ℕ → ℕ → List ℕ → List ℕ
 picked side k xs = each side (λ t. get_or xs (t * k / side) 0)
 
 -- Where the strips of one axis begin. No law needs these nodes: strips may begin anywhere, in any order.
-unfoldable pub bounds_of : List Float → List ℕ → List ℕ → ℕ → List ℕ
+unfoldable pub bounds_of : List Float → List ℕ → List ℕ → Axis → List ℕ
 bounds_of coords nodes ends axis =
     let n = thing_count nodes ends in
     picked (strip_count n) (sample_count n) (samples_of coords nodes ends axis (sample_count n))
@@ -89,16 +91,16 @@ above f k (suc m) = max (f k + 1) (above f (suc k) m)
 module _ (coords : List Float) (nodes ends : List ℕ) where
   -- the chain of thing j
   abbrev pub chain_at : ℕ → ℕ
-  chain_at = chain_by coords (bounds_of coords nodes ends 0) (bounds_of coords nodes ends 1) nodes ends
+  chain_at = chain_by coords (bounds_of coords nodes ends X) (bounds_of coords nodes ends Y) nodes ends
 
   -- how many levels there are: one more than the highest that a thing is on
   abbrev pub level_count : ℕ
-  level_count = above (λ j. (span_by coords (bounds_of coords nodes ends 0) (bounds_of coords nodes ends 1) nodes ends j).level) 0 (thing_count nodes ends)
+  level_count = above (λ j. (span_by coords (bounds_of coords nodes ends X) (bounds_of coords nodes ends Y) nodes ends j).level) 0 (thing_count nodes ends)
 
   -- how many strips and levels there are, where the strips begin, and the chains
   unfoldable pub index_of : List ℕ
   index_of =
-      (strip_count (thing_count nodes ends) ∷ level_count ∷ []) ++ (bounds_of coords nodes ends 0 ++ (bounds_of coords nodes ends 1
+      (strip_count (thing_count nodes ends) ∷ level_count ∷ []) ++ (bounds_of coords nodes ends X ++ (bounds_of coords nodes ends Y
       ++ links_of chain_at (thing_count nodes ends) (chain_count (thing_count nodes ends))))
 
 -- The list `ix` is the index of these things.

@@ -2,5 +2,6 @@ pub mod Things
 pub mod Squares
 pub mod Index
 pub mod Meeting
-pub mod Made
 pub mod Gathering
+pub mod Lent
+pub mod Search

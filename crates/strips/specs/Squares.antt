@@ -3,11 +3,14 @@ use Rattle.std.specs.Prelude.{Bool, true, false, cond, ◌||◌, List, ℕ, zero
 use Rattle.std.specs.Float.{nan}
 use Rattle.std.specs.Float.Ieee.{le}
 use Rattle.rules.specs.declared.Bounds.{Bounds}
+use Rattle.strips.specs.declared.squares.Axis.{Axis}
+use Rattle.strips.specs.declared.squares.Axis.TheVariants.{X, Y}
 use Rattle.strips.specs.declared.squares.Span.{Span}
 
--- a coordinate of node v: x where the axis is 0, y where it is 1
-unfoldable pub coordinate_of : List Float → ℕ → ℕ → Float
-coordinate_of coords axis v = get_or coords (2 * v + axis) nan
+-- a coordinate of node v: x or y
+unfoldable pub coordinate_of : List Float → Axis → ℕ → Float
+coordinate_of coords X v = get_or coords (2 * v) nan
+coordinate_of coords Y v = get_or coords (2 * v + 1) nan
 
 -- the strip of v among the n strips from lo on, by f halvings; strip k begins at t k
 unfoldable pub strip : ℕ → (ℕ → Float) → Float → ℕ → ℕ → ℕ
@@ -15,17 +18,17 @@ strip zero t v lo n = lo
 strip (suc f) t v lo n = elim (le (t (lo + n / 2)) v) [ true ↦ strip f t v (lo + n / 2) (n - n / 2) | false ↦ strip f t v lo (n - n / 2) ]
 
 -- where strips begin at the nodes in `bounds`
-unfoldable pub strip_of : List Float → List ℕ → ℕ → Float → ℕ
+unfoldable pub strip_of : List Float → List ℕ → Axis → Float → ℕ
 strip_of coords bounds axis v = strip (length bounds) (λ i. coordinate_of coords axis (get_or bounds i 0)) v 0 (length bounds)
 
 -- the strips that a box reaches, on the first level
 unfoldable pub span_of : List Float → List ℕ → List ℕ → Bounds → Span
 span_of coords xs ys b =
     record {
-      x0 = strip_of coords xs 0 b.left;
-      x1 = strip_of coords xs 0 b.right;
-      y0 = strip_of coords ys 1 b.low;
-      y1 = strip_of coords ys 1 b.high;
+      x0 = strip_of coords xs X b.left;
+      x1 = strip_of coords xs X b.right;
+      y0 = strip_of coords ys Y b.low;
+      y1 = strip_of coords ys Y b.high;
       at = 0;
       side = length xs;
       level = 0;

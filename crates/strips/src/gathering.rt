@@ -1,250 +1,145 @@
 // The things whose boxes meet a box, rising, found on the chains of the squares that the box reaches.
-ghost use Rattle.std.specs.Prelude.{◌≡◌, [], ◌-◌, ◌≤◌, ◌<◌, ◌&&◌, ltb, leb, eqb, length, get_or, take};
-ghost use Rattle.lists.specs.Search.{first};
-ghost use Rattle.entry.specs.Mesh.{Rising};
-ghost use Rattle.strips.specs.Things.{thing_count};
+ghost use Rattle.std.specs.Prelude.{◌≡◌, [], ◌≤◌, ◌<◌, length, take};
 ghost use Rattle.strips.specs.Squares.{Small};
-ghost use Rattle.strips.specs.Index.{chain_at, Indexed};
+ghost use Rattle.strips.specs.Index.{index_of};
 ghost use Rattle.strips.specs.Meeting.{things_meeting, FrontIs};
-ghost use Rattle.strips.specs.Gathering.{Rises, put_rising, with_thing, with_things, is_wanted, on_chains, in_row, in_level, in_levels, Chains};
+ghost use Rattle.strips.specs.Gathering.{Rises, put_rising, with_thing, with_things, Chains};
 
 use crate::building::chain_count;
-use crate::squares::{Span, halved, span_of, square_chain};
-use crate::things::{thing_bounds, thing_count};
+use crate::squares::{Span, Strips};
+use crate::things::Things;
 use lists::insert_at;
 use rules::Bounds;
 use spatial_index::bounds_meet;
 
-// Where v goes among numbers that rise.
-fn rising_place(found: &[u32], v: u32) -> usize
-    requires { Rises found.now }
-    ensures { (result ≡ first (λ i. leb v (get_or found.now i 0)) 0 (length found.now)) × (result ≤ length found.now) }
-{
-    let mut i = found.len();
-    while 0 < i {
-        if found[i - 1] < v {
-            return i;
-        }
-        i -= 1;
-    }
-    i
+// Things with their index.
+#[derive(Clone, Copy)]
+pub struct Index<'a> {
+    pub things: Things<'a>,
+    pub numbers: &'a [u32],
+    ghost is: { numbers.now ≡ index_of things.coords.now things.nodes.now things.ends.now },
 }
 
-// Whether v stands at p.
-fn stands_at(found: &[u32], p: usize, v: u32) -> bool
-    ensures { result ≡ (ltb p (length found.now) && eqb (get_or found.now p 0) v) }
-{
-    if p < found.len() {
-        return found[p] == v;
-    }
-    false
+// The things from `from` on whose boxes meet `bounds` are looked for on their chains.
+#[derive(Clone, Copy)]
+struct Search<'a> {
+    things: Things<'a>,
+    heads: &'a [u32],
+    nexts: &'a [u32],
+    bounds: Bounds,
+    from: usize,
+    ghost chained: { Chains things.coords.now things.nodes.now things.ends.now heads.now nexts.now },
 }
 
 // Puts v among the first k, which rise, unless it is there. Answers how many there are then; in a full list the last one goes.
+// List and count are no struct: what holds of both can be no ghost field beside a `&mut`.
 fn put_rising(found: &mut [u32], k: usize, v: u32) -> usize
     requires { (k ≤ length found.old) × Rises (take k found.old) }
     ensures { FrontIs (take (length found.old) (put_rising v (take k found.old))) found.old result found.new }
 {
-    let p = rising_place(&found[..k], v);
-    if stands_at(&found[..k], p, v) {
+    let Err(p) = found[..k].binary_search(&v) else {
         return k;
-    }
+    };
     if k < found.len() {
         insert_at(found, k, p, v);
         return k + 1;
     }
     if p < k {
         insert_at(found, k - 1, p, v);
-        return k;
     }
     k
 }
 
-// Puts thing j among the first k, if it is no lower than `from` and its box meets b.
-fn gather_thing(
-    coords: &[f64],
-    nodes: &[u32],
-    ends: &[u32],
-    b: Bounds,
-    from: usize,
-    j: usize,
-    found: &mut [u32],
-    k: usize,
-) -> usize
-    requires { (Rising ends.now (length nodes.now)) × (j < thing_count nodes.now ends.now) × (thing_count nodes.now ends.now ≤ 65536) × (k ≤ length found.old)
-        × Rises (take k found.old) }
-    ensures { FrontIs
-        (with_thing (length found.old) (is_wanted coords.now nodes.now ends.now b from) (take k found.old) j)
-        found.old result found.new }
-{
-    if j < from {
-        return k;
+impl<'a> Search<'a> {
+    ghost use Rattle.strips.specs.Search.{wanted, chain, row, level, levels, count};
+
+    // Puts thing j among the first k, if it is wanted.
+    fn gather_thing(&self, j: usize, found: &mut [u32], k: usize) -> usize
+        requires { (j < count self.now) × (k ≤ length found.old) × Rises (take k found.old) }
+        ensures { FrontIs (with_thing (length found.old) (wanted self.now) (take k found.old) j) found.old result found.new }
+    {
+        if self.from <= j && bounds_meet(self.things.bounds(j), self.bounds) {
+            return put_rising(found, k, j as u32);
+        }
+        k
     }
-    let e = thing_bounds(coords, nodes, ends, j);
-    if bounds_meet(e, b) {
-        return put_rising(found, k, j as u32);
+
+    // Those on chain c.
+    fn gather_chain(&self, c: usize, found: &mut [u32], k: usize) -> usize
+        requires { (c < length self.now.heads.now) × (k ≤ length found.old) × Rises (take k found.old) }
+        ensures { FrontIs (with_things (length found.old) (wanted self.now) (take k found.old) (chain self.now c)) found.old result found.new }
+    {
+        let nexts = self.nexts;
+        let mut r = k;
+        let mut j = self.heads[c] as usize;
+        while j < nexts.len() {
+            r = self.gather_thing(j, found, r);
+            j = nexts[j] as usize;
+        }
+        r
     }
-    k
+
+    // Those on the chains of a row of squares, from the strip before the first that s reaches.
+    fn gather_row(&self, s: Span, y: usize, found: &mut [u32], k: usize) -> usize
+        requires { Small s × (y ≤ 256) × (k ≤ length found.old) × Rises (take k found.old) }
+        ensures { FrontIs (with_things (length found.old) (wanted self.now) (take k found.old) (row self.now s y)) found.old result found.new }
+    {
+        let mut r = k;
+        for x in s.x0.saturating_sub(1)..s.x1 + 1 {
+            let c = s.chain(self.heads.len(), x, y);
+            r = self.gather_chain(c, found, r);
+        }
+        r
+    }
+
+    // Those on the chains of all squares of a level.
+    fn gather_level(&self, s: Span, found: &mut [u32], k: usize) -> usize
+        requires { Small s × (k ≤ length found.old) × Rises (take k found.old) }
+        ensures { FrontIs (with_things (length found.old) (wanted self.now) (take k found.old) (level self.now s)) found.old result found.new }
+    {
+        let mut r = k;
+        for y in s.y0.saturating_sub(1)..s.y1 + 1 {
+            r = self.gather_row(s, y, found, r);
+        }
+        r
+    }
+
+    // Those on the chains of all levels.
+    fn gather_levels(&self, first: Span, most: usize, found: &mut [u32]) -> usize
+        requires { Small first × (first.level ≡ 0) × (most ≤ 513) }
+        ensures { FrontIs (with_things (length found.old) (wanted self.now) [] (levels self.now first most)) found.old result found.new }
+    {
+        let mut r: usize = 0;
+        let mut s = first;
+        for _l in 0..most {
+            r = self.gather_level(s, found, r);
+            s = s.halved();
+        }
+        r
+    }
 }
 
-// Those on chain c, of h chains.
-fn gather_chain(
-    coords: &[f64],
-    nodes: &[u32],
-    ends: &[u32],
-    links: &[u32],
-    h: usize,
-    b: Bounds,
-    from: usize,
-    c: usize,
-    found: &mut [u32],
-    k: usize,
-) -> usize
-    requires { Chains coords.now nodes.now ends.now links.now h × (c < h) × (k ≤ length found.old) × Rises (take k found.old) }
-    ensures { FrontIs
-        (with_things (length found.old) (is_wanted coords.now nodes.now ends.now b from) (take k found.old)
-        (on_chains (chain_at coords.now nodes.now ends.now) (thing_count nodes.now ends.now) c))
-        found.old result found.new }
-{
-    let n = links.len() - h;
-    let mut r = k;
-    let mut j = links[c] as usize;
-    while j < n {
-        r = gather_thing(coords, nodes, ends, b, from, j, found, r);
-        j = links[h + j] as usize;
+impl<'a> Index<'a> {
+    // Writes the things from `from` on whose boxes meet b to the front of `found`, rising, as many as have a place there. Answers how many they are.
+    pub fn gather(&self, b: Bounds, from: usize, found: &mut [u32]) -> usize
+        ensures { FrontIs (take (length found.old) (things_meeting self.now.things.coords.now self.now.things.nodes.now self.now.things.ends.now b from))
+            found.old result found.new }
+    {
+        let things = self.things;
+        let numbers = self.numbers;
+        let side = numbers[0] as usize;
+        let levels = numbers[1] as usize;
+        let (xs, rest) = numbers[2..].split_at(side);
+        let (ys, links) = rest.split_at(side);
+        let (heads, nexts) = links.split_at(chain_count(things.count()));
+        let strips = Strips { xs, ys };
+        let search = Search {
+            things,
+            heads,
+            nexts,
+            bounds: b,
+            from,
+        };
+        search.gather_levels(strips.span(things.coords, b), levels, found)
     }
-    r
-}
-
-// The strip before.
-fn strip_before(x: usize) -> usize
-    ensures { result ≡ x - 1 }
-{
-    if x == 0 {
-        return 0;
-    }
-    x - 1
-}
-
-// Those on the chains of a row of squares.
-fn gather_row(
-    coords: &[f64],
-    nodes: &[u32],
-    ends: &[u32],
-    links: &[u32],
-    h: usize,
-    b: Bounds,
-    from: usize,
-    s: Span,
-    y: usize,
-    found: &mut [u32],
-    k: usize,
-) -> usize
-    requires { Chains coords.now nodes.now ends.now links.now h × (0 < h) × Small s × (y ≤ 256) × (k ≤ length found.old) × Rises (take k found.old) }
-    ensures { FrontIs
-        (with_things (length found.old) (is_wanted coords.now nodes.now ends.now b from) (take k found.old)
-        (in_row (chain_at coords.now nodes.now ends.now) (thing_count nodes.now ends.now) h s y))
-        found.old result found.new }
-{
-    let mut r = k;
-    let mut x = strip_before(s.x0);
-    while x <= s.x1 {
-        let c = square_chain(h, s, x, y);
-        r = gather_chain(coords, nodes, ends, links, h, b, from, c, found, r);
-        x += 1;
-    }
-    r
-}
-
-// Those on the chains of all squares of a level.
-fn gather_level(
-    coords: &[f64],
-    nodes: &[u32],
-    ends: &[u32],
-    links: &[u32],
-    h: usize,
-    b: Bounds,
-    from: usize,
-    s: Span,
-    found: &mut [u32],
-    k: usize,
-) -> usize
-    requires { Chains coords.now nodes.now ends.now links.now h × (0 < h) × Small s × (k ≤ length found.old) × Rises (take k found.old) }
-    ensures { FrontIs
-        (with_things (length found.old) (is_wanted coords.now nodes.now ends.now b from) (take k found.old)
-        (in_level (chain_at coords.now nodes.now ends.now) (thing_count nodes.now ends.now) h s))
-        found.old result found.new }
-{
-    let mut r = k;
-    let mut y = strip_before(s.y0);
-    while y <= s.y1 {
-        r = gather_row(coords, nodes, ends, links, h, b, from, s, y, found, r);
-        y += 1;
-    }
-    r
-}
-
-// Those on the chains of all levels.
-fn gather_levels(
-    coords: &[f64],
-    nodes: &[u32],
-    ends: &[u32],
-    links: &[u32],
-    h: usize,
-    b: Bounds,
-    from: usize,
-    first: Span,
-    levels: usize,
-    found: &mut [u32],
-) -> usize
-    requires { Chains coords.now nodes.now ends.now links.now h × (0 < h) × Small first × (first.level ≡ 0) × (levels ≤ 513) }
-    ensures { FrontIs
-        (with_things (length found.old) (is_wanted coords.now nodes.now ends.now b from) []
-        (in_levels (chain_at coords.now nodes.now ends.now) (thing_count nodes.now ends.now) h first levels))
-        found.old result found.new }
-{
-    let mut r: usize = 0;
-    let mut s = first;
-    let mut l: usize = 0;
-    while l < levels {
-        r = gather_level(coords, nodes, ends, links, h, b, from, s, found, r);
-        s = halved(s);
-        l += 1;
-    }
-    r
-}
-
-// Writes the things from `from` on whose boxes meet b to the front of `found`, rising, as many as have a place there. Answers how many they are.
-pub fn gather(
-    coords: &[f64],
-    nodes: &[u32],
-    ends: &[u32],
-    ix: &[u32],
-    b: Bounds,
-    from: usize,
-    found: &mut [u32],
-) -> usize
-    requires { Indexed coords.now nodes.now ends.now ix.now }
-    ensures { FrontIs (take (length found.old) (things_meeting coords.now nodes.now ends.now b from))
-        found.old result found.new }
-{
-    let n = thing_count(nodes, ends);
-    let h = chain_count(n);
-    let side = ix[0] as usize;
-    let levels = ix[1] as usize;
-    let ys = 2 + side;
-    let heads = ys + side;
-    let s = span_of(coords, &ix[2..ys], &ix[ys..heads], b);
-    gather_levels(
-        coords,
-        nodes,
-        ends,
-        &ix[heads..],
-        h,
-        b,
-        from,
-        s,
-        levels,
-        found,
-    )
 }

@@ -7,5 +7,6 @@ mod gathering;
 mod squares;
 mod things;
 
-pub use building::{build, index_size};
-pub use gathering::gather;
+pub use building::index_size;
+pub use gathering::Index;
+pub use things::Things;

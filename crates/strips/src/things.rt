@@ -6,56 +6,68 @@ ghost use Rattle.strips.specs.Things.{thing_count, start_of, thing_box};
 use rules::Bounds;
 use spatial_index::{bounds2, edge_bounds};
 
+#[derive(Clone, Copy)]
+pub struct Things<'a> {
+    pub coords: &'a [f64],
+    pub nodes: &'a [u32],
+    pub ends: &'a [u32],
+    ghost rising: { Rising ends.now (length nodes.now) },
+    ghost few: { thing_count nodes.now ends.now ≤ 65536 },
+}
+
 // The number at i, or 0.
 pub(crate) fn number_at(xs: &[u32], i: usize) -> u32
     ensures { result ≡ get_or xs.now i 0 }
 {
-    if i < xs.len() {
-        return xs[i];
-    }
-    0
+    xs.get(i).copied().unwrap_or(0)
 }
 
-// How many things there are.
-pub(crate) fn thing_count(nodes: &[u32], ends: &[u32]) -> usize
-    ensures { result ≡ thing_count nodes.now ends.now }
-{
-    if ends.len() == 0 {
-        return nodes.len() / 2;
+impl<'a> Things<'a> {
+    // How many there are.
+    pub fn count(&self) -> usize
+        ensures { result ≡ thing_count self.now.nodes.now self.now.ends.now }
+    {
+        if self.ends.is_empty() {
+            self.nodes.len() / 2
+        } else {
+            self.ends.len()
+        }
     }
-    ends.len()
-}
 
-// Where run j starts.
-fn prior(ends: &[u32], j: usize) -> usize
-    ensures { result ≡ prior ends.now j }
-{
-    if j == 0 {
-        return 0;
+    // Where run j starts.
+    fn prior(&self, j: usize) -> usize
+        ensures { result ≡ prior self.now.ends.now j }
+    {
+        if j == 0 {
+            0
+        } else {
+            number_at(self.ends, j - 1) as usize
+        }
     }
-    number_at(ends, j - 1) as usize
-}
 
-// Where thing j starts.
-pub(crate) fn start_of(ends: &[u32], j: usize) -> usize
-    requires { j ≤ 65536 }
-    ensures { result ≡ start_of ends.now j }
-{
-    if ends.len() == 0 {
-        return 2 * j;
+    // Where thing j starts.
+    pub(crate) fn start(&self, j: usize) -> usize
+        requires { j ≤ 65536 }
+        ensures { result ≡ start_of self.now.ends.now j }
+    {
+        if self.ends.is_empty() {
+            2 * j
+        } else {
+            self.prior(j)
+        }
     }
-    prior(ends, j)
-}
 
-// The box of thing j.
-pub(crate) fn thing_bounds(coords: &[f64], nodes: &[u32], ends: &[u32], j: usize) -> Bounds
-    requires { (Rising ends.now (length nodes.now)) × (j < thing_count nodes.now ends.now) }
-    ensures { result ≡ thing_box coords.now nodes.now ends.now j }
-{
-    if ends.len() == 0 {
-        return edge_bounds(coords, nodes[2 * j], nodes[2 * j + 1]);
+    // The box of thing j.
+    pub(crate) fn bounds(&self, j: usize) -> Bounds
+        requires { j < thing_count self.now.nodes.now self.now.ends.now }
+        ensures { result ≡ thing_box self.now.coords.now self.now.nodes.now self.now.ends.now j }
+    {
+        let nodes = self.nodes;
+        if self.ends.is_empty() {
+            return edge_bounds(self.coords, nodes[2 * j], nodes[2 * j + 1]);
+        }
+        let s = self.prior(j);
+        let e = self.ends[j] as usize;
+        bounds2(self.coords, &nodes[s..e])
     }
-    let s = prior(ends, j);
-    let e = ends[j] as usize;
-    bounds2(coords, &nodes[s..e])
 }

@@ -21,10 +21,16 @@ use Rattle.cutting_cells.proofs.overlay_cell.Goals as goal
 pub part-requires : goal.part-requires
 part-requires c = c.requires.0.indexed.edges_within
 
-pub gather-n-requires : goal.gather-n-requires
-gather-n-requires c =
+pub invariant_of-things : goal.invariant_of-things
+invariant_of-things c =
     let a = c.args in
-    index_lent a.coords.now a.w.now a.t.other a.t.index _ _ c.part-near.ensures c.part.ensures c.requires.0.indexed.edges
+    let held = index_lent a.coords.now a.w.now a.t.other a.t.index _ _ c.part-near.ensures refl c.requires.0.indexed.edges in
+    record { rising = held.rising; few = held.few }
+
+pub invariant_of-index : goal.invariant_of-index
+invariant_of-index c =
+    let a = c.args in
+    record { is = (index_lent a.coords.now a.w.now a.t.other a.t.index _ _ c.part-near.ensures c.part.ensures c.requires.0.indexed.edges).is }
 
 pub slice_bounds-outcome_of-end : goal.slice_bounds-outcome_of-end
 slice_bounds-outcome_of-end c =

@@ -2,10 +2,16 @@
 use Rattle.meetings.proofs.Near.{indexed_lent, near_found}
 use Rattle.meetings.proofs.gather_near.Goals as goal
 
-pub gather-requires : goal.gather-requires
-gather-requires c =
+pub invariant_of-things : goal.invariant_of-things
+invariant_of-things c =
     let a = c.args in
-    indexed_lent a.coords.now a.w.now a.ce a.cn a.ix a.end c.requires.6
+    let held = indexed_lent a.coords.now a.w.now a.ce a.cn a.ix a.end c.requires.6 in
+    record { rising = held.rising; few = held.few }
+
+pub invariant_of-index : goal.invariant_of-index
+invariant_of-index c =
+    let a = c.args in
+    record { is = (indexed_lent a.coords.now a.w.now a.ce a.cn a.ix a.end c.requires.6).is }
 
 pub returns : goal.returns
 returns c =

@@ -14,8 +14,12 @@ loop-from-init c =
 pub slice_bounds-gather-end : goal.slice_bounds-gather-end
 slice_bounds-gather-end c = sym c.loop-from.invariant.0
 
-pub gather-n-requires : goal.gather-n-requires
-gather-n-requires c = c.requires
+pub invariant_of-things : goal.invariant_of-things
+invariant_of-things c =
+    record { rising = c.requires.rising; few = c.requires.few }
+
+pub invariant_of-index : goal.invariant_of-index
+invariant_of-index c = record { is = c.requires.is }
 
 pub slice_bounds-found-end : goal.slice_bounds-found-end
 slice_bounds-found-end c =

@@ -1,7 +1,7 @@
 -- `finding::numbering::nets` meets its contract. Assumes nothing.
 use mathlib.Core.Path.{refl}
 use native.Mathlib.Omega.{arith}
-use Rattle.finding.proofs.Netted.{places_low, build_asked, nets_end}
+use Rattle.finding.proofs.Netted.{places_low, build_asked, few_lent, room_lent, nets_written}
 use Rattle.finding.proofs.numbering.nets.Goals as goal
 
 pub overflow_mul-end : goal.overflow_mul-end
@@ -24,16 +24,48 @@ overflow_add-end c =
           a.w.now c.requires.2 a.coords.now c.requires.3 c.edges-n.result c.edges-n.new.w c.edges-n.ensures,
     )
 
-pub build-requires : goal.build-requires
-build-requires c =
+pub split_at_mut-before-requires : goal.split_at_mut-before-requires
+split_at_mut-before-requires c =
     let a = c.args in
     let asked = build_asked a.lines a.sc.now a.cc.now a.sn.now a.se.now a.cn.now a.ce.now c.requires.0 c.requires.1
     a.w.now c.requires.2 a.coords.now c.requires.3 c.edges-n.result c.edges-n.new.w c.edges-n.ensures _ refl in
-    (asked.0, asked.1, asked.2, asked.3, λ i h. absurd (omega (arith, h)))
+    omega (arith, asked.2)
+
+pub offset_bounds-before-from : goal.offset_bounds-before-from
+offset_bounds-before-from c =
+    let a = c.args in
+    let asked = build_asked a.lines a.sc.now a.cc.now a.sn.now a.se.now a.cn.now a.ce.now c.requires.0 c.requires.1
+    a.w.now c.requires.2 a.coords.now c.requires.3 c.edges-n.result c.edges-n.new.w c.edges-n.ensures _ refl in
+    omega (arith, c.well_formed.1.1.1.1.1.1.1.1.0, asked.0, asked.1, asked.2, c.edges-n.auto.w)
+
+pub slice_bounds-things-end : goal.slice_bounds-things-end
+slice_bounds-things-end c =
+    let a = c.args in
+    let asked = build_asked a.lines a.sc.now a.cc.now a.sn.now a.se.now a.cn.now a.ce.now c.requires.0 c.requires.1
+    a.w.now c.requires.2 a.coords.now c.requires.3 c.edges-n.result c.edges-n.new.w c.edges-n.ensures _ refl in
+    omega (arith, asked.1, c.split_at_mut-before.ensures.front_len)
+
+pub invariant_of-things : goal.invariant_of-things
+invariant_of-things c =
+    let a = c.args in
+    record {
+      rising = λ i h. absurd (omega (arith, h));
+      few = few_lent a.lines a.sc.now a.cc.now a.sn.now a.se.now a.cn.now a.ce.now c.requires.0 c.requires.1
+          a.w.now c.requires.2 a.coords.now c.requires.3 c.edges-n.result c.edges-n.new.w c.edges-n.ensures _ refl
+          c.split_at_mut-before.result.0.now c.split_at_mut-before.result.1.now c.split_at_mut-before.ensures.front c.split_at_mut-before.ensures.back_len;
+    }
+
+pub build-requires : goal.build-requires
+build-requires c =
+    let a = c.args in
+    room_lent a.lines a.sc.now a.cc.now a.sn.now a.se.now a.cn.now a.ce.now c.requires.0 c.requires.1
+    a.w.now c.requires.2 a.coords.now c.requires.3 c.edges-n.result c.edges-n.new.w c.edges-n.ensures _ refl
+    c.split_at_mut-before.result.0.now c.split_at_mut-before.result.1.now c.split_at_mut-before.ensures.front c.split_at_mut-before.ensures.back_len
 
 pub returns : goal.returns
 returns c =
     let a = c.args in
-    nets_end a.lines a.sc.now a.cc.now a.sn.now a.se.now a.cn.now a.ce.now c.requires.0 c.requires.1
+    nets_written a.lines a.sc.now a.cc.now a.sn.now a.se.now a.cn.now a.ce.now c.requires.0 c.requires.1
     a.w.now c.requires.2 a.coords.now c.requires.3 c.edges-n.result c.edges-n.new.w c.edges-n.ensures _ refl
-    c.build.new.w c.build.ensures.1
+    c.split_at_mut-before.result.0.now c.split_at_mut-before.result.1.now c.split_at_mut-before.ensures.front c.split_at_mut-before.ensures.back_len
+    c.build.new.ix c.split_at_mut-before.ensures.back c.build.ensures.1

@@ -1,22 +1,23 @@
-use native.Mathlib.Omega.{arith}
-use Rattle.strips.proofs.Sizes.{product_small}
-use Rattle.strips.proofs.Samples.{picking_start, picking_turn, picking_end}
+use mathlib.Core.Path.{refl, subst}
+use Prim.Native.Nat.{ℕ}
+use native.Mathlib.Nat.{le_antisymm}
+use lib.ListN.{length}
+use Rattle.strips.proofs.Samples.{Picking, picking_start, picking_turn, picking_end}
 use Rattle.strips.proofs.building.pick.Goals as goal
 
 pub loop-t-init : goal.loop-t-init
 loop-t-init c =
-    picking_start c.args.w.now c.args.scratch c.args.k c.args.to c.args.side c.requires.0 c.requires.1
-
-pub overflow_mul-i : goal.overflow_mul-i
-overflow_mul-i c =
-    omega (arith, product_small c.loop-t.t c.args.k 256 1024 (omega (arith, c.loop-t-test.true, c.requires.2)) c.requires.3)
+    picking_start c.args.bounds.now c.args.order.now (length c.args.bounds.now) (length c.args.order.now)
 
 pub loop-t-preserved : goal.loop-t-preserved
 loop-t-preserved c =
-    picking_turn c.args.w.now c.args.scratch c.args.k c.args.to c.args.side c.requires.0
-    c.requires.1 c.loop-t.t c.number_at-v.result c.loop-t.w c.loop-t.invariant c.loop-t-test.true c.number_at-v.ensures
+    let a = c.args in
+    picking_turn a.bounds.now a.order.now (length a.bounds.now) (length a.order.now) c.loop-t.t _ c.loop-t.bounds c.loop-t.invariant c.loop-t-test.true
+    c.number_at.ensures
 
 pub returns : goal.returns
 returns c =
-    picking_end c.args.w.now c.args.scratch c.args.k c.args.to c.args.side c.requires.0
-    c.requires.1 c.loop-t.t c.loop-t.w c.loop-t.invariant c.loop-t-test.false
+    let a = c.args in
+    let z = le_antisymm {n = c.loop-t.t} {m = length a.bounds.now} c.loop-t.auto.t-end c.loop-t-test.false in
+    picking_end a.bounds.now a.order.now (length a.bounds.now) (length a.order.now) c.loop-t.bounds
+    (subst (λ (t : ℕ). Picking a.bounds.now a.order.now (length a.bounds.now) (length a.order.now) t c.loop-t.bounds) z c.loop-t.invariant) refl

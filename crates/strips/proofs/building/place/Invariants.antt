@@ -1,5 +1,4 @@
 use mathlib.Core.Path.{◌≡◌}
-use Prim.Native.Nat.{◌-◌, ◌≤◌}
 use lib.ListN.{length, get_or}
 use Rattle.lists.specs.Search.{first}
 use Rattle.strips.specs.Index.{is_before}
@@ -7,7 +6,4 @@ use Rattle.strips.proofs.building.place.Given as goal
 
 abbrev pub invariant-loop-i : goal.invariant-loop-i
 invariant-loop-i l =
-    (l.i ≤ length l.order) × (first (λ j. is_before l.coords l.axis l.v (get_or l.order j 0)) l.i (length l.order) ≡ first (λ j. is_before l.coords l.axis l.v (get_or l.order j 0)) 0 (length l.order))
-
-abbrev pub decreases-loop-i : goal.decreases-loop-i
-decreases-loop-i l = length l.order - l.i
+    first (λ j. is_before l.coords l.axis l.v (get_or l.order j 0)) l.i (length l.order) ≡ first (λ j. is_before l.coords l.axis l.v (get_or l.order j 0)) 0 (length l.order)

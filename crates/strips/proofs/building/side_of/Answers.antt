@@ -1,13 +1,8 @@
-use native.Mathlib.Omega.{arith}
-use Rattle.strips.proofs.Sizes.{root_start, root_small, root_turn, root_here, root_end}
+use Rattle.strips.proofs.Sizes.{root_start, root_turn, root_here, root_end}
 use Rattle.strips.proofs.building.side_of.Goals as goal
 
 pub loop-s-init : goal.loop-s-init
 loop-s-init c = root_start c.args.n
-
-pub overflow_mul-s : goal.overflow_mul-s
-overflow_mul-s c =
-    omega (arith, root_small c.args.n c.loop-s.s c.loop-s-test.true)
 
 pub returns-then-n-s : goal.returns-then-n-s
 returns-then-n-s c =

@@ -5,7 +5,7 @@ use Rattle.strips.proofs.squares.strip.Goals.{then-c-v, else-c-v}
 
 pub loop-n-init : goal.loop-n-init
 loop-n-init c =
-    halving_start c.args.coords.now c.args.bounds.now c.args.axis c.args.v c.requires.1
+    halving_start c.args.coords.now c.args.bounds.now c.args.axis c.args.v c.requires
 
 pub loop-n-preserved : goal.loop-n-preserved
 loop-n-preserved c =

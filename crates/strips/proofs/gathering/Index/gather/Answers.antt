@@ -1,0 +1,121 @@
+use mathlib.Core.Path.{sym, ap, ap₂, ◌∙◌}
+use mathlib.Core.List.{List}
+use Prim.Native.Nat.{ℕ, ◌-◌}
+use native.Mathlib.Omega.{arith}
+use lib.ListN.{length, get_or, take, drop, length-drop}
+use lib.Seq.{length-take-le}
+use Rattle.strips.specs.declared.squares.Axis.TheVariants.{X}
+use Rattle.strips.specs.Things.{thing_count}
+use Rattle.strips.specs.Squares.{span_of}
+use Rattle.strips.specs.Index.{chain_count}
+use Rattle.strips.proofs.Sizes.{side_range}
+use Rattle.strips.proofs.IndexAt.{length_bounds}
+use Rattle.strips.proofs.Searching.{levels_few, search_found, index_long, side_read, levels_read, xs_read, ys_read, links_read, chains_read}
+use Rattle.strips.proofs.gathering.Index.gather.Goals as goal
+
+pub bounds-numbers-0 : goal.bounds-numbers-0
+bounds-numbers-0 c =
+    let s = c.args.self.now in
+    let t = s.things in
+    omega (arith, index_long t.coords.now t.nodes.now t.ends.now s.numbers.now s.is)
+
+pub bounds-numbers-1 : goal.bounds-numbers-1
+bounds-numbers-1 c =
+    let s = c.args.self.now in
+    let t = s.things in
+    omega (arith, index_long t.coords.now t.nodes.now t.ends.now s.numbers.now s.is)
+
+pub slice_bounds-split_at-count : goal.slice_bounds-split_at-count
+slice_bounds-split_at-count c =
+    let s = c.args.self.now in
+    let t = s.things in
+    omega (arith, index_long t.coords.now t.nodes.now t.ends.now s.numbers.now s.is)
+
+pub slice_bounds-split_at-start : goal.slice_bounds-split_at-start
+slice_bounds-split_at-start c =
+    let s = c.args.self.now in
+    let t = s.things in
+    omega (arith, index_long t.coords.now t.nodes.now t.ends.now s.numbers.now s.is)
+
+pub split_at-requires : goal.split_at-requires
+split_at-requires c =
+    let s = c.args.self.now in
+    let t = s.things in
+    let long = index_long t.coords.now t.nodes.now t.ends.now s.numbers.now s.is in
+    let side = side_read t.coords.now t.nodes.now t.ends.now s.numbers.now s.is in
+    omega (arith, long, side, length-drop 2 s.numbers.now, length-take-le (length s.numbers.now - 2) (drop 2 s.numbers.now) (omega (arith, length-drop 2 s.numbers.now)))
+
+pub split_at-requires-2 : goal.split_at-requires-2
+split_at-requires-2 c =
+    let s = c.args.self.now in
+    let t = s.things in
+    let long = index_long t.coords.now t.nodes.now t.ends.now s.numbers.now s.is in
+    let side = side_read t.coords.now t.nodes.now t.ends.now s.numbers.now s.is in
+    omega (
+      arith,
+      c.split_at.ensures.back_len,
+      long,
+      side,
+      length-drop 2 s.numbers.now,
+      length-take-le (length s.numbers.now - 2) (drop 2 s.numbers.now) (omega (arith, length-drop 2 s.numbers.now)),
+    )
+
+pub split_at-requires-3 : goal.split_at-requires-3
+split_at-requires-3 c =
+    let s = c.args.self.now in
+    let t = s.things in
+    let long = index_long t.coords.now t.nodes.now t.ends.now s.numbers.now s.is in
+    let side = side_read t.coords.now t.nodes.now t.ends.now s.numbers.now s.is in
+    let h = c.chain_count.ensures ∙ ap chain_count c.count.ensures in
+    omega (
+      arith,
+      h,
+      c.split_at-2.ensures.back_len,
+      c.split_at.ensures.back_len,
+      long,
+      side,
+      length-drop 2 s.numbers.now,
+      length-take-le (length s.numbers.now - 2) (drop 2 s.numbers.now) (omega (arith, length-drop 2 s.numbers.now)),
+    )
+
+pub invariant_of-search : goal.invariant_of-search
+invariant_of-search c =
+    let s = c.args.self.now in
+    let t = s.things in
+    let h = c.chain_count.ensures ∙ ap chain_count c.count.ensures in
+    record {
+      chained = chains_read t.coords.now t.nodes.now t.ends.now _ _ _
+          (links_read t.coords.now t.nodes.now t.ends.now s.numbers.now s.is _ c.split_at.ensures.back _ c.split_at-2.ensures.back)
+          (c.split_at-3.ensures.front ∙ ap (λ (k : ℕ). take k c.split_at-2.result.1.now) h) (c.split_at-3.ensures.back ∙ ap (λ (k : ℕ). drop k c.split_at-2.result.1.now) h);
+    }
+
+pub invariant_of-strips : goal.invariant_of-strips
+invariant_of-strips c =
+    let s = c.args.self.now in
+    let t = s.things in
+    let x = ap length (xs_read t.coords.now t.nodes.now t.ends.now s.numbers.now s.is _ c.split_at.ensures.front) ∙ length_bounds t.coords.now t.nodes.now t.ends.now X in
+    let range = side_range (thing_count t.nodes.now t.ends.now) in
+    record {
+      some = omega (arith, x, range.0);
+      even = c.split_at-2.ensures.front_len ∙ sym c.split_at.ensures.front_len;
+      narrow = omega (arith, x, range.1);
+    }
+
+pub gather_levels-requires : goal.gather_levels-requires
+gather_levels-requires c =
+    let s = c.args.self.now in
+    let t = s.things in
+    (c.span.ensures.1, c.span.ensures.2, omega (arith, levels_read t.coords.now t.nodes.now t.ends.now s.numbers.now s.is, levels_few t.coords.now t.nodes.now t.ends.now))
+
+pub returns : goal.returns
+returns c =
+    let a = c.args in
+    let s = a.self.now in
+    let t = s.things in
+    let xs-is = xs_read t.coords.now t.nodes.now t.ends.now s.numbers.now s.is _ c.split_at.ensures.front in
+    let ys-is = ys_read t.coords.now t.nodes.now t.ends.now s.numbers.now s.is _ c.split_at.ensures.back _ c.split_at-2.ensures.front in
+    let found = search_found t.coords.now t.nodes.now t.ends.now (length a.found.now) a.b a.from (length c.split_at-3.result.0.now) (get_or s.numbers.now 1 0) c.span.result
+    (c.split_at-3.ensures.front_len ∙ c.chain_count.ensures ∙ ap chain_count c.count.ensures)
+    (c.span.ensures.0 ∙ ap₂ (λ (x y : List ℕ). span_of t.coords.now x y a.b) xs-is ys-is)
+    (levels_read t.coords.now t.nodes.now t.ends.now s.numbers.now s.is) in
+    rw (sym found) c.gather_levels.ensures
