@@ -5,16 +5,16 @@ use mathlib.Core.List.{List, []}
 use Prim.Native.Nat.{ℕ, ◌≤◌, ◌<◌}
 use native.Mathlib.Omega.{arith}
 use lib.ListN.{length, take, drop, length-append}
-use lib.Seq.{length-take-le}
 use lib.Ieee.{Float}
 use Rattle.lists.specs.Gather.{joined}
 use Rattle.lists.specs.Regions.{front}
 use Rattle.lists.proofs.Regions.{take_front_of}
 use Rattle.cutting.specs.Edges.{Edge}
-use Rattle.cutting.specs.Cell.{Laid, Slot, new_to, inner_with, cell_table, repeats}
+use Rattle.cutting.specs.Cell.{Laid, new_to, inner_with, cell_table, repeats}
+use Rattle.cutting.specs.declared.Slot.{Slot}
 use Rattle.cutting.specs.Walk.{walk}
 use Rattle.cutting.specs.Outcome.{Outcome, pieces, refusal, of_walk}
-use Rattle.cutting.specs.Lent.{slots_of, flat_edges, pairs}
+use Rattle.cutting.specs.Lent.{flat_edges, pairs}
 use Rattle.dart_walk.specs.Answer.{answer, corners_in, ends_in}
 use Rattle.std.proofs.Common.{Result, Ok, Err}
 use Rattle.refusals.specs.declared.Refusal.{Refusal}
@@ -22,7 +22,6 @@ use Rattle.refusals.specs.Numbers.{number, by_number}
 use Rattle.dart_walk.specs.declared.Counts.{Counts}
 use Rattle.cutting.proofs.Pairs.{pairs_ends}
 use Rattle.dart_table.proofs.Joins.{cell_length, cut_repeats, cut_over, cut_fits}
-use Rattle.cutting.proofs.Tabled.{slots_length}
 use Rattle.edge_nodes.specs.Lent.{FrontIs}
 use Rattle.regions.specs.declared.Run.{Run}
 use Rattle.regions.specs.declared.Regions.{Regions}
@@ -42,15 +41,13 @@ module _ (coords : List Float) (outline : List Edge) (near : List Laid) (on os :
 
 -- ---- the outline in a list
 
-module _ (coords : List Float) (outline : List Edge) (w : List ℕ) (n : ℕ) (few : n ≤ 1024) (put_in : n ≤ 1024 → take n w ≡ flat_edges outline) where
+module _ (coords : List Float) (outline : List Edge) (w : List ℕ) (n : ℕ) (put_in : take n w ≡ flat_edges outline) where
   read_back : pairs (take n w) ≡ outline
-  read_back = ap pairs (put_in few) ∙ pairs_ends outline
+  read_back = ap pairs put_in ∙ pairs_ends outline
 
   -- the table of the own edges, by the outline as it is lent
-  pub own_table : (src dst marks : List ℕ) → Held (cell_table coords outline []) n src dst marks → n ≤ length w
-      → slots_of src dst marks (length (take n w)) ≡ cell_table coords (pairs (take n w)) []
-  own_table src dst marks held fits =
-      ap (slots_of src dst marks) (length-take-le n w fits) ∙ held.fits few ∙ ap (λ (o : List Edge). cell_table coords o []) (sym read_back)
+  pub own_table : (t : List Slot) → t ≡ cell_table coords outline [] → t ≡ cell_table coords (pairs (take n w)) []
+  own_table t held = held ∙ ap (λ (o : List Edge). cell_table coords o []) (sym read_back)
 
   pub as_lent : (near : List Laid) (on os : List ℕ) (x : Cut) → x ≡ cut_by (pairs (take n w)) (cell_table coords (pairs (take n w)) near) on os
       → x ≡ cut_by outline (cell_table coords outline near) on os
@@ -65,10 +62,10 @@ module _ (coords : List Float) (work : List ℕ) (g : Regions) (edges : Run) (js
   abbrev others : List Laid
   others = near_in coords work g (edges_in work edges) js
 
-  pub cut_as_lent : (w : List ℕ) (n : ℕ) (x : Cut) → n ≤ 1024 → (n ≤ 1024 → take n w ≡ flat_edges own)
+  pub cut_as_lent : (w : List ℕ) (n : ℕ) (x : Cut) → take n w ≡ flat_edges own
       → x ≡ cut_by (pairs (take n w)) (cell_table coords (pairs (take n w)) others) on os → x ≡ cut_cell coords work g edges js cell on os
   unfolding cut_cell table_in
-  cut_as_lent w n x few put_in e = as_lent coords own w n few put_in others on os x e
+  cut_as_lent w n x put_in e = as_lent coords own w n put_in others on os x e
 
   -- too many slots of the own edges are too many in all
   pub too_many_own : repeats own ≡ false → 1024 < length (cell_table coords own []) → cut_as (refusal 10) on os ≡ cut_cell coords work g edges js cell on os
@@ -82,15 +79,12 @@ module _ (coords : List Float) (work : List ℕ) (g : Regions) (edges : Run) (js
 -- ---- the walk
 
 -- the outcome is that of the walk, where the table has its place
-pub as_walked : (coords : List Float) (outline : List Edge) (near : List Laid) (n : ℕ) (src dst marks on os : List ℕ) (x : Cut) → repeats outline ≡ false → n ≤ 1024
-    → Held (cell_table coords outline near) n src dst marks
-    → x ≡ cut_as (of_walk (walk outline (slots_of src dst marks n))) on os → x ≡ cut_by outline (cell_table coords outline near) on os
+pub as_walked : (coords : List Float) (outline : List Edge) (near : List Laid) (t : List Slot) (on os : List ℕ) (x : Cut) → repeats outline ≡ false → length t ≤ 1024
+    → t ≡ cell_table coords outline near → x ≡ cut_as (of_walk (walk outline t)) on os → x ≡ cut_by outline (cell_table coords outline near) on os
 unfolding cut_by
-as_walked coords outline near n src dst marks on os x once few held e =
-    let t : List Slot = cell_table coords outline near in
-    let same : slots_of src dst marks n ≡ t = held.fits few in
-    let small : length t ≤ 1024 = omega (arith, few, ap length same, slots_length src dst marks n) in
-    e ∙ ap (λ (u : List Slot). cut_as (of_walk (walk outline u)) on os) same ∙ ap (λ (o : Outcome). cut_as o on os) (sym (cut_fits coords outline near once small))
+as_walked coords outline near t on os x once few same e =
+    e ∙ ap (λ (u : List Slot). cut_as (of_walk (walk outline u)) on os) same
+    ∙ ap (λ (o : Outcome). cut_as o on os) (sym (cut_fits coords outline near once (omega (arith, few, ap length same))))
 
 -- ---- the answer of the walk
 
@@ -119,9 +113,9 @@ module _ (coords : List Float) (work : List ℕ) (g : Regions) (edges : Run) (js
   pub near_places : Places js (edges_in work edges) → Places js (pairs near)
   near_places h = subst (λ (ns : List ℕ). Places js (pairs ns)) (sym lent) h
 
-  pub near_held : (outline : List Edge) (r : ℕ) (src dst marks : List ℕ) → Held (cell_table coords outline (near_in coords work g (pairs near) js)) r src dst marks
-      → Held (cell_table coords outline (near_in coords work g (edges_in work edges) js)) r src dst marks
-  near_held outline r src dst marks h = subst (λ (ns : List ℕ). Held (cell_table coords outline (near_in coords work g (pairs ns) js)) r src dst marks) lent h
+  pub near_held : (outline : List Edge) (r : Result (Unit {0}) Refusal) (t : List Slot) → Held (cell_table coords outline (near_in coords work g (pairs near) js)) r t
+      → Held (cell_table coords outline (near_in coords work g (edges_in work edges) js)) r t
+  near_held outline r t h = subst (λ (ns : List ℕ). Held (cell_table coords outline (near_in coords work g (pairs ns) js)) r t) lent h
 
 -- ---- a list's front
 

@@ -4,67 +4,46 @@ use mathlib.Core.List.{List, [], ◌∷◌, ◌++◌, map, map-append}
 use Prim.Native.Nat.{ℕ, ◌+◌, ◌*◌, ◌≤◌, ◌<◌}
 use native.Mathlib.Nat.{le_antisymm}
 use native.Mathlib.Omega.{arith}
-use lib.ListN.{length, get_or, take, drop, length-append}
+use lib.ListN.{length, get_or, take, drop}
 use lib.Ieee.{Float}
 use Rattle.lists.specs.Gather.{gathered, joined}
 use Rattle.lists.specs.Sort.{sort_onto, sorted}
-use Rattle.lists.proofs.Gather.{each_more, joined_snoc}
+use Rattle.lists.proofs.Gather.{each_more}
 use Rattle.corners.specs.Corners.{next_corner}
 use Rattle.cutting.specs.Edges.{Edge, ring}
 use Rattle.cutting.specs.Cell.{Laid, own_darts, outline_darts, edge_slots, stands_before, cell_table}
-use Rattle.cutting.specs.Lent.{slots_of, flat_edges}
-use Rattle.dart_table.specs.Table.{Added, Outlined}
-use Rattle.dart_table.proofs.Joins.{outline_more, none_near, own_turn, own_full}
+use Rattle.std.proofs.Common.{true, false, Result, is_err}
+use Rattle.refusals.specs.declared.Refusal.{Refusal}
+use Rattle.cutting.specs.declared.Slot.{Slot}
+use Rattle.cutting.specs.Lent.{flat_edges}
+use Rattle.dart_table.specs.Table.{table_in, with_darts, outline_with}
+use Rattle.dart_table.proofs.Joins.{none_near, own_turn, own_size, own_outline, own_full}
 use Rattle.rules.proofs.Rings.{side, sides, ring_each, length_ring, ring_at, sides_next}
-use Rattle.edge_nodes.specs.Lent.{Few}
+use Rattle.edge_nodes.specs.Lent.{nodes_on, Few}
 use Rattle.regions.specs.declared.Regions.{Regions}
-use Rattle.cells.specs.Cells.{laid_in, outline_in, AllFew, Held}
-
--- ---- `add_own`
-
-pub own_laid : (coords : List Float) (e : Edge) (ns xs : List ℕ) (n r : ℕ) (outline src dst marks outline' src' dst' marks' : List ℕ) → ns ≡ xs
-    → Added coords 1 (own_darts (record { edge = e; nodes = ns })) n r src dst marks src' dst' marks' × Outlined (own_darts (record { edge = e; nodes = ns })) n r outline outline'
-    → Added coords 1 (own_darts (record { edge = e; nodes = xs })) n r src dst marks src' dst' marks' × Outlined (own_darts (record { edge = e; nodes = xs })) n r outline outline'
-own_laid coords e ns xs n r outline src dst marks outline' src' dst' marks' q got =
-    subst (λ (l : List ℕ). Added coords 1 (own_darts (record { edge = e; nodes = l })) n r src dst marks src' dst' marks' × Outlined
-    (own_darts (record { edge = e; nodes = l })) n r outline outline') q got
+use Rattle.cells.specs.Cells.{laid_in, outline_in, AllFew}
 
 -- ---- `own_darts`
 
--- after the first i own edges: the outline's n entries and the table's n slots are theirs
-pub record Outlining (coords : List Float) (work : List ℕ) (g : Regions) (cell outline₀ src₀ dst₀ marks₀ outline src dst marks : List ℕ) (n i : ℕ) : Type 0 where
+-- after the first i own edges: the outline's entries and the table's slots are theirs
+pub record Outlining (coords : List Float) (work : List ℕ) (g : Regions) (cell outline₀ outline : List ℕ) (t : List Slot) (i : ℕ) : Type 0 where
   pub same_outline : length outline ≡ length outline₀
-  pub same_src : length src ≡ length src₀
-  pub same_dst : length dst ≡ length dst₀
-  pub same_marks : length marks ≡ length marks₀
   pub low : i ≤ length cell
-  pub small : n ≤ 1024
-  pub count : n ≡ 2 * length (outline_darts (map (laid_in coords work g) (sides cell i)))
-  pub outlined : take n outline ≡ flat_edges (outline_darts (map (laid_in coords work g) (sides cell i)))
-  pub held : slots_of src dst marks n ≡ sorted (stands_before coords) (edge_slots 1 (outline_darts (map (laid_in coords work g) (sides cell i))))
+  pub outlined : take (length t) outline ≡ flat_edges (outline_darts (map (laid_in coords work g) (sides cell i)))
+  pub held : t ≡ sorted (stands_before coords) (edge_slots 1 (outline_darts (map (laid_in coords work g) (sides cell i))))
 
-module _ (coords : List Float) (work : List ℕ) (g : Regions) (cell outline₀ src₀ dst₀ marks₀ : List ℕ) where
+module _ (coords : List Float) (work : List ℕ) (g : Regions) (cell outline₀ : List ℕ) where
   abbrev laid : Edge → Laid
   laid = laid_in coords work g
 
-  abbrev Outlining₀ : List ℕ → List ℕ → List ℕ → List ℕ → ℕ → ℕ → Type 0
-  Outlining₀ = Outlining coords work g cell outline₀ src₀ dst₀ marks₀
+  abbrev Outlining₀ : List ℕ → List Slot → ℕ → Type 0
+  Outlining₀ = Outlining coords work g cell outline₀
 
-  pub outline_start : Outlining₀ outline₀ src₀ dst₀ marks₀ 0 0
-  unfolding slots_of sort_onto edge_slots outline_darts flat_edges joined gathered
-  outline_start = record {
-    same_outline = refl;
-    same_src = refl;
-    same_dst = refl;
-    same_marks = refl;
-    low = omega arith;
-    small = omega arith;
-    count = refl;
-    outlined = refl;
-    held = refl;
-  }
+  pub outline_start : Outlining₀ outline₀ [] 0
+  unfolding sort_onto edge_slots outline_darts flat_edges joined gathered
+  outline_start = record { same_outline = refl; low = omega arith; outlined = refl; held = refl }
 
-  module _ (outline src dst marks : List ℕ) (n i : ℕ) (v : Outlining₀ outline src dst marks n i) where
+  module _ (outline : List ℕ) (t : List Slot) (i : ℕ) (v : Outlining₀ outline t i) where
     abbrev done : List Edge
     done = sides cell i
 
@@ -87,56 +66,46 @@ module _ (coords : List Float) (work : List ℕ) (g : Regions) (cell outline₀ 
       laid_split : ls ++ laid e ∷ map laid rest ≡ map laid (ring cell)
       laid_split = sym (map-append laid done (e ∷ rest)) ∙ ap (map laid) (ap (λ (f : Edge). done ++ f ∷ rest) e_is ∙ sides_next cell i h)
 
-      module _ (r : ℕ) (outline' src' dst' marks' : List ℕ) (got : Added coords 1 (own_darts (laid e)) n r src dst marks src' dst' marks' × Outlined
-          (own_darts (laid e)) n r outline outline') where
-        pub outline_turn : r ≤ 1024 → 1024 ≤ length outline₀ → length outline' ≡ length outline → length src' ≡ length src → length dst' ≡ length dst
-            → length marks' ≡ length marks → Outlining₀ outline' src' dst' marks' r (i + 1)
-        unfolding outline_darts
-        outline_turn few room lo ls' ld lm =
+      module _ (ns : List ℕ) (en : ns ≡ nodes_on coords work g e) (r : Result (Unit {0}) Refusal) (t' : List Slot) (outline' : List ℕ)
+          (lent : table_in r t' ≡ with_darts coords 1 (own_darts (record { edge = e; nodes = ns })) t)
+          (laid_lent : outline' ≡ outline_with (own_darts (record { edge = e; nodes = ns })) (length t) outline) where
+        got : table_in r t' ≡ with_darts coords 1 (own_darts (laid e)) t
+        got = lent ∙ ap (λ (l : List ℕ). with_darts coords 1 (own_darts (record { edge = e; nodes = l })) t) en
+
+        put_there : outline' ≡ outline_with (own_darts (laid e)) (length t) outline
+        put_there = laid_lent ∙ ap (λ (l : List ℕ). outline_with (own_darts (record { edge = e; nodes = l })) (length t) outline) en
+
+        pub outline_turn : is_err r ≡ false → 1024 ≤ length outline₀ → length outline' ≡ length outline → Outlining₀ outline' t' (i + 1)
+        outline_turn fits room lo =
             let more : map laid (sides cell (i + 1)) ≡ ls ++ laid e ∷ [] =
             ap (map laid) (each_more i (side cell) ∙ ap (λ (f : Edge). done ++ f ∷ []) (sym e_is)) ∙ map-append laid done (e ∷ []) in
-            let fits : n ≤ length outline = omega (arith, v.small, v.same_outline) in
-            let put_in_lem : take (n + 2 * length (own_darts (laid e))) outline' ≡ flat_edges (outline_darts (ls ++ laid e ∷ [])) = outline_more outline outline' n ls
-            (laid e) fits v.outlined (got.1.grows few) in
-            let darts : length (outline_darts (ls ++ laid e ∷ [])) ≡ length (outline_darts ls) + length (own_darts (laid e)) = ap length
-            (joined_snoc own_darts ls (laid e)) ∙ length-append (outline_darts ls) (own_darts (laid e)) in
+            let turn = own_turn coords ls (laid e) t r t' got v.held fits in
+            let size : length t' ≡ length t + 2 * length (own_darts (laid e)) = own_size coords ls (laid e) t r t' got v.held fits in
+            let wide : 1024 ≤ length outline = omega (arith, room, v.same_outline) in
             record {
               same_outline = lo ∙ v.same_outline;
-              same_src = ls' ∙ v.same_src;
-              same_dst = ld ∙ v.same_dst;
-              same_marks = lm ∙ v.same_marks;
               low = omega arith;
-              small = few;
-              count = omega (arith, got.0.count, v.count, darts, ap (λ (l : List Laid). length (outline_darts l)) more);
-              outlined = ap (λ (k : ℕ). take k outline') got.0.count ∙ put_in_lem ∙ ap (λ (l : List Laid). flat_edges (outline_darts l)) (sym more);
-              held = own_turn coords src dst marks src' dst' marks' n r ls (laid e) got.0 few v.held ∙ ap
-                  (λ (l : List Laid). sorted (stands_before coords) (edge_slots 1 (outline_darts l))) (sym more);
+              outlined = ap (λ (k : ℕ). take k outline') size ∙ own_outline coords ls (laid e) t r t' got v.held outline outline' fits wide v.outlined put_there
+                  ∙ ap (λ (l : List Laid). flat_edges (outline_darts l)) (sym more);
+              held = turn ∙ ap (λ (l : List Laid). sorted (stands_before coords) (edge_slots 1 (outline_darts l))) (sym more);
             }
 
         -- too many at this edge are too many in all
-        pub outline_over : 1024 < r → Held (cell_table coords (outline_in coords work g cell) []) r src' dst' marks' ×
-            (r ≤ 1024 → take r outline' ≡ flat_edges (outline_in coords work g cell))
+        pub outline_over : is_err r ≡ true → 1024 < length (cell_table coords (outline_in coords work g cell) [])
         unfolding outline_in
-        outline_over many =
-            let all : 1024 < length (cell_table coords (outline_darts (ls ++ laid e ∷ map laid rest)) []) = own_full coords src dst marks
-            src' dst' marks' n r ls (laid e) (map laid rest) [] got.0 many v.count in (
-              record {
-                fits = λ few. absurd (omega (arith, few, many));
-                over = λ _. omega (arith, all, ap (λ (l : List Laid). length (cell_table coords (outline_darts l) [])) laid_split);
-              },
-              λ few. absurd (omega (arith, few, many)),
+        outline_over full =
+            omega (
+              arith,
+              own_full coords ls (laid e) t r t' got v.held (map laid rest) [] full,
+              ap (λ (l : List Laid). length (cell_table coords (outline_darts l) [])) laid_split,
             )
 
-    pub outline_end : length cell ≤ i → Held (cell_table coords (outline_in coords work g cell) []) n src dst marks ×
-        (n ≤ 1024 → take n outline ≡ flat_edges (outline_in coords work g cell))
+    pub outline_end : length cell ≤ i → (t ≡ cell_table coords (outline_in coords work g cell) []) × (take (length t) outline ≡ flat_edges (outline_in coords work g cell))
     unfolding outline_in
     outline_end past =
         let at : i ≡ length cell = le_antisymm v.low past in
         let all : done ≡ ring cell = ap (sides cell) at ∙ sym (ring_each cell) in (
-          record {
-            fits = λ few. v.held ∙ ap (λ (es : List Edge). sorted (stands_before coords) (edge_slots 1 (outline_darts (map laid es)))) all ∙ none_near coords
-                (outline_darts (map laid (ring cell)));
-            over = λ many. absurd (omega (arith, many, v.small));
-          },
-          λ few. v.outlined ∙ ap (λ (es : List Edge). flat_edges (outline_darts (map laid es))) all,
+          v.held ∙ ap (λ (es : List Edge). sorted (stands_before coords) (edge_slots 1 (outline_darts (map laid es)))) all ∙ none_near coords
+              (outline_darts (map laid (ring cell))),
+          v.outlined ∙ ap (λ (es : List Edge). flat_edges (outline_darts (map laid es))) all,
         )

@@ -1,12 +1,13 @@
 -- One cell cut by the other mesh's edges near it (document 01, modules 6 and 7), where edges, meetings and links stand in regions of the working list.
 -- Assumes nothing.
-use Rattle.std.specs.Prelude.{◌≡◌, Result, Ok, Err, List, [], map, ℕ, ◌*◌, ◌≤◌, ◌<◌, length, get_or, drop, Float}
+use Rattle.std.specs.Prelude.{◌≡◌, true, false, Result, Ok, Err, is_err, List, map, ℕ, ◌*◌, ◌≤◌, ◌<◌, length, get_or, drop, Float}
 use Rattle.lists.specs.Regions.{front, zeros}
 use Rattle.cutting.specs.Edges.{Edge, edge_at, ring}
-use Rattle.cutting.specs.Cell.{Laid, outline_darts, Slot, cell_table}
+use Rattle.cutting.specs.Cell.{Laid, outline_darts, cell_table}
+use Rattle.cutting.specs.declared.Slot.{Slot}
 use Rattle.cutting.specs.Outcome as Outcome
 use Rattle.cutting.specs.Outcome.{Outcome, pieces, refusal, cut_outcome, flat}
-use Rattle.cutting.specs.Lent.{slots_of, flat_edges, pairs}
+use Rattle.cutting.specs.Lent.{flat_edges, pairs}
 use Rattle.regions.specs.declared.Run.{Run}
 use Rattle.regions.specs.declared.Regions.{Regions}
 use Rattle.regions.specs.Runs.{Within, run_in}
@@ -92,10 +93,10 @@ pub record LaidIn (darts : List Edge) (r : ℕ) (list list' : List ℕ) : Type 0
   pub few : r ≤ 518
   pub held : list' ≡ front list (flat_edges darts)
 
--- Three lists hold the r slots of t in front; where r is over 1,024, so are the slots of t.
-pub record Held (t : List Slot) (r : ℕ) (src dst marks : List ℕ) : Type 0 where
-  pub fits : r ≤ 1024 → slots_of src dst marks r ≡ t
-  pub over : 1024 < r → 1024 < length t
+-- A table holds the slots t, unless an edge was refused: then t has over 1,024.
+pub record Held (t : List Slot) (r : Result (Unit {0}) Refusal) (table : List Slot) : Type 0 where
+  pub fits : is_err r ≡ false → table ≡ t
+  pub over : is_err r ≡ true → 1024 < length t
 
 -- the edges at the places js may cut a cell, and there is room for the nodes of an edge and for pieces
 pub record Ready (work : List ℕ) (g : Regions) (edges : Run) (js nodes on os : List ℕ) : Type 0 where
@@ -105,11 +106,3 @@ pub record Ready (work : List ℕ) (g : Regions) (edges : Run) (js nodes on os :
   pub nodes_fit : 258 ≤ length nodes
   pub corners_fit : 1024 ≤ length on
   pub stops_fit : 1024 ≤ length os
-
--- a finished outline, whose own edges have the first slots of the table
-pub record Tables (coords : List Float) (outline src dst marks : List ℕ) : Type 0 where
-  pub small : length outline ≤ 1024
-  pub src_fit : 1024 ≤ length src
-  pub dst_fit : 1024 ≤ length dst
-  pub marks_fit : 1024 ≤ length marks
-  pub held : slots_of src dst marks (length outline) ≡ cell_table coords (pairs outline) []

@@ -11,7 +11,8 @@ use Rattle.lists.specs.Search.{bit}
 use Rattle.lists.specs.Gather.{tally, passing, joined}
 use Rattle.lists.specs.Sort.{sorted}
 use Rattle.cutting.specs.Edges.{Edge, key, hops, ring, hit, times}
-use Rattle.cutting.specs.Cell.{Laid, near_darts, among, repeats, Slot, edge_slots, table, names, is_new, new_to, unless_outline, inner, inner_with}
+use Rattle.cutting.specs.Cell.{Laid, near_darts, among, repeats, edge_slots, table, names, is_new, new_to, unless_outline, inner, inner_with}
+use Rattle.cutting.specs.declared.Slot.{Slot}
 use Rattle.cutting.specs.Cell.{stands_before, cell_table, cell_table_with, copied_table, doubled}
 use Rattle.cutting.specs.Walk.{walk_with}
 use Rattle.cutting.specs.Outcome.{Outcome, refusal, pieces, of_walk, after_walk, too_many, cut_outcome_with, copied_outcome_with}

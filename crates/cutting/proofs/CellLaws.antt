@@ -8,7 +8,8 @@ use lib.ListN.{length}
 use lib.Ieee.{Float}
 use Rattle.lists.specs.Gather.{tally}
 use Rattle.cutting.specs.Edges.{Edge}
-use Rattle.cutting.specs.Cell.{Laid, inner_with, Slot, edge_slots, table, stands_before, cell_table_with}
+use Rattle.cutting.specs.Cell.{Laid, inner_with, edge_slots, table, stands_before, cell_table_with}
+use Rattle.cutting.specs.declared.Slot.{Slot}
 use Rattle.lists.proofs.Sort.{sorted_tally}
 
 pub slots_append : (back : ℕ) (es fs : List Edge) → edge_slots back (es ++ fs) ≡ edge_slots back es ++ edge_slots back fs

@@ -13,7 +13,8 @@ use Rattle.exact.specs.Exact.{coord}
 use Rattle.plane.specs.Plane.{point_at}
 use Rattle.lists.specs.Gather.{all}
 use Rattle.cutting.specs.Edges.{Edge, ring, rings, times}
-use Rattle.cutting.specs.Cell.{Laid, inner, Slot, cell_table, doubled, repeats}
+use Rattle.cutting.specs.Cell.{Laid, inner, cell_table, doubled, repeats}
+use Rattle.cutting.specs.declared.Slot.{Slot}
 use Rattle.cutting.specs.Walk.{Next, more, closed, stuck, broken, srcs, dsts, walk_with}
 use Rattle.cutting.specs.Outcome.{Outcome, refusal, pieces, of_walk, walked, closes_up, after_walk, too_many, cut_outcome_with, copied_outcome}
 use Rattle.cutting.specs.Areas.{exact_term, doubled_area, doubled_areas, Closes, ClosesUp, Round}

@@ -7,7 +7,8 @@ use Prim.Native.Nat.{ℕ}
 use lib.ListN.{length}
 use lib.Ieee.{Float}
 use Rattle.cutting.specs.Edges.{Edge, ring, rings}
-use Rattle.cutting.specs.Cell.{Laid, Slot, cell_table, copied_table, doubled, repeats}
+use Rattle.cutting.specs.Cell.{Laid, cell_table, copied_table, doubled, repeats}
+use Rattle.cutting.specs.declared.Slot.{Slot}
 use Rattle.cutting.specs.Walk.{closed, stuck, walk}
 use Rattle.cutting.specs.Outcome.{pieces, refusal, of_walk, closes_up, too_many, cut_outcome, copied_outcome}
 use Rattle.cutting.specs.Areas.{ClosesUp, Round}

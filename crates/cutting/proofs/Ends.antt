@@ -9,7 +9,8 @@ use lib.ListN.{length, get_or, set, length-set, length-map}
 use borrow.Author.Tests.{eq-eqb}
 use Rattle.lists.specs.Gather.{tally}
 use Rattle.cutting.specs.Edges.{Edge, times}
-use Rattle.cutting.specs.Cell.{Slot, table}
+use Rattle.cutting.specs.Cell.{table}
+use Rattle.cutting.specs.declared.Slot.{Slot}
 use Rattle.cutting.specs.Walk.{State, state, Phase, resting, on_slot, Next, more, closed, stuck, broken, walk_steps, slot, leads, starts, walk_from}
 use Rattle.cutting.specs.Walk.{srcs, dsts, marks_of, walk_with}
 use Rattle.lists.proofs.Search.{many_has, many_bound}

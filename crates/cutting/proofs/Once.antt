@@ -12,7 +12,8 @@ use Rattle.lists.specs.Gather.{tally, joined}
 use Rattle.lists.proofs.Search.{and_true}
 use Rattle.lists.proofs.Gather.{tally_append}
 use Rattle.cutting.specs.Edges.{Edge, ring, hit, times}
-use Rattle.cutting.specs.Cell.{Laid, near_darts, Slot, edge_slots, reverse_mark, table, names, is_new, new_to, inner_with, cell_table, cell_table_with, copied_table, doubled, repeats}
+use Rattle.cutting.specs.Cell.{Laid, near_darts, edge_slots, reverse_mark, table, names, is_new, new_to, inner_with, cell_table, cell_table_with, copied_table, doubled, repeats}
+use Rattle.cutting.specs.declared.Slot.{Slot}
 use Rattle.cutting.proofs.EdgeLaws.{both}
 use Rattle.cutting.proofs.Tables.{names_edges, not_twice}
 use Rattle.cutting.proofs.Repeats.{repeats_not}

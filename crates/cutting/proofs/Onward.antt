@@ -15,7 +15,8 @@ use Rattle.lists.specs.Gather.{tally}
 use Rattle.lists.proofs.Search.{many_change, many_some, first_some}
 use Rattle.lists.proofs.Gather.{tally_append}
 use Rattle.cutting.specs.Edges.{Edge}
-use Rattle.cutting.specs.Cell.{Slot, edge_slots, reverse_mark, table}
+use Rattle.cutting.specs.Cell.{edge_slots, reverse_mark, table}
+use Rattle.cutting.specs.declared.Slot.{Slot}
 use Rattle.cutting.specs.Walk.{State, Phase, resting, on_slot, Next, more, closed, stuck, broken, or_else, open_at, next_open, srcs, dsts, marks_of, walk_steps, walk_from, walk_with}
 use Rattle.cutting.proofs.Ways.{reverse_of, Way, ends, missing, passes, begins, lost, closes, goes, stops, Led, steps_keep}
 use Rattle.cutting.specs.Areas.{leaving, entering}

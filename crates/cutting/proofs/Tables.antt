@@ -10,7 +10,8 @@ use borrow.Author.Tests.{ltb-true, ltb-false}
 use Rattle.lists.specs.Search.{bit, many}
 use Rattle.lists.specs.Gather.{tally}
 use Rattle.cutting.specs.Edges.{Edge, rings, hit, times}
-use Rattle.cutting.specs.Cell.{Slot, edge_slots, reverse_mark, table, names, doubled}
+use Rattle.cutting.specs.Cell.{edge_slots, reverse_mark, table, names, doubled}
+use Rattle.cutting.specs.declared.Slot.{Slot}
 use Rattle.cutting.specs.Walk.{closed, slot, leads, starts, walk_from, srcs, dsts, marks_of, walk_with}
 use Rattle.cutting.specs.Areas.{Closes}
 use Rattle.lists.proofs.Gather.{tally_append}

@@ -9,7 +9,8 @@ use lib.Dec.{eqb, ltb}
 use lib.ListN.{length, get_or, set}
 use Rattle.lists.specs.Search.{first}
 use Rattle.cutting.specs.Edges.{Edge}
-use Rattle.cutting.specs.Cell.{Slot, repeats, doubled}
+use Rattle.cutting.specs.Cell.{repeats, doubled}
+use Rattle.cutting.specs.declared.Slot.{Slot}
 use Rattle.cutting.specs.Walk.{State, Next, more, closed, stuck, broken, or_else, open_at, next_open, step, walk_steps, walk_from, walk_with}
 use Rattle.cutting.proofs.Ways.{reverse_of, Way, ends, missing, passes, begins, lost, closes, goes, stops, way, way_step, go_on}
 use Rattle.cutting.specs.Outcome.{Outcome, refusal, of_walk, after_walk, too_many, cut_outcome_with}

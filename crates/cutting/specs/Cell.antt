@@ -6,6 +6,7 @@ use Rattle.exact.specs.Exact.{is_less}
 use Rattle.exact.specs.Angle.{angles}
 use Rattle.plane.specs.Plane.{between, point_at}
 use Rattle.plane.specs.declared.Point.{Point}
+use Rattle.cutting.specs.declared.Slot.{Slot}
 use Rattle.cutting.specs.Edges.{Edge, key, same_key, reversed_if, hops, ring}
 
 -- an edge with its sorted nodes; none where nothing was collected on it
@@ -56,12 +57,6 @@ repeats [] = false
 repeats (e ∷ es) = eqb e.0 e.1 || among e es || repeats es
 
 -- ---- the table
-
--- a slot at the node src: a neighbour and a mark
-pub record Slot : Type 0 where
-  pub src : ℕ
-  pub dst : ℕ
-  pub mark : ℕ
 
 -- each edge has an unmarked slot at its first node, and at its second one with the mark `back`
 unfoldable pub edge_slots : ℕ → List Edge → List Slot

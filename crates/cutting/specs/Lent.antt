@@ -2,7 +2,7 @@
 use Rattle.std.specs.Prelude.{List, [], ◌∷◌, ℕ, zero, suc, get_or}
 use Rattle.lists.specs.Gather.{each, joined}
 use Rattle.cutting.specs.Edges.{Edge}
-use Rattle.cutting.specs.Cell.{Slot}
+use Rattle.cutting.specs.declared.Slot.{Slot}
 
 abbrev pub slot_at : List ℕ → List ℕ → List ℕ → ℕ → Slot
 slot_at src dst marks i = record { src = get_or src i 0; dst = get_or dst i 0; mark = get_or marks i 0 }

@@ -3,7 +3,8 @@ use Rattle.std.specs.Prelude.{Bool, true, cond, not, ◌&&◌, ◌||◌, List, [
 use Rattle.lists.specs.Gather.{all}
 use Rattle.cutting.specs.Edges.{Edge, ring, rings, times}
 use Rattle.cutting.specs.Setting.{Setting, ours}
-use Rattle.cutting.specs.Cell.{Slot, repeats, doubled}
+use Rattle.cutting.specs.Cell.{repeats, doubled}
+use Rattle.cutting.specs.declared.Slot.{Slot}
 use Rattle.cutting.specs.Walk.{Next, more, closed, stuck, broken, walk_with}
 
 pub data Outcome : Type 0 where

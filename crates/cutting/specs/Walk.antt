@@ -2,7 +2,7 @@
 use Rattle.std.specs.Prelude.{Bool, true, false, ◌&&◌, List, [], ◌∷◌, ◌++◌, map, ℕ, zero, suc, ◌+◌, ◌*◌, eqb, ltb, length, get_or, set}
 use Rattle.lists.specs.Search.{first}
 use Rattle.cutting.specs.Edges.{Edge}
-use Rattle.cutting.specs.Cell.{Slot}
+use Rattle.cutting.specs.declared.Slot.{Slot}
 
 -- where a walk stands: between two pieces, or on a slot, with the piece's first corner and its others so far
 pub data Phase : Type 0 where

@@ -4,30 +4,30 @@ use mathlib.Core.Bool.{Bool, true, false, cond, not, ◌&&◌}
 use mathlib.Core.List.{List, [], ◌∷◌, ◌++◌, append-nil, append_assoc}
 use Prim.Native.Nat.{ℕ, ◌+◌, ◌*◌, ◌≤◌, ◌<◌}
 use native.Mathlib.Omega.{arith}
-use native.Mathlib.Decide.{dec_le}
 use lib.Dec.{eqb}
 use lib.ListN.{length, take, drop, length-append}
 use lib.Seq.{length-take-le, take_at}
 use lib.Ieee.{Float}
 use borrow.Author.Tests.{lt-ltb, le-ltb}
+use Rattle.std.proofs.Common.{Result, Ok, is_err}
 use Rattle.lists.specs.Gather.{tally, joined}
 use Rattle.lists.specs.Sort.{sort_onto, sorted}
 use Rattle.lists.specs.Regions.{front, put}
 use Rattle.lists.proofs.Gather.{tally_append, joined_append, joined_snoc}
-use Rattle.lists.proofs.Sort.{sort_onto_append, length_sorted, sorted_tally}
+use Rattle.lists.proofs.Sort.{sort_onto_append, length_sort_onto, length_sorted, sorted_tally}
+use Rattle.refusals.specs.declared.Refusal.{Refusal}
+use Rattle.cutting.specs.declared.Slot.{Slot}
 use Rattle.cutting.specs.Edges.{Edge}
-use Rattle.cutting.specs.Cell.{Laid, own_darts, outline_darts, near_darts, Slot, edge_slots, reverse_mark, table, names, is_new, new_to, inner, inner_with}
+use Rattle.cutting.specs.Cell.{Laid, own_darts, outline_darts, near_darts, edge_slots, reverse_mark, table, names, is_new, new_to, inner, inner_with}
 use Rattle.cutting.specs.Cell.{stands_before, cell_table, cell_table_with, repeats}
-use Rattle.cutting.specs.Lent.{slots_of, flat_edges}
-use Rattle.dart_table.specs.Table.{Table, table_in, with_darts, with_edge, with_edges, Added}
+use Rattle.cutting.specs.Lent.{flat_edges}
+use Rattle.dart_table.specs.Table.{Table, table_in, with_darts, with_edge, with_edges, outline_with}
 use Rattle.cutting.specs.Walk.{walk}
 use Rattle.cutting.specs.Outcome.{Outcome, refusal, of_walk, too_many, cut_outcome}
 use Rattle.cutting.proofs.CellLaws.{slots_append, slots_length}
 use Rattle.cutting.proofs.Pairs.{ends_length, ends_append}
-use Rattle.dart_table.proofs.Adds.{edges_next, edges_full}
-use Rattle.dart_table.proofs.Fronts.{added}
+use Rattle.dart_table.proofs.Adds.{darts_tell, outline_fit}
 use Rattle.cutting.proofs.Closing.{without_test}
-use Rattle.cutting.proofs.Tabled as tabled
 
 -- ---- the outline's flat list
 
@@ -92,16 +92,31 @@ module _ (coords : List Float) where
 
 -- ---- a turn of a loop over own edges, and of one over near edges
 
-module _ (coords : List Float) (src dst marks src' dst' marks' : List ℕ) (n r : ℕ) where
-  pub own_turn : (own : List Laid) (l : Laid) → Added coords reverse_mark (own_darts l) n r src dst marks src' dst' marks' → r ≤ 1024
-      → slots_of src dst marks n ≡ sorted (stands_before coords) (edge_slots reverse_mark (outline_darts own))
-      → slots_of src' dst' marks' r ≡ sorted (stands_before coords) (edge_slots reverse_mark (outline_darts (own ++ l ∷ [])))
-  own_turn own l a h e = (a.grows h).holds ∙ ap (λ (t : List Slot). sort_onto (stands_before coords) t (edge_slots reverse_mark (own_darts l))) e ∙ own_more coords own l
+-- an own edge more, by what the table answers
+module _ (coords : List Float) (own : List Laid) (l : Laid) (t : List Slot) (r : Result (Unit {0}) Refusal) (t' : List Slot)
+    (got : table_in r t' ≡ with_darts coords reverse_mark (own_darts l) t) (held : t ≡ sorted (stands_before coords) (edge_slots reverse_mark (outline_darts own))) where
+  told : (is_err r ≡ false → (length t + 2 * length (own_darts l) ≤ 1024) × (t' ≡ sort_onto (stands_before coords) t (edge_slots reverse_mark (own_darts l))))
+      × (is_err r ≡ true → 1024 < length t + 2 * length (own_darts l))
+  told = subst (λ (u : Table). (is_err u.answer ≡ false → (length t + 2 * length (own_darts l) ≤ 1024)
+      × (u.slots ≡ sort_onto (stands_before coords) t (edge_slots reverse_mark (own_darts l)))) × (is_err u.answer ≡ true → 1024 < length t + 2 * length (own_darts l)))
+      (sym got) (darts_tell coords reverse_mark (own_darts l) t)
 
-  pub own_full : (own : List Laid) (l : Laid) (later near : List Laid) → Added coords reverse_mark (own_darts l) n r src dst marks src' dst' marks' → 1024 < r
-      → n ≡ 2 * length (outline_darts own)
-      → 1024 < length (cell_table coords (outline_darts (own ++ l ∷ later)) near)
-  own_full own l later near a h e = own_over coords own l later near (omega (arith, a.count))
+  pub own_count : length t ≡ 2 * length (outline_darts own)
+  own_count = omega (arith, ap length held, length_sorted (stands_before coords) (edge_slots reverse_mark (outline_darts own)), slots_length reverse_mark (outline_darts own))
+
+  pub own_turn : is_err r ≡ false → t' ≡ sorted (stands_before coords) (edge_slots reverse_mark (outline_darts (own ++ l ∷ [])))
+  own_turn h = (told.0 h).1 ∙ ap (λ (u : List Slot). sort_onto (stands_before coords) u (edge_slots reverse_mark (own_darts l))) held ∙ own_more coords own l
+
+  pub own_size : is_err r ≡ false → length t' ≡ length t + 2 * length (own_darts l)
+  own_size h = omega (arith, ap length (told.0 h).1, length_sort_onto (stands_before coords) t (edge_slots reverse_mark (own_darts l)), slots_length reverse_mark (own_darts l))
+
+  pub own_outline : (w w' : List ℕ) → is_err r ≡ false → 1024 ≤ length w → take (length t) w ≡ flat_edges (outline_darts own)
+      → w' ≡ outline_with (own_darts l) (length t) w → take (length t + 2 * length (own_darts l)) w' ≡ flat_edges (outline_darts (own ++ l ∷ []))
+  own_outline w w' h room e f = outline_more w w' (length t) own l (omega (arith, (told.0 h).0, room)) e
+      (f ∙ sym (outline_fit (own_darts l) (length t) w (told.0 h).0))
+
+  pub own_full : (later near : List Laid) → is_err r ≡ true → 1024 < length (cell_table coords (outline_darts (own ++ l ∷ later)) near)
+  own_full later near h = own_over coords own l later near (omega (arith, told.1 h, own_count))
 
 -- ---- edges near the cell, each once
 
@@ -161,12 +176,9 @@ module _ (coords : List Float) (outline : List Edge) where
   abbrev in_of : List Edge → List Edge
   in_of ds = new_to (table outline []) ds
 
-  abbrev slots_of_lem : Table → List Slot
-  slots_of_lem t = slots_of t.src t.dst t.marks t.slots
-
-  -- a table's lists hold the outline and those
-  abbrev Holds : List Edge → Table → Type 0
-  Holds ds t = slots_of_lem t ≡ sorted (stands_before coords) (table outline (in_of ds))
+  -- a table holds the outline and those
+  abbrev Holds : List Edge → List Slot → Type 0
+  Holds ds t = t ≡ sorted (stands_before coords) (table outline (in_of ds))
 
   -- the number of slots, with what is added of some edges
   abbrev size : List Edge → ℕ
@@ -182,12 +194,12 @@ module _ (coords : List Float) (outline : List Edge) where
     slots_length 0 inside,
   )
 
-  holds_size : (ds : List Edge) (t : Table) → Holds ds t → t.slots ≡ size ds
-  holds_size ds t h = omega (arith, ap length h, tabled.slots_length t.src t.dst t.marks t.slots, table_size (in_of ds))
+  holds_size : (ds : List Edge) (t : List Slot) → Holds ds t → length t ≡ size ds
+  holds_size ds t h = omega (arith, ap length h, table_size (in_of ds))
 
   -- one edge
-  module _ (e : Edge) (ds : List Edge) (t : Table) (h : Holds ds t) where
-    same_new : is_new (slots_of_lem t) e ≡ is_new (edge_slots 0 (in_of ds) ++ table outline []) e
+  module _ (e : Edge) (ds : List Edge) (t : List Slot) (h : Holds ds t) where
+    same_new : is_new t e ≡ is_new (edge_slots 0 (in_of ds) ++ table outline []) e
     unfolding table edge_slots
     same_new = ap (λ (u : List Slot). is_new u e) h ∙ is_new_as (sorted (stands_before coords) (table outline (in_of ds))) (edge_slots 0 (in_of ds) ++ table outline []) e (λ p. omega (
       arith,
@@ -197,7 +209,7 @@ module _ (coords : List Float) (outline : List Edge) where
       ap (tally p) (append-nil (edge_slots reverse_mark outline)),
     ))
 
-    more_table : sort_onto (stands_before coords) (slots_of_lem t) (edge_slots 0 (e ∷ [])) ≡ sorted (stands_before coords) (table outline (in_of ds ++ e ∷ []))
+    more_table : sort_onto (stands_before coords) t (edge_slots 0 (e ∷ [])) ≡ sorted (stands_before coords) (table outline (in_of ds ++ e ∷ []))
     unfolding table
     more_table =
         ap (λ (u : List Slot). sort_onto (stands_before coords) u (edge_slots 0 (e ∷ []))) h
@@ -205,72 +217,73 @@ module _ (coords : List Float) (outline : List Edge) where
         ∙ ap (sorted (stands_before coords)) (append_assoc (edge_slots reverse_mark outline) (edge_slots 0 (in_of ds)) (edge_slots 0 (e ∷ []))
         ∙ ap (λ (u : List Slot). edge_slots reverse_mark outline ++ u) (sym (slots_append 0 (in_of ds) (e ∷ []))))
 
-    step_of : (x : Bool) → is_new (slots_of_lem t) e ≡ x → let u : Table = cond x (with_darts coords 0 (e ∷ []) t) t in (u.slots ≡ size (ds ++ e ∷ [])) ×
-        (u.slots ≤ 1024 → Holds (ds ++ e ∷ []) u)
-    step_of true q =
-        let u : Table = with_darts coords 0 (e ∷ []) t in
-        let all : in_of (ds ++ e ∷ []) ≡ in_of ds ++ e ∷ [] = new_to_snoc (table outline []) ds e ∙ ap (λ (x : Bool). in_of ds ++ one_if x e) (sym same_new ∙ q) in
-        let a = added coords 0 (e ∷ []) t.slots u.slots t.src t.dst t.marks u.src u.dst u.marks refl in (
-          omega (arith, a.count, holds_size ds t h, ap length all, length-append (in_of ds) (e ∷ [])),
-          λ few. (a.grows few).holds ∙ more_table ∙ ap (λ (es : List Edge). sorted (stands_before coords) (table outline es)) (sym all),
-        )
-    step_of false q =
-        let all : in_of (ds ++ e ∷ []) ≡ in_of ds = new_to_snoc (table outline []) ds e ∙ ap (λ (x : Bool). in_of ds ++ one_if x e) (sym same_new ∙ q) ∙ append-nil (in_of ds) in (
-          holds_size ds t h ∙ ap (λ (es : List Edge). 2 * length outline + 2 * length es) (sym all),
-          λ few. h ∙ ap (λ (es : List Edge). sorted (stands_before coords) (table outline es)) (sym all),
-        )
+    all_new : is_new t e ≡ true → in_of (ds ++ e ∷ []) ≡ in_of ds ++ e ∷ []
+    all_new q = new_to_snoc (table outline []) ds e ∙ ap (λ (x : Bool). in_of ds ++ one_if x e) (sym same_new ∙ q)
 
-    one_step : ((with_edge coords e t).slots ≡ size (ds ++ e ∷ [])) × ((with_edge coords e t).slots ≤ 1024 → Holds (ds ++ e ∷ []) (with_edge coords e t))
+    all_old : is_new t e ≡ false → in_of (ds ++ e ∷ []) ≡ in_of ds
+    all_old q = new_to_snoc (table outline []) ds e ∙ ap (λ (x : Bool). in_of ds ++ one_if x e) (sym same_new ∙ q) ∙ append-nil (in_of ds)
+
+    -- the edge is held, or there are over 1,024 slots with it
+    abbrev Step : Table → Type 0
+    Step u = (is_err u.answer ≡ false → Holds (ds ++ e ∷ []) u.slots) × (is_err u.answer ≡ true → 1024 < size (ds ++ e ∷ []))
+
+    step_of : (x : Bool) → is_new t e ≡ x → Step (cond x (with_darts coords 0 (e ∷ []) t) (table_in (Ok tt) t))
+    step_of true q =
+        let all = all_new q in
+        let told = darts_tell coords 0 (e ∷ []) t in (
+          λ fits. (told.0 fits).1 ∙ more_table ∙ ap (λ (es : List Edge). sorted (stands_before coords) (table outline es)) (sym all),
+          λ full. omega (arith, told.1 full, holds_size ds t h, ap length all, length-append (in_of ds) (e ∷ [])),
+        )
+    step_of false q = (
+      λ fits. h ∙ ap (λ (es : List Edge). sorted (stands_before coords) (table outline es)) (sym (all_old q)),
+      λ full. cc,
+    )
+
+    one_step : Step (with_edge coords e t)
     unfolding with_edge
-    one_step = step_of (is_new (slots_of_lem t) e) refl
+    one_step = step_of (is_new t e) refl
 
   -- edges one after the other: they are held, or there are over 1,024 slots in all
-  grown : (es ds : List Edge) (t : Table) → t.slots ≤ 1024 → Holds ds t
-      → let u = with_edges coords es t in (u.slots ≤ 1024 → Holds (ds ++ es) u) × (1024 < u.slots → 1024 < size (ds ++ es))
+  abbrev Grown : List Edge → Table → Type 0
+  Grown ds u = (is_err u.answer ≡ false → Holds ds u.slots) × (is_err u.answer ≡ true → 1024 < size ds)
+
+  grown : (es ds : List Edge) (t : List Slot) → Holds ds t → Grown (ds ++ es) (with_edges coords es t)
   unfolding with_edges
-  grown [] ds t small h = (
-    λ few. h ∙ ap (λ (es : List Edge). sorted (stands_before coords) (table outline (in_of es))) (sym (append-nil ds)),
-    λ many. absurd (omega (arith, many, small)),
+  grown [] ds t h = (
+    λ fits. h ∙ ap (λ (es : List Edge). sorted (stands_before coords) (table outline (in_of es))) (sym (append-nil ds)),
+    λ full. cc,
   )
-  grown (e ∷ es) ds t small h = go (dec_le (with_edge coords e t).slots 1024) (λ few held. grown es (ds ++ e ∷ []) (with_edge coords e t) few held)
+  grown (e ∷ es) ds t h = go (is_err (with_edge coords e t).answer) refl (λ held. grown es (ds ++ e ∷ []) (with_edge coords e t).slots held)
     where
-      st : ((with_edge coords e t).slots ≡ size (ds ++ e ∷ [])) × ((with_edge coords e t).slots ≤ 1024 → Holds (ds ++ e ∷ []) (with_edge coords e t))
+      u : Table
+      u = with_edge coords e t
+
+      st : Step e ds t h u
       st = one_step e ds t h
 
       assoc : (ds ++ e ∷ []) ++ es ≡ ds ++ e ∷ es
       assoc = append_assoc ds (e ∷ []) es
 
-      Goal : List Edge → Table → Type 0
-      Goal l u = (u.slots ≤ 1024 → Holds l u) × (1024 < u.slots → 1024 < size l)
-
-      go : Dec ((with_edge coords e t).slots ≤ 1024)
-          → ((with_edge coords e t).slots ≤ 1024 → Holds (ds ++ e ∷ []) (with_edge coords e t) → Goal ((ds ++ e ∷ []) ++ es) (with_edges coords es (with_edge coords e t)))
-          → Goal (ds ++ e ∷ es) (with_edges coords (e ∷ es) t)
-      go (yes few) ih = subst (Goal (ds ++ e ∷ es)) (sym (edges_next coords e es t small))
-          (subst (λ (l : List Edge). Goal l (with_edges coords es (with_edge coords e t))) assoc (ih few (st.1 few)))
-      go (no many) ih =
-          subst (Goal (ds ++ e ∷ es)) (sym (edges_full coords es (with_edge coords e t) (omega arith)) ∙ sym (edges_next coords e es t small)) (
-            (λ few. absurd (many few)),
-            (λ l. omega (arith, l, st.0, new_to_more (table outline []) (ds ++ e ∷ []) es, ap (λ (x : List Edge). length (in_of x)) assoc)),
-          )
+      go : (x : Bool) → is_err u.answer ≡ x → (Holds (ds ++ e ∷ []) u.slots → Grown ((ds ++ e ∷ []) ++ es) (with_edges coords es u.slots))
+          → Grown (ds ++ e ∷ es) (cond x u (with_edges coords es u.slots))
+      go false q ih = subst (λ (l : List Edge). Grown l (with_edges coords es u.slots)) assoc (ih (st.0 q))
+      go true q ih = (
+        λ fits. cc,
+        λ full. omega (arith, st.1 q, new_to_more (table outline []) (ds ++ e ∷ []) es, ap (λ (x : List Edge). length (in_of x)) assoc),
+      )
 
 -- a turn of the loop over near edges
-module _ (coords : List Float) (outline : List Edge) (src dst marks src' dst' marks' : List ℕ) (n r : ℕ) (near : List Laid) (l : Laid)
-    (got : table_in r src' dst' marks' ≡ with_edges coords (near_darts l) (table_in n src dst marks)) (small : n ≤ 1024)
-    (held : slots_of src dst marks n ≡ cell_table coords outline near) where
-  now_of : (r ≤ 1024 → slots_of src' dst' marks' r ≡ sorted (stands_before coords) (table outline (new_to (table outline []) (joined near_darts near ++ near_darts l))))
-      × (1024 < r → 1024 < 2 * length outline + 2 * length (new_to (table outline []) (joined near_darts near ++ near_darts l)))
+module _ (coords : List Float) (outline : List Edge) (t : List Slot) (r : Result (Unit {0}) Refusal) (t' : List Slot) (near : List Laid) (l : Laid)
+    (got : table_in r t' ≡ with_edges coords (near_darts l) t) (held : t ≡ cell_table coords outline near) where
+  now_of : Grown coords outline (joined near_darts near ++ near_darts l) (table_in r t')
   unfolding cell_table_with inner_with
-  now_of =
-      subst (λ (u : Table). (u.slots ≤ 1024 → Holds coords outline (joined near_darts near ++ near_darts l) u) ×
-      (1024 < u.slots → 1024 < size coords outline (joined near_darts near ++ near_darts l)))
-      (sym got) (grown coords outline (near_darts l) (joined near_darts near) (table_in n src dst marks) small held)
+  now_of = subst (Grown coords outline (joined near_darts near ++ near_darts l)) (sym got) (grown coords outline (near_darts l) (joined near_darts near) t held)
 
-  pub near_turn : r ≤ 1024 → slots_of src' dst' marks' r ≡ cell_table coords outline (near ++ l ∷ [])
+  pub near_turn : is_err r ≡ false → t' ≡ cell_table coords outline (near ++ l ∷ [])
   unfolding cell_table_with inner_with
   near_turn h = now_of.0 h ∙ ap (λ (ds : List Edge). sorted (stands_before coords) (table outline (new_to (table outline []) ds))) (sym (joined_snoc near_darts near l))
 
-  pub near_full : (later : List Laid) → 1024 < r → 1024 < length (cell_table coords outline (near ++ l ∷ later))
+  pub near_full : (later : List Laid) → is_err r ≡ true → 1024 < length (cell_table coords outline (near ++ l ∷ later))
   unfolding inner_with joined
   near_full later h =
       let ds = joined near_darts near ++ near_darts l in

@@ -1,6 +1,4 @@
--- Laws on plain values.
-pub mod Adds
-pub mod Fronts
-pub mod Grow
-pub mod Joins
+-- Laws on plain values. What a loop over edges joins is in Joins.
 pub mod Slots
+pub mod Adds
+pub mod Joins

@@ -1,28 +1,36 @@
 -- The heap filled from an outline's flat list. Assumes nothing.
-use mathlib.Core.Path.{◌≡◌, sym, ap, ◌∙◌}
-use mathlib.Core.List.{List, ◌∷◌}
+use mathlib.Core.Path.{◌≡◌, refl, sym, ap, ◌∙◌}
+use mathlib.Core.List.{List, [], ◌∷◌, ◌++◌}
 use Prim.Native.Nat.{ℕ, ◌+◌, ◌≤◌, ◌<◌}
 use native.Mathlib.Omega.{arith}
-use lib.ListN.{length, get_or, set, drop, length-drop}
+use lib.ListN.{length, get_or, set}
 use Rattle.lists.proofs.Search.{first_le}
 use Rattle.cutting.specs.Edges.{Edge}
 use Rattle.cutting.specs.Walk.{slot, leads, starts}
 use Rattle.cutting.specs.Lent.{pairs, stacked}
 use Rattle.dart_walk.proofs.Steps.{stacked_push}
-use Rattle.cutting.proofs.Pairs.{pairs_short, pairs_drop}
+use Rattle.cutting.proofs.Pairs.{pairs_short}
+
+pub pair_first : (x r : List ℕ) → length x ≡ 2 → pairs (x ++ r) ≡ (get_or x 0 0, get_or x 1 0) ∷ pairs r
+unfolding pairs
+pair_first [] r h = absurd (omega arith)
+pair_first (a ∷ []) r h = absurd (omega arith)
+pair_first (a ∷ b ∷ []) r h = refl
+pair_first (a ∷ b ∷ c ∷ x) r h = absurd (omega arith)
 
 module _ (n : ℕ) (src dst : List ℕ) where
   pub slot_le : (a b s : ℕ) → s ≡ slot n src dst a b → s ≤ n
   unfolding slot
   slot_le a b s e = rw e (first_le (leads src dst a b) 0 n (omega arith))
 
-  module _ (edges : List ℕ) (i k : ℕ) (heap target : List ℕ) (inv : starts n src dst (pairs (drop i edges)) (stacked heap k) ≡ target) where
-    pub start_turn : (s : ℕ) → i + 1 < length edges → k < length heap → s ≡ slot n src dst (get_or edges i 0) (get_or edges (i + 1) 0)
-        → starts n src dst (pairs (drop (i + 2) edges)) (stacked (set heap k s) (k + 1)) ≡ target
+  -- `rest` are the entries from the next dart on
+  module _ (rest : List ℕ) (k : ℕ) (heap target : List ℕ) (inv : starts n src dst (pairs rest) (stacked heap k) ≡ target) where
+    pub start_turn : (x later : List ℕ) (s : ℕ) → rest ≡ x ++ later → length x ≡ 2 → k < length heap → s ≡ slot n src dst (get_or x 0 0) (get_or x 1 0)
+        → starts n src dst (pairs later) (stacked (set heap k s) (k + 1)) ≡ target
     unfolding starts
-    start_turn s h l e = ap (starts n src dst (pairs (drop (i + 2) edges))) (stacked_push heap k s l ∙ ap (λ (x : ℕ). x ∷ stacked heap k) e) ∙ sym
-        (ap (λ (es : List Edge). starts n src dst es (stacked heap k)) (pairs_drop edges i h)) ∙ inv
+    start_turn x later s e two l es = ap (starts n src dst (pairs later)) (stacked_push heap k s l ∙ ap (λ (y : ℕ). y ∷ stacked heap k) es) ∙ sym
+        (ap (λ (ds : List Edge). starts n src dst ds (stacked heap k)) (ap pairs e ∙ pair_first x later two)) ∙ inv
 
-    pub start_end : length edges ≤ i + 1 → stacked heap k ≡ target
+    pub start_end : length rest < 2 → stacked heap k ≡ target
     unfolding starts
-    start_end h = sym (ap (λ (es : List Edge). starts n src dst es (stacked heap k)) (pairs_short (drop i edges) (simp length-drop (omega arith)))) ∙ inv
+    start_end h = sym (ap (λ (ds : List Edge). starts n src dst ds (stacked heap k)) (pairs_short rest (omega (arith, h)))) ∙ inv

@@ -2,5 +2,6 @@
 pub mod Answers
 pub mod Closing
 pub mod Heaps
+pub mod Slots
 pub mod Steps
 pub mod Turns

@@ -1,76 +1,18 @@
-// The walk of a cell's table. The table of n slots stands in the first n entries of three lists: at a slot's node `src` its neighbour `dst` and its mark.
+// The walk of a cell's table, which is seen as the list of its slots.
 #![tactic(auto)]
 
-ghost use Rattle.std.specs.Prelude.{◌≡◌, true, [], ◌*◌, ◌≤◌, ◌<◌, length};
+ghost use Rattle.std.specs.Prelude.{◌≡◌, true, [], ◌*◌, ◌≤◌, ◌<◌, length, take, slice_index, unwrap_or, IfSome};
 ghost use Rattle.lists.specs.Search.{first};
-ghost use Rattle.cutting.specs.Walk.{open_at, next_open, starts, walk_from, walk};
+ghost use Rattle.cutting.specs.declared.Slot.{Slot};
+ghost use Rattle.cutting.specs.Walk.{open_at, next_open, starts, walk_from, walk, slot, srcs, dsts, marks_of};
 ghost use Rattle.cutting.specs.Outcome.{of_walk};
-ghost use Rattle.cutting.specs.Lent.{slots_of, pairs, stacked};
+ghost use Rattle.cutting.specs.Lent.{pairs, stacked};
 ghost use Rattle.refusals.specs.Numbers.{by_number};
 ghost use Rattle.dart_walk.specs.Answer.{Room, Written, answer, corners_in, ends_in};
 
+use cutting::Slot;
 use dart_table::find_slot;
 use refusals::Refusal;
-
-fn wide(x: u32) -> usize
-    ensures { result ≡ x }
-{
-    x as usize
-}
-
-// The first unmarked slot of the node a from k on, below n; n, or k where that is larger, where there is none.
-fn first_open(src: &[u32], marks: &[u32], a: u32, k: usize, n: usize) -> usize
-    requires { (n ≤ length src.now) × (n ≤ length marks.now) }
-    ensures { result ≡ first (open_at src.now marks.now a) k n }
-{
-    let mut i = k;
-    while i < n {
-        if src[i] == a {
-            if marks[i] == 0 {
-                return i;
-            }
-        }
-        i += 1;
-    }
-    i
-}
-
-// The first unmarked slot of the node a after its slot r, going round, r itself last; n where there is none.
-fn next_open(src: &[u32], marks: &[u32], n: usize, a: u32, r: usize) -> usize
-    requires { (n ≤ length src.now) × (n ≤ length marks.now) × (r < n) }
-    ensures { result ≡ next_open true n src.now marks.now a r }
-{
-    let late = first_open(src, marks, a, r + 1, n);
-    if late < n {
-        return late;
-    }
-    let early = first_open(src, marks, a, 0, r);
-    if early < r {
-        return early;
-    }
-    if marks[r] == 0 {
-        return r;
-    }
-    n
-}
-
-// Fills the heap with the first slots of the outline's darts. Answers how many there are.
-fn fill_heap(outline: &[u32], src: &[u32], dst: &[u32], n: usize, heap: &mut [u32]) -> usize
-    requires { (n ≤ 1024) × (n ≤ length src.now) × (n ≤ length dst.now) × (length outline.now ≤ 2 * length heap.old) }
-    ensures { (2 * result ≤ length outline.now) × (stacked heap.new result ≡ starts n src.now dst.now (pairs outline.now) []) }
-{
-    let mut i = 0;
-    let mut k: usize = 0;
-    while i + 1 < outline.len() {
-        let a = outline[i];
-        let b = outline[i + 1];
-        let s = find_slot(src, dst, n, a, b);
-        heap[k] = s as u32;
-        k += 1;
-        i += 2;
-    }
-    k
-}
 
 // How many pieces a cell comes to, and corners in them.
 #[derive(Clone, Copy, Debug, PartialEq, Eq)]
@@ -79,22 +21,93 @@ pub struct Counts {
     pub entries: usize,
 }
 
-// Walks the table of n slots from the slots on the heap, of which there are `top`. A turn is a step of the definition.
+// The nodes that slot i leads from and to.
+fn ends(slots: &[Slot], i: usize) -> (u32, u32)
+    requires { i < length slots.now }
+    ensures { (result.0 ≡ slice_index (srcs slots.now) i) × (result.1 ≡ slice_index (dsts slots.now) i) }
+{
+    (slots[i].src, slots[i].dst)
+}
+
+// The first slot that leads from a to b, by the walk's lists.
+fn find(slots: &[Slot], a: u32, b: u32) -> Option<usize>
+    ensures within { IfSome result (λ i. i < length slots.now) }
+    ensures found { unwrap_or result (length slots.now) ≡ slot (length slots.now) (srcs slots.now) (dsts slots.now) a b }
+{
+    find_slot(slots, a, b)
+}
+
+// The first unmarked slot of the node a from k on, below n. By index, since the marks stand beside the slots, as in the definition's state.
+fn first_open(slots: &[Slot], marks: &[u32], a: u32, k: usize, n: usize) -> Option<usize>
+    requires { (k ≤ n) × (n ≤ length slots.now) × (n ≤ length marks.now) }
+    ensures within { IfSome result (λ i. i < n) }
+    ensures found { unwrap_or result n ≡ first (open_at (srcs slots.now) marks.now a) k n }
+{
+    for i in k..n {
+        if ends(slots, i).0 == a && marks[i] == 0 {
+            return Some(i);
+        }
+    }
+    None
+}
+
+// The first unmarked slot of the node a after its slot r, going round, r itself last.
+fn next_open(slots: &[Slot], marks: &[u32], a: u32, r: usize) -> Option<usize>
+    requires { (r < length slots.now) × (length slots.now ≤ length marks.now) }
+    ensures within { IfSome result (λ i. i < length slots.now) }
+    ensures found { unwrap_or result (length slots.now) ≡ next_open true (length slots.now) (srcs slots.now) marks.now a r }
+{
+    let late = first_open(slots, marks, a, r + 1, slots.len());
+    if late.is_some() {
+        return late;
+    }
+    let early = first_open(slots, marks, a, 0, r);
+    if early.is_some() {
+        return early;
+    }
+    if marks[r] == 0 { Some(r) } else { None }
+}
+
+// Fills the heap with the first slots of the outline's darts; the number of the slots stands for none. Answers how many there are.
+fn fill_heap(slots: &[Slot], outline: &[u32], heap: &mut [u32]) -> usize
+    requires { (length slots.now ≤ 1024) × (length outline.now ≤ 2 * length heap.old) }
+    ensures { (2 * result ≤ length outline.now)
+        × (stacked heap.new result ≡ starts (length slots.now) (srcs slots.now) (dsts slots.now) (pairs outline.now) []) }
+{
+    let mut k: usize = 0;
+    for dart in outline.chunks_exact(2) {
+        let s = find(slots, dart[0], dart[1]).unwrap_or(slots.len());
+        heap[k] = s as u32;
+        k += 1;
+    }
+    k
+}
+
+// Copies the slots' marks. By index, since what a loop over `iter_mut` writes isn't known behind it.
+fn copy_marks(slots: &[Slot], marks: &mut [u32])
+    requires { length slots.now ≤ length marks.old }
+    ensures { take (length slots.now) marks.new ≡ marks_of slots.now }
+{
+    for (i, slot) in slots.iter().enumerate() {
+        marks[i] = slot.mark;
+    }
+}
+
+// Walks the slots from those on the heap, of which there are `top`. A turn is a step of the definition.
 fn walk_on(
-    src: &[u32],
-    dst: &[u32],
-    n: usize,
+    slots: &[Slot],
     top: usize,
     marks: &mut [u32],
     heap: &mut [u32],
     nodes: &mut [u32],
     stops: &mut [u32],
 ) -> Result<Counts, Refusal>
-    requires { Room n top src.now dst.now marks.old heap.old nodes.old stops.old }
-    ensures { (by_number result ≡ answer (of_walk (walk_from true n src.now dst.now marks.old (stacked heap.old top))))
-        × Written (of_walk (walk_from true n src.now dst.now marks.old (stacked heap.old top))) nodes.old
+    requires { Room (length slots.now) top (srcs slots.now) (dsts slots.now) marks.old heap.old nodes.old stops.old }
+    ensures { (by_number result ≡ answer (of_walk (walk_from true (length slots.now) (srcs slots.now) (dsts slots.now) marks.old (stacked heap.old top))))
+        × Written (of_walk (walk_from true (length slots.now) (srcs slots.now) (dsts slots.now) marks.old (stacked heap.old top))) nodes.old
         stops.old nodes.new stops.new }
 {
+    let n = slots.len();
     let mut sp = top;
     let mut at = n;
     let mut start: u32 = 0;
@@ -103,26 +116,23 @@ fn walk_on(
     loop {
         if at < n {
             marks[at] = 1;
-            let x = src[at];
-            let y = dst[at];
-            let r = find_slot(src, dst, n, y, x);
-            if n <= r {
+            let (x, y) = ends(slots, at);
+            let Some(back) = find(slots, y, x) else {
                 return Err(Refusal::OpenWalk);
-            }
-            heap[sp] = r as u32;
+            };
+            heap[sp] = back as u32;
             sp += 1;
             if y == start {
                 stops[k] = m as u32;
                 k += 1;
                 at = n;
             } else {
-                let j = next_open(src, marks, n, y, r);
-                if n <= j {
+                let Some(next) = next_open(slots, marks, y, back) else {
                     return Err(Refusal::OpenWalk);
-                }
+                };
                 nodes[m] = y;
                 m += 1;
-                at = j;
+                at = next;
             }
         } else {
             if sp == 0 {
@@ -132,12 +142,12 @@ fn walk_on(
                 });
             }
             sp -= 1;
-            let i = wide(heap[sp]);
+            let i = heap[sp] as usize;
             if n <= i {
                 return Err(Refusal::OpenWalk);
             }
             if marks[i] == 0 {
-                start = src[i];
+                start = ends(slots, i).0;
                 nodes[m] = start;
                 m += 1;
                 at = i;
@@ -146,46 +156,45 @@ fn walk_on(
     }
 }
 
-// Walks a table of exactly n slots with lists of its own for the marks and the heap.
+// Walks the slots with lists of its own for the marks and the heap.
 fn walk_table(
-    src: &[u32],
-    dst: &[u32],
-    marks: &[u32],
-    n: usize,
+    slots: &[Slot],
     outline: &[u32],
     nodes: &mut [u32],
     stops: &mut [u32],
 ) -> Result<Counts, Refusal>
-    requires { (n ≤ 1024) × (length src.now ≡ n) × (length dst.now ≡ n) × (length marks.now ≡ n) × (length outline.now ≤ 2048) × (n ≤ length nodes.old) × (n ≤ length stops.old) }
-    ensures { (by_number result ≡ answer (of_walk (walk (pairs outline.now) (slots_of src.now dst.now marks.now n))))
-        × Written (of_walk (walk (pairs outline.now) (slots_of src.now dst.now marks.now n))) nodes.old
-        stops.old nodes.new stops.new }
+    requires { (length slots.now ≤ 1024) × (length outline.now ≤ 2048) × (length slots.now ≤ length nodes.old) × (length slots.now ≤ length stops.old) }
+    ensures { (by_number result ≡ answer (of_walk (walk (pairs outline.now) slots.now)))
+        × Written (of_walk (walk (pairs outline.now) slots.now)) nodes.old stops.old nodes.new stops.new }
 {
-    let mut own = [0u32; 1024];
+    let mut marks = [0u32; 1024];
     let mut heap = [0u32; 2048];
-    lists::copy_at(&mut own, 0, marks);
-    let top = fill_heap(outline, src, dst, n, &mut heap);
-    walk_on(src, dst, n, top, &mut own[..n], &mut heap, nodes, stops)
+    copy_marks(slots, &mut marks);
+    let top = fill_heap(slots, outline, &mut heap);
+    walk_on(
+        slots,
+        top,
+        &mut marks[..slots.len()],
+        &mut heap,
+        nodes,
+        stops,
+    )
 }
 
-// Walks the table of n slots from the outline's darts, a flat list of pairs. The corners of the pieces go to the front of `nodes`, one piece after
-// the other, and where each piece ends among them to the front of `stops`; both are zero on a refusal.
+// Walks the slots of a table from the outline's darts, a flat list of pairs. The corners of the pieces go to the front of `nodes`, one piece after the
+// other, and where each piece ends among them to the front of `stops`; both are zero on a refusal.
 pub fn walk_dart_map(
-    src: &[u32],
-    dst: &[u32],
-    marks: &[u32],
-    n: usize,
+    slots: &[Slot],
     outline: &[u32],
     nodes: &mut [u32],
     stops: &mut [u32],
 ) -> Result<Counts, Refusal>
-    requires { (n ≤ 1024) × (n ≤ length src.now) × (n ≤ length dst.now) × (n ≤ length marks.now) × (length outline.now ≤ 2048) × (n ≤ length nodes.old) × (n ≤ length stops.old) }
-    ensures { (by_number result ≡ answer (of_walk (walk (pairs outline.now) (slots_of src.now dst.now marks.now n))))
-        × (nodes.new ≡ corners_in (of_walk (walk (pairs outline.now) (slots_of src.now dst.now marks.now n)))
-        nodes.old) × (stops.new ≡ ends_in (of_walk
-        (walk (pairs outline.now) (slots_of src.now dst.now marks.now n))) stops.old) }
+    requires { (length slots.now ≤ 1024) × (length outline.now ≤ 2048) × (length slots.now ≤ length nodes.old) × (length slots.now ≤ length stops.old) }
+    ensures { (by_number result ≡ answer (of_walk (walk (pairs outline.now) slots.now)))
+        × (nodes.new ≡ corners_in (of_walk (walk (pairs outline.now) slots.now)) nodes.old)
+        × (stops.new ≡ ends_in (of_walk (walk (pairs outline.now) slots.now)) stops.old) }
 {
-    let walked = walk_table(&src[..n], &dst[..n], &marks[..n], n, outline, nodes, stops);
+    let walked = walk_table(slots, outline, nodes, stops);
     if walked.is_ok() {
         return walked;
     }

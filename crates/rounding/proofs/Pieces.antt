@@ -12,7 +12,8 @@ use Rattle.lists.proofs.Gather.{in_list}
 use Rattle.plane.proofs.Laws.{get_or_over}
 use Rattle.cutting.specs.Edges.{Edge, edge_at, ring, rings}
 use Rattle.cutting.specs.Setting.{Setting, ours}
-use Rattle.cutting.specs.Cell.{Laid, or_whole, near_darts, repeats, Slot, edge_slots, reverse_mark, table, is_new, new_to, inner_with, stands_before, cell_table_with, doubled}
+use Rattle.cutting.specs.Cell.{Laid, or_whole, near_darts, repeats, edge_slots, reverse_mark, table, is_new, new_to, inner_with, stands_before, cell_table_with, doubled}
+use Rattle.cutting.specs.declared.Slot.{Slot}
 use Rattle.cutting.specs.Walk.{Phase, resting, on_slot, State, Next, more, closed, stuck, broken, walk_steps, starts, walk_from, srcs, dsts, walk_with}
 use Rattle.cutting.proofs.Ways.{Way, ends, missing, passes, begins, lost, closes, goes, stops, Led, steps_keep}
 use Rattle.cutting.specs.Outcome.{Outcome, refusal, pieces, of_walk, too_many, closes_up, after_walk, cut_outcome_with, copied_outcome_with}

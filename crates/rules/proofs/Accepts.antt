@@ -10,7 +10,8 @@ use lib.ListN.{length, replicate}
 use Rattle.lists.specs.Gather.{gathered, joined}
 use Rattle.cutting.specs.Edges.{Edge, ring, rings}
 use Rattle.cutting.specs.Setting.{Setting}
-use Rattle.cutting.specs.Cell.{Slot, repeats, doubled}
+use Rattle.cutting.specs.Cell.{repeats, doubled}
+use Rattle.cutting.specs.declared.Slot.{Slot}
 use Rattle.cutting.specs.Walk.{Next, more, closed, stuck, broken, walk_with}
 use Rattle.cutting.specs.Outcome.{Outcome, refusal, pieces, of_walk, too_many, closes_up, after_walk, cut_outcome_with, copied_outcome_with}
 use Rattle.entry.specs.Mesh.{Mesh}

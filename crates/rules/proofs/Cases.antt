@@ -14,7 +14,8 @@ use Rattle.polygons.specs.Interior.{strict_interior_point}
 use Rattle.segments.specs.Code.{meeting_code}
 use Rattle.polygons.specs.Code.{inner_code}
 use Rattle.cutting.specs.Edges.{Edge, ring}
-use Rattle.cutting.specs.Cell.{Laid, Slot, stands_before, cell_table}
+use Rattle.cutting.specs.Cell.{Laid, stands_before, cell_table}
+use Rattle.cutting.specs.declared.Slot.{Slot}
 use Rattle.cutting.specs.Setting.{Setting, base}
 use Rattle.cutting.specs.Outcome.{Outcome, refusal, pieces, cut_outcome, flat, stops}
 use Rattle.cutting.specs.Areas.{doubled_area}

@@ -10,7 +10,8 @@ use Rattle.lists.specs.Gather.{each}
 use Rattle.lists.proofs.Gather.{length_each}
 use Rattle.cutting.specs.Edges.{Edge}
 use Rattle.cutting.specs.Setting.{ours}
-use Rattle.cutting.specs.Cell.{Laid, Slot, doubled, repeats}
+use Rattle.cutting.specs.Cell.{Laid, doubled, repeats}
+use Rattle.cutting.specs.declared.Slot.{Slot}
 use Rattle.cutting.specs.Outcome.{Outcome}
 use Rattle.cutting.specs.Areas.{ClosesUp}
 use Rattle.cutting.proofs.Closing.{accepted_once, accepted_closes_up, never_doubled, copy_once, copy_closes_up, copy_never_doubled}

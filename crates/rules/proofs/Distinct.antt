@@ -9,7 +9,8 @@ use lib.Dec.{ltb}
 use borrow.Author.Tests.{ltb-true, ltb-false}
 use Rattle.cutting.specs.Edges.{Edge, hops, ring, rings, times}
 use Rattle.cutting.specs.Setting.{Setting, ours}
-use Rattle.cutting.specs.Cell.{Slot, doubled, repeats}
+use Rattle.cutting.specs.Cell.{doubled, repeats}
+use Rattle.cutting.specs.declared.Slot.{Slot}
 use Rattle.cutting.specs.Walk.{State, state, Next, more, closed, stuck, broken, resting, walk_steps, walk_from, walk_with, starts, srcs, dsts, marks_of}
 use Rattle.cutting.specs.Outcome.{Outcome, refusal, pieces, of_walk, closes_up, after_walk, too_many, cut_outcome_with, copied_outcome_with}
 use Rattle.cutting.specs.Areas.{Closes, ClosesUp}

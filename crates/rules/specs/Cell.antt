@@ -3,7 +3,8 @@
 use Rattle.std.specs.Prelude.{Bool, true, List, [], ◌∷◌, map, ℕ, get_or}
 use Rattle.cutting.specs.Edges.{Edge, edge_at, ring}
 use Rattle.cutting.specs.Setting.{Setting, ours}
-use Rattle.cutting.specs.Cell.{Laid, outline_darts, Slot, cell_table_with, copied_table}
+use Rattle.cutting.specs.Cell.{Laid, outline_darts, cell_table_with, copied_table}
+use Rattle.cutting.specs.declared.Slot.{Slot}
 use Rattle.cutting.specs.Outcome.{Outcome, cut_outcome_with, copied_outcome_with}
 use Rattle.rules.specs.Mesh.{Side, other}
 use Rattle.rules.specs.SpatialIndex.{box_of, candidates}

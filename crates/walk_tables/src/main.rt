@@ -3,162 +3,95 @@
 
 ghost use Rattle.std.specs.Prelude.{◌≤◌, length};
 
+use dart_table::DartTable;
+use dart_walk::{Counts, walk_dart_map};
 use refusals::Refusal;
 use std::io;
 use std::io::{BufWriter, Write};
 
-fn wide(x: u32) -> usize {
-    x as usize
+// An edge from one node to another, by its sorted nodes, of which a whole edge has none.
+#[derive(Clone, Copy)]
+struct Edge<'a> {
+    from: u32,
+    to: u32,
+    nodes: &'a [u32],
 }
 
-// Edges one after the other: two nodes, the number of sorted nodes, and these. Answers the number of slots.
-fn add_own(
+fn along<'a>(from: u32, to: u32, nodes: &'a [u32]) -> Edge<'a> {
+    Edge { from, to, nodes }
+}
+
+fn whole<'a>(from: u32, to: u32) -> Edge<'a> {
+    along(from, to, &[])
+}
+
+// Walks the table of the cell's own edges and the edges near it.
+fn walk(
     coords: &[f64],
-    edges: &[u32],
-    outline: &mut [u32],
-    src: &mut [u32],
-    dst: &mut [u32],
-    marks: &mut [u32],
-) -> usize
-    requires { (1024 ≤ length outline.old) × (1024 ≤ length src.old) × (1024 ≤ length dst.old) × (1024 ≤ length marks.old) }
+    own: &[Edge<'_>],
+    near: &[Edge<'_>],
+    nodes: &mut [u32],
+    stops: &mut [u32],
+) -> Result<Counts, Refusal>
+    requires { (1024 ≤ length nodes.old) × (1024 ≤ length stops.old) }
 {
-    let mut n = 0;
-    let mut i = 0;
-    while i + 3 <= edges.len() {
-        let a = edges[i];
-        let b = edges[i + 1];
-        let k = wide(edges[i + 2]);
-        let from = i + 3;
-        if edges.len() - from < k {
-            return n;
-        }
-        let to = from + k;
-        n = dart_table::add_own_edge(coords, a, b, &edges[from..to], outline, src, dst, marks, n);
-        if 1024 < n {
-            return n;
-        }
-        i = to;
+    let mut outline = [0u32; 1024];
+    let mut table = DartTable::new();
+    for e in own {
+        table.add_own_edge(coords, e.from, e.to, e.nodes, &mut outline)?;
     }
-    n
+    let entries = table.slots().len();
+    if outlines::edges_repeat(&outline[..entries]) {
+        return Err(Refusal::RepeatedEdge);
+    }
+    for e in near {
+        table.add_near_edge(coords, e.from, e.to, e.nodes)?;
+    }
+    walk_dart_map(table.slots(), &outline[..entries], nodes, stops)
 }
 
-fn add_near(
-    coords: &[f64],
-    edges: &[u32],
-    src: &mut [u32],
-    dst: &mut [u32],
-    marks: &mut [u32],
-    slots: usize,
-) -> usize
-    requires { (slots ≤ 1024) × (1024 ≤ length src.old) × (1024 ≤ length dst.old) × (1024 ≤ length marks.old) }
+// The pieces' nodes, a line for each piece.
+fn show_pieces<W: Write>(out: &mut W, nodes: &[u32], stops: &[u32]) -> io::Result<()>
+    requires { length nodes.now ≤ 1024 }
 {
-    let mut n = slots;
-    let mut i = 0;
-    while i + 3 <= edges.len() {
-        let a = edges[i];
-        let b = edges[i + 1];
-        let k = wide(edges[i + 2]);
-        let from = i + 3;
-        if edges.len() - from < k {
-            return n;
-        }
-        let to = from + k;
-        n = dart_table::add_near_edge(coords, a, b, &edges[from..to], src, dst, marks, n);
-        if 1024 < n {
-            return n;
-        }
-        i = to;
-    }
-    n
-}
-
-// Ends a line where a piece ends. Answers how many have ended.
-fn ended<W: Write>(out: &mut W, stops: &[u32], p: usize, j: usize) -> io::Result<usize> {
-    if p < stops.len() {
-        if wide(stops[p]) == j {
-            out.write_all(b"\n")?;
-            return Ok(p + 1);
-        }
-    }
-    out.write_all(b" ")?;
-    Ok(p)
-}
-
-fn show_number<W: Write>(out: &mut W, x: u32) -> io::Result<()> {
-    write!(out, "{x}")
-}
-
-fn show_pieces<W: Write>(out: &mut W, nodes: &[u32], stops: &[u32]) -> io::Result<()> {
-    let mut p = 0;
     for (j, node) in nodes.iter().enumerate() {
-        show_number(out, *node)?;
-        p = ended(out, stops, p, j + 1)?;
+        let end = if stops.contains(&(j as u32 + 1)) {
+            "\n"
+        } else {
+            " "
+        };
+        write!(out, "{node}{end}")?;
     }
     Ok(())
 }
 
-fn refused<W: Write>(out: &mut W, why: Refusal) -> io::Result<()> {
-    out.write_all(b"refused ")?;
-    show_number(out, why.number())?;
-    out.write_all(b"\n")
-}
-
-fn show<W: Write>(out: &mut W, coords: &[f64], own: &[u32], near: &[u32]) -> io::Result<()> {
-    let mut outline = [0u32; 1024];
-    let mut src = [0u32; 1024];
-    let mut dst = [0u32; 1024];
-    let mut marks = [0u32; 1024];
+fn show<W: Write>(
+    out: &mut W,
+    coords: &[f64],
+    own: &[Edge<'_>],
+    near: &[Edge<'_>],
+) -> io::Result<()> {
     let mut nodes = [0u32; 1024];
     let mut stops = [0u32; 1024];
-    let top = add_own(coords, own, &mut outline, &mut src, &mut dst, &mut marks);
-    if 1024 < top {
-        return refused(out, Refusal::FullTable);
-    }
-    if outlines::edges_repeat(&outline[..top]) {
-        return refused(out, Refusal::RepeatedEdge);
-    }
-    let n = add_near(coords, near, &mut src, &mut dst, &mut marks, top);
-    if 1024 < n {
-        return refused(out, Refusal::FullTable);
-    }
-    let w = dart_walk::walk_dart_map(
-        &src,
-        &dst,
-        &marks,
-        n,
-        &outline[..top],
-        &mut nodes,
-        &mut stops,
-    );
-    match w {
+    match walk(coords, own, near, &mut nodes, &mut stops) {
         Ok(counts) => {
-            let m = counts.entries;
-            if m <= 1024 {
-                show_pieces(out, &nodes[..m], &stops)?;
-            }
-            Ok(())
+            let corners = counts.entries.min(1024);
+            let pieces = counts.pieces.min(1024);
+            show_pieces(out, &nodes[..corners], &stops[..pieces])
         }
-        Err(why) => refused(out, why),
+        Err(why) => writeln!(out, "refused {}", why.number()),
     }
 }
 
-// An edge with `count` sorted nodes: 0 to 511, then 0 again.
-fn ring(edge: &mut [u32], count: u32)
-    requires { 515 ≤ length edge.old }
+// A cell of one edge with `count` sorted nodes: 0 to 511, then 0 again.
+fn show_ring<W: Write>(out: &mut W, count: usize) -> io::Result<()>
+    requires { count ≤ 514 }
 {
-    for i in 3..515 {
-        edge[i] = (i - 3) as u32;
+    let mut nodes = [0u32; 514];
+    for i in 0..512 {
+        nodes[i] = i as u32;
     }
-    edge[1] = 1;
-    edge[2] = count;
-}
-
-fn show_ring<W: Write>(out: &mut W, count: u32) -> io::Result<()> {
-    let coords = [0.0; 2];
-    let none = [0u32; 1];
-    let mut edge = [0u32; 517];
-    ring(&mut edge, count);
-    show(out, &coords, &edge, &none)
+    show(out, &[0.0; 2], &[along(0, 1, &nodes[..count])], &[])
 }
 
 fn main(rt: HostRuntime) -> io::Result<()> {
@@ -168,35 +101,41 @@ fn main(rt: HostRuntime) -> io::Result<()> {
         0.0, 0.0, 2.0, 0.0, 2.0, 2.0, 0.0, 2.0, 1.0, -1.0, 3.0, -1.0, 3.0, 3.0, 1.0, 3.0, 1.0, 0.0,
         1.0, 2.0,
     ];
-    let k1_own = [0u32, 1, 3, 0, 8, 1, 1, 2, 0, 2, 3, 3, 2, 9, 3, 3, 0, 0];
-    let k1_near = [7u32, 4, 4, 4, 8, 9, 7];
-    show(&mut out, &k1, &k1_own, &k1_near)?;
+    let k1_own = [
+        along(0, 1, &[0, 8, 1]),
+        whole(1, 2),
+        along(2, 3, &[2, 9, 3]),
+        whole(3, 0),
+    ];
+    show(&mut out, &k1, &k1_own, &[along(7, 4, &[4, 8, 9, 7])])?;
     // K10: a line 4 5 that ends inside, at 6 on the edge 0 1
     let k10 = [
         0.0, 0.0, 2.0, 0.0, 2.0, 2.0, 0.0, 2.0, 1.0, -1.0, 1.0, 1.0, 1.0, 0.0,
     ];
-    let k10_own = [0u32, 1, 3, 0, 6, 1, 1, 2, 0, 2, 3, 0, 3, 0, 0];
-    let k10_near = [4u32, 5, 3, 4, 6, 5];
-    show(&mut out, &k10, &k10_own, &k10_near)?;
+    let k10_own = [
+        along(0, 1, &[0, 6, 1]),
+        whole(1, 2),
+        whole(2, 3),
+        whole(3, 0),
+    ];
+    show(&mut out, &k10, &k10_own, &[along(4, 5, &[4, 6, 5])])?;
     // the edge 0 1 comes whole once more
-    let square = [0u32, 1, 0, 1, 2, 0, 2, 3, 0, 3, 0, 0];
-    let twice = [1u32, 0, 0];
+    let square = [whole(0, 1), whole(1, 2), whole(2, 3), whole(3, 0)];
+    let twice = [whole(1, 0)];
     show(&mut out, &k1, &square, &twice)?;
     // the same edge with its nodes is the outline's own
-    let known = [1u32, 0, 2, 0, 1];
-    show(&mut out, &k1, &square, &known)?;
+    show(&mut out, &k1, &square, &[along(1, 0, &[0, 1])])?;
     // an outline that runs back along itself, and one from a node to itself
-    let folded = [0u32, 1, 0, 1, 2, 0, 2, 1, 0, 1, 0, 0];
-    let stuck = [0u32, 1, 0, 1, 1, 0, 1, 0, 0];
+    let folded = [whole(0, 1), whole(1, 2), whole(2, 1), whole(1, 0)];
+    let stuck = [whole(0, 1), whole(1, 1), whole(1, 0)];
     show(&mut out, &k1, &folded, &twice)?;
     show(&mut out, &k1, &stuck, &twice)?;
     // a copied cell
-    let none = [0u32; 1];
-    show(&mut out, &k1, &square, &none)?;
+    show(&mut out, &k1, &square, &[])?;
     // a triangle 0 4 5 inside, that touches the outline at 0: the walk passes 0 twice, or ends there where it starts at 0
     let inside = [0.0, 0.0, 2.0, 0.0, 2.0, 2.0, 0.0, 2.0, 1.0, 0.5, 0.5, 1.0];
-    let triangle = [0u32, 4, 0, 4, 5, 0, 5, 0, 0];
-    let later = [1u32, 2, 0, 2, 3, 0, 3, 0, 0, 0, 1, 0];
+    let triangle = [whole(0, 4), whole(4, 5), whole(5, 0)];
+    let later = [whole(1, 2), whole(2, 3), whole(3, 0), whole(0, 1)];
     show(&mut out, &inside, &square, &triangle)?;
     show(&mut out, &inside, &later, &triangle)?;
     // 1,024 slots, and 1,026

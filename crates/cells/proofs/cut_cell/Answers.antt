@@ -1,7 +1,7 @@
-use mathlib.Core.Path.{sym, ◌∙◌}
-use Prim.Native.Nat.{◌≤◌}
+use mathlib.Core.Path.{sym, ap, ◌∙◌}
+use Prim.Native.Nat.{ℕ}
 use native.Mathlib.Omega.{arith}
-use lib.ListN.{length}
+use lib.ListN.{length, take}
 use lib.Seq.{length-take-le}
 use Rattle.cells.specs.Cells.{outline_in}
 use Rattle.cells.proofs.Cut.{own_table, cut_as_lent, too_many_own, repeated_own}
@@ -14,27 +14,27 @@ returns-then-outline_repeats c =
     c.refused.ensures ∙ repeated_own a.coords.now a.w.now a.g a.edges a.js.now a.cell.now a.runs.now a.stops.now
     (sym found ∙ c.if-outline_repeats.true)
 
-pub returns-then-own-gt1024 : goal.returns-then-own-gt1024
-returns-then-own-gt1024 c =
+pub returns-then-is_err : goal.returns-then-is_err
+returns-then-is_err c =
     let a = c.args in
     let found = c.outline_repeats.ensures in
-    let own = c.own_darts-own in
-    c.refused-then-own-gt1024.ensures ∙ too_many_own a.coords.now a.w.now a.g a.edges a.js.now a.cell.now a.runs.now a.stops.now
-    (sym found ∙ c.if-outline_repeats.false) (own.ensures.0.over c.if-own-gt1024.true)
+    let own = c.own_darts in
+    c.refused-then-is_err.ensures ∙ too_many_own a.coords.now a.w.now a.g a.edges a.js.now a.cell.now a.runs.now a.stops.now
+    (sym found ∙ c.if-outline_repeats.false) (own.ensures.held.over (sym c.is_err.ensures.value ∙ c.if-is_err.true))
 
 pub slice_bounds-cut_outlined-end : goal.slice_bounds-cut_outlined-end
 slice_bounds-cut_outlined-end c =
-    let own = c.own_darts-own in
-    let few = c.if-own-gt1024.false in
-    sym (length-take-le own.result own.new.outline (omega (arith, few, own.auto.outline)))
+    let own = c.own_darts in
+    sym (length-take-le _ _ (omega (arith, c.slots-entries.ensures.few, ap length c.slots-entries.ensures.slots, own.auto.outline)))
 
 pub cut_outlined-requires : goal.cut_outlined-requires
 cut_outlined-requires c =
     let a = c.args in
-    let own = c.own_darts-own in
-    let few = c.if-own-gt1024.false in
-    let fits : own.result ≤ length own.new.outline = omega (arith, few, own.auto.outline) in
-    let long = length-take-le own.result own.new.outline fits in (
+    let own = c.own_darts in
+    let fits = sym c.is_err.ensures.value ∙ c.if-is_err.false in
+    let same = ap length c.slots-entries.ensures.slots in
+    let long = length-take-le (length c.slots-entries.result.now) own.new.outline (omega (arith, c.slots-entries.ensures.few, same, own.auto.outline)) in
+    let lent = ap (λ (n : ℕ). take n own.new.outline) same ∙ own.ensures.outlined fits in (
       record {
         within = c.requires.1;
         few = c.requires.2;
@@ -43,19 +43,16 @@ cut_outlined-requires c =
         corners_fit = c.requires.4;
         stops_fit = c.requires.5;
       },
-      record {
-        small = omega (arith, long, few);
-        src_fit = omega (arith, own.auto.src);
-        dst_fit = omega (arith, own.auto.dst);
-        marks_fit = omega (arith, own.auto.marks);
-        held = own_table a.coords.now (outline_in a.coords.now a.w.now a.g a.cell.now) own.new.outline own.result few own.ensures.1
-            own.new.src own.new.dst own.new.marks own.ensures.0 fits;
-      },
+      omega (arith, long, c.slots-entries.ensures.few, same),
+      own_table a.coords.now (outline_in a.coords.now a.w.now a.g a.cell.now) own.new.outline (length c.slots-entries.result.now) lent own.new.table (own.ensures.held.fits fits),
     )
 
 pub returns : goal.returns
 returns c =
     let a = c.args in
-    let own = c.own_darts-own in
-    cut_as_lent a.coords.now a.w.now a.g a.edges a.js.now a.cell.now a.runs.now a.stops.now own.new.outline own.result _
-    c.if-own-gt1024.false own.ensures.1 c.cut_outlined.ensures
+    let own = c.own_darts in
+    let fits = sym c.is_err.ensures.value ∙ c.if-is_err.false in
+    let same = ap length c.slots-entries.ensures.slots in
+    let lent = ap (λ (n : ℕ). take n own.new.outline) same ∙ own.ensures.outlined fits in
+    cut_as_lent a.coords.now a.w.now a.g a.edges a.js.now a.cell.now a.runs.now a.stops.now own.new.outline (length c.slots-entries.result.now) _
+    lent c.cut_outlined.ensures

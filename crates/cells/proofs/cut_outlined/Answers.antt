@@ -1,7 +1,13 @@
-use mathlib.Core.Path.{sym, ◌∙◌}
+use mathlib.Core.Path.{sym, ap, ◌∙◌}
+use mathlib.Core.List.{List}
 use native.Mathlib.Omega.{arith}
+use lib.ListN.{length}
+use Rattle.cutting.specs.declared.Slot.{Slot}
+use Rattle.cutting.specs.Walk.{walk}
+use Rattle.cutting.specs.Outcome.{of_walk}
 use Rattle.cutting.specs.Lent.{pairs}
-use Rattle.cells.proofs.Cut.{too_many, repeated, as_walked, near_few, near_places, near_held}
+use Rattle.cells.specs.Cells.{cut_as}
+use Rattle.cells.proofs.Cut.{too_many, repeated, as_walked, answered, near_few, near_places, near_held}
 use Rattle.cells.proofs.cut_outlined.Goals as goal
 
 pub returns-then-edges_repeat : goal.returns-then-edges_repeat
@@ -10,54 +16,44 @@ returns-then-edges_repeat c =
     let found = c.edges_repeat.ensures in
     c.refused.ensures ∙ repeated a.coords.now (pairs a.outline.now) _ a.runs.now a.stops.now (sym found ∙ c.if-edges_repeat.true)
 
-pub near_darts-slots-requires : goal.near_darts-slots-requires
-near_darts-slots-requires c =
+pub near_darts-requires : goal.near_darts-requires
+near_darts-requires c =
     let a = c.args in
     let lent = c.part-near.ensures in
-    let ready = c.requires.0 in
-    let tables = c.requires.1 in (
+    let ready = c.requires.0 in (
       near_few a.coords.now a.w.now a.g a.edges a.js.now _ lent ready.few,
       near_places a.coords.now a.w.now a.g a.edges a.js.now _ lent ready.places,
       ready.nodes_fit,
-      tables.small,
-      tables.src_fit,
-      tables.dst_fit,
-      tables.marks_fit,
-      tables.held,
+      c.requires.2,
     )
 
-pub returns-then-slots-gt1024 : goal.returns-then-slots-gt1024
-returns-then-slots-gt1024 c =
+pub returns-then-is_err : goal.returns-then-is_err
+returns-then-is_err c =
     let a = c.args in
-    let found = c.edges_repeat.ensures in
-    let once = sym found ∙ c.if-edges_repeat.false in
-    let lent = c.part-near.ensures in
-    let slots = c.near_darts-slots in
-    let held = near_held a.coords.now a.w.now a.g a.edges a.js.now _ lent (pairs a.outline.now) slots.result _ _ _ slots.ensures in
-    c.refused-then-slots-gt1024.ensures ∙ too_many a.coords.now (pairs a.outline.now) _ a.runs.now a.stops.now once
-    (held.over c.if-slots-gt1024.true)
+    let once = sym c.edges_repeat.ensures ∙ c.if-edges_repeat.false in
+    let near = c.near_darts in
+    let held = near_held a.coords.now a.w.now a.g a.edges a.js.now _ c.part-near.ensures (pairs a.outline.now) near.result near.new.table near.ensures in
+    c.refused-then-is_err.ensures ∙ too_many a.coords.now (pairs a.outline.now) _ a.runs.now a.stops.now once
+    (held.over (sym c.is_err.ensures.value ∙ c.if-is_err.true))
 
-pub walk_cell-requires : goal.walk_cell-requires
-walk_cell-requires c =
-    let slots = c.near_darts-slots in
-    let few = c.if-slots-gt1024.false in
-    let tables = c.requires.1 in (
-      few,
-      omega (arith, few, slots.auto.src, tables.src_fit),
-      omega (arith, few, slots.auto.dst, tables.dst_fit),
-      omega (arith, few, slots.auto.marks, tables.marks_fit),
-      omega (arith, tables.small),
-      c.requires.0.corners_fit,
-      c.requires.0.stops_fit,
+pub walk_dart_map-requires : goal.walk_dart_map-requires
+walk_dart_map-requires c =
+    let few = c.slots.ensures.few in
+    let same = ap length c.slots.ensures.slots in (
+      omega (arith, few, same),
+      omega (arith, c.requires.1),
+      omega (arith, few, same, c.requires.0.corners_fit),
+      omega (arith, few, same, c.requires.0.stops_fit),
     )
 
 pub returns : goal.returns
 returns c =
     let a = c.args in
-    let found = c.edges_repeat.ensures in
-    let once = sym found ∙ c.if-edges_repeat.false in
-    let lent = c.part-near.ensures in
-    let slots = c.near_darts-slots in
-    let held = near_held a.coords.now a.w.now a.g a.edges a.js.now _ lent (pairs a.outline.now) slots.result _ _ _ slots.ensures in
-    as_walked a.coords.now (pairs a.outline.now) _ slots.result _ _ _ a.runs.now a.stops.now _ once c.if-slots-gt1024.false held
-    c.walk_cell.ensures
+    let once = sym c.edges_repeat.ensures ∙ c.if-edges_repeat.false in
+    let near = c.near_darts in
+    let held = near_held a.coords.now a.w.now a.g a.edges a.js.now _ c.part-near.ensures (pairs a.outline.now) near.result near.new.table near.ensures in
+    let w = c.walk_dart_map in
+    let cuts = answered (of_walk (walk (pairs a.outline.now) c.slots.result.now)) w.result a.runs.now a.stops.now _ _ w.ensures.0 w.ensures.1 w.ensures.2 in
+    as_walked a.coords.now (pairs a.outline.now) _ near.new.table a.runs.now a.stops.now _ once c.slots.ensures.few
+    (held.fits (sym c.is_err.ensures.value ∙ c.if-is_err.false))
+    (cuts ∙ ap (λ (t : List Slot). cut_as (of_walk (walk (pairs a.outline.now) t)) a.runs.now a.stops.now) c.slots.ensures.slots)

@@ -2,7 +2,8 @@
 -- (`Turns`). The measure: twice the unmarked slots and the heap. Assumes nothing.
 use mathlib.Core.Bool.{true}
 use Prim.Native.Nat.{◌+◌, ◌*◌}
-use Rattle.cutting.specs.Walk.{walk_from}
+use lib.ListN.{length}
+use Rattle.cutting.specs.Walk.{walk_from, srcs, dsts}
 use Rattle.cutting.specs.Lent.{stacked}
 use Rattle.cutting.proofs.Rounds.{unmarked}
 use Rattle.dart_walk.proofs.Turns.{Inv}
@@ -10,9 +11,10 @@ use Rattle.dart_walk.proofs.walk_on.Given as goal
 
 abbrev pub invariant-loop-at : goal.invariant-loop-at
 invariant-loop-at l =
-    Inv l.n l.top l.src l.dst (walk_from true l.n l.src l.dst l.initial.marks (stacked l.initial.heap l.top))
+    Inv (length l.slots) l.top (srcs l.slots) (dsts l.slots)
+    (walk_from true (length l.slots) (srcs l.slots) (dsts l.slots) l.initial.marks (stacked l.initial.heap l.top))
     l.initial.marks l.initial.heap l.initial.nodes l.initial.stops l.marks l.heap l.nodes l.stops l.sp l.at l.start l.m l.k
 
 abbrev pub decreases-loop-at : goal.decreases-loop-at
 decreases-loop-at l =
-    2 * unmarked l.n l.marks + l.sp
+    2 * unmarked (length l.slots) l.marks + l.sp
