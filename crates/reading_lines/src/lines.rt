@@ -109,7 +109,7 @@ pub fn read_nodes<'a>(s: &'a [u8], coords: &mut [f64]) -> Option<(usize, &'a [u8
     Some((room, rest))
 }
 
-// numbers with a space before each, as many as the list has room for: how many there are, and the text after them
+// Numbers with a space before each, as many as the list has room for: how many there are, and the text after them. Written by index, as above.
 #[tactic(auto, using(crate::proofs::Many::entries_steps))]
 pub fn read_entries<'a>(s: &'a [u8], nodes: &mut [u32]) -> Option<(usize, &'a [u8])>
     ensures read { read_by (λ n. take n nodes.new) result ≡ entries_from (length nodes.old) [] s.now }
