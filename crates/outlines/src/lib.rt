@@ -20,7 +20,11 @@ fn lay_along(inv: bool, nodes: &[u32], darts: &mut [u32]) -> usize
     // The darts are written by index: of a list written through `chunks_exact_mut` a proof knows the length alone.
     let mut k = 0;
     for pair in nodes.windows(2) {
-        let (a, b) = if inv { (pair[1], pair[0]) } else { (pair[0], pair[1]) };
+        let (a, b) = if inv {
+            (pair[1], pair[0])
+        } else {
+            (pair[0], pair[1])
+        };
         darts[k] = a;
         darts[k + 1] = b;
         k += 2;

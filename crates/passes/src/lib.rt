@@ -24,7 +24,11 @@ fn kind_by(sk: &[u8], ck: &[u8], tag: u32) -> u8
     ensures { result ≡ kind_by sk.now ck.now tag }
 {
     let k = tag / 2;
-    if 2 * k == tag { entry_at(sk, ck, k as usize, 0) } else { PGON }
+    if 2 * k == tag {
+        entry_at(sk, ck, k as usize, 0)
+    } else {
+        PGON
+    }
 }
 
 // The family of the piece's cell.
