@@ -1,12 +1,13 @@
 -- Lists read backwards, and the steps from corner to corner. Assumes nothing.
 use mathlib.Core.Path.{◌≡◌, refl, sym, ap, ◌∙◌, subst}
-use mathlib.Core.Bool.{Bool, true, false, false≢true}
+use mathlib.Core.Bool.{Bool, true, false, not, beq, false≢true}
 use mathlib.Core.List.{List, [], ◌∷◌, reverse_aux}
 use Prim.Native.Nat.{ℕ, zero, suc, ◌+◌, ◌≤◌}
 use native.Mathlib.Nat.{zero-add}
 use native.Mathlib.Omega.{arith}
 use lib.ListN.{length, get_or, length-reverse}
 use borrow.Author.Tests.{le-ltb}
+use Rattle.std.proofs.lemmas.List.{reverse-reverse}
 use Rattle.corners.specs.Corners.{corner_after, oriented}
 use Rattle.plane.proofs.Laws.{get_or_over}
 
@@ -44,3 +45,11 @@ no_corner b ps i h = sym (get_or_over (oriented b ps) i 0 (subst (λ (n : ℕ). 
 pub after_over : (n i : ℕ) → n ≤ i → 0 ≡ corner_after n i
 unfolding corner_after
 after_over n i h = rw (le-ltb (i + 1) n (omega arith)) refl
+
+-- read backwards, and turned
+pub turned_again : (b t : Bool) (ps : List ℕ) → oriented (not (beq b t)) ps ≡ oriented t (oriented b ps)
+unfolding oriented
+turned_again false false ps = refl
+turned_again false true ps = refl
+turned_again true false ps = refl
+turned_again true true ps = sym (reverse-reverse ps)

@@ -1,5 +1,5 @@
 -- Answers as a number and a point in a lent list, for C. Assumes nothing.
-use Rattle.std.specs.Prelude.{List, cond, ℕ, ◌+◌, ◌*◌, ltb, Float, length, set}
+use Rattle.std.specs.Prelude.{Option, None, Some, List, cond, ℕ, ◌+◌, ◌*◌, ltb, Float, length, set}
 use Rattle.std.specs.declared.cmp.Ordering.{Ordering}
 use Rattle.std.specs.declared.cmp.Ordering.TheVariants.{Less, Equal, Greater}
 use Rattle.plane.specs.declared.Point.{Point}
@@ -8,8 +8,6 @@ use Rattle.segments.specs.declared.Segment.{Segment}
 use Rattle.segments.specs.declared.PointId.{PointId}
 use Rattle.segments.specs.declared.Meeting.{Meeting}
 use Rattle.segments.specs.declared.Meeting.TheVariants.{Apart, Existing, New, Overlap}
-use Rattle.polygons.specs.declared.Inner.{Inner}
-use Rattle.polygons.specs.declared.Inner.TheVariants.{Nowhere, Inside}
 
 -- 0 below, 1 zero, 2 above
 abbrev pub side_number : Ordering → ℕ
@@ -37,13 +35,13 @@ meet_point (Existing p) l = l
 meet_point (New x y) l = new_point x y l
 meet_point (Overlap p q) l = l
 
-abbrev pub inner_number : Inner → ℕ
-inner_number Nowhere = 0
-inner_number (Inside x y) = 1
+abbrev pub inner_number : Option Point → ℕ
+inner_number None = 0
+inner_number (Some p) = 1
 
-abbrev pub inner_point : Inner → List Float → List Float
-inner_point Nowhere l = l
-inner_point (Inside x y) l = new_point x y l
+abbrev pub inner_point : Option Point → List Float → List Float
+inner_point None l = l
+inner_point (Some p) l = new_point p.x p.y l
 
 abbrev pub point_of : Float → Float → Point
 point_of x y = record { x = x; y = y }

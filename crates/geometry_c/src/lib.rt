@@ -9,8 +9,8 @@ ghost use Rattle.insides.specs.Inside.{contains_stable};
 ghost use Rattle.polygons.specs.Interior.{strict_interior_point};
 ghost use Rattle.geometry_c.specs.Numbers.{side_number, meet_number, new_point, meet_point, inner_number, inner_point, point_of, segment_from};
 
+use corners::Ring;
 use plane::Point;
-use polygons::Inner;
 use segments::{Meeting, Segment};
 use std::cmp::Ordering;
 
@@ -107,26 +107,17 @@ pub extern "C" fn geometry_meet(
     meet_number(m)
 }
 
-fn inner_number(i: Inner) -> u8
+fn inner_number(i: Option<Point>) -> u8
     ensures { result ≡ inner_number i }
 {
-    match i {
-        Inner::Nowhere => 0,
-        Inner::Inside(x, y) => 1,
-    }
+    u8::from(i.is_some())
 }
 
-fn put_inner(i: Inner, point: &mut [f64])
+fn put_inner(i: Option<Point>, point: &mut [f64])
     ensures { point.new ≡ inner_point i point.old }
 {
-    match i {
-        Inner::Nowhere => {
-            return;
-        }
-        Inner::Inside(x, y) => {
-            put(point, x, y);
-            return;
-        }
+    if let Some(p) = i {
+        put(point, p.x, p.y);
     }
 }
 
@@ -136,7 +127,7 @@ pub extern "C" fn geometry_inner(coords: &[f64], corners: &[u32], point: &mut [f
     ensures value { result ≡ inner_number (strict_interior_point coords.now corners.now) }
     ensures point_after { point.new ≡ inner_point (strict_interior_point coords.now corners.now) point.old }
 {
-    let i = polygons::strict_interior_point(coords, corners);
+    let i = polygons::strict_interior_point(Ring::new(coords, corners));
     put_inner(i, point);
     inner_number(i)
 }
@@ -146,7 +137,7 @@ pub extern "C" fn geometry_inner(coords: &[f64], corners: &[u32], point: &mut [f
 pub extern "C" fn geometry_turned(coords: &[f64], corners: &[u32]) -> bool
     ensures { result ≡ turned coords.now corners.now }
 {
-    corners::into_ccw2(coords, corners)
+    Ring::new(coords, corners).is_turned()
 }
 
 // The corners, read backwards where `back`, go counter-clockwise.
@@ -160,5 +151,10 @@ pub extern "C" fn geometry_contains_stable(
 ) -> bool
     ensures { result ≡ contains_stable coords.now (oriented back corners.now) (point_of x y) }
 {
-    insides::contains_stable(coords, corners, back, point_of(x, y))
+    let ring = Ring {
+        coords,
+        corners,
+        back,
+    };
+    insides::contains_stable(ring, point_of(x, y))
 }

@@ -4,8 +4,8 @@
 // first 65,536 bytes are read, and each line that ends there.
 #![tactic(auto)]
 
+use corners::Ring;
 use plane::point_at;
-use polygons::Inner;
 use segments::{Meeting, Segment};
 use std::alloc::Global;
 use std::cmp::Ordering;
@@ -89,9 +89,9 @@ fn orient(coords: &[f64]) -> Ordering {
 
 fn inner<W: Write>(alloc: Global, out: &mut W, coords: &[f64], points: u32) -> io::Result<()> {
     let corners: Vec<u32> = (0..points).collect(alloc)?;
-    match polygons::strict_interior_point(coords, &corners) {
-        Inner::Nowhere => out.write_all(b"none"),
-        Inner::Inside(x, y) => write!(out, "{} {}", Bits(x), Bits(y)),
+    match polygons::strict_interior_point(Ring::new(coords, &corners)) {
+        None => out.write_all(b"none"),
+        Some(p) => write!(out, "{} {}", Bits(p.x), Bits(p.y)),
     }
 }
 
@@ -101,7 +101,7 @@ fn inside<W: Write>(alloc: Global, out: &mut W, coords: &[f64], points: u32) -> 
     write!(
         out,
         "{}",
-        insides::inside(coords, &corners, point_at(coords, 0))
+        insides::inside(Ring::new(coords, &corners), point_at(coords, 0))
     )
 }
 

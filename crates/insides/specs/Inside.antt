@@ -1,5 +1,5 @@
 -- Whether a point lies inside a polygon, by the closest corner or edge: document 01, module 2. Assumes nothing.
-use Rattle.std.specs.Prelude.{Bool, true, false, cond, ◌&&◌, ◌||◌, List, ℕ, zero, suc, ltb, length, Float}
+use Rattle.std.specs.Prelude.{Bool, false, cond, ◌&&◌, ◌||◌, List, ℕ, zero, suc, ltb, length, Float}
 use Rattle.std.specs.Float.{inf}
 use Rattle.std.specs.Float.Ieee.{lt, eq}
 use Rattle.std.specs.Float.Ieee.Scale.{finite}
@@ -11,6 +11,8 @@ use Rattle.plane.specs.Plane.{◌⊘◌, zero_f, one_f, between, dot, along}
 use Rattle.corners.specs.Corners.{corner_at, corner_after, corner_before, into_ccw2}
 use Rattle.plane.specs.declared.Point.{Point}
 use Rattle.insides.specs.declared.Reached.{Reached}
+use Rattle.insides.specs.declared.Place.{Place}
+use Rattle.insides.specs.declared.Place.TheVariants.{Corner, Edge}
 use Rattle.insides.specs.declared.Near.{Near}
 
 -- The exact sign of (ax−cx)(by−cy) − (ay−cy)(bx−cx). With a coordinate that is not finite there is no such number, and c is neither left nor right.
@@ -36,9 +38,7 @@ ortho_dist2 p a b =
 unfoldable pub settle : ℕ → ℕ → Reached → Near → Near
 settle n i r b =
     cond (lt r.d b.d)
-    (cond (eq r.t zero_f) (record { d = r.d; edge = false; at = i })
-    (cond (eq r.t one_f) (record { d = r.d; edge = false; at = corner_after n i })
-    (record { d = r.d; edge = true; at = i })))
+    (record { d = r.d; place = cond (eq r.t zero_f) (Corner i) (cond (eq r.t one_f) (Corner (corner_after n i)) (Edge i)) })
     b
 
 unfoldable pub nearer_edge : List Float → List ℕ → Point → ℕ → Near → Near
@@ -46,7 +46,7 @@ nearer_edge cs ps p i b = settle (length ps) i (ortho_dist2 p (corner_at cs ps i
 
 -- the closest of the first n edges and their corners; corner 0 where none is closer than infinity
 unfoldable pub nearest_among : ℕ → List Float → List ℕ → Point → Near
-nearest_among zero cs ps p = record { d = inf false; edge = false; at = 0 }
+nearest_among zero cs ps p = record { d = inf false; place = Corner 0 }
 nearest_among (suc n) cs ps p = nearer_edge cs ps p n (nearest_among n cs ps p)
 
 unfoldable pub nearest : List Float → List ℕ → Point → Near
@@ -67,12 +67,14 @@ at_corner cs ps i p =
     let j = corner_after (length ps) i in
     cond (reflex cs ps h i j) (left_of cs ps h i p || left_of cs ps i j p) (left_of cs ps h i p && left_of cs ps i j p)
 
+-- p's side where the closest place is this one
+abbrev pub at_place : List Float → List ℕ → Place → Point → Bool
+at_place cs ps (Corner i) p = at_corner cs ps i p
+at_place cs ps (Edge i) p = left_of cs ps i (corner_after (length ps) i) p
+
 -- the corners go counter-clockwise; under 3 of them nothing is inside
 unfoldable pub contains_stable : List Float → List ℕ → Point → Bool
-contains_stable cs ps p =
-    cond (ltb (length ps) 3) false
-    (let b = nearest cs ps p in
-    cond b.edge (left_of cs ps b.at (corner_after (length ps) b.at) p) (at_corner cs ps b.at p))
+contains_stable cs ps p = cond (ltb (length ps) 3) false (at_place cs ps (nearest cs ps p).place p)
 
 -- the corners go either way round
 unfoldable pub inside : List Float → List ℕ → Point → Bool

@@ -1,11 +1,11 @@
-// Whether a point lies inside a polygon (document 01, module 2), its corners a run of node numbers, the coordinates a flat list, x then y.
+// Whether a point lies inside a polygon (document 01, module 2), by the corner or the edge of its ring that is closest.
 #![tactic(auto)]
 
 ghost use Rattle.std.specs.Prelude.{◌≡◌};
-ghost use Rattle.corners.specs.Corners.{oriented};
-ghost use Rattle.insides.specs.Inside.{clamped, ortho_dist2, settle, nearer_edge, nearest, orient2d2, left_of, reflex, at_corner, contains_stable, inside};
+ghost use Rattle.corners.specs.Ring.{as_read};
+ghost use Rattle.insides.specs.Inside.{ortho_dist2, settle, nearest, orient2d2, left_of, reflex, at_corner, contains_stable, inside};
 
-use corners::{after, corner_at, into_ccw2, previous};
+use corners::{Ring, after, previous};
 use plane::Point;
 use std::cmp::Ordering;
 
@@ -16,12 +16,18 @@ pub struct Reached {
     pub d: f64,
 }
 
-// What is closest to a point so far: the squared distance, and the edge from the corner `at`, or the corner itself.
+// A place on a polygon: a corner, or the edge from a corner, between its ends.
+#[derive(Clone, Copy)]
+pub enum Place {
+    Corner(usize),
+    Edge(usize),
+}
+
+// The place closest to a point so far, and the squared distance.
 #[derive(Clone, Copy)]
 pub struct Near {
     pub d: f64,
-    pub edge: bool,
-    pub at: usize,
+    pub place: Place,
 }
 
 fn orient2d2(a: Point, b: Point, c: Point) -> Ordering
@@ -36,137 +42,98 @@ fn orient2d2(a: Point, b: Point, c: Point) -> Ordering
     Ordering::Equal
 }
 
-fn clamped(t: f64) -> f64
-    ensures { result ≡ clamped t }
-{
-    if t < 0.0 {
-        return 0.0;
-    }
-    if t > 1.0 {
-        return 1.0;
-    }
-    t
-}
-
-#[tactic(auto, unfolding(crate::specs::Inside::ortho_dist2))]
+#[tactic(auto, unfolding(crate::specs::Inside::ortho_dist2, crate::specs::Inside::clamped))]
 fn ortho_dist2(p: Point, a: Point, b: Point) -> Reached
     ensures { result ≡ ortho_dist2 p a b }
 {
     let ab = b - a;
-    let t = clamped(ab.dot(p - a) / ab.dot(ab));
+    let t = (ab.dot(p - a) / ab.dot(ab)).clamp(0.0, 1.0);
     let v = a.along(t, ab) - p;
-    let d = v.dot(v);
-    Reached { t, d }
+    Reached { t, d: v.dot(v) }
 }
 
+#[tactic(auto, unfolding(crate::specs::Inside::settle))]
 fn settle(n: usize, i: usize, r: Reached, b: Near) -> Near
     ensures { result ≡ settle n i r b }
 {
     if r.d < b.d {
-        if r.t == 0.0 {
-            return Near {
-                d: r.d,
-                edge: false,
-                at: i,
-            };
-        }
-        if r.t == 1.0 {
-            let j = after(n, i);
-            return Near {
-                d: r.d,
-                edge: false,
-                at: j,
-            };
-        }
-        return Near {
-            d: r.d,
-            edge: true,
-            at: i,
+        let place = if r.t == 0.0 {
+            Place::Corner(i)
+        } else if r.t == 1.0 {
+            Place::Corner(after(n, i))
+        } else {
+            Place::Edge(i)
         };
+        return Near { d: r.d, place };
     }
     b
 }
 
-fn nearer(coords: &[f64], corners: &[u32], back: bool, p: Point, i: usize, b: Near) -> Near
-    ensures { result ≡ nearer_edge coords.now (oriented back corners.now) p i b }
+fn nearest(ring: Ring, p: Point) -> Near
+    ensures { result ≡ nearest ring.entry.coords.now (as_read ring.entry) p }
 {
-    let n = corners.len();
-    let j = after(n, i);
-    let u = corner_at(coords, corners, back, i);
-    let v = corner_at(coords, corners, back, j);
-    let r = ortho_dist2(p, u, v);
-    settle(n, i, r, b)
-}
-
-fn nearest(coords: &[f64], corners: &[u32], back: bool, p: Point) -> Near
-    ensures { result ≡ nearest coords.now (oriented back corners.now) p }
-{
-    let mut b = Near {
-        d: 1.0 / 0.0,
-        edge: false,
-        at: 0,
+    let n = ring.len();
+    let none = Near {
+        d: f64::INFINITY,
+        place: Place::Corner(0),
     };
-    let mut i: usize = 0;
-    while i < corners.len() {
-        b = nearer(coords, corners, back, p, i, b);
-        i += 1;
-    }
-    b
+    ring.edges().enumerate().fold(none, |b, (i, (u, v))| settle(n, i, ortho_dist2(p, u, v), b))
 }
 
-fn left_of(coords: &[f64], corners: &[u32], back: bool, i: usize, j: usize, p: Point) -> bool
-    ensures { result ≡ left_of coords.now (oriented back corners.now) i j p }
+#[tactic(auto, unfolding(crate::specs::Inside::left_of))]
+fn left_of(ring: Ring, i: usize, j: usize, p: Point) -> bool
+    ensures { result ≡ left_of ring.entry.coords.now (as_read ring.entry) i j p }
 {
-    let a = corner_at(coords, corners, back, i);
-    let b = corner_at(coords, corners, back, j);
+    let a = ring.corner(i);
+    let b = ring.corner(j);
     // The rim is outside.
     orient2d2(a, b, p).is_gt()
 }
 
-fn reflex(coords: &[f64], corners: &[u32], back: bool, i: usize, j: usize, k: usize) -> bool
-    ensures { result ≡ reflex coords.now (oriented back corners.now) i j k }
+#[tactic(auto, unfolding(crate::specs::Inside::reflex))]
+fn reflex(ring: Ring, i: usize, j: usize, k: usize) -> bool
+    ensures { result ≡ reflex ring.entry.coords.now (as_read ring.entry) i j k }
 {
-    let a = corner_at(coords, corners, back, i);
-    let b = corner_at(coords, corners, back, j);
-    let c = corner_at(coords, corners, back, k);
+    let a = ring.corner(i);
+    let b = ring.corner(j);
+    let c = ring.corner(k);
     orient2d2(a, b, c).is_lt()
 }
 
-fn at_corner(coords: &[f64], corners: &[u32], back: bool, i: usize, p: Point) -> bool
-    ensures { result ≡ at_corner coords.now (oriented back corners.now) i p }
+#[tactic(auto, unfolding(crate::specs::Inside::at_corner))]
+fn at_corner(ring: Ring, i: usize, p: Point) -> bool
+    ensures { result ≡ at_corner ring.entry.coords.now (as_read ring.entry) i p }
 {
-    let n = corners.len();
+    let n = ring.len();
     let h = previous(n, i);
     let j = after(n, i);
-    let first = left_of(coords, corners, back, h, i, p);
-    let second = left_of(coords, corners, back, i, j, p);
-    if reflex(coords, corners, back, h, i, j) {
+    let first = left_of(ring, h, i, p);
+    let second = left_of(ring, i, j, p);
+    if reflex(ring, h, i, j) {
         return first | second;
     }
     first & second
 }
 
-// The corners, read backwards where back is true, go counter-clockwise.
-pub fn contains_stable(coords: &[f64], corners: &[u32], back: bool, p: Point) -> bool
-    ensures { result ≡ contains_stable coords.now (oriented back corners.now) p }
+// The corners go counter-clockwise.
+#[tactic(auto, unfolding(crate::specs::Inside::contains_stable))]
+pub fn contains_stable(ring: Ring, p: Point) -> bool
+    ensures { result ≡ contains_stable ring.entry.coords.now (as_read ring.entry) p }
 {
-    let n = corners.len();
+    let n = ring.len();
     if n < 3 {
         return false;
     }
-    let b = nearest(coords, corners, back, p);
-    let at = b.at;
-    if b.edge {
-        let j = after(n, at);
-        return left_of(coords, corners, back, at, j, p);
+    match nearest(ring, p).place {
+        Place::Corner(i) => at_corner(ring, i, p),
+        Place::Edge(i) => left_of(ring, i, after(n, i), p),
     }
-    at_corner(coords, corners, back, at, p)
 }
 
 // Whether the point lies inside the polygon, its corners going either way round.
-pub fn inside(coords: &[f64], corners: &[u32], p: Point) -> bool
-    ensures { result ≡ inside coords.now corners.now p }
+#[tactic(auto, unfolding(crate::specs::Inside::inside))]
+pub fn inside(ring: Ring, p: Point) -> bool
+    ensures { result ≡ inside ring.entry.coords.now (as_read ring.entry) p }
 {
-    let back = into_ccw2(coords, corners);
-    contains_stable(coords, corners, back, p)
+    contains_stable(ring.into_ccw2(), p)
 }

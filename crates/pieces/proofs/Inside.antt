@@ -6,12 +6,12 @@ use Prim.Native.Nat.{ℕ, ◌+◌, ◌-◌, ◌≤◌, ◌<◌}
 use native.Mathlib.Decide.{dec_lt}
 use native.Mathlib.Omega.{arith}
 use lib.Ieee.{Float}
+use Rattle.std.specs.Prelude.{Some}
 use lib.ListN.{length, get_or, take, drop}
 use lib.Seq.{get_or-take}
 use Rattle.lists.specs.Search.{has}
 use Rattle.lists.proofs.Search.{has_at, has_some, has_none}
 use Rattle.plane.specs.declared.Point.{Point}
-use Rattle.polygons.specs.declared.Inner.TheVariants.{Inside}
 use Rattle.entry.specs.Mesh.{prior}
 use Rattle.rules.specs.Mesh.{cell_at}
 use Rattle.rules.specs.declared.Bounds.{Bounds}
@@ -73,11 +73,11 @@ module _ (coords : List Float) (nodes ends : List ℕ) (x y : Float) where
   pub passed_none : Passed 0
   passed_none i h l = absurd (omega (arith, h))
 
-  some_hold : (r : Bool) → has holds (length ends) ≡ r → r ≡ some_holds coords (runs_of nodes ends) (Inside x y)
+  some_hold : (r : Bool) → has holds (length ends) ≡ r → r ≡ some_holds coords (runs_of nodes ends) (Some (at x y))
   unfolding some_holds
   some_hold r e = sym (ap (has holds) (length_runs nodes ends) ∙ e)
 
-  pub none_holds : (from : ℕ) → Passed from → length ends ≤ from → false ≡ some_holds coords (runs_of nodes ends) (Inside x y)
+  pub none_holds : (from : ℕ) → Passed from → length ends ≤ from → false ≡ some_holds coords (runs_of nodes ends) (Some (at x y))
   none_holds from passed h = some_hold false (none_has holds (length ends) (λ i l. passed i (omega (arith, h, l)) l))
 
   -- ---- a round: the first n in the list are the first 64 cells from `from` on whose boxes hold the point
@@ -130,7 +130,7 @@ module _ (coords : List Float) (nodes ends : List ℕ) (x y : Float) where
       abbrev test : ℕ → Bool
       test = contains_at coords (runs_of nodes ends) (at x y) (take n found)
 
-      pub one_holds : r ≡ true → true ≡ some_holds coords (runs_of nodes ends) (Inside x y)
+      pub one_holds : r ≡ true → true ≡ some_holds coords (runs_of nodes ends) (Some (at x y))
       one_holds t =
           let s = has_some test (length (take n found)) (sym e ∙ t) in
           some_hold true (has_at holds (length ends) (get_or (take n found) s.0 0) (places_low s.0 s.1) (holds_is s.0 s.1 ∙ s.2))
@@ -155,7 +155,7 @@ module _ (coords : List Float) (nodes ends : List ℕ) (x y : Float) where
             go (no b) false g = g
             go (no b) true g = absurd (not_behind i h (behind i (omega (arith, b)) l g))
 
-        pub passed_all : n < 64 → false ≡ some_holds coords (runs_of nodes ends) (Inside x y)
+        pub passed_all : n < 64 → false ≡ some_holds coords (runs_of nodes ends) (Some (at x y))
         passed_all h = none_holds (length ends) (passed_to (length ends) (λ j l b. omega (arith, b.0, h, round.count))) (omega arith)
 
         pub passed_more : 64 ≤ n → Passed (get_or found 63 0 + 1)

@@ -1,20 +1,20 @@
 // Which pieces of a cell an operation keeps (document 01, "Operations"), and their placing behind those of the cells before.
 #![tactic(auto)]
 
-ghost use Rattle.std.specs.Prelude.{◌≡◌, ◌&&◌, cond, [], ◌∷◌, ◌+◌, ◌^◌, ◌≤◌, ◌<◌, leb, ltb, length};
+ghost use Rattle.std.specs.Prelude.{◌≡◌, Some, ◌&&◌, cond, [], ◌∷◌, ◌+◌, ◌^◌, ◌≤◌, ◌<◌, leb, ltb, length};
 ghost use Rattle.lists.specs.Gather.{passing};
 ghost use Rattle.lists.specs.Regions.{put};
-ghost use Rattle.polygons.specs.declared.Inner.TheVariants.{Inside};
 ghost use Rattle.entry.specs.Mesh.{prior, Rising};
 ghost use Rattle.rules.specs.Inside.{some_holds, point_inside};
 ghost use Rattle.rules.specs.Operations.{keeps};
 ghost use Rattle.strips.specs.Index.{Indexed};
 ghost use Rattle.pieces.specs.Pieces.{side_of, runs_of, cell_contains, CellPlaces, one_contains, keep_of, is_kept, tagged, Space, Placeable, placing, refused_by, placed_behind, BeforeZeroing};
 
+use corners::Ring;
 use insides::inside;
 use lists::copy_at;
 use plane::Point;
-use polygons::{Inner, strict_interior_point};
+use polygons::strict_interior_point;
 use rules::Bounds;
 use strips::{Index, Things};
 
@@ -53,7 +53,7 @@ fn cell_contains(coords: &[f64], nodes: &[u32], ends: &[u32], j: usize, p: Point
 {
     let s = start_of(ends, j);
     let e = ends[j] as usize;
-    inside(coords, &nodes[s..e], p)
+    inside(Ring::new(coords, &nodes[s..e]), p)
 }
 
 // Whether one of the cells at these places contains p.
@@ -76,18 +76,16 @@ fn some_holds<'a>(
     nodes: &'a [u32],
     ends: &'a [u32],
     ix: &'a [u32],
-    x: f64,
-    y: f64,
+    p: Point,
 ) -> bool
     requires { Indexed coords.now nodes.now ends.now ix.now }
-    ensures { result ≡ some_holds coords.now (runs_of nodes.now ends.now) (Inside x y) }
+    ensures { result ≡ some_holds coords.now (runs_of nodes.now ends.now) (Some p) }
 {
-    let p = Point { x, y };
     let b = Bounds {
-        left: x,
-        low: y,
-        right: x,
-        high: y,
+        left: p.x,
+        low: p.y,
+        right: p.x,
+        high: p.y,
     };
     let things = Things {
         coords,
@@ -118,11 +116,10 @@ fn point_inside(coords: &[f64], nodes: &[u32], ends: &[u32], ix: &[u32], piece: 
     requires { Indexed coords.now nodes.now ends.now ix.now }
     ensures { result ≡ point_inside coords.now (runs_of nodes.now ends.now) piece.now }
 {
-    let p = strict_interior_point(coords, piece);
-    let Inner::Inside(x, y) = p else {
+    let Some(p) = strict_interior_point(Ring::new(coords, piece)) else {
         return false;
     };
-    some_holds(coords, nodes, ends, ix, x, y)
+    some_holds(coords, nodes, ends, ix, p)
 }
 
 // ---- Kept or not

@@ -1,30 +1,24 @@
-// A point strictly inside a polygon (document 01, module 2). The corners are a run of node numbers, the coordinates a flat list, x then y.
+// A point strictly inside a polygon (document 01, module 2).
 #![tactic(auto)]
 
-ghost use Rattle.std.specs.Prelude.{◌≡◌, length};
+ghost use Rattle.std.specs.Prelude.{◌≡◌, length, Some};
 ghost use Rattle.std.specs.Float.Ieee.{lt};
 ghost use Rattle.lists.specs.Gather.{all};
 ghost use Rattle.lists.specs.Sort.{sorted};
 ghost use Rattle.plane.specs.Plane.{is_number};
-ghost use Rattle.polygons.specs.Interior.{heights, passed, widest_in, crossing_at, crossings, lowest, point_on, at_height, strict_interior_point};
+ghost use Rattle.corners.specs.Ring.{as_read};
+ghost use Rattle.polygons.specs.Interior.{heights, passed, widest_in, crossing_at, crossings, lowest, at_height, strict_interior_point};
 ghost use Rattle.polygons.specs.Scans.{lower, closer, first_above, climb_to, taken, with_crossing};
 
-use corners::{after, corner_at, doubled};
+use corners::Ring;
 use plane::Point;
-
-// A height, or none.
-#[derive(Clone, Copy)]
-pub enum Height {
-    Nothing,
-    At(f64),
-}
 
 // How far the heights have been climbed, and the widest gap on the way with its middle.
 #[derive(Clone, Copy)]
 pub struct Climb {
-    pub at: Height,
+    pub at: Option<f64>,
     pub widest: f64,
-    pub middle: Height,
+    pub middle: Option<f64>,
 }
 
 // The two lowest of some numbers.
@@ -33,132 +27,83 @@ pub enum Lowest {
     Empty,
     One(f64),
     Two(f64, f64),
-    Unordered,
 }
 
-// A point strictly inside, or none.
-#[derive(Clone, Copy)]
-pub enum Inner {
-    Nowhere,
-    Inside(f64, f64),
-}
-
-fn all_numbers(coords: &[f64], corners: &[u32]) -> bool
-    ensures { result ≡ all is_number (heights coords.now corners.now) }
+fn all_numbers(ring: Ring) -> bool
+    ensures { result ≡ all is_number (heights ring.entry.coords.now (as_read ring.entry)) }
 {
-    let mut ok = true;
-    let mut i: usize = 0;
-    while i < corners.len() {
-        let a = corner_at(coords, corners, false, i);
-        ok = ok & (a.y == a.y);
-        i += 1;
-    }
-    ok
+    ring.points().all(|p| !p.y.is_nan())
 }
 
-fn lower(b: Height, y: f64) -> Height
+// The lower one of b and y, b where they are equal: `f64::min` leaves open which of 0 and −0 it gives.
+fn lower(b: Option<f64>, y: f64) -> Option<f64>
     ensures { result ≡ lower b y }
 {
     match b {
-        Height::Nothing => Height::At(y),
-        Height::At(z) => {
-            if y < z {
-                return Height::At(y);
-            }
-            Height::At(z)
-        }
+        Some(z) if !(y < z) => b,
+        _ => Some(y),
     }
 }
 
 // The height y against the lowest one above h so far, b.
-fn closer(h: Height, b: Height, y: f64) -> Height
+#[tactic(auto, unfolding(crate::specs::Scans::closer))]
+fn closer(h: Option<f64>, b: Option<f64>, y: f64) -> Option<f64>
     ensures { result ≡ closer h b y }
 {
     match h {
-        Height::Nothing => lower(b, y),
-        Height::At(z) => {
-            if z < y {
-                return lower(b, y);
-            }
-            b
-        }
+        Some(z) if !(z < y) => b,
+        _ => lower(b, y),
     }
 }
 
 // The lowest height above h, the first of them where several are equal.
-fn above(coords: &[f64], corners: &[u32], h: Height) -> Height
-    ensures { result ≡ first_above h (sorted lt (heights coords.now corners.now)) }
+fn above(ring: Ring, h: Option<f64>) -> Option<f64>
+    ensures { result ≡ first_above h (sorted lt (heights ring.entry.coords.now (as_read ring.entry))) }
 {
-    let mut b = Height::Nothing;
-    let mut i: usize = 0;
-    while i < corners.len() {
-        let a = corner_at(coords, corners, false, i);
-        b = closer(h, b, a.y);
-        i += 1;
-    }
-    b
+    ring.points().fold(None, |b, p| closer(h, b, p.y))
 }
 
+#[tactic(auto, unfolding(crate::specs::Interior::passed))]
 fn passed(c: Climb, y: f64) -> Climb
     ensures { result ≡ passed c y }
 {
-    let at = c.at;
-    let middle = c.middle;
-    match at {
-        Height::Nothing => Climb {
-            at: Height::At(y),
-            widest: c.widest,
-            middle,
-        },
-        Height::At(l) => {
-            let g = y - l;
-            if g > c.widest {
-                return Climb {
-                    at: Height::At(y),
-                    widest: g,
-                    middle: Height::At((l + y) / 2.0),
-                };
-            }
-            Climb {
-                at: Height::At(y),
-                widest: c.widest,
-                middle,
-            }
+    let at = Some(y);
+    if let Some(l) = c.at {
+        let g = y - l;
+        if g > c.widest {
+            return Climb {
+                at,
+                widest: g,
+                middle: Some((l + y) / 2.0),
+            };
         }
     }
+    Climb { at, ..c }
 }
 
 // From height to height, until none is above.
-fn climbs(coords: &[f64], corners: &[u32]) -> Climb
-    ensures { result ≡ climb_to (length corners.now) (sorted lt (heights coords.now corners.now)) }
+fn climbs(ring: Ring) -> Climb
+    ensures { result ≡ climb_to (length (as_read ring.entry)) (sorted lt (heights ring.entry.coords.now (as_read ring.entry))) }
 {
     let mut c = Climb {
-        at: Height::Nothing,
+        at: None,
         widest: 0.0,
-        middle: Height::Nothing,
+        middle: None,
     };
-    let mut i: usize = 0;
-    while i < corners.len() {
-        let at = c.at;
-        let next = above(coords, corners, at);
-        let Height::At(y) = next else {
-            return c;
-        };
+    while let Some(y) = above(ring, c.at) {
         c = passed(c, y);
-        i += 1;
     }
     c
 }
 
 // The middle of the widest gap.
-fn widest(coords: &[f64], corners: &[u32]) -> Height
-    ensures { result ≡ widest_in coords.now corners.now }
+fn widest(ring: Ring) -> Option<f64>
+    ensures { result ≡ widest_in ring.entry.coords.now (as_read ring.entry) }
 {
-    if all_numbers(coords, corners) {
-        let c = climbs(coords, corners);
-        return c.middle;
+    if all_numbers(ring) {
+        return climbs(ring).middle;
     }
-    Height::Nothing
+    None
 }
 
 fn crossing_at(a: Point, b: Point, m: f64) -> f64
@@ -167,89 +112,63 @@ fn crossing_at(a: Point, b: Point, m: f64) -> f64
     a.x + (m - a.y) * (b.x - a.x) / (b.y - a.y)
 }
 
-fn taken(l: Lowest, x: f64) -> Lowest
+#[tactic(auto, using(crate::proofs::Scans::number_is), unfolding(crate::specs::Scans::taken))]
+fn taken(l: Lowest, x: f64) -> Option<Lowest>
     ensures { result ≡ taken l x }
 {
-    if x == x {
-        match l {
-            Lowest::Empty => {
-                return Lowest::One(x);
-            }
-            Lowest::One(a) => {
-                if x < a {
-                    return Lowest::Two(x, a);
-                }
-                return Lowest::Two(a, x);
-            }
-            Lowest::Two(a, b) => {
-                if x < a {
-                    return Lowest::Two(x, a);
-                }
-                if x < b {
-                    return Lowest::Two(a, x);
-                }
-                return Lowest::Two(a, b);
-            }
-            Lowest::Unordered => {
-                return Lowest::Unordered;
-            }
-        }
+    if x.is_nan() {
+        return None;
     }
-    Lowest::Unordered
+    match l {
+        Lowest::Empty => Some(Lowest::One(x)),
+        Lowest::One(a) if x < a => Some(Lowest::Two(x, a)),
+        Lowest::One(a) => Some(Lowest::Two(a, x)),
+        Lowest::Two(a, b) if x < a => Some(Lowest::Two(x, a)),
+        Lowest::Two(a, b) if x < b => Some(Lowest::Two(a, x)),
+        Lowest::Two(a, b) => Some(Lowest::Two(a, b)),
+    }
 }
 
-fn with_crossing(coords: &[f64], corners: &[u32], m: f64, i: usize, l: Lowest) -> Lowest
-    ensures { result ≡ with_crossing coords.now corners.now m i l }
+// The edge from a to b, where one of its ends is below m and the other is not.
+#[tactic(auto, unfolding(crate::specs::Scans::with_crossing))]
+fn with_crossing(m: f64, a: Point, b: Point, l: Lowest) -> Option<Lowest>
+    ensures { result ≡ with_crossing m a b l }
 {
-    let j = after(corners.len(), i);
-    let a = corner_at(coords, corners, false, i);
-    let b = corner_at(coords, corners, false, j);
     if (a.y < m) != (b.y < m) {
         return taken(l, crossing_at(a, b, m));
     }
-    l
+    Some(l)
 }
 
-fn lowest_two(coords: &[f64], corners: &[u32], m: f64) -> Lowest
-    ensures { result ≡ lowest (crossings coords.now corners.now m) }
+// None where a crossing is no number.
+fn lowest_two(ring: Ring, m: f64) -> Option<Lowest>
+    ensures { result ≡ lowest (crossings ring.entry.coords.now (as_read ring.entry) m) }
 {
-    let mut l = Lowest::Empty;
-    let mut i: usize = 0;
-    while i < corners.len() {
-        l = with_crossing(coords, corners, m, i, l);
-        i += 1;
-    }
-    l
+    ring.edges()
+        .try_fold(Lowest::Empty, |l, (a, b)| with_crossing(m, a, b, l))
 }
 
-fn point_on(l: Lowest, m: f64) -> Inner
-    ensures { result ≡ point_on l m }
+fn at_height(ring: Ring, m: f64) -> Option<Point>
+    ensures { result ≡ at_height ring.entry.coords.now (as_read ring.entry) (Some m) }
 {
-    match l {
-        Lowest::Empty => Inner::Nowhere,
-        Lowest::One(x) => Inner::Nowhere,
-        Lowest::Two(x, y) => Inner::Inside((x + y) / 2.0, m),
-        Lowest::Unordered => Inner::Nowhere,
-    }
-}
-
-fn at_height(coords: &[f64], corners: &[u32], h: Height) -> Inner
-    ensures { result ≡ at_height coords.now corners.now h }
-{
-    let Height::At(m) = h else {
-        return Inner::Nowhere;
+    let Lowest::Two(x, y) = lowest_two(ring, m)? else {
+        return None;
     };
-    point_on(lowest_two(coords, corners, m), m)
+    Some(Point {
+        x: (x + y) / 2.0,
+        y: m,
+    })
 }
 
-pub fn strict_interior_point(coords: &[f64], corners: &[u32]) -> Inner
-    ensures { result ≡ strict_interior_point coords.now corners.now }
+#[tactic(auto, unfolding(crate::specs::Interior::strict_interior_point))]
+pub fn strict_interior_point(ring: Ring) -> Option<Point>
+    ensures { result ≡ strict_interior_point ring.entry.coords.now (as_read ring.entry) }
 {
-    if corners.len() < 3 {
-        return Inner::Nowhere;
+    if ring.len() < 3 {
+        return None;
     }
-    if plane::magnitude(doubled(coords, corners)) < 1e-30 {
-        return Inner::Nowhere;
+    if plane::magnitude(ring.doubled()) < 1e-30 {
+        return None;
     }
-    at_height(coords, corners, widest(coords, corners))
+    at_height(ring, widest(ring)?)
 }

@@ -1,32 +1,31 @@
-use mathlib.Core.Path.{refl}
-use Prim.Native.Nat.{zero-le}
+-- `insides::nearest` meets its contract: the closest place is kept from edge to edge. Assumes nothing.
+use mathlib.Core.Path.{◌≡◌, refl, ap, ◌∙◌}
+use mathlib.Core.Logic.{inl}
+use Prim.Native.Nat.{ℕ}
 use native.Mathlib.Omega.{arith}
+use lib.Ieee.{of_bits}
 use lib.ListN.{length}
-use lib.Ieee.{div, of_bits}
-use Rattle.corners.specs.Corners.{oriented}
-use Rattle.insides.specs.Inside.{nearest_among, nearest}
-use Rattle.corners.proofs.Corners.{length_oriented}
-use Rattle.corners.proofs.Steps.{ended}
-use Rattle.insides.proofs.Steps.{nearest_turn}
+use Rattle.std.specs.List.{fold, enumerate_from}
+use Rattle.std.proofs.Common.{rules}
+use Rattle.std.proofs.lemmas.Iterator.Consumers.{fold_from_yields_List, YieldsList-from_first, YieldsList-from_enumerate, YieldsList-at}
+use Rattle.plane.specs.declared.Point.{Point}
+use Rattle.corners.specs.Ring.{as_read, edge_at, edges, edges_left}
+use Rattle.corners.proofs.Steps.{fold_counted, length_edges}
+use Rattle.insides.specs.Inside.{ortho_dist2, settle, nearer_edge, nearest_among, nearest}
+use Rattle.insides.specs.declared.Near.{Near}
 use Rattle.insides.proofs.nearest.Goals as goal
 
-pub loop-i-init : goal.loop-i-init
-unfolding nearest_among div of_bits
-loop-i-init c = (zero-le, refl)
-
-pub loop-i-preserved : goal.loop-i-preserved
-loop-i-preserved c =
-    let a = c.args in
-    let l = c.loop-i in (
-      omega arith,
-      nearest_turn l.i a.coords.now (oriented a.back a.corners.now) a.p l.b c.nearer-b.result
-          l.invariant.1 c.nearer-b.ensures,
-    )
+pub fold-requires-clause-can : goal.fold-requires-clause-can
+fold-requires-clause-can c =
+    let r = c.args.ring in
+    let e : length (edges_left c.enumerate.result.iter) ≡ length r.corners.now = ap (λ s. length (edges_left s)) c.enumerate.ensures.source ∙ ap length c.edges.ensures ∙ length_edges r in
+    (tt, tt, inl (omega (arith, c.enumerate.ensures.count, e, c.ranges.ring)))
 
 pub returns : goal.returns
-unfolding nearest
+unfolding nearest nearest_among nearer_edge of_bits
 returns c =
-    let a = c.args in
-    let l = c.loop-i in
-    rw length_oriented (ended (λ k. nearest_among k a.coords.now (oriented a.back a.corners.now) a.p) l.i (length a.corners.now) l.b
-    l.invariant.1 l.invariant.0 c.loop-i-test.false)
+    let r = c.args.ring in
+    let h : Near → ℕ × (Point × Point) → Near = λ b e. settle c.len-n.result e.0 (ortho_dist2 c.args.p e.1.0 e.1.1) b in
+    fold_from_yields_List _ h _ _ c.fold.ensures.ran (YieldsList-from_enumerate (YieldsList-at c.enumerate.ensures.source (YieldsList-from_first (λ x. x) edges_left _ c.edges.ensures)) c.enumerate.ensures.count) (λ s e t f k. search rules)
+    ∙ ap (λ m. fold (λ b e. settle m e.0 (ortho_dist2 c.args.p e.1.0 e.1.1) b) (nearest_among 0 r.coords.now (as_read r) c.args.p) (enumerate_from 0 (edges r))) c.len-n.ensures
+    ∙ fold_counted (λ k. nearest_among k r.coords.now (as_read r) c.args.p) (λ b e. settle (length (as_read r)) e.0 (ortho_dist2 c.args.p e.1.0 e.1.1) b) (edge_at r) (λ k. refl) (length (as_read r))

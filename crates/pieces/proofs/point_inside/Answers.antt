@@ -4,9 +4,9 @@ use Rattle.pieces.proofs.point_inside.Goals as goal
 
 pub returns-in_default : goal.returns-in_default
 unfolding some_holds point_inside
-returns-in_default c = simp (← c.strict_interior_point-p.ensures, c.in_default.is)
+returns-in_default c = simp (← c.new.ensures.coords_are, ← c.new.ensures.corners_are, ← c.strict_interior_point.ensures, c.in_default.is)
 
 pub returns : goal.returns
 unfolding point_inside
 returns c =
-    simp (← c.strict_interior_point-p.ensures, c.in-Inside.is, c.some_holds.ensures)
+    simp (← c.new.ensures.coords_are, ← c.new.ensures.corners_are, ← c.strict_interior_point.ensures, c.in-Some.is, c.some_holds.ensures)

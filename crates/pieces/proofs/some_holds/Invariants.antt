@@ -6,7 +6,7 @@ use Rattle.pieces.proofs.Inside.{Passed}
 use Rattle.pieces.proofs.some_holds.Given as goal
 
 abbrev pub invariant-loop-from : goal.invariant-loop-from
-invariant-loop-from l = (length l.found ≡ 64) × Passed l.coords l.nodes l.ends l.x l.y l.from
+invariant-loop-from l = (length l.found ≡ 64) × Passed l.coords l.nodes l.ends l.p.x l.p.y l.from
 
 abbrev pub decreases-loop-from : goal.decreases-loop-from
 decreases-loop-from l = length l.ends - l.from

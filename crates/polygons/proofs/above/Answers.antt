@@ -1,35 +1,25 @@
-use mathlib.Core.Path.{refl}
-use Prim.Native.Nat.{zero-le}
-use native.Mathlib.Omega.{arith}
+use mathlib.Core.Path.{◌∙◌}
 use lib.ListN.{length}
-use lib.Ieee.{lt}
+use lib.Ieee.{Float, lt}
+use Rattle.std.specs.Prelude.{Option}
+use Rattle.std.proofs.Common.{rules}
+use Rattle.std.proofs.lemmas.Iterator.Consumers.{fold_from_yields_List, YieldsList-from_first}
 use Rattle.lists.specs.Gather.{gathered, each}
 use Rattle.lists.specs.Sort.{sort_onto, sorted}
-use Rattle.corners.specs.Corners.{oriented}
+use Rattle.plane.specs.declared.Point.{Point}
+use Rattle.corners.specs.Corners.{corner_at}
+use Rattle.corners.specs.Ring.{as_read, points_left}
+use Rattle.corners.proofs.Steps.{fold_each}
 use Rattle.polygons.specs.Interior.{height_at, heights}
-use Rattle.polygons.specs.Scans.{first_above}
-use Rattle.corners.proofs.Steps.{ended}
+use Rattle.polygons.specs.Scans.{first_above, closer}
 use Rattle.polygons.proofs.Steps.{above_turn}
 use Rattle.polygons.proofs.above.Goals as goal
 
-pub loop-i-init : goal.loop-i-init
-unfolding first_above sort_onto gathered
-loop-i-init c = (zero-le, refl)
-
-pub loop-i-preserved : goal.loop-i-preserved
-unfolding oriented
-loop-i-preserved c =
-    let a = c.args in
-    let l = c.loop-i in (
-      omega arith,
-      above_turn l.i a.coords.now a.corners.now a.h l.b c.closer-b.result c.corner_at-a.result
-          l.invariant.1 c.corner_at-a.ensures c.closer-b.ensures,
-    )
-
 pub returns : goal.returns
-unfolding heights
+unfolding heights gathered first_above sort_onto
 returns c =
-    let a = c.args in
-    let l = c.loop-i in
-    ended (λ k. first_above a.h (sorted lt (each k (height_at a.coords.now a.corners.now)))) l.i (length a.corners.now) l.b
-    l.invariant.1 l.invariant.0 c.loop-i-test.false
+    let r = c.args.ring in
+    let h : Option Float → Point → Option Float = λ b p. closer c.args.h b p.y in
+    fold_from_yields_List _ h _ _ c.fold.ensures.ran (YieldsList-from_first (λ x. x) points_left _ c.points.ensures) (λ b p t f k. search rules)
+    ∙ fold_each (λ k. first_above c.args.h (sorted lt (each k (height_at r.coords.now (as_read r))))) h (corner_at r.coords.now (as_read r))
+    (above_turn c.args.h r.coords.now (as_read r)) (length (as_read r))

@@ -1,40 +1,28 @@
-use mathlib.Core.Path.{refl}
-use Prim.Native.Nat.{zero-le}
-use native.Mathlib.Omega.{arith}
+use mathlib.Core.Path.{◌≡◌, ◌∙◌}
+use mathlib.Core.List.{List}
+use Prim.Native.Nat.{ℕ}
 use lib.ListN.{length}
-use lib.Ieee.{lt}
+use lib.Ieee.{Float, lt}
 use Rattle.lists.specs.Sort.{sorted}
-use Rattle.polygons.specs.Interior.{heights}
-use Rattle.polygons.specs.Scans.{climb_to}
-use Rattle.corners.proofs.Steps.{ended}
-use Rattle.polygons.proofs.Steps.{climb_turn, climb_over}
+use Rattle.lists.proofs.Gather.{length_each}
+use Rattle.lists.proofs.Sort.{length_sorted}
+use Rattle.corners.specs.Ring.{as_read}
+use Rattle.polygons.specs.Interior.{height_at, heights}
+use Rattle.polygons.proofs.Steps.{at_foot, fewer_left, one_up, at_top}
 use Rattle.polygons.proofs.climbs.Goals as goal
 
-pub loop-i-init : goal.loop-i-init
-unfolding climb_to
-loop-i-init c = (zero-le, refl)
+length_heights : (cs : List Float) (ps : List ℕ) → length (sorted lt (heights cs ps)) ≡ length ps
+unfolding heights
+length_heights cs ps = length_sorted lt (heights cs ps) ∙ length_each (length ps) (height_at cs ps)
 
--- none is above
-pub returns-in_default : goal.returns-in_default
-returns-in_default c =
-    let a = c.args in
-    let l = c.loop-i in
-    climb_over l.i (length a.corners.now) (sorted lt (heights a.coords.now a.corners.now)) l.c _ l.invariant.1 l.invariant.0
-    c.above-next.ensures c.in_default.is
+pub loop-y-init : goal.loop-y-init
+loop-y-init c = at_foot _ _ (length_heights c.args.ring.coords.now (as_read c.args.ring))
 
-pub loop-i-preserved : goal.loop-i-preserved
-loop-i-preserved c =
-    let a = c.args in
-    let l = c.loop-i in
-    let t = c.loop-i-test.true in (
-      omega (arith, t),
-      climb_turn l.i (sorted lt (heights a.coords.now a.corners.now)) l.c c.passed-c.result _ _ l.invariant.1
-          c.above-next.ensures c.in-At.is c.passed-c.ensures,
-    )
+pub loop-y-smaller : goal.loop-y-smaller
+loop-y-smaller c = rw c.passed-c.ensures (fewer_left (length (as_read c.args.ring)) _ _ _ c.above.ensures _ c.in-Some.is)
+
+pub loop-y-preserved : goal.loop-y-preserved
+loop-y-preserved c = rw c.passed-c.ensures (one_up _ _ _ _ c.above.ensures _ c.in-Some.is c.loop-y.invariant)
 
 pub returns : goal.returns
-returns c =
-    let a = c.args in
-    let l = c.loop-i in
-    ended (λ k. climb_to k (sorted lt (heights a.coords.now a.corners.now))) l.i (length a.corners.now) l.c
-    l.invariant.1 l.invariant.0 c.loop-i-test.false
+returns c = at_top _ _ _ _ c.above.ensures c.in_default.is c.loop-y.invariant

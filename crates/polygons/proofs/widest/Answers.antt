@@ -5,7 +5,7 @@ use Rattle.polygons.specs.Interior.{widest_in}
 use Rattle.polygons.proofs.widest.Goals as goal
 
 pub returns-then-all_numbers : goal.returns-then-all_numbers
-returns-then-all_numbers c = climbs_in _ _ c.climbs-c.result _ c.all_numbers.ensures c.if-all_numbers.true c.climbs-c.ensures
+returns-then-all_numbers c = climbs_in _ _ c.climbs.result _ c.all_numbers.ensures c.if-all_numbers.true c.climbs.ensures
 
 pub returns : goal.returns
 unfolding widest_in
