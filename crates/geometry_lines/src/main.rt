@@ -1,6 +1,6 @@
 // Answers lines on the geometry layer by itself, as the published Rust does in a differential run: a word and numbers, each the 16
 // hexadecimal digits of an f64. `meet` two segments; `inner` the corners of a polygon; `inside` a point and the corners; `orient`
-// three points; `around` a centre and its neighbours. Any other line, or one of more than 512 points, is (unread). Of the input the
+// three points; `around` a centre and its neighbours. The word is known by its third letter; of a line 512 points are read. Of the input the
 // first 65,536 bytes are read, and each line that ends there.
 #![tactic(auto)]
 
@@ -41,12 +41,22 @@ fn float_of(bits: u64) -> f64 {
     }
 }
 
-fn number(word: &str) -> Option<f64> {
-    if word.len() != 16 || word.starts_with('+') {
-        return None;
+// A hexadecimal digit's value; any other character counts as 0.
+fn digit(b: u8) -> u64 {
+    match b {
+        b'0'..=b'9' => (b - b'0') as u64,
+        b'a'..=b'f' => (b - b'a') as u64 + 10,
+        _ => 0,
     }
-    let bits = u64::from_str_radix(word, 16).ok()?;
-    Some(float_of(bits))
+}
+
+// The number that the first 16 digits of a word are the bits of.
+fn number(word: &[u8]) -> f64 {
+    let mut bits = 0;
+    for b in word.iter().take(16) {
+        bits = bits << 4 | digit(*b);
+    }
+    float_of(bits)
 }
 
 // ---- Answers
@@ -126,26 +136,20 @@ fn unread<W: Write>(out: &mut W) -> io::Result<()> {
     out.write_all(b"(unread)")
 }
 
-fn answer<W: Write>(alloc: Global, out: &mut W, line: &str) -> io::Result<()> {
-    let mut words = line.split(' ');
-    let form = words.next().unwrap_or("");
+fn answer<W: Write>(alloc: Global, out: &mut W, line: &[u8]) -> io::Result<()> {
+    let mut words = line.split(|b| *b == b' ');
+    let form = words.next().and_then(|word| word.get(2));
     let mut coords = Vec::new(alloc);
-    for word in words {
-        match number(word) {
-            Some(x) => coords.push(x)?,
-            None => return unread(out),
-        }
+    for word in words.take(2 * MOST_POINTS) {
+        coords.push(number(word))?;
     }
-    if coords.len() % 2 != 0 || coords.len() / 2 > MOST_POINTS {
-        return unread(out);
-    }
-    let points = (coords.len() / 2) as u32;
-    match (form, points) {
-        ("meet", 4) => write!(out, "{}", Met(meet(&coords))),
-        ("inner", _) => inner(alloc, out, &coords, points),
-        ("inside", 1..) => inside(alloc, out, &coords, points),
-        ("orient", 3) => write!(out, "{}", orient(&coords) as i8),
-        ("around", 1..) => around(alloc, out, &coords, points),
+    let points = (coords.len() / 2).min(MOST_POINTS) as u32;
+    match (form, coords.len()) {
+        (Some(b'e'), 8) => write!(out, "{}", Met(meet(&coords))),
+        (Some(b'n'), _) => inner(alloc, out, &coords, points),
+        (Some(b's'), 2..) => inside(alloc, out, &coords, points),
+        (Some(b'i'), 6) => write!(out, "{}", orient(&coords) as i8),
+        (Some(b'o'), 2..) => around(alloc, out, &coords, points),
         _ => unread(out),
     }
 }
@@ -157,10 +161,7 @@ fn main(rt: HostRuntime) -> io::Result<()> {
     let mut out = BufWriter::new(alloc, io::writer(&rt))?;
     for line in text.split_inclusive(|b| *b == b'\n') {
         if let Some(line) = line.strip_suffix(b"\n") {
-            match str::from_utf8(line) {
-                Ok(line) => answer(alloc, &mut out, line)?,
-                Err(_) => unread(&mut out)?,
-            }
+            answer(alloc, &mut out, line)?;
             out.write_all(b"\n")?;
         }
     }
