@@ -3,7 +3,7 @@
 
 ghost use Rattle.std.specs.Prelude.{◌≡◌, ◌+◌, ◌≤◌, length};
 ghost use Rattle.lists.specs.Regions.{front};
-ghost use Rattle.mesh_view.specs.Shown.{mesh_of};
+ghost use Rattle.entry.specs.Mesh.{mesh_of};
 ghost use Rattle.text.specs.Text.{answer_text};
 ghost use Rattle.printing.specs.Page.{Prints};
 ghost use Rattle.program.specs.Answered.{overlay_told, answer_to};

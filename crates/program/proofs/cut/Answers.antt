@@ -1,6 +1,6 @@
 -- `program::cut` meets its contract. Assumes nothing.
 use Rattle.std.proofs.Common.{arith, refl}
-use Rattle.mesh_view.specs.Shown.{mesh_of}
+use Rattle.entry.specs.Mesh.{mesh_of}
 use Rattle.program.proofs.Answers.{nodes_fit_lem, cut_printed}
 use Rattle.program.proofs.cut.Goals as goal
 
