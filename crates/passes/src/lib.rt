@@ -70,7 +70,7 @@ pub fn write_parents(tags: &[u32], n: u32, om: &mut [u32], oi: &mut [u32])
     ensures { (om.new ≡ front om.old (map (mesh_by n) tags.now))
         × (oi.new ≡ front oi.old (map (cell_by n) tags.now)) }
 {
-    // By index, as the kinds are.
+    // By index, as the kinds are; two lists, as the C interface has them.
     for (i, tag) in tags.iter().enumerate() {
         om[i] = mesh_by(n, *tag);
         oi[i] = cell_by(n, *tag);
