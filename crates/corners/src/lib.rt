@@ -9,6 +9,7 @@ ghost use Rattle.corners.specs.Ring.{as_read, points, points_left, edges, edges_
 use plane::{Point, point_at};
 
 // A polygon: its corners are a run of node numbers, read from the other end where back is true. The coordinates are those of all nodes.
+// The flag is no state of its own: C hands it over, and what reads the corners asks it at each.
 #[derive(Clone, Copy)]
 pub struct Ring<'a> {
     pub coords: &'a [f64],

@@ -21,7 +21,7 @@ pub struct Climb {
     pub middle: Option<f64>,
 }
 
-// The two lowest of some numbers.
+// The two lowest of some numbers, of which there may be none or one yet: three cases, no Option.
 #[derive(Clone, Copy)]
 pub enum Lowest {
     Empty,

@@ -55,6 +55,7 @@ fn larger(x: f64, y: f64) -> f64
     if x < y { y } else { x }
 }
 
+// Four numbers one after the other: a fold over an array of them is no plainer.
 #[tactic(auto, unfolding(plane::specs::Plane::scale))]
 fn scale(v: Point, w: Point) -> f64
     ensures { result ≡ scale v w }
@@ -187,7 +188,7 @@ fn near(p: Point, q: Point, eps: f64) -> bool
     v.dot(v) < eps
 }
 
-// The first end that is near the point, else the point.
+// The first end that is near the point, else the point. The ends are in two structs: a search in an array of them with their ids is no plainer.
 #[tactic(auto, unfolding(crate::specs::Meet::settled))]
 fn settled(s: Segment, o: Segment, p: Point, eps: f64) -> Meeting
     ensures { result ≡ settled s o p eps }

@@ -64,7 +64,7 @@ impl<'a> Search<'a> {
         k
     }
 
-    // Those on chain c.
+    // Those on chain c. The links are numbers in the caller's list: fixed memory, no heap.
     fn gather_chain(&self, c: usize, found: &mut [u32], k: usize) -> usize
         requires { (c < length self.now.heads.now) × (k ≤ length found.old) × Rises (take k found.old) }
         ensures { FrontIs (with_things (length found.old) (wanted self.now) (take k found.old) (chain self.now c)) found.old result found.new }
