@@ -17,18 +17,6 @@ pub(crate) struct Window {
     pub(crate) top: usize,
 }
 
-fn least(a: usize, b: usize) -> usize
-    ensures { (result ≤ a) × (result ≤ b) }
-{
-    if a < b { a } else { b }
-}
-
-fn greatest(a: usize, b: usize) -> usize
-    ensures { (a ≤ result) × (b ≤ result) }
-{
-    if a < b { b } else { a }
-}
-
 fn widen(w: Window, p: Parts) -> Window
     ensures { (Holds result p) × (result.base ≤ w.base) × (w.top ≤ result.top) }
 {
@@ -36,8 +24,8 @@ fn widen(w: Window, p: Parts) -> Window
         return w;
     }
     Window {
-        base: least(p.e, w.base),
-        top: greatest(p.e, w.top),
+        base: p.e.min(w.base),
+        top: p.e.max(w.top),
     }
 }
 

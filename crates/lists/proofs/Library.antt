@@ -80,7 +80,8 @@ module _ {A : Type 0} where
   first_list p [] d = first_end_lem (λ i. p (get_or {A = A} [] i d)) 0 0 (omega arith)
   first_list p (x ∷ xs) d = go (p x) refl (first_list p xs d)
     where
-      go : (t : Bool) → p x ≡ t → first (λ i. p (get_or xs i d)) 0 (length xs) ≡ position_or_len p xs → first (λ i. p (get_or (x ∷ xs) i d)) 0 (suc (length xs)) ≡ cond (not t) (1 + position_or_len p xs) 0
+      go : (t : Bool) → p x ≡ t → first (λ i. p (get_or xs i d)) 0 (length xs) ≡ position_or_len p xs
+          → first (λ i. p (get_or (x ∷ xs) i d)) 0 (suc (length xs)) ≡ cond (not t) (1 + position_or_len p xs) 0
       go true e ih = first_here (λ i. p (get_or (x ∷ xs) i d)) 0 (suc (length xs)) (omega arith) e
       go false e ih =
           let later : first (λ i. p (get_or (x ∷ xs) i d)) 0 (suc (length xs)) ≡ suc (first (λ i. p (get_or xs i d)) 0 (length xs)) =

@@ -159,7 +159,8 @@ module _ {A B F : Type 0} (g : Mut F (B × (A × Unit {0})) (Option B)) (h : B �
       let rest = along E xs m.0 q m.1 b did.0 k.2 in
       (rest.0, rest.1 ∙ ap (λ o. fold tried o xs) is)
 
-  pub try_fold_is : {S E : Type 0} {steps : S → Option A → S → Type 0} (s u : S) (items : List A) (a : B) (r : Option B) → TryFoldsItems steps {E = E} g (λ v k. v ≡ continue_value k) (λ e v. v ≡ None) s f a r u
+  pub try_fold_is : {S E : Type 0} {steps : S → Option A → S → Type 0} (s u : S) (items : List A) (a : B) (r : Option B)
+      → TryFoldsItems steps {E = E} g (λ v k. v ≡ continue_value k) (λ e v. v ≡ None) s f a r u
       → YieldsList steps (λ x. x) s items → r ≡ fold tried (Some a) items
   try_fold_is {E = E} {steps = steps} s u items a r t l = go t.1 t.4 t.6
     where

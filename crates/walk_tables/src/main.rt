@@ -88,6 +88,7 @@ fn show_ring<W: Write>(out: &mut W, count: usize) -> io::Result<()>
     requires { count ≤ 514 }
 {
     let mut nodes = [0u32; 514];
+    // by index, as the two beyond stay 0
     for i in 0..512 {
         nodes[i] = i as u32;
     }

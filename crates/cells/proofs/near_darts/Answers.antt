@@ -60,8 +60,11 @@ loop-place-preserved c =
     let at = c.loop-place-test.true in
     let on = c.nodes_on-count in
     let e = c.add_near_edge in
-    let read = read_front _ _ _ _ on.ensures in
-    (near_step a.coords.now a.w.now a.g a.near.now a.js.now (pairs a.outline.now) l.table l.place-index v at c.requires.1 _ read _ e.new.self c.in_ok-add_near_edge.ensures refl, on.auto.out ∙ l.invariant.1)
+    let read = read_front _ _ _ _ on.ensures in (
+      near_step a.coords.now a.w.now a.g a.near.now a.js.now (pairs a.outline.now) l.table l.place-index v at
+          c.requires.1 _ read _ e.new.self c.in_ok-add_near_edge.ensures refl,
+      on.auto.out ∙ l.invariant.1,
+    )
 
 pub returns : goal.returns
 returns c =

@@ -30,4 +30,5 @@ pub returns : goal.returns
 returns c =
     let a = c.args in
     let s = c.start_of-s in
-    c.inside.ensures ∙ ap₂ (λ cs ps. inside cs ps a.p) c.new.ensures.coords_are c.new.ensures.corners_are ∙ ap (λ (q : List ℕ). inside a.coords.now q a.p) (lent_is a.nodes.now a.ends.now s.result a.j s.ensures c.requires.1)
+    c.inside.ensures ∙ ap₂ (λ cs ps. inside cs ps a.p) c.new.ensures.coords_are c.new.ensures.corners_are
+    ∙ ap (λ (q : List ℕ). inside a.coords.now q a.p) (lent_is a.nodes.now a.ends.now s.result a.j s.ensures c.requires.1)

@@ -17,5 +17,6 @@ pub returns : goal.returns
 unfolding heights
 returns c =
     let r = c.args.ring in
-    all_from_yields_List (λ (p : Point). not (is_nan p.y)) c.all.new.self _ c.all.result c.all.ensures.ran (YieldsList-from_first (λ x. x) points_left _ c.points.ensures) (λ x b q k. search (rules, tests))
+    all_from_yields_List (λ (p : Point). not (is_nan p.y)) c.all.new.self _ c.all.result c.all.ensures.ran
+    (YieldsList-from_first (λ x. x) points_left _ c.points.ensures) (λ x b q k. search (rules, tests))
     ∙ numbers_are (length (as_read r)) (corner_at r.coords.now (as_read r))

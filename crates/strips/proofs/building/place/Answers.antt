@@ -29,5 +29,8 @@ loop-i-preserved c =
 pub returns : goal.returns
 returns c =
     let l = c.loop-i in
-    let z = le_antisymm {n = l.i} {m = length c.args.order.now} l.auto.i-end c.loop-i-test.false in
-    (sym (first_end_lem (λ j. is_before c.args.coords.now c.args.axis c.args.v (get_or c.args.order.now j 0)) (length c.args.order.now) (length c.args.order.now) (omega arith)) ∙ ap (λ (i : ℕ). first (λ j. is_before c.args.coords.now c.args.axis c.args.v (get_or c.args.order.now j 0)) i (length c.args.order.now)) (sym z) ∙ l.invariant, omega arith)
+    let z = le_antisymm {n = l.i} {m = length c.args.order.now} l.auto.i-end c.loop-i-test.false in (
+      sym (first_end_lem (λ j. is_before c.args.coords.now c.args.axis c.args.v (get_or c.args.order.now j 0)) (length c.args.order.now) (length c.args.order.now) (omega arith))
+          ∙ ap (λ (i : ℕ). first (λ j. is_before c.args.coords.now c.args.axis c.args.v (get_or c.args.order.now j 0)) i (length c.args.order.now)) (sym z) ∙ l.invariant,
+      omega arith,
+    )
