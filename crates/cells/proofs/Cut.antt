@@ -18,6 +18,7 @@ use Rattle.cutting.specs.Lent.{flat_edges, pairs}
 use Rattle.dart_walk.specs.Answer.{answer, corners_in, ends_in}
 use Rattle.std.proofs.Common.{Result, Ok, Err}
 use Rattle.refusals.specs.declared.Refusal.{Refusal}
+use Rattle.dart_table.specs.declared.Full.{Full}
 use Rattle.refusals.specs.Numbers.{number, by_number}
 use Rattle.dart_walk.specs.declared.Counts.{Counts}
 use Rattle.cutting.proofs.Pairs.{pairs_ends}
@@ -113,7 +114,7 @@ module _ (coords : List Float) (work : List ℕ) (g : Regions) (edges : Run) (js
   pub near_places : Places js (edges_in work edges) → Places js (pairs near)
   near_places h = subst (λ (ns : List ℕ). Places js (pairs ns)) (sym lent) h
 
-  pub near_held : (outline : List Edge) (r : Result (Unit {0}) Refusal) (t : List Slot) → Held (cell_table coords outline (near_in coords work g (pairs near) js)) r t
+  pub near_held : (outline : List Edge) (r : Result (Unit {0}) Full) (t : List Slot) → Held (cell_table coords outline (near_in coords work g (pairs near) js)) r t
       → Held (cell_table coords outline (near_in coords work g (edges_in work edges) js)) r t
   near_held outline r t h = subst (λ (ns : List ℕ). Held (cell_table coords outline (near_in coords work g (pairs ns) js)) r t) lent h
 

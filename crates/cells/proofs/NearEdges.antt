@@ -10,7 +10,7 @@ use lib.Ieee.{Float}
 use Rattle.cutting.specs.Edges.{Edge, edge_at}
 use Rattle.cutting.specs.Cell.{Laid, near_darts, cell_table}
 use Rattle.std.proofs.Common.{true, false, Result, is_err}
-use Rattle.refusals.specs.declared.Refusal.{Refusal}
+use Rattle.dart_table.specs.declared.Full.{Full}
 use Rattle.cutting.specs.declared.Slot.{Slot}
 use Rattle.cutting.specs.Lent.{pairs}
 use Rattle.dart_table.specs.Table.{table_in, with_edges}
@@ -70,7 +70,7 @@ module _ (coords : List Float) (work : List ℕ) (g : Regions) (near js : List �
           sym (append_assoc (near_by (take k js)) (laid e ∷ []) (near_by (drop (k + 1) js))) ∙ ap (λ (l : List Laid). l ++ near_by (drop (k + 1) js)) more
           ∙ sym (map-append (λ (i : ℕ). laid (edge_at (pairs near) i)) (take (k + 1) js) (drop (k + 1) js)) ∙ ap near_by (take-append-drop (k + 1) js)
 
-      module _ (ns : List ℕ) (en : ns ≡ nodes_on coords work g e) (r : Result (Unit {0}) Refusal) (t' : List Slot)
+      module _ (ns : List ℕ) (en : ns ≡ nodes_on coords work g e) (r : Result (Unit {0}) Full) (t' : List Slot)
           (lent : table_in r t' ≡ with_edges coords (near_darts (record { edge = e; nodes = ns })) t) where
         got : table_in r t' ≡ with_edges coords (near_darts (laid e)) t
         got = lent ∙ ap (λ (l : List ℕ). with_edges coords (near_darts (record { edge = e; nodes = l })) t) en

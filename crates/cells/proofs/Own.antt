@@ -13,7 +13,7 @@ use Rattle.corners.specs.Corners.{next_corner}
 use Rattle.cutting.specs.Edges.{Edge, ring}
 use Rattle.cutting.specs.Cell.{Laid, own_darts, outline_darts, edge_slots, stands_before, cell_table}
 use Rattle.std.proofs.Common.{true, false, Result, is_err}
-use Rattle.refusals.specs.declared.Refusal.{Refusal}
+use Rattle.dart_table.specs.declared.Full.{Full}
 use Rattle.cutting.specs.declared.Slot.{Slot}
 use Rattle.cutting.specs.Lent.{flat_edges}
 use Rattle.dart_table.specs.Table.{table_in, with_darts, outline_with}
@@ -66,7 +66,7 @@ module _ (coords : List Float) (work : List ℕ) (g : Regions) (cell outline₀ 
       laid_split : ls ++ laid e ∷ map laid rest ≡ map laid (ring cell)
       laid_split = sym (map-append laid done (e ∷ rest)) ∙ ap (map laid) (ap (λ (f : Edge). done ++ f ∷ rest) e_is ∙ sides_next cell i h)
 
-      module _ (ns : List ℕ) (en : ns ≡ nodes_on coords work g e) (r : Result (Unit {0}) Refusal) (t' : List Slot) (outline' : List ℕ)
+      module _ (ns : List ℕ) (en : ns ≡ nodes_on coords work g e) (r : Result (Unit {0}) Full) (t' : List Slot) (outline' : List ℕ)
           (lent : table_in r t' ≡ with_darts coords 1 (own_darts (record { edge = e; nodes = ns })) t)
           (laid_lent : outline' ≡ outline_with (own_darts (record { edge = e; nodes = ns })) (length t) outline) where
         got : table_in r t' ≡ with_darts coords 1 (own_darts (laid e)) t

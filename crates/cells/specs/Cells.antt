@@ -13,6 +13,7 @@ use Rattle.regions.specs.declared.Regions.{Regions}
 use Rattle.regions.specs.Runs.{Within, run_in}
 use Rattle.edge_nodes.specs.Lent.{nodes_on, Few}
 use Rattle.refusals.specs.declared.Refusal.{Refusal}
+use Rattle.dart_table.specs.declared.Full.{Full}
 use Rattle.refusals.specs.Numbers.{number}
 use Rattle.dart_walk.specs.declared.Counts.{Counts}
 
@@ -94,7 +95,7 @@ pub record LaidIn (darts : List Edge) (r : ℕ) (list list' : List ℕ) : Type 0
   pub held : list' ≡ front list (flat_edges darts)
 
 -- A table holds the slots t, unless an edge was refused: then t has over 1,024.
-pub record Held (t : List Slot) (r : Result (Unit {0}) Refusal) (table : List Slot) : Type 0 where
+pub record Held (t : List Slot) (r : Result (Unit {0}) Full) (table : List Slot) : Type 0 where
   pub fits : is_err r ≡ false → table ≡ t
   pub over : is_err r ≡ true → 1024 < length t
 

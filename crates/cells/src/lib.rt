@@ -14,7 +14,7 @@ ghost use Rattle.refusals.specs.Numbers.{number};
 ghost use Rattle.cells.specs.Cells.{laid_in, outline_in, near_in, edges_in, Places, cut, cut_as, cut_by, cut_cell, AllFew, outline_from, LaidIn, Held, Ready};
 
 use corners::next_corner;
-use dart_table::DartTable;
+use dart_table::{DartTable, Full};
 use dart_walk::{Counts, walk_dart_map};
 use edge_nodes::nodes_on;
 use outlines::{edges_meet, edges_repeat, lay_own_edge};
@@ -39,7 +39,7 @@ fn own_darts(
     nodes: &mut [u32],
     outline: &mut [u32],
     table: &mut DartTable,
-) -> Result<(), Refusal>
+) -> Result<(), Full>
     requires { AllFew w.now g (ring cell.now) × (258 ≤ length nodes.old) × (1024 ≤ length outline.old) × (table.old ≡ []) }
     ensures held { Held (cell_table coords.now (outline_in coords.now w.now g cell.now) []) result table.new }
     ensures outlined { is_err result ≡ false → take (length table.new) outline.new ≡ flat_edges (outline_in coords.now w.now g cell.now) }
@@ -124,7 +124,7 @@ fn near_darts(
     outline: &[u32],
     nodes: &mut [u32],
     table: &mut DartTable,
-) -> Result<(), Refusal>
+) -> Result<(), Full>
     requires { AllFew w.now g (pairs near.now) × Places js.now (pairs near.now) × (258 ≤ length nodes.old)
         × (table.old ≡ cell_table coords.now (pairs outline.now) []) }
     ensures { Held (cell_table coords.now (pairs outline.now) (near_in coords.now w.now g (pairs near.now) js.now)) result table.new }

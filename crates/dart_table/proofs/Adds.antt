@@ -14,14 +14,13 @@ use Rattle.lists.specs.Sort.{sort_onto}
 use Rattle.lists.specs.Regions.{put}
 use Rattle.lists.proofs.Sort.{sort_onto_append, length_sort_onto}
 use Rattle.lists.proofs.Regions.{put_none}
-use Rattle.refusals.specs.declared.Refusal.{Refusal}
-use Rattle.refusals.specs.declared.Refusal.TheVariants.{FullTable}
+use Rattle.dart_table.specs.declared.Full.{Full}
 use Rattle.cutting.specs.declared.Slot.{Slot}
 use Rattle.cutting.specs.Edges.{Edge, key, reversed_if, hops}
 use Rattle.cutting.specs.Cell.{windows, darts_along, own_darts, near_darts, edge_slots, reverse_mark, names, is_new, stands_before}
 use Rattle.cutting.specs.Outcome.{too_many}
 use Rattle.cutting.specs.Lent.{flat_edges}
-use Rattle.dart_table.specs.Table.{Table, table_in, with_darts, with_edge, with_edges, outline_with}
+use Rattle.dart_table.specs.Table.{Table, full, table_in, with_darts, with_edge, with_edges, outline_with}
 use Rattle.cutting.proofs.CellLaws.{slots_append, slots_length}
 use Rattle.cutting.proofs.Pairs.{windows_length, ends_more}
 
@@ -120,14 +119,16 @@ module _ (coords : List Float) (back : ℕ) (es : List Edge) (t : List Slot) whe
   abbrev all : List Slot
   all = sort_onto (stands_before coords) t (edge_slots back es)
 
-  pub darts_full : 1024 < length t + 2 * length es → table_in (Err FullTable) t ≡ with_darts coords back es t
+  -- n slots are too many
+  pub darts_full : (n : ℕ) → n ≡ length t + 2 * length es → 1024 < n → table_in (full n) t ≡ with_darts coords back es t
   unfolding with_darts
-  darts_full h = sym (ap (λ (b : Bool). cond b (table_in (Err FullTable) t) (table_in (Ok tt) all)) (lt-ltb 1024 (length t + 2 * length es) h))
+  darts_full n e h = ap (λ (k : ℕ). table_in (full k) t) e
+      ∙ sym (ap (λ (b : Bool). cond b (table_in (full (length t + 2 * length es)) t) (table_in (Ok tt) all)) (lt-ltb 1024 (length t + 2 * length es) (omega (arith, h, e))))
 
   pub darts_fit : (u : List Slot) → length t + 2 * length es ≤ 1024 → u ≡ all → table_in (Ok tt) u ≡ with_darts coords back es t
   unfolding with_darts
   darts_fit u h e = ap (table_in (Ok tt)) e
-      ∙ sym (ap (λ (b : Bool). cond b (table_in (Err FullTable) t) (table_in (Ok tt) all)) (le-ltb 1024 (length t + 2 * length es) h))
+      ∙ sym (ap (λ (b : Bool). cond b (table_in (full (length t + 2 * length es)) t) (table_in (Ok tt) all)) (le-ltb 1024 (length t + 2 * length es) h))
 
   -- and what the answer tells of them
   pub darts_tell : (is_err (with_darts coords back es t).answer ≡ false → (length t + 2 * length es ≤ 1024) × ((with_darts coords back es t).slots ≡ all))
@@ -135,7 +136,7 @@ module _ (coords : List Float) (back : ℕ) (es : List Edge) (t : List Slot) whe
   unfolding with_darts
   darts_tell = go (too_many (length t + 2 * length es)) refl
     where
-      go : (b : Bool) → too_many (length t + 2 * length es) ≡ b → let u : Table = cond b (table_in (Err FullTable) t) (table_in (Ok tt) all) in
+      go : (b : Bool) → too_many (length t + 2 * length es) ≡ b → let u : Table = cond b (table_in (full (length t + 2 * length es)) t) (table_in (Ok tt) all) in
           (is_err u.answer ≡ false → (length t + 2 * length es ≤ 1024) × (u.slots ≡ all)) × (is_err u.answer ≡ true → 1024 < length t + 2 * length es)
       go true e = ((λ h. cc), (λ h. ltb-true 1024 (length t + 2 * length es) e))
       go false e = ((λ h. (ltb-false 1024 (length t + 2 * length es) e, refl)), (λ h. cc))
@@ -195,7 +196,7 @@ module _ (coords : List Float) (a b : ℕ) (t : List Slot) where
 -- ---- edges one after the other
 
 module _ (coords : List Float) where
-  one_alone : (r : Result (Unit {0}) Refusal) (s : List Slot) → cond (is_err r) (table_in r s) (table_in (Ok tt) s) ≡ table_in r s
+  one_alone : (r : Result (Unit {0}) Full) (s : List Slot) → cond (is_err r) (table_in r s) (table_in (Ok tt) s) ≡ table_in r s
   one_alone (Ok x) s = refl
   one_alone (Err e) s = refl
 
@@ -215,6 +216,6 @@ module _ (coords : List Float) where
     unfolding with_edges
     edges_next x got = ap on got
 
-    pub edges_stop : (r : Refusal) → table_in (Err r) u ≡ with_edge coords e t → table_in (Err r) u ≡ with_edges coords (e ∷ es) t
+    pub edges_stop : (r : Full) → table_in (Err r) u ≡ with_edge coords e t → table_in (Err r) u ≡ with_edges coords (e ∷ es) t
     unfolding with_edges
     edges_stop r got = ap on got

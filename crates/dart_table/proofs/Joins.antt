@@ -15,7 +15,7 @@ use Rattle.lists.specs.Sort.{sort_onto, sorted}
 use Rattle.lists.specs.Regions.{front, put}
 use Rattle.lists.proofs.Gather.{tally_append, joined_append, joined_snoc}
 use Rattle.lists.proofs.Sort.{sort_onto_append, length_sort_onto, length_sorted, sorted_tally}
-use Rattle.refusals.specs.declared.Refusal.{Refusal}
+use Rattle.dart_table.specs.declared.Full.{Full}
 use Rattle.cutting.specs.declared.Slot.{Slot}
 use Rattle.cutting.specs.Edges.{Edge}
 use Rattle.cutting.specs.Cell.{Laid, own_darts, outline_darts, near_darts, edge_slots, reverse_mark, table, names, is_new, new_to, inner, inner_with}
@@ -93,7 +93,7 @@ module _ (coords : List Float) where
 -- ---- a turn of a loop over own edges, and of one over near edges
 
 -- an own edge more, by what the table answers
-module _ (coords : List Float) (own : List Laid) (l : Laid) (t : List Slot) (r : Result (Unit {0}) Refusal) (t' : List Slot)
+module _ (coords : List Float) (own : List Laid) (l : Laid) (t : List Slot) (r : Result (Unit {0}) Full) (t' : List Slot)
     (got : table_in r t' ≡ with_darts coords reverse_mark (own_darts l) t) (held : t ≡ sorted (stands_before coords) (edge_slots reverse_mark (outline_darts own))) where
   told : (is_err r ≡ false → (length t + 2 * length (own_darts l) ≤ 1024) × (t' ≡ sort_onto (stands_before coords) t (edge_slots reverse_mark (own_darts l))))
       × (is_err r ≡ true → 1024 < length t + 2 * length (own_darts l))
@@ -273,7 +273,7 @@ module _ (coords : List Float) (outline : List Edge) where
       )
 
 -- a turn of the loop over near edges
-module _ (coords : List Float) (outline : List Edge) (t : List Slot) (r : Result (Unit {0}) Refusal) (t' : List Slot) (near : List Laid) (l : Laid)
+module _ (coords : List Float) (outline : List Edge) (t : List Slot) (r : Result (Unit {0}) Full) (t' : List Slot) (near : List Laid) (l : Laid)
     (got : table_in r t' ≡ with_edges coords (near_darts l) t) (held : t ≡ cell_table coords outline near) where
   now_of : Grown coords outline (joined near_darts near ++ near_darts l) (table_in r t')
   unfolding cell_table_with inner_with

@@ -2,8 +2,7 @@
 use Rattle.std.specs.Prelude.{cond, List, [], ◌∷◌, ℕ, ◌+◌, ◌*◌, length, Float, Result, Ok, Err, is_err}
 use Rattle.lists.specs.Sort.{sort_onto}
 use Rattle.lists.specs.Regions.{put}
-use Rattle.refusals.specs.declared.Refusal.{Refusal}
-use Rattle.refusals.specs.declared.Refusal.TheVariants.{FullTable}
+use Rattle.dart_table.specs.declared.Full.{Full}
 use Rattle.cutting.specs.declared.Slot.{Slot}
 use Rattle.cutting.specs.Edges.{Edge}
 use Rattle.cutting.specs.Cell.{edge_slots, is_new, stands_before}
@@ -12,16 +11,20 @@ use Rattle.cutting.specs.Lent.{flat_edges}
 
 -- a table's slots, after an answer
 pub record Table : Type 0 where
-  pub answer : Result (Unit {0}) Refusal
+  pub answer : Result (Unit {0}) Full
   pub slots : List Slot
 
-abbrev pub table_in : Result (Unit {0}) Refusal → List Slot → Table
+-- the answer where there would be so many slots
+abbrev pub full : ℕ → Result (Unit {0}) Full
+full n = Err (record { slots = n })
+
+abbrev pub table_in : Result (Unit {0}) Full → List Slot → Table
 table_in r t = record { answer = r; slots = t }
 
 -- The table with more darts, each with a slot at both its ends, the second one with the mark `back`: all slots in the table's order. Over 1,024
--- slots are refused (10), and the table stays as it was.
+-- slots are refused (10), with their number, and the table stays as it was.
 unfoldable pub with_darts : List Float → ℕ → List Edge → List Slot → Table
-with_darts coords back darts t = cond (too_many (length t + 2 * length darts)) (table_in (Err FullTable) t)
+with_darts coords back darts t = cond (too_many (length t + 2 * length darts)) (table_in (full (length t + 2 * length darts)) t)
     (table_in (Ok tt) (sort_onto (stands_before coords) t (edge_slots back darts)))
 
 -- the table with an edge near the cell, if that is new to it

@@ -9,6 +9,7 @@ ghost use Rattle.cutting.specs.declared.Slot.{Slot};
 ghost use Rattle.cutting.specs.Edges.{reversed_if};
 ghost use Rattle.cutting.specs.Cell.{windows, darts_along, own_darts, near_darts, edge_slots, reverse_mark, names, stands, stands_before};
 ghost use Rattle.cutting.specs.Lent.{flat_edges};
+ghost use Rattle.refusals.specs.declared.Refusal.TheVariants.{FullTable};
 ghost use Rattle.dart_table.specs.Table.{table_in, with_darts, with_edge, with_edges, outline_with};
 
 use cutting::Slot;
@@ -48,6 +49,20 @@ fn turned(inv: bool, a: u32, b: u32) -> (u32, u32)
     ensures { result ≡ reversed_if inv (a, b) }
 {
     if inv { (b, a) } else { (a, b) }
+}
+
+// How many slots there would be: over 1,024.
+#[derive(Clone, Copy, Debug, PartialEq, Eq)]
+pub struct Full {
+    pub slots: usize,
+}
+
+impl From<Full> for Refusal {
+    ghost from_gives = { λ _ r. r ≡ FullTable };
+
+    fn from(_full: Full) -> Refusal {
+        Refusal::FullTable
+    }
 }
 
 // A table of at most 1,024 slots, seen as their list.
@@ -139,13 +154,14 @@ impl DartTable {
         second: u32,
         nodes: &[u32],
         outline: &mut [u32],
-    ) -> Result<(), Refusal>
+    ) -> Result<(), Full>
         requires { (0 < length nodes.now) × (1024 ≤ length outline.old) }
         ensures table { table_in result self.new ≡ with_darts coords.now reverse_mark (darts_along second nodes.now) self.old }
         ensures outline { outline.new ≡ outline_with (darts_along second nodes.now) (length self.old) outline.old }
     {
-        if 1024 < self.slots().len() + 2 * (nodes.len() - 1) {
-            return Err(Refusal::FullTable);
+        let slots = self.slots().len() + 2 * (nodes.len() - 1);
+        if 1024 < slots {
+            return Err(Full { slots });
         }
         self.add_along(coords, second == nodes[0], nodes, outline);
         Ok(())
@@ -160,7 +176,7 @@ impl DartTable {
         b: u32,
         nodes: &[u32],
         outline: &mut [u32],
-    ) -> Result<(), Refusal>
+    ) -> Result<(), Full>
         requires { 1024 ≤ length outline.old }
         ensures table { table_in result self.new ≡ with_darts coords.now reverse_mark (own_darts (record { edge = (a, b); nodes = nodes.now })) self.old }
         ensures outline { outline.new ≡ outline_with (own_darts (record { edge = (a, b); nodes = nodes.now })) (length self.old) outline.old }
@@ -172,7 +188,7 @@ impl DartTable {
     }
 
     // Adds the edge from a to b, with a slot at both its ends, if it is new to the table.
-    fn add_edge(&mut self, coords: &[f64], a: u32, b: u32) -> Result<(), Refusal>
+    fn add_edge(&mut self, coords: &[f64], a: u32, b: u32) -> Result<(), Full>
         ensures { table_in result self.new ≡ with_edge coords.now (a, b) self.old }
     {
         if a == b {
@@ -181,15 +197,16 @@ impl DartTable {
         if find_slot(self.slots(), a, b).is_some() {
             return Ok(());
         }
-        if 1024 < self.slots().len() + 2 {
-            return Err(Refusal::FullTable);
+        let slots = self.slots().len() + 2;
+        if 1024 < slots {
+            return Err(Full { slots });
         }
         self.add_dart(coords, a, b, 0);
         Ok(())
     }
 
     // Adds the new windows of the nodes, until one is refused.
-    fn add_new(&mut self, coords: &[f64], nodes: &[u32]) -> Result<(), Refusal>
+    fn add_new(&mut self, coords: &[f64], nodes: &[u32]) -> Result<(), Full>
         ensures { table_in result self.new ≡ with_edges coords.now (windows nodes.now) self.old }
     {
         for pair in nodes.windows(2) {
@@ -206,7 +223,7 @@ impl DartTable {
         a: u32,
         b: u32,
         nodes: &[u32],
-    ) -> Result<(), Refusal>
+    ) -> Result<(), Full>
         ensures { table_in result self.new ≡ with_edges coords.now (near_darts (record { edge = (a, b); nodes = nodes.now })) self.old }
     {
         if nodes.is_empty() {

@@ -6,14 +6,14 @@ use Rattle.cutting.specs.Cell.{reverse_mark, darts_along}
 use Rattle.dart_table.proofs.Adds.{darts_length, darts_full, darts_fit, outline_full, outline_fit}
 use Rattle.dart_table.proofs.DartTable.add_darts.Goals as goal
 
-pub returns-then-slots-nodes-gt1024 : goal.returns-then-slots-nodes-gt1024
-returns-then-slots-nodes-gt1024 c =
+pub returns-then-slots-gt1024 : goal.returns-then-slots-gt1024
+returns-then-slots-gt1024 c =
     let a = c.args in
     let count = darts_length a.second a.nodes.now c.requires.0 in
     let slots = ap length c.slots.ensures.slots in
     record {
-      table = darts_full a.coords.now reverse_mark (darts_along a.second a.nodes.now) a.self.now (omega (arith, slots, count));
-      outline = outline_full (darts_along a.second a.nodes.now) (length a.self.now) a.outline.now (omega (arith, slots, count));
+      table = darts_full a.coords.now reverse_mark (darts_along a.second a.nodes.now) a.self.now _ (omega (arith, slots, count)) c.if-slots-gt1024.true;
+      outline = outline_full (darts_along a.second a.nodes.now) (length a.self.now) a.outline.now (omega (arith, slots, count, c.if-slots-gt1024.true));
     }
 
 pub returns : goal.returns

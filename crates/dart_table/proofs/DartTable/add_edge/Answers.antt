@@ -22,7 +22,7 @@ pub returns-then-slots-gt1024 : goal.returns-then-slots-gt1024
 returns-then-slots-gt1024 c =
     let a = c.args in
     let is = c.find_slot.ensures ∙ ap (position (names a.a a.b)) c.slots.ensures.slots in
-    darts_full a.coords.now 0 ((a.a, a.b) ∷ []) a.self.now (omega (arith, ap length c.slots-2.ensures.slots))
+    darts_full a.coords.now 0 ((a.a, a.b) ∷ []) a.self.now _ (omega (arith, ap length c.slots-2.ensures.slots)) c.if-slots-gt1024.true
     ∙ edge_new a.coords.now a.a a.b a.self.now c.if-a-b.false (found_not (names a.a a.b) a.self.now _ is (sym c.is_some.ensures ∙ c.if-is_some.false))
 
 pub returns : goal.returns
