@@ -1,6 +1,6 @@
 -- Edges on chains: the last index that passes a test, an edge added to its chain, a key searched along a chain. Assumes nothing.
 use mathlib.Core.Path.{◌≡◌, refl, sym, ap, ap₂, ◌∙◌}
-use mathlib.Core.Bool.{Bool, true, false, true≢false}
+use mathlib.Core.Bool.{Bool, true, false, true≢false, ◌&&◌}
 use mathlib.Core.List.{List, [], ◌∷◌, ◌++◌}
 use Prim.Native.Nat.{ℕ, zero, suc, ◌+◌, ◌*◌, ◌/◌, ◌≤◌, ◌<◌}
 use native.Mathlib.Numerals.{add-one}
@@ -169,6 +169,10 @@ key_at s a b i = same_key (edge_at (pairs s) i) (a, b)
 -- read from the list
 pub key_is : (s : List ℕ) (a b i : ℕ) → i < length s / 2 → key_at s a b i ≡ same_key (get_or s (2 * i) 0, get_or s (2 * i + 1) 0) (a, b)
 key_is s a b i h = ap (λ (e : Edge). same_key e (a, b)) (pairs_at s i h)
+
+-- the keys of e and f, compared
+pub one_key : (e f : Edge) {x y : Edge} → x ≡ key e → y ≡ key f → same_key e f ≡ (eqb x.0 y.0 && eqb x.1 y.1)
+one_key e f m n = sym (ap₂ (λ (x y : Edge). eqb x.0 y.0 && eqb x.1 y.1) m n)
 
 -- those from e on have not the key; the one before is on its chain
 abbrev pub Passed : ℕ → List ℕ → ℕ → ℕ → ℕ → Type 0

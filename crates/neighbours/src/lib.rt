@@ -14,18 +14,18 @@ ghost use Rattle.keys.specs.Chains.{edge_chain};
 ghost use Rattle.neighbours.specs.Chains.{Chained, linked, Threaded};
 
 use corners::after;
-use keys::{edge_chain, same_key};
+use keys::{SortedKey, edge_chain};
 
 // Whether some pair has the key of the edge a, b: those on its chain are looked at, from the last to the first.
 fn has_key(edges: &[u32], links: &[u32], h: usize, a: u32, b: u32) -> bool
     requires { (0 < h) × (h + length edges.now / 2 ≤ length links.now) × Chained h (pairs edges.now) links.now }
     ensures { result ≡ has (λ i. same_key (edge_at (pairs edges.now) i) (a, b)) (length (pairs edges.now)) }
 {
-    let c = edge_chain(h, a, b);
-    let mut e = links[c] as usize;
+    let key = SortedKey::new(a, b);
+    let mut e = links[key.chain(h)] as usize;
     while 0 < e {
         let i = e - 1;
-        if same_key(edges[2 * i], edges[2 * i + 1], a, b) {
+        if SortedKey::new(edges[2 * i], edges[2 * i + 1]) == key {
             return true;
         }
         e = links[h + i] as usize;

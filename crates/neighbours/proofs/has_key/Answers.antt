@@ -1,24 +1,26 @@
-use mathlib.Core.Path.{sym, ◌∙◌}
+use mathlib.Core.Path.{sym, ap, ◌∙◌}
 use Prim.Native.Nat.{◌+◌, ◌-◌}
 use native.Mathlib.Omega.{arith}
-use Rattle.neighbours.proofs.Chains.{key_is, search_start, found, further, falls, none}
+use Rattle.cutting.specs.Edges.{Edge}
+use Rattle.keys.specs.Chains.{chain_of}
+use Rattle.neighbours.proofs.Chains.{key_is, one_key, search_start, found, further, falls, none}
 use Rattle.neighbours.proofs.has_key.Goals as goal
 
 pub overflow_cast-e : goal.overflow_cast-e
-overflow_cast-e c = omega (arith, c.type_inv.links c.edge_chain-c.result)
+overflow_cast-e c = omega (arith, c.type_inv.links c.chain.result)
 
 pub loop-e-init : goal.loop-e-init
 loop-e-init c =
     search_start c.args.h c.args.edges.now c.args.links.now c.args.a c.args.b c.requires.2
-    c.edge_chain-c.result c.edge_chain-c.ensures
+    c.chain.result (c.chain.ensures.0 ∙ ap (λ (e : Edge). chain_of c.args.h e.0) c.new-key.ensures, c.chain.ensures.1)
 
-pub returns-then-same_key : goal.returns-then-same_key
-returns-then-same_key c =
+pub returns-then-eq : goal.returns-then-eq
+returns-then-eq c =
     let l = c.loop-e in
     found c.args.h c.args.edges.now c.args.links.now c.args.a c.args.b c.requires.2 l.e
     (l.e - 1) l.invariant (omega (arith, c.loop-e-test.true))
-    (key_is c.args.edges.now c.args.a c.args.b (l.e - 1) (omega (arith, l.invariant.0, c.loop-e-test.true)) ∙ sym
-    c.same_key.ensures ∙ c.if-same_key.true)
+    (key_is c.args.edges.now c.args.a c.args.b (l.e - 1) (omega (arith, l.invariant.0, c.loop-e-test.true)) 
+    ∙ one_key _ _ c.new.ensures c.new-key.ensures ∙ sym c.eq.ensures ∙ c.if-eq.true)
 
 pub overflow_cast-e-in-loop-e : goal.overflow_cast-e-in-loop-e
 overflow_cast-e-in-loop-e c =
@@ -35,8 +37,8 @@ loop-e-preserved c =
     let l = c.loop-e in
     further c.args.h c.args.edges.now c.args.links.now c.args.a c.args.b c.requires.2 l.e
     (l.e - 1) l.invariant (omega (arith, c.loop-e-test.true))
-    (key_is c.args.edges.now c.args.a c.args.b (l.e - 1) (omega (arith, l.invariant.0, c.loop-e-test.true)) ∙ sym
-    c.same_key.ensures ∙ c.if-same_key.false)
+    (key_is c.args.edges.now c.args.a c.args.b (l.e - 1) (omega (arith, l.invariant.0, c.loop-e-test.true)) 
+    ∙ one_key _ _ c.new.ensures c.new-key.ensures ∙ sym c.eq.ensures ∙ c.if-eq.false)
 
 pub returns : goal.returns
 returns c =
