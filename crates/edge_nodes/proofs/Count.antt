@@ -1,17 +1,13 @@
 -- How many nodes are collected under a key, and whether they are too many. Assumes nothing.
-use mathlib.Core.Path.{◌≡◌, refl, sym, ap, ap₂, ◌∙◌}
-use mathlib.Core.Bool.{true, false}
+use mathlib.Core.Path.{◌≡◌, refl, sym, ap, ◌∙◌}
 use mathlib.Core.List.{List}
 use Prim.Native.Nat.{ℕ, ◌+◌, ◌*◌, ◌/◌, ◌≤◌, ◌<◌}
 use native.Mathlib.Nat.{le_antisymm}
 use native.Mathlib.Omega.{arith}
 use lib.ListN.{length, length-append}
-use borrow.Author.Tests.{lt-ltb, le-ltb}
-use Rattle.lists.specs.Search.{first, has}
 use Rattle.lists.specs.Gather.{gathered}
-use Rattle.lists.proofs.Search.{first_on, has_at, has_false, search_end}
-use Rattle.cutting.specs.Edges.{Edge, edge_at}
-use Rattle.edge_nodes.specs.Lent.{under_at, under, collected_in, most_nodes, crowded_at}
+use Rattle.cutting.specs.Edges.{Edge}
+use Rattle.edge_nodes.specs.Lent.{under_at, under, collected_in}
 use Rattle.edge_nodes.proofs.Under.{length_under}
 
 -- ---- `count_under`
@@ -37,36 +33,10 @@ module _ (es : List Edge) (met : List ℕ) (which : ℕ) (e : Edge) where
       let z : q ≡ length met / 5 = le_antisymm inv.0 h in
       (inv.1 ∙ ap (λ (k : ℕ). length (under k es met which e)) z, omega (arith, inv.0, inv.2, short))
 
--- ---- `overfull`
+-- ---- by both
 
 module _ (subject cutter : List Edge) (met : List ℕ) where
   -- those by subject edges and those by cutter edges
   pub length_collected : (e : Edge) → length (collected_in subject cutter met e) ≡ length (under (length met / 5) subject met 0 e) + length (under (length met / 5) cutter met 1 e)
   unfolding collected_in
   length_collected e = length-append (under (length met / 5) subject met 0 e) (under (length met / 5) cutter met 1 e)
-
-module _ (es subject cutter : List Edge) (met : List ℕ) (n : ℕ) where
-  -- none of the edges before i has too many
-  abbrev pub Uncrowded : ℕ → Type 0
-  Uncrowded i = (i ≤ n) × (first (crowded_at es subject cutter met) i n ≡ first (crowded_at es subject cutter met) 0 n)
-
-  module _ (i a b x y : ℕ) (a_is : a ≡ (edge_at es i).0) (b_is : b ≡ (edge_at es i).1)
-      (xs : (x ≡ length (under (length met / 5) subject met 0 (a, b))) × (x ≤ 131072)) (ys : (y ≡ length (under (length met / 5) cutter met 1 (a, b))) × (y ≤ 131072)) where
-    sum_is : x + y ≡ length (collected_in subject cutter met (edge_at es i))
-    sum_is =
-        let e : (a, b) ≡ edge_at es i = ap₂ (λ (u v : ℕ). (u, v)) a_is b_is in
-        ap₂ (λ (u v : ℕ). u + v) xs.0 ys.0 ∙ sym (length_collected subject cutter met (a, b)) ∙ ap (λ (f : Edge). length (collected_in subject cutter met f)) e
-
-    pub crowded_here : i < n → most_nodes < x + y → true ≡ has (crowded_at es subject cutter met) n
-    crowded_here h over =
-        sym (has_at (crowded_at es subject cutter met) n i h (lt-ltb most_nodes (length (collected_in subject cutter met (edge_at es i))) (omega (arith, sum_is, over))))
-
-    pub crowded_on : Uncrowded i → i < n → x + y ≤ most_nodes → Uncrowded (i + 1)
-    crowded_on inv h few = (
-      omega arith,
-      first_on (crowded_at es subject cutter met) i n h (le-ltb most_nodes (length (collected_in subject cutter met (edge_at es i))) (omega (arith, sum_is, few))) ∙ inv.1,
-    )
-
-  pub crowded_nowhere : (i : ℕ) → Uncrowded i → n ≤ i → false ≡ has (crowded_at es subject cutter met) n
-  crowded_nowhere i inv h =
-      sym (has_false (crowded_at es subject cutter met) n i (search_end (crowded_at es subject cutter met) i n inv.1 inv.0 h).0 h)

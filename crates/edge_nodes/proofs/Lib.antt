@@ -1,12 +1,11 @@
 pub mod Signs
-pub mod Order
 pub mod Under
 pub mod Linked
-pub mod LinksAt
 pub mod Linking
 pub mod Walk
 pub mod Slim
 pub mod Count
 pub mod Sorted
-pub mod InRegions
 pub mod Scene
+pub mod InRegions
+pub mod Crowded

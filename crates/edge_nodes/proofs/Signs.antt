@@ -1,31 +1,31 @@
--- The sign of a float by comparisons. Assumes nothing.
-use mathlib.Core.Path.{◌≡◌, refl}
-use mathlib.Core.Bool.{true, false, ◌&&◌, ◌||◌}
-use Prim.Native.Nat.{zero, suc, ◌+◌, ◌*◌, ◌<◌}
-use native.Mathlib.Nat.{mul-one, zero-mul, mul-pos}
-use native.Mathlib.Omega.{arith}
-use lib.IntN.{ℤ, pos, negsuc}
-use lib.Ieee.{Float, nan, inf, fin, up, down, lt, eq, div, of_bits, binary64}
-use lib.Pow.{pow_pos}
-use borrow.Author.Tests.{lt-ltb, le-ltb, ne_eqb}
-use Rattle.rules.specs.Nodes.{sign_bit}
+-- Floats compared, and their signs. Assumes nothing.
+use mathlib.Core.Path.{◌≡◌, refl, sym, ap₂, ◌∙◌}
+use mathlib.Core.Bool.{Bool, true, false, true≢false, not, ◌&&◌, ◌||◌}
+use lib.Ieee.{Float, nan, inf, fin, lt, eq}
+use Rattle.std.specs.Float.{NotNan}
+use Rattle.std.specs.Float.Ieee.{is_nan}
+use Rattle.std.specs.Float as F
+use Rattle.rules.specs.Nodes.{sign_bit, total_before}
 
-up_pos : (e : ℤ) → 0 < up e
-up_pos (pos k) = pow_pos k
-up_pos (negsuc k) = omega arith
+-- a number that equals another
+pub numbers : (x y : Float) → eq x y ≡ true → NotNan x × NotNan y
+unfolding eq is_nan
+numbers nan y e = absurd (true≢false (sym e))
+numbers (inf s) nan e = absurd (true≢false (sym e))
+numbers (inf s) (inf t) e = (tt, tt)
+numbers (inf s) (fin t n f) e = (tt, tt)
+numbers (fin s m d) nan e = absurd (true≢false (sym e))
+numbers (fin s m d) (inf t) e = (tt, tt)
+numbers (fin s m d) (fin t n f) e = (tt, tt)
 
-pub negative_is : (x : Float) → lt x (of_bits binary64 0) || (eq x (of_bits binary64 0) && lt (div binary64 (of_bits binary64 0x3ff0_0000_0000_0000) x)
-    (of_bits binary64 0)) ≡ sign_bit x
-unfolding lt eq div of_bits
-negative_is nan = refl
-negative_is (inf false) = refl
-negative_is (inf true) = refl
-negative_is (fin false zero e) = simp (zero-mul)
-negative_is (fin true zero e) = simp (zero-mul)
-negative_is (fin false (suc m) e) =
-    let p : 0 < suc m * up e = mul-pos (omega arith) (up_pos e) in
-    let q : (suc m * up e * 1 ≡ 0 * down e) → ⊥ = λ h. omega (arith, h, zero-mul (down e), mul-one (suc m * up e)) in
-    rw (le-ltb (suc m * up e * 1) (0 * down e) (omega (arith, zero-mul (down e))), ne_eqb (suc m * up e * 1) (0 * down e) q)
-negative_is (fin true (suc m) e) =
-    let p : 0 < suc m * up e = mul-pos (omega arith) (up_pos e) in
-    rw (lt-ltb 0 (suc m * up e * 1 + 0 * down e) (omega (arith, mul-one (suc m * up e))))
+sign_is : (x : Float) → F.is_sign_negative x ≡ sign_bit x
+unfolding F.is_sign_negative
+sign_is nan = refl
+sign_is (inf s) = refl
+sign_is (fin s m e) = refl
+
+-- equal ones are told apart by their signs
+pub by_signs : (x y : Float) (a b : Bool) → lt x y ≡ false → eq x y ≡ true → a ≡ F.is_sign_negative x → b ≡ F.is_sign_negative y → (a && not b) ≡ total_before x y
+by_signs x y a b l e p q =
+    ap₂ (λ (s t : Bool). s && not t) (p ∙ sign_is x) (q ∙ sign_is y)
+    ∙ ap₂ (λ (s t : Bool). s || (t && (sign_bit x && not (sign_bit y)))) (sym l) (sym e)

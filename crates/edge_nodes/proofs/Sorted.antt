@@ -1,31 +1,104 @@
 -- The sorted nodes of an edge, from what was put in order. Assumes nothing.
 use mathlib.Core.Path.{◌≡◌, refl, sym, ap, ap₂, ◌∙◌}
+use mathlib.Core.Bool.{Bool, true, false, cond, not}
 use mathlib.Core.List.{List, [], ◌∷◌, ◌++◌, map}
-use Prim.Native.Nat.{ℕ, zero, suc, ◌+◌, ◌/◌, ◌≤◌}
+use Prim.Native.Nat.{ℕ, suc, ◌+◌, ◌/◌, ◌≤◌, ◌<◌}
+use native.Mathlib.Numerals.{add-one}
 use native.Mathlib.Omega.{arith}
 use lib.Dec.{eqb}
-use lib.ListN.{length, get_or, take}
-use lib.Seq.{take-suc}
-use lib.Ieee.{Float, nan}
-use Rattle.lists.specs.Gather.{gathered, slim}
+use lib.ListN.{length, get_or, take, drop, length-map}
+use lib.Seq.{drop-cons, length-take-le, get_or-take}
+use borrow.Author.Tests.{ltb-false}
+use Rattle.std.proofs.Common.{Some, None, unwrap_or, nat_lt}
+use Rattle.std.specs.List.{position, position_or_len}
+use Rattle.std.proofs.lemmas.List.{drop_all}
+use lib.Ieee.{Float}
+use Rattle.lists.specs.Gather.{slim}
 use Rattle.lists.specs.Sort.{insert, sort_onto, sorted}
-use Rattle.lists.specs.Regions.{front}
-use Rattle.lists.proofs.Sort.{sort_onto_append}
+use Rattle.lists.specs.Regions.{front, insert_at}
+use Rattle.lists.specs.Search.{first}
+use Rattle.lists.proofs.Search.{first_ext}
+use Rattle.lists.proofs.Library.{first_list}
+use Rattle.lists.proofs.Regions.{take_front_of}
+use Rattle.lists.proofs.Sort.{length_insert, insert_at_is, sort_onto_append, length_sort_onto}
 use Rattle.cutting.specs.Edges.{Edge, key}
+use Rattle.keys.specs.declared.SortedKey.{SortedKey}
 use Rattle.rules.specs.Nodes.{Projected, projected, by_projection, along_edge}
-use Rattle.edge_nodes.specs.Lent.{listed, under, collected_in, unless_none, sorted_in, FrontIs}
-use Rattle.edge_nodes.proofs.Under.{map_append}
-use Rattle.edge_nodes.proofs.Count.{length_collected}
+use Rattle.edge_nodes.specs.declared.nodes.Placed.{Placed}
+use Rattle.edge_nodes.specs.Chained.{edge_of}
+use Rattle.edge_nodes.specs.Lent.{placed, stands_before, node_of, under, collected_in, unless_none, sorted_in, FrontIs}
+use Rattle.edge_nodes.proofs.Under.{map_append, sorted_key}
 
-abbrev pub node_in : Projected → ℕ
-node_in p = p.node
+-- ---- one after the other
 
-pub map_listed : (along : List Float) (nodes : List ℕ) (n : ℕ) → n ≤ length nodes → map node_in (listed along nodes n) ≡ take n nodes
-unfolding listed gathered
-map_listed along nodes zero h = refl
-map_listed along nodes (suc n) h =
-    map_append node_in (listed along nodes n) (record { projection = get_or along n nan; node = get_or nodes n 0 } ∷ [])
-    ∙ ap (λ (l : List ℕ). l ++ (get_or nodes n 0 ∷ [])) (map_listed along nodes n (omega arith)) ∙ sym (take-suc nodes n 0 h)
+place_le : (p : Placed → Bool) (xs : List Placed) → position_or_len p xs ≤ length xs
+place_le p [] = omega arith
+place_le p (x ∷ xs) = go (p x) (place_le p xs)
+  where
+    go : (t : Bool) → position_or_len p xs ≤ length xs → cond (not t) (1 + position_or_len p xs) 0 ≤ length (x ∷ xs)
+    go true ih = omega arith
+    go false ih = omega (arith, ih)
+
+pub place_is : (p : Placed → Bool) (xs : List Placed) → unwrap_or (position p xs) (length xs) ≡ position_or_len p xs
+place_is p xs = go (nat_lt (position_or_len p xs) (length xs)) refl
+  where
+    go : (t : Bool) → nat_lt (position_or_len p xs) (length xs) ≡ t → unwrap_or (cond t (Some (position_or_len p xs)) None) (length xs) ≡ position_or_len p xs
+    go true e = refl
+    go false e = omega (arith, ltb-false (position_or_len p xs) (length xs) e, place_le p xs)
+
+-- one put in among the first n of a list
+pub put_there : (x d : Placed) (w w' : List Placed) (n k : ℕ) → n < length w → k ≡ position_or_len (stands_before x) (take n w) → w' ≡ insert_at w n k x
+    → take (n + 1) w' ≡ insert stands_before x (take n w)
+put_there x d w w' n k room at e =
+    let t : List Placed = take n w in
+    let long : length t ≡ n = length-take-le n w (omega (arith, room)) in
+    let first-is : k ≡ first (λ i. stands_before x (get_or t i d)) 0 (length t) = at ∙ sym (first_list (stands_before x) t d) in
+    let ext : first (λ i. stands_before x (get_or t i d)) 0 n ≡ first (λ i. stands_before x (get_or w i d)) 0 n =
+    first_ext (λ i. stands_before x (get_or t i d)) (λ i. stands_before x (get_or w i d)) n (λ i h. ap (stands_before x) (get_or-take n w i d h)) in
+    let k-is : k ≡ first (λ i. stands_before x (get_or w i d)) 0 n = first-is ∙ ap (λ (m : ℕ). first (λ i. stands_before x (get_or t i d)) 0 m) long ∙ ext in
+    ap (take (n + 1)) (e ∙ insert_at_is stands_before w n k x d room k-is)
+    ∙ take_front_of w (insert stands_before x t) (n + 1) (length_insert stands_before x t ∙ ap (λ (m : ℕ). m + 1) long)
+
+-- the next of some nodes is put in
+pub one_on : (f : ℕ → Placed) (nodes : List ℕ) (i : ℕ) (ys zs : List Placed) (x : Placed) → i < length nodes → x ≡ f (get_or nodes i 0) → zs ≡ insert stands_before x ys
+    → sort_onto stands_before zs (map f (drop (i + 1) nodes)) ≡ sort_onto stands_before ys (map f (drop i nodes))
+unfolding sort_onto
+one_on f nodes i ys zs x h x-is z-is =
+    let one : drop (suc i) nodes ≡ drop (i + 1) nodes = ap (λ (k : ℕ). drop k nodes) (sym (add-one i)) in
+    ap₂ (λ (l : List Placed) (r : List ℕ). sort_onto stands_before l (map f r)) (z-is ∙ ap (λ (p : Placed). insert stands_before p ys) x-is) (sym one)
+    ∙ sym (ap (λ (r : List ℕ). sort_onto stands_before ys (map f r)) (drop-cons nodes i 0 h))
+
+pub none_left : (f : ℕ → Placed) (nodes : List ℕ) (i : ℕ) (ys : List Placed) → length nodes ≤ i → ys ≡ sort_onto stands_before ys (map f (drop i nodes))
+unfolding sort_onto
+none_left f nodes i ys h = sym (ap (λ (r : List ℕ). sort_onto stands_before ys (map f r)) (drop_all i nodes h))
+
+-- ---- as the rules have them
+
+abbrev projected_of : Placed → Projected
+projected_of p = record { projection = p.along; node = p.node }
+
+map_insert : (x : Placed) (xs : List Placed) → map projected_of (insert stands_before x xs) ≡ insert by_projection (projected_of x) (map projected_of xs)
+unfolding insert
+map_insert x [] = refl
+map_insert x (y ∷ ys) = go (stands_before x y) (map_insert x ys)
+  where
+    go : (t : Bool) → map projected_of (insert stands_before x ys) ≡ insert by_projection (projected_of x) (map projected_of ys)
+        → map projected_of (elim t [ true ↦ x ∷ y ∷ ys | false ↦ y ∷ insert stands_before x ys ])
+        ≡ elim t [ true ↦ projected_of x ∷ projected_of y ∷ map projected_of ys | false ↦ projected_of y ∷ insert by_projection (projected_of x) (map projected_of ys) ]
+    go true ih = refl
+    go false ih = ap (λ (l : List Projected). projected_of y ∷ l) ih
+
+map_sort : (coords : List Float) (k : Edge) (done : List Placed) (ns : List ℕ)
+    → map projected_of (sort_onto stands_before done (map (placed coords k) ns)) ≡ sort_onto by_projection (map projected_of done) (map (projected coords k) ns)
+unfolding sort_onto
+map_sort coords k done [] = refl
+map_sort coords k done (n ∷ ns) =
+    map_sort coords k (insert stands_before (placed coords k n) done) ns
+    ∙ ap (λ (l : List Projected). sort_onto by_projection l (map (projected coords k) ns)) (map_insert (placed coords k n) done)
+
+map_nodes : (xs : List Placed) → map node_of xs ≡ map (λ (p : Projected). p.node) (map projected_of xs)
+map_nodes [] = refl
+map_nodes (x ∷ xs) = ap (λ (l : List ℕ). x.node ∷ l) (map_nodes xs)
 
 none_in : (xs : List ℕ) → length xs ≡ 0 → xs ≡ []
 none_in [] e = refl
@@ -35,46 +108,46 @@ some_in : (coords : List Float) (e : Edge) (xs : List ℕ) → (length xs ≡ 0 
 some_in coords e [] h = absurd (h refl)
 some_in coords e (x ∷ xs) h = refl
 
-module _ (coords : List Float) (subject cutter : List Edge) (met : List ℕ) (e : Edge) where
+module _ (coords : List Float) (subject cutter : List Edge) (met : List ℕ) (k : SortedKey) where
+  abbrev e : Edge
+  e = edge_of k
+
   abbrev by_subject : List ℕ
-  by_subject = under (length met / 5) subject met 0 e
+  by_subject = under (length met / 5) subject met 0 (edge_of k)
 
   abbrev by_cutter : List ℕ
-  by_cutter = under (length met / 5) cutter met 1 e
+  by_cutter = under (length met / 5) cutter met 1 (edge_of k)
 
-  abbrev place : ℕ → Projected
-  place = projected coords (key e)
+  module _ (xs ys zs : List Placed) (x-is : xs ≡ insert stands_before (placed coords (edge_of k) k.first) [])
+      (y-is : ys ≡ sort_onto stands_before xs (map (placed coords (edge_of k)) (under (length met / 5) subject met 0 (edge_of k))))
+      (z-is : zs ≡ sort_onto stands_before ys (map (placed coords (edge_of k)) (under (length met / 5) cutter met 1 (edge_of k)))) where
+    all_sorted : zs ≡ sort_onto stands_before [] (map (placed coords e) (k.first ∷ collected_in subject cutter met e))
+    unfolding sort_onto collected_in
+    all_sorted =
+        z-is ∙ ap (λ (l : List Placed). sort_onto stands_before l (map (placed coords e) by_cutter))
+        (y-is ∙ ap (λ (l : List Placed). sort_onto stands_before l (map (placed coords e) by_subject)) x-is)
+        ∙ sym (sort_onto_append stands_before (insert stands_before (placed coords e k.first) []) (map (placed coords e) by_subject) (map (placed coords e) by_cutter))
+        ∙ sym (ap (sort_onto stands_before (insert stands_before (placed coords e k.first) [])) (map_append (placed coords e) by_subject by_cutter))
 
-  module _ (n m : ℕ) (xs ys zs : List Projected)
-      (by-subject : (n ≡ 1 + length (under (length met / 5) subject met 0 e)) ×
-      (ys ≡ sort_onto by_projection xs (map (projected coords (key e)) (under (length met / 5) subject met 0 e))))
-      (by-cutter : (m ≡ n + length (under (length met / 5) cutter met 1 e)) ×
-      (zs ≡ sort_onto by_projection ys (map (projected coords (key e)) (under (length met / 5) cutter met 1 e)))) where
-    pub no_nodes : m ≡ 1 → (out : List ℕ) → FrontIs (sorted_in coords subject cutter met e) out 0 out
+    long : length zs ≡ 1 + length (collected_in subject cutter met e)
+    long =
+        let ns : List ℕ = k.first ∷ collected_in subject cutter met e in
+        omega (arith, ap length all_sorted ∙ length_sort_onto stands_before [] (map (placed coords e) ns), length-map ns (placed coords e))
+
+    pub no_nodes : length zs ≡ 1 → (out : List ℕ) → FrontIs (sorted_in coords subject cutter met e) out 0 out
     unfolding sorted_in front
     no_nodes h out =
-        let z : collected_in subject cutter met e ≡ [] =
-        none_in (collected_in subject cutter met e) (omega (arith, length_collected subject cutter met e, by-subject.0, by-cutter.0, h)) in
+        let z : collected_in subject cutter met e ≡ [] = none_in (collected_in subject cutter met e) (omega (arith, long, h)) in
         let none : unless_none coords e (collected_in subject cutter met e) ≡ [] = ap (unless_none coords e) z in
         record { count = sym (ap length none); fits = omega arith; held = sym (ap (λ (l : List ℕ). front out l) none) }
 
-    all_sorted : (along : List Float) (nodes : List ℕ) (k : ℕ) → k ≡ (key e).0 → xs ≡ insert by_projection (place k) (listed along nodes 0)
-        → zs ≡ sorted by_projection (map place ((key e).0 ∷ collected_in subject cutter met e))
-    unfolding listed gathered insert sort_onto collected_in
-    all_sorted along nodes k k_is x_is =
-        let start : xs ≡ place (key e).0 ∷ [] = x_is ∙ ap (λ (c : ℕ). place c ∷ []) k_is in
-        by-cutter.1 ∙ ap (λ (l : List Projected). sort_onto by_projection l (map place by_cutter))
-        (by-subject.1 ∙ ap (λ (l : List Projected). sort_onto by_projection l (map place by_subject)) start)
-        ∙ sym (sort_onto_append by_projection (place (key e).0 ∷ []) (map place by_subject) (map place by_cutter))
-        ∙ sym (ap (sort_onto by_projection (place (key e).0 ∷ [])) (map_append place by_subject by_cutter))
-
-    -- `nodes` are those in zs, k₁ goes behind them
-    pub some_nodes : (along : List Float) (nodes₀ nodes : List ℕ) (k₀ k₁ : ℕ) → k₀ ≡ (key e).0 → k₁ ≡ (key e).1
-        → xs ≡ insert by_projection (projected coords (key e) k₀) (listed along nodes₀ 0) → map node_in zs ≡ nodes → (m ≡ 1 → ⊥)
-        → slim eqb (nodes ++ k₁ ∷ []) ≡ sorted_in coords subject cutter met e
+    pub some_nodes : (length zs ≡ 1 → ⊥) → slim eqb (map node_of zs ++ k.second ∷ []) ≡ sorted_in coords subject cutter met e
     unfolding sorted_in along_edge
-    some_nodes along nodes₀ nodes k₀ k₁ z₀ z₁ x_is nodes_are_lem h =
-        let more : length (collected_in subject cutter met e) ≡ 0 → ⊥ =
-        λ z. h (omega (arith, length_collected subject cutter met e, by-subject.0, by-cutter.0, z)) in
-        ap₂ (λ (l : List ℕ) (k : ℕ). slim eqb (l ++ k ∷ [])) (sym nodes_are_lem ∙ ap (map node_in) (all_sorted along nodes₀ k₀ z₀ x_is)) z₁
-        ∙ some_in coords e (collected_in subject cutter met e) more
+    some_nodes h =
+        let ns : List ℕ = collected_in subject cutter met e in
+        let more : length ns ≡ 0 → ⊥ = λ z. h (omega (arith, long, z)) in
+        let nodes : map node_of zs ≡ map (λ (p : Projected). p.node) (sorted by_projection (map (projected coords e) (k.first ∷ ns))) =
+        ap (map node_of) all_sorted ∙ map_nodes (sort_onto stands_before [] (map (placed coords e) (k.first ∷ ns)))
+        ∙ ap (map (λ (p : Projected). p.node)) (map_sort coords e [] (k.first ∷ ns)) in
+        ap (λ (l : List ℕ). slim eqb (l ++ k.second ∷ [])) nodes ∙ sym (ap (λ (f : Edge). along_edge coords f ns) (sorted_key k))
+        ∙ some_in coords e ns more

@@ -1,84 +1,70 @@
 -- The nodes that meetings collect under a key, put in order one after the other. Assumes nothing.
-use mathlib.Core.Path.{◌≡◌, refl, sym, ap, ◌∙◌}
-use mathlib.Core.Bool.{Bool, true, false, cond}
+use mathlib.Core.Path.{◌≡◌, refl, sym, ap, ap₂, ◌∙◌}
+use mathlib.Core.Bool.{Bool, true, false, cond, ◌&&◌}
 use mathlib.Core.List.{List, [], ◌∷◌, ◌++◌, map}
-use Prim.Native.Nat.{ℕ, zero, suc, ◌+◌, ◌*◌, ◌-◌, ◌/◌, ◌≤◌, ◌<◌}
+use Prim.Native.Nat.{ℕ, zero, suc, ◌+◌, ◌*◌, ◌-◌, ◌/◌, ◌≤◌, ◌<◌, min, max}
 use native.Mathlib.Nat.{le_antisymm}
 use native.Mathlib.Omega.{arith}
-use lib.ListN.{length, get_or, take, length-append, get_or-eq_default}
+use lib.Dec.{eqb}
+use lib.ListN.{length, get_or, take, drop, length-append, length-map, get_or-eq_default}
+use lib.Seq.{drop-cons}
 use Rattle.lists.specs.Gather.{gathered}
-use Rattle.lists.specs.Sort.{insert, sort_onto}
+use Rattle.lists.specs.Sort.{sort_onto}
 use Rattle.lists.proofs.Gather.{gathered_more}
-use Rattle.lists.proofs.Sort.{sort_onto_append}
-use Rattle.cutting.specs.Edges.{Edge, edge_at, same_key}
+use Rattle.lists.proofs.Sort.{sort_onto_append, length_sort_onto}
+use Rattle.cutting.specs.Edges.{Edge, edge_at, key, same_key}
 use Rattle.cutting.specs.Lent.{pairs}
 use Rattle.cutting.proofs.Pairs.{pairs_length, pairs_at}
-use Rattle.rules.specs.Nodes.{Projected, by_projection}
-use Rattle.edge_nodes.specs.Lent.{met_nodes, under_at, under}
+use Rattle.keys.specs.declared.SortedKey.{SortedKey}
+use Rattle.edge_nodes.specs.declared.nodes.Placed.{Placed}
+use Rattle.edge_nodes.specs.Lent.{stands_before, met_nodes, under_at, under}
+use Rattle.edge_nodes.specs.Chained.{edge_of}
 
 -- ---- edges read from a flat list
-
-pub edge_there : (s : List ℕ) (e : ℕ) → e < length s / 2 → (get_or s (2 * e) 0 ≡ (edge_at (pairs s) e).0) × (get_or s (2 * e + 1) 0 ≡ (edge_at (pairs s) e).1)
-edge_there s e h = (ap (λ (x : Edge). x.0) (sym (pairs_at s e h)), ap (λ (x : Edge). x.1) (sym (pairs_at s e h)))
 
 none_there : (s : List ℕ) (e : ℕ) → length s / 2 ≤ e → edge_at (pairs s) e ≡ (0, 0)
 none_there s e h = get_or-eq_default (pairs s) (0, 0) (omega (arith, pairs_length s))
 
-pub no_edge : (s : List ℕ) (e : ℕ) → length s / 2 ≤ e → (0 ≡ (edge_at (pairs s) e).0) × (0 ≡ (edge_at (pairs s) e).1)
-no_edge s e h = (ap (λ (x : Edge). x.0) (sym (none_there s e h)), ap (λ (x : Edge). x.1) (sym (none_there s e h)))
+pub key_there : (s : List ℕ) (e : ℕ) → e < length s / 2 → key (get_or s (2 * e) 0, get_or s (2 * e + 1) 0) ≡ key (edge_at (pairs s) e)
+key_there s e h = ap key (sym (pairs_at s e h))
+
+pub no_key : (s : List ℕ) (e : ℕ) → length s / 2 ≤ e → key (0, 0) ≡ key (edge_at (pairs s) e)
+no_key s e h = ap key (sym (none_there s e h))
 
 -- ---- the nodes of a meeting
 
-module _ (met : List ℕ) (q : ℕ) where
-  pub met_none : get_or met (5 * q + 2) 0 ≡ 0 → met_nodes met q ≡ []
-  unfolding met_nodes
-  met_none e = ap (λ (c : ℕ). take c (get_or met (5 * q + 3) 0 ∷ get_or met (5 * q + 4) 0 ∷ [])) e
+two_of : (c r a b : ℕ) (rest : List ℕ) → r ≡ min c 2 → take r (a ∷ b ∷ rest) ≡ take c (a ∷ b ∷ [])
+two_of zero r a b rest e = let z : r ≡ 0 = omega (arith, e) in ap (λ (k : ℕ). take k (a ∷ b ∷ rest)) z
+two_of (suc zero) r a b rest e = let z : r ≡ 1 = omega (arith, e) in ap (λ (k : ℕ). take k (a ∷ b ∷ rest)) z
+two_of (suc (suc zero)) r a b rest e = let z : r ≡ 2 = omega (arith, e) in ap (λ (k : ℕ). take k (a ∷ b ∷ rest)) z
+two_of (suc (suc (suc c))) r a b rest e = let z : r ≡ 2 = omega (arith, e) in ap (λ (k : ℕ). take k (a ∷ b ∷ rest)) z
 
-  pub met_one : get_or met (5 * q + 2) 0 ≡ 1 → met_nodes met q ≡ get_or met (5 * q + 3) 0 ∷ []
-  unfolding met_nodes
-  met_one e = ap (λ (c : ℕ). take c (get_or met (5 * q + 3) 0 ∷ get_or met (5 * q + 4) 0 ∷ [])) e
-
-  both : (c v w : ℕ) → (c ≡ 0 → ⊥) → (c ≡ 1 → ⊥) → take c (v ∷ w ∷ []) ≡ v ∷ w ∷ []
-  both zero v w a b = absurd (a refl)
-  both (suc zero) v w a b = absurd (b refl)
-  both (suc (suc zero)) v w a b = refl
-  both (suc (suc (suc c))) v w a b = refl
-
-  pub met_two : (get_or met (5 * q + 2) 0 ≡ 0 → ⊥) → (get_or met (5 * q + 2) 0 ≡ 1 → ⊥) → met_nodes met q ≡ get_or met (5 * q + 3) 0 ∷ get_or met (5 * q + 4) 0 ∷ []
-  unfolding met_nodes
-  met_two a b = both (get_or met (5 * q + 2) 0) (get_or met (5 * q + 3) 0) (get_or met (5 * q + 4) 0) a b
-
-  some : (c v w : ℕ) → (c ≡ 0 → ⊥) → 1 ≤ length (take c (v ∷ w ∷ []))
-  some zero v w a = absurd (a refl)
-  some (suc c) v w a = omega arith
-
-  pub met_some : (get_or met (5 * q + 2) 0 ≡ 0 → ⊥) → 1 ≤ length (met_nodes met q)
-  unfolding met_nodes
-  met_some a = some (get_or met (5 * q + 2) 0) (get_or met (5 * q + 3) 0) (get_or met (5 * q + 4) 0) a
-
--- ---- in order
-
-module _ (f : ℕ → Projected) (n : ℕ) (xs : List Projected) (ns : List ℕ) where
-  pub placed_none : ns ≡ [] → (n ≡ n + length ns) × (xs ≡ sort_onto by_projection xs (map f ns))
-  unfolding sort_onto
-  placed_none e = (omega (arith, ap length e), sym (ap (λ (l : List ℕ). sort_onto by_projection xs (map f l)) e))
-
-  pub placed_one : (v : ℕ) (ys : List Projected) → ns ≡ v ∷ [] → ys ≡ insert by_projection (f v) xs → (n + 1 ≡ n + length ns) × (ys ≡ sort_onto by_projection xs (map f ns))
-  unfolding sort_onto
-  placed_one v ys e a = (omega (arith, ap length e), a ∙ sym (ap (λ (l : List ℕ). sort_onto by_projection xs (map f l)) e))
-
-  pub placed_two : (v w : ℕ) (ys zs : List Projected) → ns ≡ v ∷ w ∷ [] → ys ≡ insert by_projection (f v) xs → zs ≡ insert by_projection (f w) ys
-      → (n + 2 ≡ n + length ns) × (zs ≡ sort_onto by_projection xs (map f ns))
-  unfolding sort_onto
-  placed_two v w ys zs e a b =
-      (omega (arith, ap length e), b ∙ ap (insert by_projection (f w)) a ∙ sym (ap (λ (l : List ℕ). sort_onto by_projection xs (map f l)) e))
-
-  -- the same nodes under another name
-  pub as_under : (r : ℕ) (ys : List Projected) (ms : List ℕ) → ns ≡ ms → (r ≡ n + length ms) × (ys ≡ sort_onto by_projection xs (map f ms))
-      → (r ≡ n + length ns) × (ys ≡ sort_onto by_projection xs (map f ns))
-  as_under r ys ms e got = (got.0 ∙ ap (λ (l : List ℕ). n + length l) (sym e), got.1 ∙ ap (λ (l : List ℕ). sort_onto by_projection xs (map f l)) (sym e))
+-- read from the list
+pub nodes_read : (met : List ℕ) (q r : ℕ) → q < length met / 5 → r ≡ min (get_or met (5 * q + 2) 0) 2
+    → take (5 * q + 3 + r - (5 * q + 3)) (drop (5 * q + 3) met) ≡ met_nodes met q
+unfolding met_nodes
+nodes_read met q r h e =
+    let three : ℕ = 5 * q + 3 in
+    let one : suc three ≡ 5 * q + 4 = omega arith in
+    let n : three + r - three ≡ r = omega arith in
+    let rest : List ℕ = drop (suc (5 * q + 4)) met in
+    let next : drop (suc three) met ≡ get_or met (5 * q + 4) 0 ∷ rest = ap (λ (k : ℕ). drop k met) one ∙ drop-cons met (5 * q + 4) 0 (omega arith) in
+    let all : drop three met ≡ get_or met three 0 ∷ get_or met (5 * q + 4) 0 ∷ rest =
+    drop-cons met three 0 (omega arith) ∙ ap (λ (l : List ℕ). get_or met three 0 ∷ l) next in
+    ap (λ (k : ℕ). take k (drop three met)) n ∙ ap (take r) all ∙ two_of (get_or met (5 * q + 2) 0) r (get_or met three 0) (get_or met (5 * q + 4) 0) rest e
 
 -- ---- under the key, or not
+
+-- a key is the key of the edge between its nodes
+pub sorted_key : (k : SortedKey) → key (edge_of k) ≡ edge_of k
+sorted_key k =
+    let a : min k.first k.second ≡ k.first = omega (arith, k.sorted) in
+    let b : max k.first k.second ≡ k.second = omega (arith, k.sorted) in
+    ap₂ (λ (x y : ℕ). (x, y)) a b
+
+-- two keys compared
+pub keys_compared : (g : Edge) (f k : SortedKey) (r : Bool) → edge_of f ≡ key g → r ≡ (eqb f.first k.first && eqb f.second k.second) → same_key g (edge_of k) ≡ r
+keys_compared g f k r p e = ap₂ (λ (x y : Edge). eqb x.0 y.0 && eqb x.1 y.1) (sym p) (sorted_key k) ∙ sym e
 
 module _ (es : List Edge) (met : List ℕ) (which : ℕ) (e : Edge) (q : ℕ) where
   pub under_it : same_key (edge_at es (get_or met (5 * q + which) 0)) e ≡ true → under_at es met which e q ≡ met_nodes met q
@@ -88,6 +74,18 @@ module _ (es : List Edge) (met : List ℕ) (which : ℕ) (e : Edge) (q : ℕ) wh
   pub not_under : same_key (edge_at es (get_or met (5 * q + which) 0)) e ≡ false → under_at es met which e q ≡ []
   unfolding under_at
   not_under t = ap (λ (b : Bool). cond b (met_nodes met q) []) t
+
+  -- they are two at most
+  pub under_few : length (under_at es met which e q) ≤ 2
+  unfolding under_at met_nodes
+  under_few = go (same_key (edge_at es (get_or met (5 * q + which) 0)) e) (get_or met (5 * q + 2) 0)
+    where
+      go : (t : Bool) (c : ℕ) → length (cond t (take c (get_or met (5 * q + 3) 0 ∷ get_or met (5 * q + 4) 0 ∷ [])) []) ≤ 2
+      go false c = omega arith
+      go true zero = omega arith
+      go true (suc zero) = omega arith
+      go true (suc (suc zero)) = omega arith
+      go true (suc (suc (suc c))) = omega arith
 
 -- ---- all meetings
 
@@ -115,40 +113,43 @@ pub map_append : {A B : Type 0} (f : A → B) (xs ys : List A) → map f (xs ++ 
 map_append f [] ys = refl
 map_append f (x ∷ xs) ys = ap (λ l. f x ∷ l) (map_append f xs ys)
 
--- what has been collected of the first q meetings, behind n nodes in order
-abbrev pub Collected : (ℕ → Projected) → List Edge → List ℕ → ℕ → Edge → ℕ → List Projected → ℕ → ℕ → List Projected → Type 0
-Collected f es met which e n xs q m ys =
-    (q ≤ length met / 5) × (m ≡ n + length (under q es met which e)) × (ys ≡ sort_onto by_projection xs (map f (under q es met which e)))
+-- what has been collected of the first q meetings, among those that stood there
+abbrev pub Collected : (ℕ → Placed) → List Edge → List ℕ → ℕ → Edge → List Placed → ℕ → List Placed → Type 0
+Collected f es met which e xs q ys = (q ≤ length met / 5) × (ys ≡ sort_onto stands_before xs (map f (under q es met which e)))
 
-module _ (f : ℕ → Projected) (es : List Edge) (met : List ℕ) (which : ℕ) (e : Edge) (n : ℕ) (xs : List Projected) where
-  pub collect_start : Collected f es met which e n xs 0 n xs
+module _ (f : ℕ → Placed) (es : List Edge) (met : List ℕ) (which : ℕ) (e : Edge) (xs : List Placed) where
+  pub collect_start : Collected f es met which e xs 0 xs
   unfolding under gathered sort_onto
-  collect_start = (omega arith, omega arith, refl)
+  collect_start = (omega arith, refl)
 
-  pub collect_turn : (q m r : ℕ) (ys zs : List Projected) → Collected f es met which e n xs q m ys → q < length met / 5
-      → (r ≡ m + length (under_at es met which e q)) × (zs ≡ sort_onto by_projection ys (map f (under_at es met which e q)))
-      → Collected f es met which e n xs (q + 1) r zs
-  collect_turn q m r ys zs inv h got = (
+  pub collect_turn : (q : ℕ) (ys zs : List Placed) → Collected f es met which e xs q ys → q < length met / 5
+      → zs ≡ sort_onto stands_before ys (map f (under_at es met which e q)) → Collected f es met which e xs (q + 1) zs
+  collect_turn q ys zs inv h got = (
     omega arith,
-    omega (arith, length_under es met which e q, inv.1, got.0),
-    got.1 ∙ ap (λ (l : List Projected). sort_onto by_projection l (map f (under_at es met which e q))) inv.2
-        ∙ sym (sort_onto_append by_projection xs (map f (under q es met which e)) (map f (under_at es met which e q)))
-        ∙ sym (ap (sort_onto by_projection xs) (ap (map f) (under_more es met which e q) ∙ map_append f (under q es met which e) (under_at es met which e q))),
+    got ∙ ap (λ (l : List Placed). sort_onto stands_before l (map f (under_at es met which e q))) inv.1
+        ∙ sym (sort_onto_append stands_before xs (map f (under q es met which e)) (map f (under_at es met which e q)))
+        ∙ sym (ap (sort_onto stands_before xs) (ap (map f) (under_more es met which e q) ∙ map_append f (under q es met which e) (under_at es met which e q))),
   )
 
   -- no nodes were left out
-  pub collect_moved : (k q m : ℕ) (ys : List Projected) → Collected f es met which e n xs k m ys → q ≤ length met / 5 → under q es met which e ≡ under k es met which e
-      → Collected f es met which e n xs q m ys
-  collect_moved k q m ys inv l z =
-      (l, inv.1 ∙ ap (λ (us : List ℕ). n + length us) (sym z), inv.2 ∙ ap (λ (us : List ℕ). sort_onto by_projection xs (map f us)) (sym z))
+  pub collect_moved : (k q : ℕ) (ys : List Placed) → Collected f es met which e xs k ys → q ≤ length met / 5 → under q es met which e ≡ under k es met which e
+      → Collected f es met which e xs q ys
+  collect_moved k q ys inv l z = (l, inv.1 ∙ ap (λ (us : List ℕ). sort_onto stands_before xs (map f us)) (sym z))
 
-  pub collect_end : (q m : ℕ) (ys : List Projected) → Collected f es met which e n xs q m ys → length met / 5 ≤ q
-      → (m ≡ n + length (under (length met / 5) es met which e)) × (ys ≡ sort_onto by_projection xs (map f (under (length met / 5) es met which e)))
-  collect_end q m ys inv h =
+  pub collect_end : (q : ℕ) (ys : List Placed) → Collected f es met which e xs q ys → length met / 5 ≤ q
+      → ys ≡ sort_onto stands_before xs (map f (under (length met / 5) es met which e))
+  collect_end q ys inv h =
       let z : q ≡ length met / 5 = le_antisymm inv.0 h in
-      (inv.1 ∙ ap (λ (k : ℕ). n + length (under k es met which e)) z, inv.2 ∙ ap (λ (k : ℕ). sort_onto by_projection xs (map f (under k es met which e))) z)
+      inv.1 ∙ ap (λ (k : ℕ). sort_onto stands_before xs (map f (under k es met which e))) z
 
   -- the nodes of meeting q have their place
-  pub collect_room : (q m : ℕ) (ys : List Projected) → Collected f es met which e n xs q m ys → q < length met / 5
-      → (room : ℕ) → n + length (under (length met / 5) es met which e) ≤ room → m + length (under_at es met which e q) ≤ room
-  collect_room q m ys inv h room fits = omega (arith, length_under es met which e q, under_le es met which e (q + 1) (length met / 5) (omega arith), inv.1)
+  pub collect_room : (q : ℕ) (ys : List Placed) → Collected f es met which e xs q ys → q < length met / 5
+      → (room : ℕ) → length xs + length (under (length met / 5) es met which e) ≤ room → length ys + length (under_at es met which e q) ≤ room
+  collect_room q ys inv h room fits =
+      omega (
+        arith,
+        length_under es met which e q,
+        under_le es met which e (q + 1) (length met / 5) (omega arith),
+        ap length inv.1 ∙ length_sort_onto stands_before xs (map f (under q es met which e)),
+        length-map (under q es met which e) f,
+      )

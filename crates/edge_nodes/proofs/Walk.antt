@@ -12,63 +12,13 @@ use Rattle.lists.proofs.Search.{first_hit, first_none, first_le, first_from_lem,
 use Rattle.cutting.specs.Edges.{Edge, edge_at, key, same_key}
 use Rattle.edge_nodes.specs.Lent.{under_at, under}
 use Rattle.keys.specs.Chains.{chain_of}
-use Rattle.edge_nodes.specs.Links.{chain_at, on_chain, head_at, next_at, links_of, Linked}
-use Rattle.edge_nodes.specs.Chained.{chains_in, head_in, next_in, Chains}
-use Rattle.edge_nodes.proofs.Under.{not_under, under_more}
-use Rattle.edge_nodes.proofs.LinksAt.{subject_head, cutter_head, subject_next, cutter_next}
-
--- ---- the links, read
-
-module _ (met links : List ℕ) where
-  abbrev h : ℕ
-  h = length links / 2 - length met / 5
-
-  -- what stands at a place that goes by the kind
-  pub head_first : (which v c : ℕ) → which ≡ 0 → c ≡ chain_of (length links / 2 - length met / 5) v → get_or links c 0 ≡ head_in met links which v
-  unfolding head_in
-  head_first zero v c z e = ap (λ (i : ℕ). get_or links i 0) e
-  head_first (suc k) v c z e = absurd (omega (arith, z))
-
-  pub head_second : (which v c : ℕ) → (which ≡ 0 → ⊥) → c ≡ chain_of (length links / 2 - length met / 5) v
-      → get_or links (length links / 2 - length met / 5 + c) 0 ≡ head_in met links which v
-  unfolding head_in
-  head_second zero v c z e = absurd (z refl)
-  head_second (suc k) v c z e = ap (λ (i : ℕ). get_or links (h + i) 0) e
-
-  pub next_first : (which q : ℕ) → which ≡ 0 → get_or links (2 * (length links / 2 - length met / 5) + q) 0 ≡ next_in met links which q
-  unfolding next_in
-  next_first zero q z = refl
-  next_first (suc k) q z = absurd (omega (arith, z))
-
-  pub next_second : (which q : ℕ) → (which ≡ 0 → ⊥) → get_or links (2 * (length links / 2 - length met / 5) + length met / 5 + q) 0 ≡ next_in met links which q
-  unfolding next_in
-  next_second zero q z = absurd (z refl)
-  next_second (suc k) q z = refl
-
-  module _ (subject cutter : List Edge) (linked : Linked subject cutter met links) where
-    at : (i : ℕ) → get_or links i 0 ≡ get_or (links_of h subject cutter met) i 0
-    at i = ap (λ (l : List ℕ). get_or l i 0) linked.are
-
-    low : (v : ℕ) → chain_of h v < h
-    low v = omega (arith, linked.some)
-
-    pub subject_chains : Chains subject met links 0
-    unfolding head_in next_in
-    subject_chains =
-        record {
-          some = linked.some;
-          head = λ v. at (chain_of h v) ∙ subject_head h subject cutter met (chain_of h v) (low v);
-          next = λ q l. at (2 * h + q) ∙ subject_next h subject cutter met q l;
-        }
-
-    pub cutter_chains : Chains cutter met links 1
-    unfolding head_in next_in
-    cutter_chains =
-        record {
-          some = linked.some;
-          head = λ v. at (h + chain_of h v) ∙ cutter_head h subject cutter met (chain_of h v) (low v);
-          next = λ q l. at (2 * h + length met / 5 + q) ∙ cutter_next h subject cutter met q l;
-        }
+use Rattle.keys.specs.declared.SortedKey.{SortedKey}
+use Rattle.lists.proofs.Gather.{length_each, get_or_each}
+use Rattle.cutting.specs.Lent.{pairs}
+use Rattle.edge_nodes.specs.declared.sides.Meetings.{Meetings}
+use Rattle.edge_nodes.specs.Links.{chain_at, on_chain, head_at, next_at}
+use Rattle.edge_nodes.specs.Chained.{number, edge_of, heads_in, nexts_in}
+use Rattle.edge_nodes.proofs.Under.{sorted_key, not_under, under_more}
 
 -- ---- along a chain
 
@@ -110,28 +60,44 @@ module _ (es : List Edge) (met : List ℕ) (which : ℕ) (e : Edge) where
         ∙ none_more (q - k) k (λ i c d. off_chain i (first_none (on_chain h es met which chain) k (length met / 5) i c (omega (arith, b, z)) (omega (arith, z))))
 
 -- the walk has come to meeting q, or to the end
-abbrev pub OnWay : List Edge → List ℕ → List ℕ → ℕ → Edge → ℕ → Type 0
-OnWay es met links which e q = (q ≤ length met / 5) × (q < length met / 5 → chain_at (chains_in met links) es met which q ≡ chain_of (chains_in met links) (key e).0)
+abbrev pub OnWay : ℕ → List Edge → List ℕ → ℕ → Edge → ℕ → Type 0
+OnWay h es met which e q = (q ≤ length met / 5) × (q < length met / 5 → chain_at h es met which q ≡ chain_of h (key e).0)
 
-module _ (es : List Edge) (met links : List ℕ) (which : ℕ) (e : Edge) (chains : Chains es met links which) where
+module _ (h : ℕ) (es : List Edge) (met : List ℕ) (which : ℕ) (e : Edge) where
   abbrev on : ℕ → Bool
-  on = on_chain (chains_in met links) es met which (chain_of (chains_in met links) (key e).0)
+  on = on_chain h es met which (chain_of h (key e).0)
 
-  found : (k : ℕ) → k ≤ length met / 5 → OnWay es met links which e (first on k (length met / 5))
+  found : (k : ℕ) → k ≤ length met / 5 → OnWay h es met which e (first on k (length met / 5))
   found k l =
       let q : ℕ = first on k (length met / 5) in
-      (first_le on k (length met / 5) l, λ b. eqb-true (chain_at (chains_in met links) es met which q) (chain_of (chains_in met links) (key e).0) (first_hit on k (length met / 5) b))
+      (first_le on k (length met / 5) l, λ b. eqb-true (chain_at h es met which q) (chain_of h (key e).0) (first_hit on k (length met / 5) b))
 
-  pub walk_start : (q v : ℕ) → v ≡ (key e).0 → q ≡ head_in met links which v → OnWay es met links which e q × (under q es met which e ≡ under 0 es met which e)
+  pub walk_start : (q : ℕ) → q ≡ head_at h es met which (chain_of h (key e).0) → OnWay h es met which e q × (under q es met which e ≡ under 0 es met which e)
   unfolding head_at
-  walk_start q v v_is q-is =
-      let z : q ≡ first on 0 (length met / 5) = q-is ∙ ap (head_in met links which) v_is ∙ chains.head (key e).0 in
-      rw z (found 0 (omega arith), skipped es met which e (chains_in met links) 0 (omega arith))
+  walk_start q q-is = rw q-is (found 0 (omega arith), skipped es met which e h 0 (omega arith))
 
-  pub walk_turn : (q r : ℕ) → OnWay es met links which e q → q < length met / 5 → r ≡ next_in met links which q
-      → OnWay es met links which e r × (q < r) × (under r es met which e ≡ under (q + 1) es met which e)
+  pub walk_turn : (q r : ℕ) → OnWay h es met which e q → q < length met / 5 → r ≡ next_at h es met which q
+      → OnWay h es met which e r × (q < r) × (under r es met which e ≡ under (q + 1) es met which e)
   unfolding next_at
   walk_turn q r way l r_is =
       let z : r ≡ first on (q + 1) (length met / 5) =
-      r_is ∙ chains.next q l ∙ ap (λ (c : ℕ). first (on_chain (chains_in met links) es met which c) (q + 1) (length met / 5)) (way.1 l) in
-      rw z (found (q + 1) (omega arith), omega (arith, first_from_lem on (q + 1) (length met / 5)), skipped es met which e (chains_in met links) (q + 1) (omega arith))
+      r_is ∙ ap (λ (c : ℕ). first (on_chain h es met which c) (q + 1) (length met / 5)) (way.1 l) in
+      rw z (found (q + 1) (omega arith), omega (arith, first_from_lem on (q + 1) (length met / 5)), skipped es met which e h (q + 1) (omega arith))
+
+-- ---- read from the list
+
+module _ (m : Meetings) (heads nexts : List ℕ) (some : 0 < length heads) (heads-are : heads ≡ heads_in (length heads) m) (nexts-are : nexts ≡ nexts_in (length heads) m) where
+  pub head_read : (k : SortedKey) (c : ℕ) → c ≡ chain_of (length heads) k.first
+      → get_or heads c 0 ≡ head_at (length heads) (pairs m.edges.now) m.met.now (number m.side) (chain_of (length heads) (key (edge_of k)).0)
+  head_read k c e =
+      let f : ℕ → ℕ = head_at (length heads) (pairs m.edges.now) m.met.now (number m.side) in
+      ap (λ (l : List ℕ). get_or l c 0) heads-are ∙ get_or_each (length heads) f c 0 (omega (arith, e, some))
+      ∙ ap f (e ∙ ap (λ (g : Edge). chain_of (length heads) g.0) (sym (sorted_key k)))
+
+  pub nexts_long : length nexts ≡ length m.met.now / 5
+  nexts_long = ap length nexts-are ∙ length_each (length m.met.now / 5) (next_at (length heads) (pairs m.edges.now) m.met.now (number m.side))
+
+  pub next_read : (q : ℕ) → q < length nexts → get_or nexts q 0 ≡ next_at (length heads) (pairs m.edges.now) m.met.now (number m.side) q
+  next_read q l =
+      ap (λ (u : List ℕ). get_or u q 0) nexts-are
+      ∙ get_or_each (length m.met.now / 5) (next_at (length heads) (pairs m.edges.now) m.met.now (number m.side)) q 0 (omega (arith, l, nexts_long))

@@ -1,17 +1,27 @@
 -- The nodes of an edge as they stand in lent lists: what only this crate's contracts cite. Assumes nothing.
 use Rattle.std.specs.Prelude.{◌≡◌, Bool, cond, List, [], ◌∷◌, ◌++◌, ℕ, ◌+◌, ◌*◌, ◌-◌, ◌/◌, ◌≤◌, ltb, eqb, length, get_or, take, Float}
-use Rattle.std.specs.Float.{nan}
-use Rattle.lists.specs.Gather.{gathered, each}
+use Rattle.lists.specs.Gather.{gathered}
 use Rattle.lists.specs.Regions.{front}
 use Rattle.cutting.specs.Edges.{Edge, edge_at, key, same_key}
-use Rattle.rules.specs.Nodes.{Projected, along_edge}
+use Rattle.cutting.specs.Lent.{pairs}
+use Rattle.rules.specs.Nodes.{total_before, projected, along_edge}
 use Rattle.regions.specs.declared.Regions.{Regions}
 use Rattle.regions.specs.Runs.{Lies, run_in, mesh_edges}
+use Rattle.edge_nodes.specs.declared.sides.Meetings.{Meetings}
+use Rattle.edge_nodes.specs.declared.nodes.Placed.{Placed}
 use Rattle.edge_nodes.specs.Links.{Linked}
+use Rattle.edge_nodes.specs.Chained.{number}
 
--- the first n nodes with their projections
-unfoldable pub listed : List Float → List ℕ → ℕ → List Projected
-listed along nodes n = each n (λ i. record { projection = get_or along i nan; node = get_or nodes i 0 })
+-- the node n along the key k
+abbrev pub placed : List Float → Edge → ℕ → Placed
+placed coords k n = record { along = (projected coords k n).projection; node = n }
+
+-- nearer the key's first node
+abbrev pub stands_before : Placed → Placed → Bool
+stands_before p q = total_before p.along q.along
+
+abbrev pub node_of : Placed → ℕ
+node_of p = p.node
 
 -- the nodes of meeting q
 unfoldable pub met_nodes : List ℕ → ℕ → List ℕ
@@ -24,6 +34,10 @@ under_at es met which e q = cond (same_key (edge_at es (get_or met (5 * q + whic
 -- those of the first n meetings
 unfoldable pub under : ℕ → List Edge → List ℕ → ℕ → Edge → List ℕ
 under n es met which e = gathered n (under_at es met which e)
+
+-- those of all meetings by the edges of one mesh
+abbrev pub under_in : Meetings → Edge → List ℕ
+under_in m e = under (length m.met.now / 5) (pairs m.edges.now) m.met.now (number m.side) e
 
 -- all of them: by meetings of subject edges, then by those of cutter edges
 unfoldable pub collected_in : List Edge → List Edge → List ℕ → Edge → List ℕ

@@ -2,3 +2,4 @@ pub mod Links
 pub mod Lent
 pub mod Chained
 pub mod Stored
+pub mod Sides

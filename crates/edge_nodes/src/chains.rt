@@ -1,130 +1,86 @@
 // The meetings chained by the smaller node of their edges' keys, so that those under one key are found without a scan of all.
 ghost use Rattle.std.specs.Prelude.{◌≡◌, ◌+◌, ◌*◌, ◌/◌, ◌≤◌, ◌<◌, length};
-ghost use Rattle.lists.specs.Gather.{each};
-ghost use Rattle.lists.specs.Regions.{run, put};
 ghost use Rattle.cutting.specs.Lent.{pairs};
-ghost use Rattle.edge_nodes.specs.Links.{chain_at, links_of};
-ghost use Rattle.edge_nodes.specs.Chained.{headed, Chained, head_in, next_in};
+ghost use Rattle.edge_nodes.specs.Links.{links_of, Linked};
+ghost use Rattle.edge_nodes.specs.Chained.{heads_in, nexts_in};
 
-use crate::{first_of, second_of};
-use keys::{chain_of, edge_chain};
+use crate::sides::{Meetings, Side};
 
-// The chain of meeting q.
-fn chain_at(edges: &[u32], met: &[u32], which: usize, h: usize, q: usize) -> usize
-    requires { (5 * q + 5 ≤ length met.now) × (which < 2) × (0 < h) }
-    ensures { (result ≡ chain_at h (pairs edges.now) met.now which q) × (result < h) }
-{
-    let e = met[5 * q + which] as usize;
-    let x = first_of(edges, e);
-    let y = second_of(edges, e);
-    edge_chain(h, x, y)
+// They are chained: the first meeting of each chain, and for each meeting the next one. Where a chain ends the number of meetings stands.
+#[derive(Clone, Copy)]
+pub(crate) struct Chains<'a> {
+    pub meetings: Meetings<'a>,
+    pub heads: &'a [u32],
+    pub nexts: &'a [u32],
+    ghost some: { 0 < length heads.now },
+    ghost heads_are: { heads.now ≡ heads_in (length heads.now) meetings },
+    ghost nexts_are: { nexts.now ≡ nexts_in (length heads.now) meetings },
 }
 
-// The n numbers from b on become v.
-fn fill(w: &mut [u32], b: usize, n: usize, v: u32)
-    requires { b + n ≤ length w.old }
-    ensures { w.new ≡ put w.old b (each n (λ _. v)) }
+// The edges of both meshes, their meetings and the links of these.
+#[derive(Clone, Copy)]
+pub struct LinkedMeetings<'a> {
+    pub subject: &'a [u32],
+    pub cutter: &'a [u32],
+    pub met: &'a [u32],
+    pub links: &'a [u32],
+    ghost linked: { Linked (pairs subject.now) (pairs cutter.now) met.now links.now },
+}
+
+// Chains the meetings by the edges of both meshes, on h chains for either.
+pub fn link_meetings(subject: &[u32], cutter: &[u32], met: &[u32], h: usize, links: &mut [u32])
+    requires { (length links.old ≡ 2 * h + 2 * (length met.now / 5)) × (0 < h) × (length met.now ≤ 327680) }
+    ensures { links.new ≡ links_of h (pairs subject.now) (pairs cutter.now) met.now }
 {
-    let mut i: usize = 0;
-    while i < n {
-        w[b + i] = v;
-        i += 1;
+    let by_subject = Meetings {
+        edges: subject,
+        met,
+        side: Side::Subject,
+    };
+    let by_cutter = Meetings {
+        edges: cutter,
+        met,
+        side: Side::Cutter,
+    };
+    let (subject_heads, rest) = links.split_at_mut(h);
+    let (cutter_heads, rest) = rest.split_at_mut(h);
+    let (subject_nexts, cutter_nexts) = rest.split_at_mut(met.len() / 5);
+    by_subject.link(subject_heads, subject_nexts);
+    by_cutter.link(cutter_heads, cutter_nexts);
+}
+
+impl<'a> LinkedMeetings<'a> {
+    ghost use Rattle.edge_nodes.specs.Sides.{subject_meetings, cutter_meetings};
+
+    // The chains by subject edges, and those by cutter edges.
+    pub(crate) fn chains(&self) -> (Chains<'a>, Chains<'a>)
+        ensures subjects { result.0.meetings ≡ subject_meetings self.now }
+        ensures cutters { result.1.meetings ≡ cutter_meetings self.now }
+    {
+        let met = self.met;
+        let count = met.len() / 5;
+        let h = self.links.len() / 2 - count;
+        let (subject_heads, rest) = self.links.split_at(h);
+        let (cutter_heads, rest) = rest.split_at(h);
+        let (subject_nexts, cutter_nexts) = rest.split_at(count);
+        let by_subject = Chains {
+            meetings: Meetings {
+                edges: self.subject,
+                met,
+                side: Side::Subject,
+            },
+            heads: subject_heads,
+            nexts: subject_nexts,
+        };
+        let by_cutter = Chains {
+            meetings: Meetings {
+                edges: self.cutter,
+                met,
+                side: Side::Cutter,
+            },
+            heads: cutter_heads,
+            nexts: cutter_nexts,
+        };
+        (by_subject, by_cutter)
     }
-}
-
-// Puts meeting q before those on its chain.
-fn link_met(
-    w: &mut [u32],
-    from: usize,
-    s: usize,
-    base: usize,
-    met: usize,
-    which: usize,
-    heads: usize,
-    nexts: usize,
-    h: usize,
-    q: usize,
-)
-    requires { (from + 2 * s ≤ length w.old) × (base + 5 * met ≤ length w.old) × (heads + h ≤ length w.old) × (nexts + met ≤ length w.old)
-        × (which < 2) × (0 < h) × (q < met) × (met ≤ 65536) }
-    ensures { w.new
-        ≡ headed w.old heads nexts (chain_at h (pairs (run w.old from (2 * s))) (run w.old base (5 * met)) which q) q }
-{
-    let s_end = from + 2 * s;
-    let m_end = base + 5 * met;
-    let c = chain_at(&w[from..s_end], &w[base..m_end], which, h, q);
-    let next = w[heads + c];
-    w[nexts + q] = next;
-    w[heads + c] = q as u32;
-}
-
-// The chains by one kind of edges, the s pairs at `from`: `which` is 0 for subject edges and 1 for cutter edges.
-fn link_kind(
-    w: &mut [u32],
-    from: usize,
-    s: usize,
-    base: usize,
-    met: usize,
-    which: usize,
-    heads: usize,
-    nexts: usize,
-    h: usize,
-)
-    requires { (from + 2 * s ≤ heads) × (base + 5 * met ≤ heads) × (heads + h ≤ nexts) × (nexts + met ≤ length w.old)
-        × (which < 2) × (0 < h) × (met ≤ 65536) }
-    ensures { Chained h (pairs (run w.old from (2 * s))) (run w.old base (5 * met)) which heads nexts 0 w.old w.new }
-{
-    fill(w, heads, h, met as u32);
-    let mut q = met;
-    while 0 < q {
-        q -= 1;
-        link_met(w, from, s, base, met, which, heads, nexts, h, q);
-    }
-}
-
-// Chains the meetings at `base`, by the s subject edges at `from` and the c cutter edges at `at`: their links go to `to`.
-pub fn link_meetings(
-    w: &mut [u32],
-    from: usize,
-    s: usize,
-    at: usize,
-    c: usize,
-    base: usize,
-    met: usize,
-    to: usize,
-    h: usize,
-)
-    requires { (from + 2 * s ≤ to) × (at + 2 * c ≤ to) × (base + 5 * met ≤ to) × (to + 2 * h + 2 * met ≤ length w.old) × (0 < h) × (met ≤ 65536) }
-    ensures { w.new
-        ≡ put w.old to (links_of h (pairs (run w.old from (2 * s))) (pairs (run w.old at (2 * c))) (run w.old base (5 * met))) }
-{
-    let nexts = to + 2 * h;
-    link_kind(w, from, s, base, met, 0, to, nexts, h);
-    link_kind(w, at, c, base, met, 1, to + h, nexts + met, h);
-}
-
-// The first meeting on the chain of node v: `which` is 0 for the chains by subject edges and 1 for those by cutter edges.
-pub(crate) fn head_of(met: &[u32], links: &[u32], which: usize, v: u32) -> usize
-    requires { length met.now / 5 < length links.now / 2 }
-    ensures { result ≡ head_in met.now links.now which v }
-{
-    let h = links.len() / 2 - met.len() / 5;
-    let c = chain_of(v, h);
-    if which == 0 {
-        return links[c] as usize;
-    }
-    links[h + c] as usize
-}
-
-// The next meeting on the chain of meeting q.
-pub(crate) fn next_of(met: &[u32], links: &[u32], which: usize, q: usize) -> usize
-    requires { (length met.now / 5 < length links.now / 2) × (q < length met.now / 5) }
-    ensures { result ≡ next_in met.now links.now which q }
-{
-    let count = met.len() / 5;
-    let nexts = 2 * (links.len() / 2 - count);
-    if which == 0 {
-        return links[nexts + q] as usize;
-    }
-    links[nexts + count + q] as usize
 }

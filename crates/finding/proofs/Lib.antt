@@ -10,3 +10,4 @@ pub mod Scenes
 pub mod Settled
 pub mod Ends
 pub mod Result
+pub mod Links

@@ -8,7 +8,7 @@ ghost use Rattle.finding.specs.Nets.{plain, FindAsks};
 ghost use Rattle.finding.specs.Found.{regions_by, refused_lists, found_of, both_full, LinkedIn, LinkRoom, linked_by};
 
 use crate::numbering::{NetPlaces, nets};
-use edge_nodes::{link_meetings, overfull};
+use edge_nodes::{LinkedMeetings, link_meetings};
 use lists::copy_at;
 use meetings::compute_intersections;
 use regions::{MeshRuns, Regions, Run, part};
@@ -57,14 +57,14 @@ fn place_coords(sc: &[f64], cc: &[f64], oc: &mut [f64]) -> bool
 }
 
 // Whether over 256 nodes are collected under the key of an edge of either mesh.
-fn either_overfull(subject: &[u32], cutter: &[u32], met: &[u32], links: &[u32]) -> bool
-    requires { Linked (pairs subject.now) (pairs cutter.now) met.now links.now × (length met.now ≤ 327680) }
-    ensures { result ≡ both_full subject.now cutter.now met.now }
+fn either_overfull(m: &LinkedMeetings) -> bool
+    requires { length m.now.met.now ≤ 327680 }
+    ensures { result ≡ both_full m.now.subject.now m.now.cutter.now m.now.met.now }
 {
-    if overfull(subject, subject, cutter, met, links) {
+    if m.overfull(m.subject) {
         return true;
     }
-    overfull(cutter, subject, cutter, met, links)
+    m.overfull(m.cutter)
 }
 
 // Refusal 9, by the working list.
@@ -72,11 +72,13 @@ fn crowded(w: &[u32], g: Regions) -> bool
     requires { LinkedIn w.now g }
     ensures { result ≡ both_full (run_in w.now g.subject.edges) (run_in w.now g.cutter.edges) (run_in w.now g.met) }
 {
-    let subject = part(w, g.subject.edges);
-    let cutter = part(w, g.cutter.edges);
-    let met = part(w, g.met);
-    let links = part(w, g.links);
-    either_overfull(subject, cutter, met, links)
+    let meetings = LinkedMeetings {
+        subject: part(w, g.subject.edges),
+        cutter: part(w, g.cutter.edges),
+        met: part(w, g.met),
+        links: part(w, g.links),
+    };
+    either_overfull(&meetings)
 }
 
 // Writes the links of h chains behind the meetings, and names the regions.
@@ -85,7 +87,16 @@ fn link(w: &mut [u32], n: NetPlaces, met: usize, h: usize) -> Regions
     ensures { (result ≡ regions_by n met h) × (w.new ≡ linked_by n met h w.old) }
 {
     let end = n.base + 5 * met;
-    link_meetings(w, n.from, n.subject, n.at, n.cutter, n.base, met, end, h);
+    let (nets, links) = w.split_at_mut(end);
+    let subject_end = n.from + 2 * n.subject;
+    let cutter_end = n.at + 2 * n.cutter;
+    link_meetings(
+        &nets[n.from..subject_end],
+        &nets[n.at..cutter_end],
+        &nets[n.base..],
+        h,
+        &mut links[..2 * (h + met)],
+    );
     Regions {
         subject: MeshRuns {
             edges: Run {

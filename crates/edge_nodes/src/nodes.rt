@@ -1,0 +1,140 @@
+// Nodes in order along a key, and adjacent equals dropped from them.
+ghost use Rattle.std.specs.Prelude.{◌≡◌, [], ◌∷◌, ◌++◌, map, List, ◌+◌, ◌≤◌, ◌<◌, eqb, length, take};
+ghost use Rattle.std.specs.List.{position};
+ghost use Rattle.lists.specs.Gather.{slim};
+ghost use Rattle.lists.specs.Sort.{insert, sort_onto};
+ghost use Rattle.lists.specs.Regions.{front};
+ghost use Rattle.rules.specs.Nodes.{total_before};
+ghost use Rattle.edge_nodes.specs.declared.nodes.Placed.{Placed};
+ghost use Rattle.edge_nodes.specs.Chained.{edge_of};
+ghost use Rattle.edge_nodes.specs.Lent.{placed, stands_before, node_of, pushed, FrontIs};
+
+use keys::SortedKey;
+use lists::insert_at;
+use plane::point_at;
+use std::marker::Model;
+
+// A node, and how far it lies along a key.
+#[derive(Clone, Copy)]
+pub(crate) struct Placed {
+    pub along: f64,
+    pub node: u32,
+}
+
+// At most 257 nodes in order, seen as their list.
+#[derive(Drop)]
+pub(crate) struct Nodes {
+    items: [Placed; 257],
+    count: usize,
+}
+
+impl Model for Nodes {
+    ghost Value = { List Placed };
+
+    ghost view = { λ t. take t.count t.items };
+
+    ghost invariant = { λ t. t.count ≤ 257 };
+}
+
+fn total_before(x: f64, y: f64) -> bool
+    ensures { result ≡ total_before x y }
+{
+    if x < y {
+        return true;
+    }
+    if x == y {
+        return x.is_sign_negative() && !y.is_sign_negative();
+    }
+    false
+}
+
+// The node v along the key.
+pub(crate) fn place(coords: &[f64], key: SortedKey, v: u32) -> Placed
+    ensures { result ≡ placed coords.now (edge_of key) v }
+{
+    let p = point_at(coords, key.first);
+    let q = point_at(coords, key.second);
+    let n = point_at(coords, v);
+    Placed {
+        along: (q.x - p.x) * (n.x - p.x) + (q.y - p.y) * (n.y - p.y),
+        node: v,
+    }
+}
+
+// Before which of them one more goes; none where it goes behind them.
+fn position_of(items: &[Placed], x: Placed) -> Option<usize>
+    ensures { result ≡ position (stands_before x) items.now }
+{
+    items.iter().position(|y| total_before(x.along, y.along))
+}
+
+impl Nodes {
+    pub(crate) fn new() -> Self
+        ensures { result ≡ [] }
+    {
+        let none = Placed {
+            along: 0.0,
+            node: 0,
+        };
+        Nodes {
+            items: [none; 257],
+            count: 0,
+        }
+    }
+
+    pub(crate) fn items(&self) -> &[Placed]
+        ensures items { result.now ≡ self.now }
+        ensures few { length self.now ≤ 257 }
+    {
+        &self.items[..self.count]
+    }
+
+    // Puts one in its place.
+    pub(crate) fn insert(&mut self, x: Placed)
+        requires { length self.old < 257 }
+        ensures { self.new ≡ insert stands_before x self.old }
+    {
+        let n = self.count;
+        let k = position_of(&self.items[..n], x).unwrap_or(n);
+        insert_at(&mut self.items, n, k, x);
+        self.count = n + 1;
+    }
+
+    // Puts nodes in their places along the key.
+    pub(crate) fn insert_all(&mut self, coords: &[f64], key: SortedKey, nodes: &[u32])
+        requires { length self.old + length nodes.now ≤ 257 }
+        ensures { self.new ≡ sort_onto stands_before self.old (map (placed coords.now (edge_of key)) nodes.now) }
+    {
+        for v in nodes {
+            self.insert(place(coords, key, *v));
+        }
+    }
+}
+
+// Puts v behind the first k, unless it equals the last of them.
+fn push(out: &mut [u32], k: usize, v: u32) -> usize
+    requires { k < length out.old }
+    ensures { (result ≡ length (pushed (take k out.old) v)) × (out.new ≡ front out.old (pushed (take k out.old) v)) }
+{
+    if k == 0 {
+        out[k] = v;
+        return 1;
+    }
+    if out[k - 1] == v {
+        return k;
+    }
+    out[k] = v;
+    k + 1
+}
+
+// Writes the nodes with `last` behind them, adjacent equals dropped, to the front of `out`. Answers how many they are.
+pub(crate) fn dedup(items: &[Placed], last: u32, out: &mut [u32]) -> usize
+    requires { length items.now < length out.old }
+    ensures { FrontIs (slim eqb (map node_of items.now ++ last ∷ [])) out.old result out.new }
+{
+    let mut k: usize = 0;
+    for p in items {
+        k = push(out, k, p.node);
+    }
+    push(out, k, last)
+}
