@@ -9,12 +9,15 @@ ghost use Rattle.spatial_index.specs.Candidates.{point_box};
 use plane::{Point, point_at};
 use rules::Bounds;
 
+// Not `f64::min`: where x is no number the box keeps it, and `min` gives y.
 fn smaller(x: f64, y: f64) -> f64
     ensures { result ≡ smaller x y }
 {
     if y < x { y } else { x }
 }
 
+// Not `f64::max`, for the same reason.
+#[tactic(auto, unfolding(plane::specs::Plane::larger))]
 fn larger(x: f64, y: f64) -> f64
     ensures { result ≡ larger x y }
 {
@@ -41,10 +44,10 @@ fn empty() -> Bounds
     ensures { result ≡ box_of [] [] }
 {
     Bounds {
-        left: 1.0 / 0.0,
-        low: 1.0 / 0.0,
-        right: -1.0 / 0.0,
-        high: -1.0 / 0.0,
+        left: f64::INFINITY,
+        low: f64::INFINITY,
+        right: f64::NEG_INFINITY,
+        high: f64::NEG_INFINITY,
     }
 }
 
@@ -52,21 +55,16 @@ fn empty() -> Bounds
 pub fn bounds2(coords: &[f64], nodes: &[u32]) -> Bounds
     ensures { result ≡ box_of coords.now nodes.now }
 {
-    let mut b = empty();
-    let mut i: usize = 0;
-    while i < nodes.len() {
-        b = stretched(b, point_at(coords, nodes[i]));
-        i += 1;
-    }
-    b
+    nodes
+        .iter()
+        .fold(empty(), |b, v| stretched(b, point_at(coords, *v)))
 }
 
 // The box of an edge.
 pub fn edge_bounds(coords: &[f64], a: u32, b: u32) -> Bounds
     ensures { result ≡ edge_box coords.now (a, b) }
 {
-    let one = stretched(empty(), point_at(coords, a));
-    stretched(one, point_at(coords, b))
+    bounds2(coords, &[a, b])
 }
 
 // The box of a point: it meets the boxes that hold the point.
@@ -82,6 +80,7 @@ pub fn point_bounds(p: Point) -> Bounds
 }
 
 // Closed boxes meet where they only touch.
+#[tactic(auto, unfolding(rules::specs::SpatialIndex::boxes_meet))]
 pub fn bounds_meet(a: Bounds, b: Bounds) -> bool
     ensures { result ≡ boxes_meet a b }
 {

@@ -1,17 +1,19 @@
-use native.Mathlib.Omega.{arith}
-use Rattle.rules.specs.SpatialIndex.{box_to}
-use Rattle.spatial_index.proofs.Turns.{box_turn, box_end}
+-- `spatial_index::bounds2` meets its contract. Assumes nothing.
+use mathlib.Core.Path.{ap, ◌∙◌}
+use Prim.Native.Nat.{ℕ}
+use Rattle.std.specs.List.{fold}
+use Rattle.std.proofs.Common.{rules}
+use Rattle.std.proofs.lemmas.Iterator.{YieldsList-from_slice}
+use Rattle.std.proofs.lemmas.Iterator.Consumers.{fold_from_yields_List}
+use Rattle.plane.specs.Plane.{point_at}
+use Rattle.rules.specs.declared.Bounds.{Bounds}
+use Rattle.rules.specs.SpatialIndex.{stretched}
+use Rattle.spatial_index.proofs.Turns.{box_fold}
 use Rattle.spatial_index.proofs.bounds2.Goals as goal
-
-pub loop-i-init : goal.loop-i-init
-unfolding box_to
-loop-i-init c = (omega arith, c.empty-b.ensures)
-
-pub loop-i-preserved : goal.loop-i-preserved
-loop-i-preserved c =
-    let l = c.loop-i in
-    (omega arith, box_turn _ _ l.b c.stretched-b.result c.point_at.result l.i l.invariant.1 c.point_at.ensures c.stretched-b.ensures)
 
 pub returns : goal.returns
 returns c =
-    let l = c.loop-i in box_end _ _ l.b l.i l.invariant.1 l.invariant.0 c.loop-i-test.false
+    let coords = c.args.coords.now in
+    let h : Bounds → ℕ → Bounds = λ b v. stretched b (point_at coords v) in
+    fold_from_yields_List _ h _ _ c.fold.ensures.ran (YieldsList-from_slice c.args.nodes.now cc) (λ b v t f k. search rules)
+    ∙ ap (λ b. fold h b c.args.nodes.now) c.empty.ensures ∙ box_fold coords c.args.nodes.now
