@@ -5,6 +5,7 @@ pub mod Moves
 pub mod Blocks
 pub mod Places
 pub mod Marks
+pub mod Partition
 pub mod Orders
 pub mod Near
 pub mod Numbers

@@ -26,11 +26,8 @@ fn mark_used(nodes: &[u32], marks: &mut [u32])
     ensures { marks.new ≡ used nodes.now (length marks.old) }
 {
     marks.fill(0);
-    let mut k: usize = 0;
-    while k < nodes.len() {
-        let v = nodes[k] as usize;
-        marks[v] = 1;
-        k += 1;
+    for v in nodes {
+        marks[*v as usize] = 1;
     }
 }
 
@@ -40,24 +37,13 @@ fn precedes(p: Point, q: Point) -> bool
     (p.x < q.x) | ((p.x == q.x) & (p.y < q.y))
 }
 
-// Where the node v goes among those in order: before the first that it precedes, found by halving.
+// Where the node v goes among those in order: before the first that it precedes.
 fn place(coords: &[f64], order: &[u32], v: u32) -> usize
     requires { InOrder coords.now order.now }
     ensures { (result ≡ place_of coords.now order.now v) × (result ≤ length order.now) }
 {
     let p = point_at(coords, v);
-    let mut lo: usize = 0;
-    let mut hi: usize = order.len();
-    while lo < hi {
-        let mid = lo + (hi - lo) / 2;
-        let q = point_at(coords, order[mid]);
-        if precedes(p, q) {
-            hi = mid;
-        } else {
-            lo = mid + 1;
-        }
-    }
-    lo
+    order.partition_point(|u| !precedes(p, point_at(coords, *u)))
 }
 
 // Node i is put in among the first k entries of the block, which are in order, if its mark isn't 0. Answers how many they are then.
@@ -74,19 +60,6 @@ fn put_in_order(coords: &[f64], marks: &[u32], block: &mut [u32], k: usize, i: u
     k + 1
 }
 
-// The entries from `from` to `end` move up by so many places.
-fn move_up(s: &mut [u32], from: usize, end: usize, by: usize)
-    requires { (from ≤ end) × (end + by ≤ length s.old) }
-    ensures { s.new ≡ put s.old (from + by) (run s.old from (end - from)) }
-{
-    let mut i = end;
-    while from < i {
-        i -= 1;
-        let v = s[i];
-        s[i + by] = v;
-    }
-}
-
 // The nodes of `order` are put in among the first k of s, from the last down: each goes to its place, and what stands behind that moves up by as many places
 // as nodes are left. All are in order.
 fn merge(coords: &[f64], s: &mut [u32], k: usize, order: &[u32])
@@ -98,7 +71,7 @@ fn merge(coords: &[f64], s: &mut [u32], k: usize, order: &[u32])
     while 0 < j {
         let v = order[j - 1];
         let p = place(coords, &s[..end], v);
-        move_up(s, p, end, j);
+        s.copy_within(p..end, p + j);
         s[p + j - 1] = v;
         end = p;
         j -= 1;
@@ -157,23 +130,12 @@ fn nearer(d: f64, v: u32, best: Nearest) -> Nearest
     best
 }
 
-// The first of the nodes in order that isn't 1e-12 or more to the left of p, found by halving.
+// The first of the nodes in order that isn't 1e-12 or more to the left of p.
 fn window_start(coords: &[f64], order: &[u32], p: Point) -> usize
     requires { InOrder coords.now order.now }
     ensures { (result ≡ window_start coords.now order.now p) × (result ≤ length order.now) }
 {
-    let mut lo: usize = 0;
-    let mut hi: usize = order.len();
-    while lo < hi {
-        let mid = lo + (hi - lo) / 2;
-        let q = point_at(coords, order[mid]);
-        if p.x - q.x < 1e-12 {
-            hi = mid;
-        } else {
-            lo = mid + 1;
-        }
-    }
-    lo
+    order.partition_point(|v| !(p.x - point_at(coords, *v).x < 1e-12))
 }
 
 // The nearest of the nodes in order at a squared distance strictly below 1e-12 × 1e-12, the first of equally near ones; `other` where there is none.

@@ -6,28 +6,22 @@ use Rattle.snap.specs.Steps.{used}
 use Rattle.snap.proofs.Marks.{mark_zero, mark_turn, mark_end}
 use Rattle.snap.proofs.mark_used.Goals as goal
 
-pub loop-k-init : goal.loop-k-init
-loop-k-init c =
-    let z = c.fill in (omega arith, refl, mark_zero _ (length c.args.marks.now) z.new.self (z.ensures.after (λ _ h. h)))
+pub loop-v-init : goal.loop-v-init
+loop-v-init c =
+    let z = c.fill in (refl, mark_zero _ (length c.args.marks.now) z.new.self (z.ensures.after (λ _ h. h)))
 
-pub bounds-marks-v : goal.bounds-marks-v
-bounds-marks-v c =
-    let s-kept = c.fill.auto.self in
-    let l = c.loop-k in
-    omega (arith, c.requires l.k c.loop-k-test.true, s-kept)
-
-pub loop-k-preserved : goal.loop-k-preserved
-loop-k-preserved c =
-    let s-last = c.fill.new.self in
-    let s-kept = c.fill.auto.self in
-    let l = c.loop-k in
-    let m₀ = s-last in
-    let within : get_or c.args.nodes.now l.k 0 < length m₀ = omega (arith, c.requires l.k c.loop-k-test.true, s-kept) in
-    (omega arith, simp length-set l.invariant.1, mark_turn c.args.nodes.now (length m₀) l.marks l.k c.loop-k-test.true within l.invariant.2)
+pub loop-v-preserved : goal.loop-v-preserved
+loop-v-preserved c =
+    let nodes = c.args.nodes.now in
+    let l = c.loop-v in
+    let m₀ = c.fill.new.self in
+    let inside : l.v-index < length nodes = c.loop-v-test.true in
+    let within : get_or nodes l.v-index 0 < length m₀ = omega (arith, c.requires l.v-index inside, c.fill.auto.self) in
+    (simp length-set l.invariant.0, mark_turn nodes (length m₀) l.marks l.v-index inside within l.invariant.1)
 
 pub returns : goal.returns
 returns c =
-    let l = c.loop-k in
+    let l = c.loop-v in
     let z = c.fill in
     let nodes = c.args.nodes.now in
-    mark_end nodes (length z.new.self) l.marks l.k l.invariant.0 c.loop-k-test.false l.invariant.2 ∙ ap (used nodes) z.auto.self
+    mark_end nodes (length z.new.self) l.marks l.v-index l.auto.v-index-end c.loop-v-test.false l.invariant.1 ∙ ap (used nodes) z.auto.self

@@ -1,8 +1,9 @@
-use mathlib.Core.Path.{sym}
+use mathlib.Core.Path.{sym, ◌∙◌}
+use Prim.Native.Nat.{◌+◌}
 use native.Mathlib.Omega.{arith}
 use lib.ListN.{length-take}
 use lib.Seq.{length-take-le}
-use Rattle.snap.proofs.Moves.{merge_start, merge_ready, merge_room, merge_turn, merge_end}
+use Rattle.snap.proofs.Moves.{copied_within, merge_start, merge_ready, merge_room, merge_turn, merge_end}
 use Rattle.snap.proofs.merge.Goals as goal
 
 pub loop-j-init : goal.loop-j-init
@@ -24,19 +25,14 @@ place-p-requires c =
     merge_ready c.args.coords.now c.args.s.now c.args.k c.args.order.now c.requires.0 l.s l.end
     l.j l.invariant c.requires.1
 
-pub move_up-requires : goal.move_up-requires
-move_up-requires c =
-    let l = c.loop-j in
-    (omega (arith, c.place-p.ensures.1, length-take l.end l.s), omega (arith, l.invariant.under, l.invariant.left, l.invariant.size, c.requires.0))
-
 pub bounds-s-p : goal.bounds-s-p
 bounds-s-p c =
     let l = c.loop-j in
-    let t = c.loop-j-test.true in
     let p = c.place-p in
-    let m = c.move_up in
+    let m = c.copy_within in
     merge_room c.args.coords.now c.args.s.now c.args.k c.args.order.now c.requires.0 l.s l.end
-    l.j l.invariant p.result m.new.s t c.requires.2 p.ensures.0 p.ensures.1 m.ensures
+    l.j l.invariant p.result m.new.self c.loop-j-test.true c.requires.2 p.ensures.0 p.ensures.1
+    (m.ensures.after ∙ copied_within l.s p.result l.end (p.result + l.j) (omega (arith, p.ensures.1, length-take l.end l.s)) (omega (arith, l.invariant.under, l.invariant.size, c.requires.0)))
 
 pub overflow_add-s : goal.overflow_add-s
 overflow_add-s c = record { fits = omega (arith, bounds-s-p c) }
@@ -47,11 +43,11 @@ offset_bounds-s-p c = record { fits = omega (arith, bounds-s-p c) }
 pub loop-j-preserved : goal.loop-j-preserved
 loop-j-preserved c =
     let l = c.loop-j in
-    let t = c.loop-j-test.true in
     let p = c.place-p in
-    let m = c.move_up in
+    let m = c.copy_within in
     merge_turn c.args.coords.now c.args.s.now c.args.k c.args.order.now c.requires.0 l.s l.end
-    l.j l.invariant p.result m.new.s t c.requires.2 p.ensures.0 p.ensures.1 m.ensures
+    l.j l.invariant p.result m.new.self c.loop-j-test.true c.requires.2 p.ensures.0 p.ensures.1
+    (m.ensures.after ∙ copied_within l.s p.result l.end (p.result + l.j) (omega (arith, p.ensures.1, length-take l.end l.s)) (omega (arith, l.invariant.under, l.invariant.size, c.requires.0)))
 
 pub returns : goal.returns
 returns c =

@@ -1,34 +1,20 @@
-use mathlib.Core.Path.{◌∙◌}
-use native.Mathlib.Omega.{arith}
-use Rattle.lists.proofs.Halving.{middle, between_start, between_lower, between_upper}
-use Rattle.snap.proofs.Orders.{precedes_is, place_turns, place_end}
+-- `snap::place` meets its contract. Assumes nothing.
+use mathlib.Core.Bool.{Bool, not}
+use Prim.Native.Nat.{ℕ}
+use Rattle.std.proofs.Common.{rules}
+use Rattle.std.proofs.lemmas.List.Sorted.{IsPartitionPoint-from_clause}
+use Rattle.snap.specs.Steps.{before, place_of}
+use Rattle.snap.proofs.Orders.{place_turns}
+use Rattle.snap.proofs.Partition.{partitioned, partition_first}
 use Rattle.snap.proofs.place.Goals as goal
 
-pub loop-lo-init : goal.loop-lo-init
-loop-lo-init c = between_start _ _
-
-pub loop-lo-preserved-then-precedes : goal.loop-lo-preserved-then-precedes
-loop-lo-preserved-then-precedes c =
-    let l = c.loop-lo in
-    let p = c.point_at-p in
-    let a = c.args in
-    let q = c.point_at-q in
-    let t = c.precedes in
-    between_lower _ _ (place_turns a.coords.now a.order.now a.v c.requires) l.lo l.hi l.invariant (omega arith)
-    (precedes_is a.coords.now a.order.now a.v (middle l.lo l.hi) p.result q.result t.result p.ensures q.ensures t.ensures ∙ c.if-precedes.true)
-
-pub loop-lo-preserved : goal.loop-lo-preserved
-loop-lo-preserved c =
-    let l = c.loop-lo in
-    let p = c.point_at-p in
-    let a = c.args in
-    let q = c.point_at-q in
-    let t = c.precedes in
-    between_upper _ _ (place_turns a.coords.now a.order.now a.v c.requires) l.lo l.hi l.invariant (omega arith)
-    (precedes_is a.coords.now a.order.now a.v (middle l.lo l.hi) p.result q.result t.result p.ensures q.ensures t.ensures ∙ c.if-precedes.false)
-
 pub returns : goal.returns
+unfolding place_of
 returns c =
-    let l = c.loop-lo in
     let a = c.args in
-    place_end a.coords.now a.order.now a.v l.lo l.hi l.invariant c.loop-lo-test.false
+    let r = c.partition_point in
+    let p : ℕ → Bool = before a.coords.now a.v in
+    partition_first p a.order.now r.result
+    (IsPartitionPoint-from_clause (λ u. not (p u)) a.order.now r.result r.ensures.partitioned (partitioned p a.order.now (place_turns a.coords.now a.order.now a.v c.requires))
+    (λ u t f k. search rules))
+    r.ensures.bound

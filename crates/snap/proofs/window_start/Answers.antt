@@ -1,29 +1,22 @@
-use native.Mathlib.Omega.{arith}
-use Rattle.lists.proofs.Halving.{middle, between_start, between_lower, between_upper}
-use Rattle.snap.proofs.Near.{near_is, window_turns, window_end}
+-- `snap::window_start` meets its contract. Assumes nothing.
+use mathlib.Core.Bool.{Bool, not}
+use Prim.Native.Nat.{ℕ}
+use lib.Ieee.{lt}
+use Rattle.std.proofs.Common.{rules}
+use Rattle.std.proofs.lemmas.List.Sorted.{IsPartitionPoint-from_clause}
+use Rattle.rules.specs.Snap.{weld_eps}
+use Rattle.snap.specs.Steps.{ahead, window_start}
+use Rattle.snap.proofs.Near.{window_turns}
+use Rattle.snap.proofs.Partition.{partitioned, partition_first}
 use Rattle.snap.proofs.window_start.Goals as goal
 
-pub loop-lo-init : goal.loop-lo-init
-loop-lo-init c = between_start _ _
-
-pub loop-lo-preserved-then-p-q : goal.loop-lo-preserved-then-p-q
-loop-lo-preserved-then-p-q c =
-    let l = c.loop-lo in
-    let a = c.args in
-    let q = c.point_at-q in
-    between_lower _ _ (window_turns a.coords.now a.order.now a.p c.requires) l.lo l.hi l.invariant (omega arith)
-    (near_is a.coords.now a.order.now a.p (middle l.lo l.hi) q.result _ q.ensures c.if-p-q.true)
-
-pub loop-lo-preserved : goal.loop-lo-preserved
-loop-lo-preserved c =
-    let l = c.loop-lo in
-    let a = c.args in
-    let q = c.point_at-q in
-    between_upper _ _ (window_turns a.coords.now a.order.now a.p c.requires) l.lo l.hi l.invariant (omega arith)
-    (near_is a.coords.now a.order.now a.p (middle l.lo l.hi) q.result _ q.ensures c.if-p-q.false)
-
 pub returns : goal.returns
+unfolding window_start
 returns c =
-    let l = c.loop-lo in
     let a = c.args in
-    window_end a.coords.now a.order.now a.p l.lo l.hi l.invariant c.loop-lo-test.false
+    let r = c.partition_point in
+    let p : ℕ → Bool = λ v. lt (ahead a.coords.now a.p v) weld_eps in
+    partition_first p a.order.now r.result
+    (IsPartitionPoint-from_clause (λ v. not (p v)) a.order.now r.result r.ensures.partitioned (partitioned p a.order.now (window_turns a.coords.now a.order.now a.p c.requires))
+    (λ v t f k. search rules))
+    r.ensures.bound
