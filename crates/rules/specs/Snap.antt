@@ -1,6 +1,5 @@
 -- Document 01, module 4 (snap.rs): the numbers of the cutter's nodes, where near nodes of the two meshes share one. Assumes nothing.
-use Rattle.std.specs.Prelude.{Bool, cond, ◌&&◌, ◌||◌, List, ℕ, zero, suc, ◌+◌, eqb, length, get_or, Float}
-use Rattle.std.proofs.Math.Option.{Option, none, some}
+use Rattle.std.specs.Prelude.{Option, None, Some, Bool, cond, ◌&&◌, ◌||◌, List, ℕ, zero, suc, ◌+◌, eqb, length, get_or, Float}
 use Rattle.std.specs.Float.Ieee as Ieee
 use Rattle.std.specs.Float.{binary64}
 use Rattle.lists.specs.Search.{has}
@@ -9,6 +8,7 @@ use Rattle.lists.specs.Sort.{sorted}
 use Rattle.plane.specs.Plane.{◌⊗◌, between, dot, point_at}
 use Rattle.entry.specs.Mesh.{Mesh, node_count}
 use Rattle.plane.specs.declared.Point.{Point}
+use Rattle.rules.specs.declared.Nearest.{Nearest}
 
 -- 1e-12
 abbrev pub weld_eps : Float
@@ -31,21 +31,16 @@ sorted_indices_for m = sorted (λ i j. precedes (point_at m.coords i) (point_at 
 
 -- ---- `closest_within`
 
--- the nearest node so far, and the squared distance that the next must stay below
-pub record Nearest : Type 0 where
-  pub dist2 : Float
-  pub node : Option ℕ
-
 abbrev pub distance2 : Point → Point → Float
 distance2 p q = let v = between q p in dot v v
 
 -- strictly below, so the first in sorted order wins
 abbrev pub nearer : Float → ℕ → Nearest → Nearest
-nearer d n best = cond (Ieee.lt d best.dist2) (record { dist2 = d; node = some n }) best
+nearer d n best = cond (Ieee.lt d best.dist2) (record { dist2 = d; node = Some n }) best
 
 -- among the first k of the nodes `order`, at squared distance strictly below 1e-12 × 1e-12
 unfoldable pub nearest_to : ℕ → List Float → List ℕ → Point → Nearest
-nearest_to zero coords order p = record { dist2 = weld_eps ⊗ weld_eps; node = none }
+nearest_to zero coords order p = record { dist2 = weld_eps ⊗ weld_eps; node = None }
 nearest_to (suc k) coords order p =
     let n = get_or order k 0 in
     nearer (distance2 p (point_at coords n)) n (nearest_to k coords order p)
@@ -56,8 +51,8 @@ closest_within coords order p = (nearest_to (length order) coords order p).node
 -- ---- `duplicates_from`
 
 abbrev pub or_shifted : ℕ → Option ℕ → ℕ
-or_shifted k none = k
-or_shifted k (some n) = n
+or_shifted k None = k
+or_shifted k (Some n) = n
 
 -- The number of the cutter's node j: a used one takes that of the nearest used subject node, if there is one so near; the others take their own
 -- number plus the subject's node count.

@@ -1,4 +1,4 @@
-// The definitions of the overlay stand in specs/, the theorems about them in proofs/: there is no code here, only a type that both name.
+// The definitions of the overlay stand in specs/, the theorems about them in proofs/: there is no code here, only types that code and definitions both name.
 #![tactic(auto)]
 
 // A closed box.
@@ -8,4 +8,11 @@ pub struct Bounds {
     pub low: f64,
     pub right: f64,
     pub high: f64,
+}
+
+// The nearest node so far, if there is one, and the squared distance that the next must stay below.
+#[derive(Clone, Copy)]
+pub struct Nearest {
+    pub dist2: f64,
+    pub node: Option<u32>,
 }

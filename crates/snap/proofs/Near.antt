@@ -2,7 +2,7 @@
 use mathlib.Core.Path.{◌≡◌, refl, sym, ap, ap₂, ◌∙◌, subst}
 use mathlib.Core.Bool.{Bool, true, false, cond, true≢false}
 use mathlib.Core.List.{List}
-use mathlib.Core.Option.{some}
+use Rattle.std.specs.Prelude.{Some}
 use Prim.Native.Nat.{ℕ, zero, suc, ◌+◌, ◌-◌, ◌≤◌, ◌<◌}
 use native.Mathlib.Nat.{le_antisymm, le_of_eq, add-zero}
 use native.Mathlib.Decide.{dec_le, ℕ_discrete}
@@ -12,30 +12,17 @@ use lib.ListN.{length, get_or, take, drop, length-drop}
 use lib.Seq.{get_or-drop, take_all}
 use lib.Ieee.{Float, neg, lt, le}
 use Rattle.lists.proofs.Search.{first_none}
-use Rattle.lists.proofs.Halving.{Turns, Between, between_end}
+use Rattle.lists.proofs.Halving.{Turns}
 use Rattle.plane.specs.Plane.{◌⊖◌, ◌⊗◌, point_at}
 use Rattle.plane.specs.declared.Point.{Point}
 use Rattle.plane.proofs.FloatOrder.{lt_asym, lt_irrefl, not_lt_trans, number_right}
 use Rattle.entry.specs.Passed.{Placed}
-use Rattle.rules.specs.Snap as snap
-use Rattle.rules.specs.Snap.{weld_eps, distance2, nearest_to, nearer, closest_within, or_shifted}
-use Rattle.snap.specs.declared.Nearest.{Nearest}
-use Rattle.snap.specs.Steps.{InOrder, ahead, window_start, closer_node}
+use Rattle.rules.specs.Snap.{weld_eps, distance2, nearest_to, nearer, closest_within}
+use Rattle.rules.specs.declared.Nearest.{Nearest}
+use Rattle.snap.specs.Steps.{InOrder, ahead, window_start}
 use Rattle.snap.proofs.Differences.{stays_above, stays_below, le_not_lt}
 use Rattle.snap.proofs.Squares.{square_number, far_left, far_right}
 use Rattle.snap.proofs.Precedence.{precedes_left}
-
--- what the code holds for the nearest so far: `other` in place of none
-abbrev pub held : ℕ → snap.Nearest → Nearest
-held other b = record { dist2 = b.dist2; node = or_shifted other b.node }
-
-closer_held : (other : ℕ) (d : Float) (n : ℕ) (b : snap.Nearest) → closer_node d n (held other b) ≡ held other (nearer d n b)
-unfolding closer_node
-closer_held other d n b = go (lt d b.dist2)
-  where
-    go : (t : Bool) → (let r : Nearest = cond t (record { dist2 = d; node = n }) (held other b) in r ≡ held other (cond t (record { dist2 = d; node = some n }) b))
-    go true = refl
-    go false = refl
 
 -- ---- nodes that are too far
 
@@ -49,14 +36,14 @@ module _ (coords : List Float) (p : Point) where
   nearest_within order zero = lt_irrefl (weld_eps ⊗ weld_eps)
   nearest_within order (suc k) = go (lt d best.dist2) refl (nearest_within order k)
     where
-      best : snap.Nearest
+      best : Nearest
       best = nearest_to k coords order p
 
       d : Float
       d = distance2 p (point_at coords (get_or order k 0))
 
       go : (t : Bool) → lt d best.dist2 ≡ t → lt (weld_eps ⊗ weld_eps) best.dist2 ≡ false
-          → (let r : snap.Nearest = cond t (record { dist2 = d; node = some (get_or order k 0) }) best in lt (weld_eps ⊗ weld_eps) r.dist2 ≡ false)
+          → (let r : Nearest = cond t (record { dist2 = d; node = Some (get_or order k 0) }) best in lt (weld_eps ⊗ weld_eps) r.dist2 ≡ false)
       go true e ih = not_lt_trans (weld_eps ⊗ weld_eps) best.dist2 d (number_right d best.dist2 e) ih (lt_asym d best.dist2 e)
       go false e ih = ih
 
@@ -80,7 +67,7 @@ module _ (coords : List Float) (p : Point) where
   far_dropped order m far zero = ap (λ (k : ℕ). nearest_to k coords order p) (add-zero m) ∙ far_kept order 0 m (omega arith) (λ i a b. far i b)
   far_dropped order m far (suc k) =
       ap (λ (j : ℕ). nearest_to j coords order p) (let e : m + suc k ≡ suc (m + k) = omega arith in e)
-      ∙ ap₂ (λ (n : ℕ) (b : snap.Nearest). nearer (distance2 p (point_at coords n)) n b) (sym (get_or-drop m order k 0)) (far_dropped order m far k)
+      ∙ ap₂ (λ (n : ℕ) (b : Nearest). nearer (distance2 p (point_at coords n)) n b) (sym (get_or-drop m order k 0)) (far_dropped order m far k)
 
 -- ---- the window
 
@@ -88,10 +75,6 @@ module _ (coords : List Float) (order : List ℕ) (p : Point) where
   -- the test of the search: the i-th node isn't 1e-12 or more to the left of p
   abbrev pub near_at : ℕ → Bool
   near_at i = lt (ahead coords p (get_or order i 0)) weld_eps
-
-  -- what the code tests
-  pub near_is : (i : ℕ) (q : Point) (t : Bool) → q ≡ point_at coords (get_or order i 0) → lt (p.x ⊖ q.x) weld_eps ≡ t → near_at i ≡ t
-  near_is i q t e h = ap (λ (r : Point). lt (p.x ⊖ r.x) weld_eps) (sym e) ∙ h
 
   module _ (o : InOrder coords order) where
     not_left : (i j : ℕ) → i < j → j < length order → lt (point_at coords (get_or order j 0)).x (point_at coords (get_or order i 0)).x ≡ false
@@ -118,36 +101,29 @@ module _ (coords : List Float) (order : List ℕ) (p : Point) where
         go (no q) = stays_below p.x (neg weld_eps) (point_at coords (get_or order i 0)).x (point_at coords (get_or order j 0)).x
             (placed_x i h) (placed_x j m) (not_left i j (omega arith) m) e
 
-  pub window_end : (lo hi : ℕ) → Between near_at (length order) lo hi → hi ≤ lo → (lo ≡ window_start coords order p) × (lo ≤ length order)
-  unfolding window_start
-  window_end lo hi b h = between_end near_at (length order) lo hi b h
-
 -- ---- the loop
 
-module _ (coords : List Float) (order : List ℕ) (p : Point) (other : ℕ) where
-  pub near_turn : (b c : Nearest) (q : Point) (d : Float) (i : ℕ) → b ≡ held other (nearest_to i coords order p) → q ≡ point_at coords (get_or order i 0) → d ≡ distance2 p q
-      → c ≡ closer_node d (get_or order i 0) b → c ≡ held other (nearest_to (i + 1) coords order p)
+module _ (coords : List Float) (order : List ℕ) (p : Point) where
+  pub near_turn : (b c : Nearest) (q : Point) (d : Float) (i : ℕ) → b ≡ nearest_to i coords order p → q ≡ point_at coords (get_or order i 0) → d ≡ distance2 p q
+      → c ≡ nearer d (get_or order i 0) b → c ≡ nearest_to (i + 1) coords order p
   unfolding nearest_to
   near_turn b c q d i be qe de ce =
       let dist : d ≡ distance2 p (point_at coords (get_or order i 0)) = de ∙ ap (distance2 p) qe in
-      ce ∙ ap₂ (λ (e : Float) (a : Nearest). closer_node e (get_or order i 0) a) dist be
-      ∙ closer_held other (distance2 p (point_at coords (get_or order i 0))) (get_or order i 0) (nearest_to i coords order p) ∙ rw add-one
+      ce ∙ ap₂ (λ (e : Float) (a : Nearest). nearer e (get_or order i 0) a) dist be ∙ rw add-one
 
-  pub near_end : (b : Nearest) (i : ℕ) → b ≡ held other (nearest_to i coords order p) → i ≤ length order → length order ≤ i
-      → b.node ≡ or_shifted other (closest_within coords order p)
+  pub near_end : (b : Nearest) (i : ℕ) → b ≡ nearest_to i coords order p → i ≤ length order → length order ≤ i → b.node ≡ closest_within coords order p
   unfolding closest_within
-  near_end b i be l m =
-      ap (λ (a : Nearest). a.node) be ∙ ap (λ (k : ℕ). or_shifted other (nearest_to k coords order p).node) (le_antisymm {n = i} {m = length order} l m)
+  near_end b i be l m = ap (λ (a : Nearest). a.node) be ∙ ap (λ (k : ℕ). (nearest_to k coords order p).node) (le_antisymm {n = i} {m = length order} l m)
 
   -- it has come to a node 1e-12 or more to the right of p
-  pub near_stop : InOrder coords order → (b : Nearest) (q : Point) (i : ℕ) → b ≡ held other (nearest_to i coords order p) → i < length order → q ≡ point_at coords (get_or order i 0)
-      → le (p.x ⊖ q.x) (neg weld_eps) ≡ true → b.node ≡ or_shifted other (closest_within coords order p)
+  pub near_stop : InOrder coords order → (b : Nearest) (q : Point) (i : ℕ) → b ≡ nearest_to i coords order p → i < length order → q ≡ point_at coords (get_or order i 0)
+      → le (p.x ⊖ q.x) (neg weld_eps) ≡ true → b.node ≡ closest_within coords order p
   unfolding closest_within
   near_stop o b q i be l qe t =
       let right : lt (neg weld_eps) (ahead coords p (get_or order i 0)) ≡ false =
       ap (λ (r : Point). lt (neg weld_eps) (p.x ⊖ r.x)) (sym qe) ∙ le_not_lt (p.x ⊖ q.x) (neg weld_eps) t in
       ap (λ (a : Nearest). a.node) be
-      ∙ ap (λ (a : snap.Nearest). or_shifted other a.node) (sym (far_kept coords p order i (length order) (omega arith) (far_behind coords order p o i l right)))
+      ∙ ap (λ (a : Nearest). a.node) (sym (far_kept coords p order i (length order) (omega arith) (far_behind coords order p o i l right)))
 
 -- ---- the nodes from the window on, as they are lent
 
@@ -166,7 +142,7 @@ window_whole coords order p from e l =
     λ i h. far_left p (point_at coords (get_or order i 0)) (first_none (near_at coords order p) 0 (length order) i (omega arith) (omega arith) (omega (arith, e))) in
     let len : from + length (drop from order) ≡ length order = omega (arith, length-drop from order) in
     ap (λ (os : List ℕ). (nearest_to (length os) coords os p).node) (lent_drop from order)
-    ∙ ap (λ (b : snap.Nearest). b.node) (sym (far_dropped coords p order from far (length (drop from order))) ∙ ap (λ (k : ℕ). nearest_to k coords order p) len)
+    ∙ ap (λ (b : Nearest). b.node) (sym (far_dropped coords p order from far (length (drop from order))) ∙ ap (λ (k : ℕ). nearest_to k coords order p) len)
 
 pub window_order : (coords : List Float) (order : List ℕ) (from : ℕ) → InOrder coords order → InOrder coords (lent_from from order)
 window_order coords order from o =

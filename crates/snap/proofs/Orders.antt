@@ -1,5 +1,5 @@
 -- Nodes in order: the search for a place among them, and that sorted nodes are in order. Assumes nothing.
-use mathlib.Core.Path.{◌≡◌, refl, sym, ap, ap₂, ◌∙◌}
+use mathlib.Core.Path.{◌≡◌, refl, sym, ap, ◌∙◌}
 use mathlib.Core.Bool.{Bool, true, false, true≢false}
 use mathlib.Core.List.{List}
 use Prim.Native.Nat.{ℕ, ◌+◌, ◌*◌, ◌/◌, ◌≤◌}
@@ -13,13 +13,11 @@ use Rattle.lists.specs.Sort.{sorted}
 use Rattle.lists.specs.Regions.{front}
 use Rattle.lists.proofs.Gather.{places_le, places_at}
 use Rattle.lists.proofs.Sort.{length_sorted}
-use Rattle.lists.proofs.Halving.{Turns, Between, between_end}
+use Rattle.lists.proofs.Halving.{Turns}
 use Rattle.lists.proofs.Rising.{All, all_at, all_of, rising_at, sorted_all, sorted_rising}
 use Rattle.plane.specs.Plane.{is_number, x_of, y_of, point_at}
-use Rattle.plane.specs.declared.Point.{Point}
 use Rattle.entry.specs.Passed.{Placed}
-use Rattle.rules.specs.Snap.{precedes}
-use Rattle.snap.specs.Steps.{AllPlaced, NodePlaced, InOrder, place_of, marked, before, indices_in_order}
+use Rattle.snap.specs.Steps.{AllPlaced, NodePlaced, InOrder, marked, before, indices_in_order}
 use Rattle.snap.proofs.Precedence.{precedes_asym, precedes_through}
 
 -- ---- the search for a place
@@ -27,11 +25,6 @@ use Rattle.snap.proofs.Precedence.{precedes_asym, precedes_through}
 -- the test of the search
 abbrev pub behind_at : List Float → List ℕ → ℕ → ℕ → Bool
 behind_at coords order v i = before coords v (get_or order i 0)
-
--- what the code tests
-pub precedes_is : (coords : List Float) (order : List ℕ) (v i : ℕ) (p q : Point) (t : Bool)
-    → p ≡ point_at coords v → q ≡ point_at coords (get_or order i 0) → t ≡ precedes p q → behind_at coords order v i ≡ t
-precedes_is coords order v i p q t pe qe te = sym (te ∙ ap₂ precedes pe qe)
 
 placed_number : (x : Float) → Placed x → is_number x ≡ true
 unfolding eq
@@ -57,11 +50,6 @@ place_turns coords order v o i j h l e = go (behind_at coords order v j) refl
     go : (t : Bool) → behind_at coords order v j ≡ t → behind_at coords order v j ≡ true
     go true f = f
     go false f = absurd (true≢false (sym e ∙ before_through coords v (get_or order j 0) (get_or order i 0) (o.placed j l) f (o.rises i j h l)))
-
-pub place_end : (coords : List Float) (order : List ℕ) (v lo hi : ℕ) → Between (behind_at coords order v) (length order) lo hi → hi ≤ lo
-    → (lo ≡ place_of coords order v) × (lo ≤ length order)
-unfolding place_of
-place_end coords order v lo hi b h = between_end (behind_at coords order v) (length order) lo hi b h
 
 -- ---- the sort
 

@@ -2,7 +2,6 @@
 use mathlib.Core.Path.{◌≡◌, refl, sym, ap, ◌∙◌}
 use mathlib.Core.Bool.{Bool, true, false, not, cond, true≢false}
 use mathlib.Core.List.{List, []}
-use mathlib.Core.Option.{some}
 use Prim.Native.Nat.{ℕ, zero, suc, ◌+◌, ◌≤◌, ◌<◌}
 use native.Mathlib.Omega.{arith}
 use lib.Dec.{ltb}
@@ -18,7 +17,9 @@ use Rattle.lists.proofs.Sort.{sorted_tally}
 use Rattle.plane.specs.declared.Point.{Point}
 use Rattle.plane.specs.Plane.{point_at}
 use Rattle.entry.specs.Mesh.{Mesh, mesh, node_count}
-use Rattle.rules.specs.Snap.{Nearest, named, used_nodes, sorted_indices_for, distance2, nearest_to, closest_within, or_shifted, number_of, weld}
+use Rattle.std.specs.Prelude.{Some}
+use Rattle.rules.specs.declared.Nearest.{Nearest}
+use Rattle.rules.specs.Snap.{named, used_nodes, sorted_indices_for, distance2, nearest_to, closest_within, or_shifted, number_of, weld}
 use Rattle.snap.specs.Steps.{Below, before}
 
 -- only coordinates and node numbers count
@@ -66,7 +67,7 @@ or_shifted_below m other o coords order p b (suc k) h =
     n = get_or order k 0
 
     go : (t : Bool) → or_shifted other (nearest_to k coords order p).node < m
-        → (let best : Nearest = cond t (record { dist2 = distance2 p (point_at coords n); node = some n }) (nearest_to k coords order p) in or_shifted other best.node < m)
+        → (let best : Nearest = cond t (record { dist2 = distance2 p (point_at coords n); node = Some n }) (nearest_to k coords order p) in or_shifted other best.node < m)
     go true ih = b k (omega arith)
     go false ih = ih
 

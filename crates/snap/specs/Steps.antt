@@ -10,7 +10,6 @@ use Rattle.plane.specs.Plane.{◌⊖◌, x_of, y_of, point_at}
 use Rattle.plane.specs.declared.Point.{Point}
 use Rattle.entry.specs.Passed.{Placed}
 use Rattle.rules.specs.Snap.{weld_eps, named, precedes, or_shifted, closest_within}
-use Rattle.snap.specs.declared.Nearest.{Nearest}
 
 -- each node number is below n
 abbrev pub Below : ℕ → List ℕ → Type 0
@@ -77,9 +76,6 @@ ahead coords p v = p.x ⊖ (point_at coords v).x
 -- the first of the nodes in order that isn't 1e-12 or more to the left of p
 unfoldable pub window_start : List Float → List ℕ → Point → ℕ
 window_start coords order p = first (λ i. lt (ahead coords p (get_or order i 0)) weld_eps) 0 (length order)
-
-unfoldable pub closer_node : Float → ℕ → Nearest → Nearest
-closer_node d v best = cond (lt d best.dist2) (record { dist2 = d; node = v }) best
 
 -- ---- `duplicates_from`
 

@@ -5,18 +5,12 @@ ghost use Rattle.std.specs.Prelude.{◌≡◌, [], ◌++◌, ◌+◌, ◌-◌, �
 ghost use Rattle.lists.specs.Gather.{each};
 ghost use Rattle.lists.specs.Regions.{run, front, put, zeros};
 ghost use Rattle.entry.specs.Mesh.{mesh};
-ghost use Rattle.rules.specs.Snap.{precedes, distance2, or_shifted, closest_within, weld};
-ghost use Rattle.snap.specs.Steps.{Below, AllPlaced, InOrder, used, place_of, indices_in_order, with_node, counted, merged, merged_full, counted_full, window_start, closer_node, number_by};
+ghost use Rattle.rules.specs.Snap.{precedes, distance2, nearer, closest_within, weld};
+ghost use Rattle.snap.specs.Steps.{Below, AllPlaced, InOrder, used, place_of, indices_in_order, with_node, counted, merged, merged_full, counted_full, window_start, number_by};
 
 use lists::insert_at;
 use plane::{Point, point_at};
-
-// The nearest node so far, and the squared distance that the next must stay below.
-#[derive(Clone, Copy)]
-struct Nearest {
-    dist2: f64,
-    node: u32,
-}
+use rules::Nearest;
 
 // ---- Used nodes, in order
 
@@ -122,10 +116,13 @@ fn distance2(p: Point, q: Point) -> f64
 }
 
 fn nearer(d: f64, v: u32, best: Nearest) -> Nearest
-    ensures { result ≡ closer_node d v best }
+    ensures { result ≡ nearer d v best }
 {
     if d < best.dist2 {
-        return Nearest { dist2: d, node: v };
+        return Nearest {
+            dist2: d,
+            node: Some(v),
+        };
     }
     best
 }
@@ -138,37 +135,33 @@ fn window_start(coords: &[f64], order: &[u32], p: Point) -> usize
     order.partition_point(|v| !(p.x - point_at(coords, *v).x < 1e-12))
 }
 
-// The nearest of the nodes in order at a squared distance strictly below 1e-12 × 1e-12, the first of equally near ones; `other` where there is none.
+// The nearest of the nodes in order at a squared distance strictly below 1e-12 × 1e-12, the first of equally near ones.
 // From the first on that lies 1e-12 or more to the right of p, all are too far.
-fn nearest_from(coords: &[f64], order: &[u32], p: Point, other: u32) -> u32
+fn nearest_from(coords: &[f64], order: &[u32], p: Point) -> Option<u32>
     requires { InOrder coords.now order.now }
-    ensures { result ≡ or_shifted other (closest_within coords.now order.now p) }
+    ensures { result ≡ closest_within coords.now order.now p }
 {
     let mut best = Nearest {
         dist2: 1e-12 * 1e-12,
-        node: other,
+        node: None,
     };
-    let mut i: usize = 0;
-    while i < order.len() {
-        let v = order[i];
-        let q = point_at(coords, v);
+    for v in order {
+        let q = point_at(coords, *v);
         if p.x - q.x <= -1e-12 {
             return best.node;
         }
-        let d = distance2(p, q);
-        best = nearer(d, v, best);
-        i += 1;
+        best = nearer(distance2(p, q), *v, best);
     }
     best.node
 }
 
 // The same, of nodes of which many may lie to the left of p. Nodes on one vertical line are all looked at: to weld such meshes stays quadratic.
-fn closest_within(coords: &[f64], order: &[u32], p: Point, other: u32) -> u32
+fn closest_within(coords: &[f64], order: &[u32], p: Point) -> Option<u32>
     requires { InOrder coords.now order.now }
-    ensures { result ≡ or_shifted other (closest_within coords.now order.now p) }
+    ensures { result ≡ closest_within coords.now order.now p }
 {
     let from = window_start(coords, order, p);
-    nearest_from(coords, &order[from..], p, other)
+    nearest_from(coords, &order[from..], p)
 }
 
 // ---- The cutter's numbers
@@ -183,24 +176,17 @@ fn number_of(sc: &[f64], order: &[u32], cc: &[f64], mark: u32, j: usize) -> u32
         return shifted;
     }
     let p = point_at(cc, j as u32);
-    closest_within(sc, order, p, shifted)
+    closest_within(sc, order, p).unwrap_or(shifted)
 }
 
-// w has a mark for each of the cutter's nodes, then `count` used subject nodes in order. The numbers take the marks' place.
-fn number_nodes(sc: &[f64], cc: &[f64], w: &mut [u32], count: usize)
-    requires { (length sc.now / 2 ≤ 16384) × (length cc.now / 2 ≤ 16384) × (length cc.now / 2 + count ≤ length w.old)
-        × InOrder sc.now (run w.old (length cc.now / 2) count) }
-    ensures { w.new ≡ front w.old (each (length cc.now / 2)
-        (λ j. number_by sc.now (run w.old (length cc.now / 2) count) cc.now (get_or w.old j 0) j)) }
+// Each of the cutter's nodes has a mark in `numbers`, whose place its number takes. `order` has the used subject nodes in order.
+fn number_nodes(sc: &[f64], cc: &[f64], numbers: &mut [u32], order: &[u32])
+    requires { (length sc.now / 2 ≤ 16384) × (length numbers.old ≤ 16384) × InOrder sc.now order.now }
+    ensures { numbers.new ≡ each (length numbers.old) (λ j. number_by sc.now order.now cc.now (get_or numbers.old j 0) j) }
 {
-    let n = cc.len() / 2;
-    let end = n + count;
-    let mut j: usize = 0;
-    while j < n {
-        let mark = w[j];
-        let v = number_of(sc, &w[n..end], cc, mark, j);
-        w[j] = v;
-        j += 1;
+    // By index: after a loop over `iter_mut` a proof knows no element.
+    for j in 0..numbers.len() {
+        numbers[j] = number_of(sc, order, cc, numbers[j], j);
     }
 }
 
@@ -211,11 +197,11 @@ pub fn duplicates_from(sc: &[f64], sn: &[u32], cc: &[f64], cn: &[u32], w: &mut [
     ensures { w.new ≡ front w.old (weld (mesh sc.now sn.now [] [] []) (mesh cc.now cn.now [] [] [])
         ++ zeros (length sc.now / 2)) }
 {
-    let n = cc.len() / 2;
-    let end = n + sc.len() / 2;
-    mark_used(cn, &mut w[..n]);
-    mark_used(sn, &mut w[n..end]);
-    let count = sorted_indices_for(sc, &mut w[n..end]);
-    number_nodes(sc, cc, w, count);
-    w[n..end].fill(0);
+    let (numbers, rest) = w.split_at_mut(cc.len() / 2);
+    let (marks, _) = rest.split_at_mut(sc.len() / 2);
+    mark_used(cn, numbers);
+    mark_used(sn, marks);
+    let count = sorted_indices_for(sc, marks);
+    number_nodes(sc, cc, numbers, &marks[..count]);
+    marks.fill(0);
 }

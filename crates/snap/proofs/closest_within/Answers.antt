@@ -1,6 +1,5 @@
 -- `snap::closest_within` meets its contract. Assumes nothing.
-use mathlib.Core.Path.{ap, ◌∙◌}
-use Rattle.rules.specs.Snap.{or_shifted}
+use mathlib.Core.Path.{◌∙◌}
 use Rattle.snap.proofs.Near.{window_whole, window_order}
 use Rattle.snap.proofs.closest_within.Goals as goal
 
@@ -12,4 +11,4 @@ pub returns : goal.returns
 returns c =
     let w = c.window_start-from in
     let a = c.args in
-    c.nearest_from.ensures ∙ ap (or_shifted a.other) (window_whole a.coords.now a.order.now a.p w.result w.ensures.0 w.ensures.1)
+    c.nearest_from.ensures ∙ window_whole a.coords.now a.order.now a.p w.result w.ensures.0 w.ensures.1

@@ -1,34 +1,30 @@
 use mathlib.Core.Path.{refl}
-use native.Mathlib.Omega.{arith}
 use Rattle.rules.specs.Snap.{nearest_to}
 use Rattle.snap.proofs.Near.{near_turn, near_end, near_stop}
 use Rattle.snap.proofs.nearest_from.Goals as goal
 
-pub loop-i-init : goal.loop-i-init
+pub loop-v-init : goal.loop-v-init
 unfolding nearest_to
-loop-i-init c = (omega arith, refl)
+loop-v-init c = refl
 
 pub returns-then-p-q : goal.returns-then-p-q
 returns-then-p-q c =
-    let l = c.loop-i in
+    let l = c.loop-v in
     let a = c.args in
     let q = c.point_at-q in
-    near_stop a.coords.now a.order.now a.p a.other c.requires l.best q.result l.i l.invariant.1 c.loop-i-test.true
-    q.ensures c.if-p-q.true
+    near_stop a.coords.now a.order.now a.p c.requires l.best q.result l.v-index l.invariant c.loop-v-test.true q.ensures c.if-p-q.true
 
-pub loop-i-preserved : goal.loop-i-preserved
-loop-i-preserved c =
-    let l = c.loop-i in
+pub loop-v-preserved : goal.loop-v-preserved
+loop-v-preserved c =
+    let l = c.loop-v in
     let a = c.args in
     let q = c.point_at-q in
-    let d = c.distance2-d in (
-      omega arith,
-      near_turn a.coords.now a.order.now a.p a.other l.best c.nearer-best.result q.result d.result l.i l.invariant.1
-          q.ensures d.ensures c.nearer-best.ensures,
-    )
+    let d = c.distance2 in
+    let n = c.nearer-best in
+    near_turn a.coords.now a.order.now a.p l.best n.result q.result d.result l.v-index l.invariant q.ensures d.ensures n.ensures
 
 pub returns : goal.returns
 returns c =
-    let l = c.loop-i in
+    let l = c.loop-v in
     let a = c.args in
-    near_end a.coords.now a.order.now a.p a.other l.best l.i l.invariant.1 l.invariant.0 c.loop-i-test.false
+    near_end a.coords.now a.order.now a.p l.best l.v-index l.invariant l.auto.v-index-end c.loop-v-test.false
