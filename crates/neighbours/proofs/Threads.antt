@@ -1,15 +1,15 @@
--- The working list with edges in one region and their chains in a region behind. Assumes nothing.
-use mathlib.Core.Path.{◌≡◌, sym, ap, ◌∙◌}
-use mathlib.Core.List.{List, [], ◌++◌}
+-- Edges at the front of a list, their chains in another; regions of the working list. Assumes nothing.
+use mathlib.Core.Path.{◌≡◌, refl, sym, ap, ap₂, ◌∙◌}
+use mathlib.Core.List.{List, [], ◌++◌, append_assoc}
 use Prim.Native.Nat.{ℕ, ◌+◌, ◌*◌, ◌-◌, ◌≤◌, ◌<◌}
 use native.Mathlib.Decide.{dec_lt}
 use native.Mathlib.Nat.{add-sub_of_le}
 use native.Mathlib.Omega.{arith}
-use lib.ListN.{length, get_or, take, drop, length-take, length-replicate, get_or-replicate}
-use lib.Seq.{ext_get_or}
+use lib.ListN.{length, get_or, take, drop, length-drop, length-replicate, get_or-replicate, take-append-drop}
+use lib.Seq.{ext_get_or, take-append-le, drop-append-le, take_at, drop_at, take-take}
 use Rattle.lists.specs.Gather.{joined}
-use Rattle.lists.specs.Regions.{run, put, zeros}
-use Rattle.lists.proofs.Regions.{length_put, put_before, put_in_lem, put_behind, put_run, put_put, put_none, length_run, run_put, run_before, part_back}
+use Rattle.lists.specs.Regions.{run, front, put, zeros}
+use Rattle.lists.proofs.Regions.{length_put, put_before, put_in_lem, put_behind, front_front, take_front_of, drop_take}
 use Rattle.cutting.specs.Edges.{Edge}
 use Rattle.cutting.specs.Lent.{pairs, flat_edges}
 use Rattle.cutting.proofs.Pairs.{ends_length, pairs_ends}
@@ -47,115 +47,67 @@ put_swap w b c xs ys h k =
         put_behind (put w c ys) b (omega (arith, lc)) xs i 0 (omega (arith, d))
         ∙ sym (put_same (put w b xs) w c ys i (omega (arith, lb)) (omega arith) (put_behind w b (omega arith) xs i 0 (omega (arith, d))))
 
--- a part lent
-pub part_is : (w : List ℕ) (b n : ℕ) → take (b + n - b) (drop b w) ≡ run w b n
-unfolding run
-part_is w b n =
-    let z : b + n - b ≡ n = omega arith in
-    ap (λ (k : ℕ). take k (drop b w)) z
+-- a region in the first of two lists, and one at the front of the second
+pub put_left : (u v : List ℕ) (b : ℕ) (xs : List ℕ) → b + length xs ≤ length u → put (u ++ v) b xs ≡ put u b xs ++ v
+unfolding put front
+put_left u v b xs h =
+    let rest : drop (length xs) (drop b (u ++ v)) ≡ drop (length xs) (drop b u) ++ v =
+    ap (drop (length xs)) (drop-append-le b u v (omega arith)) ∙ drop-append-le (length xs) (drop b u) v (omega (arith, length-drop b u)) in
+    ap₂ (λ (l m : List ℕ). l ++ (xs ++ m)) (take-append-le b u v (omega arith)) rest
+    ∙ ap (λ (l : List ℕ). take b u ++ l) (sym (append_assoc xs (drop (length xs) (drop b u)) v)) ∙ sym (append_assoc (take b u) (xs ++ drop (length xs) (drop b u)) v)
 
--- and come back
-pub part_put : (w ys : List ℕ) (b n : ℕ) → length ys ≡ n → take b w ++ (ys ++ drop (b + n - b) (drop b w)) ≡ put w b ys
-part_put w ys b n l = part_back w ys b (b + n - b) (omega (arith, l))
+pub put_right : (u v : List ℕ) (b : ℕ) (xs : List ℕ) → length u ≡ b → put (u ++ v) b xs ≡ u ++ front v xs
+unfolding put
+put_right u v b xs h = ap₂ (λ (l m : List ℕ). l ++ front m xs) (take_at u v b h) (drop_at u v b h)
 
 -- ---- edges and their chains
 
-length_short : (w : List ℕ) (b n : ℕ) → length (run w b n) ≤ n
-unfolding run
-length_short w b n = omega (arith, length-take n (drop b w))
+-- no edges yet
+pub threaded_none : (h : ℕ) (e links : List ℕ) → h ≤ length links → links ≡ zeros (length links) → Threaded h e [] e links
+unfolding flat_edges joined front
+threaded_none h e links some clear =
+    record {
+      whole = refl;
+      chained = chained_none h links (λ c l. ap (λ (u : List ℕ). get_or u c 0) clear ∙ get_or-replicate (length links) c 0 0 (omega arith));
+    }
 
-module _ (h n base scratch : ℕ) (w₀ : List ℕ) (fits : scratch + (h + n) ≤ length w₀) where
-  -- no edges yet
-  pub threaded_none : base ≤ scratch → run w₀ scratch (h + n) ≡ zeros (h + n) → Threaded h n base scratch w₀ [] w₀
-  unfolding flat_edges joined
-  threaded_none below clear =
+module _ (h : ℕ) (e₀ : List ℕ) (es : List Edge) (e links : List ℕ) (t : Threaded h e₀ es e links) (room : 2 * length es ≤ length e₀) where
+  pub read_edges : (k : ℕ) → k ≡ length es → pairs (take (2 * k) e) ≡ es
+  read_edges k q =
+      ap (λ (l : List ℕ). pairs (take (2 * k) l)) t.whole ∙ ap pairs (take_front_of e₀ (flat_edges es) (2 * k) (omega (arith, q, ends_length es))) ∙ pairs_ends es
+
+  pub ready : (k : ℕ) → k ≡ length es → Chained h (pairs (take (2 * k) e)) links
+  ready k q = rw (read_edges k q) t.chained
+
+  -- more edges
+  pub threaded_on : (gs : List Edge) (e' links' : List ℕ) → Threaded h e gs e' links' → length es ≤ length gs → Threaded h e₀ gs e' links'
+  threaded_on gs e' links' u more =
       record {
-        whole = sym (ap (λ (u : List ℕ). put u scratch (run w₀ scratch (h + n))) (put_none w₀ base) ∙ put_run w₀ scratch (omega arith) (h + n) fits);
-        chained = chained_none h (run w₀ scratch (h + n)) (λ c l. ap (λ (u : List ℕ). get_or u c 0) clear ∙ get_or-replicate (h + n) c 0 0 (omega arith));
+        whole = u.whole ∙ ap (λ (l : List ℕ). front l (flat_edges gs)) t.whole ∙ front_front e₀ (flat_edges es) (flat_edges gs) (omega (arith, more, ends_length es, ends_length gs));
+        chained = u.chained;
       }
 
-  module _ (es : List Edge) (w : List ℕ) (t : Threaded h n base scratch w₀ es w) (room : base + 2 * length es ≤ scratch) where
-    abbrev ls : List ℕ
-    ls = run w scratch (h + n)
+-- ---- the working list in the end: the edges are put at `base` of its part u, and zeros at the front of v, which stands behind
 
-    flat : length (flat_edges es) ≡ 2 * length es
-    flat = ends_length es
+pub whole : (w u v : List ℕ) (base scratch n : ℕ) (xs zs : List ℕ) → u ≡ take scratch w → v ≡ drop scratch w → length u ≡ scratch → base + length xs ≤ scratch
+    → zs ≡ zeros n → (take base u ++ front (drop base u) xs) ++ (zs ++ drop n v) ≡ put (put w base xs) scratch (zeros n)
+unfolding put front
+whole w u v base scratch n xs zs ue ve lu room ze =
+    let lz : length zs ≡ n = ap length ze ∙ length-replicate {A = ℕ} n 0 in
+    let w_is : w ≡ u ++ v = sym (take-append-drop scratch w) ∙ ap₂ (λ (l m : List ℕ). l ++ m) (sym ue) (sym ve) in
+    let lp : length (put u base xs) ≡ scratch = length_put u base (omega (arith, lu)) xs (omega (arith, lu)) ∙ lu in
+    ap (λ (l : List ℕ). put u base xs ++ l) (at_front v zs n lz ∙ ap (front v) ze)
+    ∙ sym (put_right (put u base xs) v scratch (zeros n) lp) ∙ ap (λ (l : List ℕ). put l scratch (zeros n)) (sym (put_left u v base xs (omega (arith, lu))))
+    ∙ ap (λ (l : List ℕ). put (put l base xs) scratch (zeros n)) (sym w_is)
+  where
+    at_front : (l ys : List ℕ) (m : ℕ) → length ys ≡ m → ys ++ drop m l ≡ front l ys
+    at_front l ys m q = ap (λ (i : ℕ). ys ++ drop i l) (sym q)
 
-    with : length (put w₀ base (flat_edges es)) ≡ length w₀
-    with = length_put w₀ base (omega arith) (flat_edges es) (omega (arith, flat))
-
-    pub threaded_length : length w ≡ length w₀
-    threaded_length =
-        ap length t.whole ∙ length_put (put w₀ base (flat_edges es)) scratch (omega (arith, with)) ls (omega (arith, with, length_short w scratch (h + n))) ∙ with
-
-    pub length_links : length (run w scratch (h + n)) ≡ h + n
-    length_links = length_run w scratch (h + n) (omega (arith, threaded_length))
-
-    before : (a c : ℕ) → a + c ≤ scratch → run w a c ≡ run (put w₀ base (flat_edges es)) a c
-    before a c l = ap (λ (u : List ℕ). run u a c) t.whole ∙ run_before (put w₀ base (flat_edges es)) scratch (omega (arith, with)) ls a c l
-
-    -- what is read of w: what stands before the edges, and the edges
-    pub read_before : (a c : ℕ) → a + c ≤ base → run w a c ≡ run w₀ a c
-    read_before a c l = before a c (omega arith) ∙ run_before w₀ base (omega arith) (flat_edges es) a c l
-
-    pub read_one : (i : ℕ) → i < base → get_or w i 0 ≡ get_or w₀ i 0
-    read_one i l =
-        ap (λ (u : List ℕ). get_or u i 0) t.whole ∙ put_before (put w₀ base (flat_edges es)) scratch (omega (arith, with)) ls i 0 (omega arith)
-        ∙ put_before w₀ base (omega arith) (flat_edges es) i 0 l
-
-    pub read_edges : (k : ℕ) → k ≡ length es → pairs (run w base (2 * k)) ≡ es
-    read_edges k e =
-        ap pairs (before base (2 * k) (omega (arith, e)) ∙ run_put w₀ base (omega arith) (flat_edges es) (2 * k) (omega (arith, e, flat))) ∙ pairs_ends es
-
-    pub ready : (k : ℕ) → k ≡ length es → Chained h (pairs (run w base (2 * k))) (run w scratch (h + n))
-    ready k e = rw (read_edges k e) t.chained
-
-    -- more edges
-    pub threaded_on : (gs : List Edge) (w' : List ℕ) → Threaded h n base scratch w gs w' → length w' ≡ length w → length es ≤ length gs
-        → base + 2 * length gs ≤ scratch → Threaded h n base scratch w₀ gs w'
-    threaded_on gs w' u long more room' =
-        let xs : List ℕ = flat_edges es in
-        let ys : List ℕ = flat_edges gs in
-        let ms : List ℕ = run w' scratch (h + n) in
-        let v : List ℕ = put w₀ base xs in
-        let ly : length ys ≡ 2 * length gs = ends_length gs in
-        let lm : length ms ≡ h + n = length_run w' scratch (h + n) (omega (arith, long, threaded_length)) in
-        let lv : length (put v base ys) ≡ length w₀ = length_put v base (omega (arith, with)) ys (omega (arith, with, ly)) ∙ with in
-        record {
-          whole =
-              u.whole ∙ ap (λ (x : List ℕ). put (put x base ys) scratch ms) t.whole
-              ∙ ap (λ (x : List ℕ). put x scratch ms) (put_swap v base scratch ys ls (omega (arith, ly)) (omega (arith, with, length_links)))
-              ∙ put_put (put v base ys) scratch (omega (arith, lv)) ls ms (omega (arith, lm, length_links))
-              ∙ ap (λ (x : List ℕ). put x scratch ms) (put_put w₀ base (omega arith) xs ys (omega (arith, flat, ly)));
-          chained = u.chained;
-        }
-
--- ---- the chains set to zero, before and after
-
-module _ (h n scratch : ℕ) (w₀ : List ℕ) (fits : scratch + (h + n) ≤ length w₀) where
-  abbrev zs : List ℕ
-  zs = zeros (h + n)
-
-  lz : length zs ≡ h + n
-  lz = length-replicate {A = ℕ} (h + n) 0
-
-  pub zeroed : (w ys : List ℕ) → length w ≡ length w₀ → ys ≡ zeros (length (take (scratch + (h + n) - scratch) (drop scratch w)))
-      → take scratch w ++ (ys ++ drop (scratch + (h + n) - scratch) (drop scratch w)) ≡ put w scratch (zeros (h + n))
-  zeroed w ys l e =
-      let k : length (take (scratch + (h + n) - scratch) (drop scratch w)) ≡ h + n = ap length (part_is w scratch (h + n)) ∙ length_run w scratch (h + n) (omega (arith, l)) in
-      let z : ys ≡ zs = e ∙ ap zeros k in
-      part_put w ys scratch (h + n) (ap length z ∙ lz) ∙ ap (put w scratch) z
-
-  -- w₁ with zeros there, w₂ with edges and their chains, w₃ with zeros again
-  pub cleared_around : (base : ℕ) (w₁ w₂ : List ℕ) (es : List Edge) → w₁ ≡ put w₀ scratch (zeros (h + n)) → Threaded h n base scratch w₁ es w₂ → base + 2 * length es ≤ scratch
-      → put w₂ scratch (zeros (h + n)) ≡ put (put w₀ base (flat_edges es)) scratch (zeros (h + n))
-  cleared_around base w₁ w₂ es e t room =
-      let xs : List ℕ = flat_edges es in
-      let lx : length xs ≡ 2 * length es = ends_length es in
-      let l₁ : length w₁ ≡ length w₀ = ap length e ∙ length_put w₀ scratch (omega arith) zs (omega (arith, lz)) in
-      let lx₁ : length (put w₁ base xs) ≡ length w₁ = length_put w₁ base (omega (arith, l₁)) xs (omega (arith, l₁, lx)) in
-      let lx₀ : length (put w₀ base xs) ≡ length w₀ = length_put w₀ base (omega arith) xs (omega (arith, lx)) in
-      ap (λ (u : List ℕ). put u scratch zs) t.whole
-      ∙ put_put (put w₁ base xs) scratch (omega (arith, lx₁, l₁)) (run w₂ scratch (h + n)) zs (omega (arith, lz, length_short w₂ scratch (h + n)))
-      ∙ ap (λ (u : List ℕ). put (put u base xs) scratch zs) e ∙ ap (λ (u : List ℕ). put u scratch zs) (put_swap w₀ base scratch xs zs (omega (arith, lx)) (omega (arith, lz)))
-      ∙ put_put (put w₀ base xs) scratch (omega (arith, lx₀)) zs zs (omega arith)
+-- the nodes as they are lent
+pub nodes_are : (w before : List ℕ) (at total base scratch : ℕ) → before ≡ take base (take scratch w) → at + total ≤ base → base ≤ scratch → scratch ≤ length w
+    → take (at + total - at) (drop at before) ≡ run w at total
+unfolding run
+nodes_are w before at total base scratch e h k l =
+    let size : at + total - at ≡ total = omega arith in
+    ap₂ (λ (n : ℕ) (u : List ℕ). take n (drop at u)) size (e ∙ take-take base scratch w k) ∙ ap (take total) (drop_take w at base (omega arith) (omega arith))
+    ∙ take-take total (base - at) (drop at w) (omega arith)

@@ -1,6 +1,6 @@
 -- Edges on chains by the smaller node of their keys, in a part of the working list: those with one key are on one chain. Assumes nothing.
 use Rattle.std.specs.Prelude.{◌≡◌, Bool, true, false, List, ℕ, zero, suc, ◌+◌, ◌<◌, eqb, length, get_or, set}
-use Rattle.lists.specs.Regions.{run, put}
+use Rattle.lists.specs.Regions.{front}
 use Rattle.cutting.specs.Edges.{Edge, edge_at}
 use Rattle.cutting.specs.Lent.{flat_edges}
 use Rattle.keys.specs.Chains.{edge_chain}
@@ -22,7 +22,7 @@ pub record Chained (h : ℕ) (es : List Edge) (links : List ℕ) : Type 0 where
 unfoldable pub linked : ℕ → List ℕ → ℕ → ℕ → List ℕ
 linked h links k c = set (set links (h + k) (get_or links c 0)) c (k + 1)
 
--- w has become w': it holds edges from base on, and their chains in the h + n numbers from scratch on; nothing else has changed
-pub record Threaded (h n base scratch : ℕ) (w : List ℕ) (es : List Edge) (w' : List ℕ) : Type 0 where
-  pub whole : w' ≡ put (put w base (flat_edges es)) scratch (run w' scratch (h + n))
-  pub chained : Chained h es (run w' scratch (h + n))
+-- e has become e': it holds the edges at its front, and nothing behind them has changed; `links` holds their chains
+pub record Threaded (h : ℕ) (e : List ℕ) (es : List Edge) (e' links : List ℕ) : Type 0 where
+  pub whole : e' ≡ front e (flat_edges es)
+  pub chained : Chained h es links

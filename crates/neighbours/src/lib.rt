@@ -2,7 +2,7 @@
 // chains in a second region, so that one with the same key is found without a scan of all.
 #![tactic(auto)]
 
-ghost use Rattle.std.specs.Prelude.{◌≡◌, [], ◌+◌, ◌*◌, ◌/◌, ◌≤◌, ◌<◌, length};
+ghost use Rattle.std.specs.Prelude.{◌≡◌, [], ◌+◌, ◌*◌, ◌/◌, ◌≤◌, ◌<◌, length, take};
 ghost use Rattle.lists.specs.Search.{has};
 ghost use Rattle.lists.specs.Regions.{run, put, zeros};
 ghost use Rattle.cutting.specs.Edges.{edge_at, same_key, ring};
@@ -44,82 +44,49 @@ fn link_edge(links: &mut [u32], h: usize, k: usize, a: u32, b: u32)
     links[c] = (k + 1) as u32;
 }
 
-// Adds the edge a, b to the k edges at `base`, unless one has its key. Answers how many there are then. Their chains are the h + n numbers at `scratch`.
-fn add_edge(
-    w: &mut [u32],
-    base: usize,
-    k: usize,
-    a: u32,
-    b: u32,
-    scratch: usize,
-    h: usize,
-    n: usize,
-) -> usize
-    requires { (base + 2 * k + 2 ≤ scratch) × (scratch + (h + n) ≤ length w.old) × (k < n) × (k < 65536) × (0 < h)
-        × Chained h (pairs (run w.old base (2 * k))) (run w.old scratch (h + n)) }
-    ensures { (result ≡ length (added (pairs (run w.old base (2 * k))) (a, b)))
-        × Threaded h n base scratch w.old (added (pairs (run w.old base (2 * k))) (a, b)) w.new }
+// Adds the edge a, b to the k edges at the front of `edges`, unless one has its key. Answers how many there are then.
+fn add_edge(edges: &mut [u32], k: usize, a: u32, b: u32, links: &mut [u32], h: usize) -> usize
+    requires { (2 * k + 2 ≤ length edges.old) × (h + k < length links.old) × (k < 65536) × (0 < h) × Chained h (pairs (take (2 * k) edges.old)) links.old }
+    ensures { (result ≡ length (added (pairs (take (2 * k) edges.old)) (a, b)))
+        × Threaded h edges.old (added (pairs (take (2 * k) edges.old)) (a, b)) edges.new links.new }
 {
-    let e = base + 2 * k;
-    let t = scratch + (h + n);
-    if has_key(&w[base..e], &w[scratch..t], h, a, b) {
+    let e = 2 * k;
+    if has_key(&edges[..e], links, h, a, b) {
         return k;
     }
-    w[e] = a;
-    w[e + 1] = b;
-    link_edge(&mut w[scratch..t], h, k, a, b);
+    edges[e] = a;
+    edges[e + 1] = b;
+    link_edge(links, h, k, a, b);
     k + 1
 }
 
-// Adds the edges of the cell whose m corners stand at `at` to the k edges at `base`.
-fn cell_edges(
-    w: &mut [u32],
-    at: usize,
-    m: usize,
-    base: usize,
-    k: usize,
-    scratch: usize,
-    h: usize,
-    n: usize,
-) -> usize
-    requires { (at + m ≤ base) × (base + 2 * k + 2 * m ≤ scratch) × (scratch + (h + n) ≤ length w.old) × (k + m ≤ n) × (k + m ≤ 65536) × (0 < h)
-        × Chained h (pairs (run w.old base (2 * k))) (run w.old scratch (h + n)) }
-    ensures { (result ≡ length (added_all (pairs (run w.old base (2 * k))) (ring (run w.old at m))))
-        × Threaded h n base scratch w.old (added_all (pairs (run w.old base (2 * k))) (ring (run w.old at m))) w.new }
+// Adds the edges of a cell to the k edges at the front of `edges`.
+fn cell_edges(cell: &[u32], edges: &mut [u32], k: usize, links: &mut [u32], h: usize) -> usize
+    requires { (2 * k + 2 * length cell.now ≤ length edges.old) × (h + (k + length cell.now) ≤ length links.old) × (k + length cell.now ≤ 65536) × (0 < h)
+        × Chained h (pairs (take (2 * k) edges.old)) links.old }
+    ensures { (result ≡ length (added_all (pairs (take (2 * k) edges.old)) (ring cell.now)))
+        × Threaded h edges.old (added_all (pairs (take (2 * k) edges.old)) (ring cell.now)) edges.new links.new }
 {
     let mut r = k;
-    let mut i: usize = 0;
-    while i < m {
-        let j = after(m, i);
-        let a = w[at + i];
-        let b = w[at + j];
-        r = add_edge(w, base, r, a, b, scratch, h, n);
-        i += 1;
+    for (i, a) in cell.iter().enumerate() {
+        let b = cell[after(cell.len(), i)];
+        r = add_edge(edges, r, *a, b, links, h);
     }
     r
 }
 
-// Writes the edges of all cells from `base` on, and their chains over the zeros at `scratch`.
-fn all_edges(
-    w: &mut [u32],
-    cells: &[u32],
-    at: usize,
-    total: usize,
-    base: usize,
-    scratch: usize,
-    h: usize,
-    n: usize,
-) -> usize
-    requires { (at + total ≤ base) × (base + 2 * total ≤ scratch) × (scratch + (h + n) ≤ length w.old) × (total ≤ n) × (total ≤ 65536) × (0 < h) × (Rising cells.now total)
-        × (run w.old scratch (h + n) ≡ zeros (h + n)) }
-    ensures { (result ≡ length (compute_descending (cells_of (mesh [] (run w.old at total) cells.now [] []))))
-        × Threaded h n base scratch w.old (compute_descending (cells_of (mesh [] (run w.old at total) cells.now [] []))) w.new × (result ≤ total) }
+// Writes the edges of all cells, and their chains over zeros.
+fn all_edges(nodes: &[u32], cells: &[u32], edges: &mut [u32], links: &mut [u32], h: usize) -> usize
+    requires { (2 * length nodes.now ≤ length edges.old) × (h + length nodes.now ≤ length links.old) × (length nodes.now ≤ 65536) × (0 < h)
+        × (Rising cells.now (length nodes.now)) × (links.old ≡ zeros (length links.old)) }
+    ensures { (result ≡ length (compute_descending (cells_of (mesh [] nodes.now cells.now [] []))))
+        × Threaded h edges.old (compute_descending (cells_of (mesh [] nodes.now cells.now [] []))) edges.new links.new × (result ≤ length nodes.now) }
 {
     let mut k: usize = 0;
     let mut start: usize = 0;
-    for i in 0..cells.len() {
-        let e = cells[i] as usize;
-        k = cell_edges(w, at + start, e - start, base, k, scratch, h, n);
+    for end in cells {
+        let e = *end as usize;
+        k = cell_edges(&nodes[start..e], edges, k, links, h);
         start = e;
     }
     k
@@ -142,9 +109,11 @@ pub fn compute_descending(
         × (w.new ≡ put (put w.old base (flat_edges (compute_descending (cells_of (mesh [] (run w.old at total) cells.now [] [])))))
         scratch (zeros (h + n))) }
 {
-    let t = scratch + (h + n);
-    w[scratch..t].fill(0);
-    let k = all_edges(w, cells, at, total, base, scratch, h, n);
-    w[scratch..t].fill(0);
+    let (front, behind) = w.split_at_mut(scratch);
+    let (links, _) = behind.split_at_mut(h + n);
+    let (before, edges) = front.split_at_mut(base);
+    links.fill(0);
+    let k = all_edges(&before[at..at + total], cells, edges, links, h);
+    links.fill(0);
     k
 }

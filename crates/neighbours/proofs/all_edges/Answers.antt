@@ -1,48 +1,41 @@
+use mathlib.Core.Path.{refl}
 use native.Mathlib.Omega.{arith}
-use Rattle.neighbours.proofs.Loops.{start₀, all_ready, turn, end}
+use lib.ListN.{get_or}
+use Rattle.lists.specs.Regions.{run}
+use Rattle.neighbours.proofs.Loops.{written_start, all_ready, turn, end, lent_cell}
 use Rattle.neighbours.proofs.all_edges.Goals as goal
 
-pub loop-i-init : goal.loop-i-init
-loop-i-init c =
-    start₀ c.args.w.now c.args.cells.now c.args.at c.args.total c.args.base c.args.scratch
-    c.args.h c.args.n c.requires.0 c.requires.1 c.requires.2 c.requires.6 c.requires.7
-
-pub overflow_cast-e : goal.overflow_cast-e
-overflow_cast-e c =
-    omega (arith, c.type_inv.cells c.loop-i.i)
-
-pub overflow_sub-e : goal.overflow_sub-e
-overflow_sub-e c =
-    let l = c.loop-i in
-    let b = c.requires.6 l.i c.loop-i-test.true in
-    omega (arith, b, l.invariant.1)
+pub loop-end-init : goal.loop-end-init
+loop-end-init c =
+    let a = c.args in written_start a.nodes.now a.cells.now a.edges.now a.h a.links.now c.requires.0 c.requires.4 (omega (arith, c.requires.1)) c.requires.5
 
 pub cell_edges-k-requires : goal.cell_edges-k-requires
 cell_edges-k-requires c =
-    let l = c.loop-i in
-    let b = c.requires.6 l.i c.loop-i-test.true in (
-      omega (arith, b, l.invariant),
-      omega (arith, b, l.invariant),
-      omega (arith, l.invariant, c.requires.2),
-      omega (arith, b, l.invariant),
-      omega (arith, b, l.invariant),
-      c.requires.5,
-      all_ready c.args.w.now c.args.cells.now c.args.at c.args.total c.args.base
-          c.args.scratch c.args.h c.args.n c.requires.0 c.requires.1 c.requires.2 c.requires.6 l.w
-          l.k l.start l.i l.invariant,
+    let a = c.args in
+    let l = c.loop-end in
+    let v = l.invariant in
+    let e = get_or a.cells.now l.end-index 0 in
+    let b = c.requires.4 l.end-index c.loop-end-test.true in
+    let m = lent_cell a.nodes.now l.start e (omega (arith, b, v.0)) b.1 in (
+      omega (arith, m, b, v.0, v.2, v.3, c.requires.0),
+      omega (arith, m, b, v.0, v.2, v.4, c.requires.1),
+      omega (arith, m, b, v.0, v.2, c.requires.2),
+      c.requires.3,
+      all_ready a.nodes.now a.cells.now a.edges.now a.h a.links.now c.requires.0 c.requires.4 l.edges l.links l.k l.start l.end-index v,
     )
 
-pub loop-i-preserved : goal.loop-i-preserved
-loop-i-preserved c =
-    let l = c.loop-i in
+pub loop-end-preserved : goal.loop-end-preserved
+unfolding run
+loop-end-preserved c =
+    let a = c.args in
+    let l = c.loop-end in
     let e = c.cell_edges-k in
-    turn c.args.w.now c.args.cells.now c.args.at c.args.total c.args.base c.args.scratch
-    c.args.h c.args.n c.requires.0 c.requires.1 c.requires.2 c.requires.6 l.w l.k l.start l.i
-    l.invariant e.result e.new.w c.loop-i-test.true e.auto.w e.ensures
+    turn a.nodes.now a.cells.now a.edges.now a.h a.links.now c.requires.0 c.requires.4 l.edges l.links l.k l.start l.end-index l.invariant
+    e.result _ e.new.edges e.new.links c.loop-end-test.true refl e.auto.edges e.auto.links e.ensures
 
 pub returns : goal.returns
 returns c =
-    let l = c.loop-i in
-    end c.args.w.now c.args.cells.now c.args.at c.args.total c.args.base c.args.scratch
-    c.args.h c.args.n c.requires.0 c.requires.1 c.requires.2 c.requires.6 l.w l.k l.start l.i
-    l.invariant c.loop-i-test.false
+    let a = c.args in
+    let l = c.loop-end in
+    end a.nodes.now a.cells.now a.edges.now a.h a.links.now c.requires.0 c.requires.4 l.edges l.links l.k l.start l.end-index l.invariant
+    l.auto.end-index-end c.loop-end-test.false

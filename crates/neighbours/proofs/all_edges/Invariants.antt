@@ -1,5 +1,5 @@
 use Rattle.neighbours.proofs.Loops.{Written}
 use Rattle.neighbours.proofs.all_edges.Given as goal
 
-abbrev pub invariant-loop-i : goal.invariant-loop-i
-invariant-loop-i l = Written l.initial.w l.cells l.at l.total l.base l.scratch l.h l.n l.w l.k l.start l.i
+abbrev pub invariant-loop-end : goal.invariant-loop-end
+invariant-loop-end l = Written l.nodes l.cells l.initial.edges l.h l.initial.links l.edges l.links l.k l.start l.end-index
