@@ -8,6 +8,7 @@ use lib.Dec.{eqb, leb}
 use lib.ListN.{length, take, length-append}
 use lib.Ieee.{Float}
 use borrow.Author.Tests.{leb-true, leb-false, lt-leb, not-true, not-false}
+use Rattle.std.specs.Prelude.{Result, Ok, Err}
 use Rattle.lists.specs.Search.{has}
 use Rattle.lists.specs.Gather.{joined}
 use Rattle.lists.specs.Regions.{run, front, put, copied, zeros, fzeros}
@@ -16,6 +17,9 @@ use Rattle.cutting.specs.Edges.{Edge}
 use Rattle.cutting.specs.Lent.{flat_edges, pairs}
 use Rattle.cutting.proofs.Pairs.{pairs_ends}
 use Rattle.entry.specs.Mesh.{Mesh, mesh}
+use Rattle.refusals.specs.declared.Refusal.{Refusal}
+use Rattle.refusals.specs.Numbers.{number, by_number, refused_with}
+use Rattle.refusals.proofs.Numbers.{some_not_zero}
 use Rattle.rules.specs.Neighbours.{subject_net, cutter_net}
 use Rattle.rules.specs.Meetings.{Met, added_by, meetings, Scene, scene_of}
 use Rattle.rules.specs.Nodes.{overfull, crowded}
@@ -29,7 +33,7 @@ use Rattle.meetings.specs.Booked.{booked, net_on, meetings_at}
 use Rattle.meetings.specs.MeetingsFound.{MeetingsRoom, MeetingsFound, meetings_found}
 use Rattle.meetings.proofs.Early.{early_met}
 use Rattle.meetings.proofs.Reading.{length_booked, booked_at, meetings_fit, by_edges}
-use Rattle.meetings.proofs.Settled.{leaves as meet-leaves, found_with, all_left as met-all-left, code_left as met-code-left}
+use Rattle.meetings.proofs.Settled.{code_of, found_in, leaves as meet-leaves, all_left as met-all-left, zeros_left as met-zeros-left, code_left as met-code-left}
 use Rattle.edge_nodes.specs.Links.{links_of, Linked}
 use Rattle.edge_nodes.specs.Lent.{crowded_at}
 use Rattle.edge_nodes.specs.Stored.{no_met, Stored}
@@ -39,7 +43,6 @@ use Rattle.finding.specs.Nets.{Fit, NetRoom, FindAsks, subject_at, cutter_at, in
 use Rattle.finding.specs.Found.{
   found_events,
   found_as,
-  refused_as,
   regions_by,
   chains,
   links_in,
@@ -58,6 +61,11 @@ use Rattle.finding.proofs.Netted.{length_held, subjects_held, cutters_held, inde
 use Rattle.finding.proofs.Held.{Holds, holds_linked, with, subjects_found, cutters_found, met_found, length_worked, worked_holds}
 use Rattle.finding.proofs.Events.{few_met, no_place, met_refused, met_all}
 use Rattle.finding.proofs.Settled.{leaves, all_left, zeros_left}
+
+-- the number of the meetings' refusal is that of their answer by numbers
+met_number : (a : Result MeetFound Refusal) → refused_with a ≡ code_of (by_number a)
+met_number (Ok f) = refl
+met_number (Err e) = refl
 
 -- ---- `place_coords`
 
@@ -170,7 +178,7 @@ module _ (op m : ℕ) (sc cc : List Float) (sn se cn ce : List ℕ) (w₀ : List
   refused_end : (code : ℕ) → (code ≡ 0 → ⊥) → code ≡ first_refusal m (length oc / 2) 0 0 (found_events op s c) → (oc' : List Float) (w' : List ℕ) → length oc' ≡ length oc
       → length w' ≡ length w₀ → (x : FoundLists) → x ≡ refused_lists code oc' w' → x ≡ found_of op m s c oc w₀
   refused_end code z e oc' w' lo lw x is =
-      is ∙ ap₂ (λ (i j : ℕ). leaves (refused_as code) (fzeros i) (zeros j)) lo lw ∙ ap (λ (k : ℕ). refused_lists k oc w₀) e
+      is ∙ ap₂ (λ (i j : ℕ). leaves (Err code) (fzeros i) (zeros j)) lo lw ∙ ap (λ (k : ℕ). refused_lists k oc w₀) e
       ∙ sym (zeros_left op m s c oc w₀ (λ y. z (e ∙ y)))
 
   -- 12 for the lent coordinates
@@ -275,33 +283,43 @@ module _ (op m : ℕ) (sc cc : List Float) (sn se cn ce : List ℕ) (w₀ : List
     points_fit = omega (arith, fits, len)
 
     -- the meetings are found
-    module _ (f : MeetFound) (oc₂ : List Float) (w₂ : List ℕ)
-        (told : meet-leaves f oc₂ w₂ ≡ meetings_found m placed r.from r.subject r.at r.cutter r.base oc₁ w₁) (lo : length oc₂ ≡ length oc₁)
+    module _ (a : Result MeetFound Refusal) (oc₂ : List Float) (w₂ : List ℕ)
+        (told : meet-leaves (by_number a) oc₂ w₂ ≡ meetings_found m placed r.from r.subject r.at r.cutter r.base oc₁ w₁) (lo : length oc₂ ≡ length oc₁)
         (lw : length w₂ ≡ length w₁) where
-      code_met : f.code ≡ first_refusal m (length oc₁ / 2 - placed / 2) 0 0 (joined of_meeting found)
-      code_met = ap (λ (x : MeetingsFound). x.answer.code) told ∙ met-code-left m placed r.from r.subject r.at r.cutter r.base oc₁ w₁
+      code_met : refused_with a ≡ first_refusal m (length oc₁ / 2 - placed / 2) 0 0 (joined of_meeting found)
+      code_met = met_number a ∙ ap (λ (x : MeetingsFound). code_of x.answer) told ∙ met-code-left m placed r.from r.subject r.at r.cutter r.base oc₁ w₁
 
-      code_is : f.code ≡ first_refusal m (length oc / 2 - points) 0 0 (joined of_meeting scene.met)
+      code_is : refused_with a ≡ first_refusal m (length oc / 2 - points) 0 0 (joined of_meeting scene.met)
       code_is =
           code_met ∙ ap₂ (λ (k : ℕ) (ms : List Met). first_refusal m k 0 0 (joined of_meeting ms)) (ap₂ (λ (i j : ℕ). i / 2 - j / 2) length_placed (sym len)) met_are
 
       length_coords : length oc₂ ≡ length oc
       length_coords = lo ∙ length_placed
 
-      -- 8, and 12 for a new point
-      pub met_stop : (f.code ≡ 0 → ⊥) → (x : FoundLists) → x ≡ refused_lists f.code oc₂ w₂ → x ≡ found_of op m s c oc w₀
+      -- 8, and 12 for a new point: both lists are zeros already
+      pub met_stop : (e : Refusal) → a ≡ Err e → leaves (Err (number e)) oc₂ w₂ ≡ found_of op m s c oc w₀
       unfolding found_events
-      met_stop z x is =
-          refused_end f.code z (met_refused points m (length oc / 2) (joined of_meeting scene.met) (crowded scene) points_fit f.code z 0 0 code_is) oc₂ w₂ length_coords
-          (lw ∙ length_work) x is
+      met_stop e i =
+          let is : number e ≡ refused_with a = sym (ap refused_with i) in
+          let cleared : meet-leaves (by_number a) oc₂ w₂ ≡ meet-leaves (Err _) (fzeros (length oc₁)) (zeros (length w₁)) =
+          told ∙ met-zeros-left m placed r.from r.subject r.at r.cutter r.base oc₁ w₁ (λ y. some_not_zero e (is ∙ code_met ∙ y)) in
+          refused_end (number e) (some_not_zero e)
+          (met_refused points m (length oc / 2) (joined of_meeting scene.met) (crowded scene) points_fit (number e) (some_not_zero e) 0 0 (is ∙ code_is)) oc₁ w₁ length_placed
+          length_work _ (ap₂ (leaves (Err (number e))) (ap (λ (x : MeetingsFound). x.coords) cleared) (ap (λ (x : MeetingsFound). x.work) cleared))
 
-      module _ (z : f.code ≡ 0) where
-        all : meet-leaves f oc₂ w₂ ≡ meet-leaves (found_with 0 (length found) ((placed + length (added_by found)) / 2)) (put oc₁ placed (added_by found))
+      module _ (f : MeetFound) (i : a ≡ Ok f) where
+        z : refused_with a ≡ 0
+        z = ap refused_with i
+
+        all : meet-leaves (by_number a) oc₂ w₂ ≡ meet-leaves (Ok (record { met = length found; next = (placed + length (added_by found)) / 2 })) (put oc₁ placed (added_by found))
             (put w₁ r.base (booked found))
         all = told ∙ met-all-left m placed r.from r.subject r.at r.cutter r.base oc₁ w₁ (sym code_met ∙ z)
 
+        answer : f ≡ record { met = length found; next = (placed + length (added_by found)) / 2 }
+        answer = ap (found_in f) (sym (ap by_number i) ∙ ap (λ (x : MeetingsFound). x.answer) all)
+
         count : f.met ≡ length scene.met
-        count = ap (λ (x : MeetingsFound). x.answer.met) all ∙ ap length met_are
+        count = ap (λ (x : MeetFound). x.met) answer ∙ ap length met_are
 
         -- the meetings have their places
         few : length scene.met ≤ m
@@ -388,16 +406,16 @@ module _ (op m : ℕ) (sc cc : List Float) (sn se cn ce : List ℕ) (w₀ : List
                 (ap length work_is ∙ length_worked op sc cc sn se cn ce fs fc w₀ room₀ m ok.room few) x is
 
             -- none
-            pub all_found : b ≡ false → leaves (record { code = 0; regions = g; next = f.next }) oc₂ w₃ ≡ found_of op m s c oc w₀
+            pub all_found : b ≡ false → leaves (Ok (record { regions = g; next = f.next })) oc₂ w₃ ≡ found_of op m s c oc w₀
             unfolding found_as scene_of
             all_found e =
                 let half : f.next ≡ length (sc ++ cc ++ added_by scene.met) / 2 =
-                ap (λ (x : MeetingsFound). x.answer.next) all
+                ap (λ (x : MeetFound). x.next) answer
                 ∙ ap₂ (λ (i : ℕ) (ms : List Met). (i + length (added_by ms)) / 2) (sym len) met_are ∙ ap (λ (i : ℕ). i / 2)
                 (sym (length-append (sc ++ cc) (added_by scene.met))) in
                 let coords : oc₂ ≡ front oc scene.coords =
                 ap (λ (x : MeetingsFound). x.coords) all ∙ ap₂ (λ (l : List Float) (ms : List Met). put l placed (added_by ms)) oe met_are
                 ∙ put_front placed oc (sc ++ cc) (added_by scene.met) len fits in
-                ap₂ (λ (x : Regions) (i : ℕ). leaves (record { code = 0; regions = x; next = i }) oc₂ w₃) regions_are half
-                ∙ ap₂ (leaves (found_as op s c)) coords work_is
+                ap₂ (λ (x : Regions) (i : ℕ). leaves (Ok (record { regions = x; next = i })) oc₂ w₃) regions_are half
+                ∙ ap₂ (leaves (Ok (found_as op s c))) coords work_is
                 ∙ sym (all_left op m s c oc w₀ (sym end_code ∙ ap (λ (u : Bool). cond u 9 0) e))

@@ -1,6 +1,6 @@
--- What the stages behind `find` cite, for meshes with their kinds and families: where it answers 0, what its answer is and what the lists hold. Assumes
+-- What the stages behind `find` cite, for meshes with their kinds and families: where it refuses nothing, what its answer is and what the lists hold. Assumes
 -- nothing.
-use mathlib.Core.Path.{◌≡◌, sym, ap, ◌∙◌}
+use mathlib.Core.Path.{◌≡◌, refl, sym, ap, ◌∙◌}
 use mathlib.Core.Bool.{false, cond}
 use mathlib.Core.List.{List, [], ◌∷◌, ◌++◌}
 use Prim.Native.Nat.{ℕ, ◌-◌, ◌/◌, ◌≤◌}
@@ -8,9 +8,12 @@ use native.Mathlib.Omega.{arith}
 use native.Mathlib.Decide.{dec_le}
 use lib.ListN.{length, replicate}
 use lib.Ieee.{Float}
+use Rattle.std.specs.Prelude.{Result, Ok, Err}
 use Rattle.lists.specs.Gather.{joined}
 use Rattle.lists.specs.Regions.{front, zeros, fzeros}
 use Rattle.entry.specs.Mesh.{Mesh}
+use Rattle.refusals.specs.declared.Refusal.{Refusal}
+use Rattle.refusals.specs.Numbers.{by_number, refused_with}
 use Rattle.rules.specs.Meetings.{Scene}
 use Rattle.rules.specs.Nodes.{crowded}
 use Rattle.rules.specs.Operations.{scene_for}
@@ -18,14 +21,20 @@ use Rattle.rules.specs.Refusals.{point, stop, of_meeting, first_refusal}
 use Rattle.rules.proofs.Course.{points_fit, points_over}
 use Rattle.regions.specs.Runs.{Lies}
 use Rattle.meetings.proofs.Early.{early_append, early_points, early_met}
+use Rattle.meetings.proofs.Settled.{code_of, found_in}
 use Rattle.finding.specs.declared.stages.Found.{Found}
 use Rattle.finding.specs.Nets.{NetRoom, FindAsks}
-use Rattle.finding.specs.Found.{found_events, found_as, refused_as, worked, FoundLists, refused_lists, found_of}
+use Rattle.finding.specs.Found.{found_events, found_as, worked, FoundLists, refused_lists, found_of}
 use Rattle.finding.proofs.Passed.{bare}
 use Rattle.finding.proofs.Held.{Holds, Low, length_worked, regions_lie, regions_low, worked_holds}
 use Rattle.finding.proofs.Events.{first_passes, no_nine, few_met}
 use Rattle.finding.proofs.Scenes.{met_bare, coords_bare, events_bare, found_bare, worked_bare, holds_bare, low_bare, found_any_room}
 use Rattle.finding.proofs.Settled.{leaves, all_left, zeros_left, code_left}
+
+-- the refusal's number is that of the answer by numbers
+pub number_of : (r : Result Found Refusal) → refused_with r ≡ code_of (by_number r)
+number_of (Ok f) = refl
+number_of (Err e) = refl
 
 module _ (op m : ℕ) (s c : Mesh) where
   abbrev scene : Scene
@@ -84,20 +93,20 @@ module _ (op m : ℕ) (s c : Mesh) where
           (worked_holds op s.coords c.coords s.nodes s.ends c.nodes c.ends ok.subject ok.cutter w₀ room₀ m ok.room few ok.most))
 
   -- the contract of `find`, for the meshes without kinds and families as it has them
-  module _ (w₀ : List ℕ) (ok : FindAsks op m (bare s) (bare c) (length w₀)) (oc oc' : List Float) (w' : List ℕ) (r : Found)
-      (told : leaves r oc' w' ≡ found_of op m (bare s) (bare c) oc w₀) where
-    code_bare : r.code ≡ first_refusal m (length oc / 2) 0 0 (found_events op (bare s) (bare c))
-    code_bare = ap (λ (x : FoundLists). x.answer.code) told ∙ code_left op m (bare s) (bare c) oc w₀
+  module _ (w₀ : List ℕ) (ok : FindAsks op m (bare s) (bare c) (length w₀)) (oc oc' : List Float) (w' : List ℕ) (r : Result Found Refusal)
+      (told : leaves (by_number r) oc' w' ≡ found_of op m (bare s) (bare c) oc w₀) where
+    code_bare : refused_with r ≡ first_refusal m (length oc / 2) 0 0 (found_events op (bare s) (bare c))
+    code_bare = number_of r ∙ ap (λ (x : FoundLists). code_of x.answer) told ∙ code_left op m (bare s) (bare c) oc w₀
 
-    pub code_is : (q n : ℕ) → r.code ≡ first_refusal m (length oc / 2) q n (found_events op s c)
+    pub code_is : (q n : ℕ) → refused_with r ≡ first_refusal m (length oc / 2) q n (found_events op s c)
     code_is q n = code_bare ∙ ap (first_refusal m (length oc / 2) 0 0) (events_bare op s c) ∙ sym (found_any_room op s c m (length oc / 2) q n)
 
     -- a refusal
-    module _ (z : r.code ≡ 0 → ⊥) where
-      zeroed : leaves r oc' w' ≡ refused_lists r.code oc w₀
+    module _ (z : refused_with r ≡ 0 → ⊥) where
+      zeroed : leaves (by_number r) oc' w' ≡ refused_lists (refused_with r) oc w₀
       zeroed = told ∙ zeros_left op m (bare s) (bare c) oc w₀ (λ y. z (code_bare ∙ y)) ∙ ap (λ (k : ℕ). refused_lists k oc w₀) (sym code_bare)
 
-      pub refused_is : r ≡ refused_as r.code
+      pub refused_is : by_number r ≡ Err (refused_with r)
       refused_is = ap (λ (x : FoundLists). x.answer) zeroed
 
       pub coords_zero : oc' ≡ fzeros (length oc)
@@ -107,12 +116,12 @@ module _ (op m : ℕ) (s c : Mesh) where
       work_zero = ap (λ (x : FoundLists). x.work) zeroed
 
     -- none
-    module _ (z : r.code ≡ 0) where
-      all : leaves r oc' w' ≡ leaves (found_as op (bare s) (bare c)) (front oc (scene_for op (bare s) (bare c)).coords) (worked op (bare s) (bare c) w₀)
-      all = told ∙ all_left op m (bare s) (bare c) oc w₀ (sym code_bare ∙ z)
+    module _ (f : Found) (is : r ≡ Ok f) where
+      all : leaves (by_number r) oc' w' ≡ leaves (Ok (found_as op (bare s) (bare c))) (front oc (scene_for op (bare s) (bare c)).coords) (worked op (bare s) (bare c) w₀)
+      all = told ∙ all_left op m (bare s) (bare c) oc w₀ (sym code_bare ∙ ap refused_with is)
 
-      pub answer_is : r ≡ found_as op s c
-      answer_is = ap (λ (x : FoundLists). x.answer) all ∙ found_bare op s c
+      pub answer_is : f ≡ found_as op s c
+      answer_is = ap (found_in f) (sym (ap by_number is) ∙ ap (λ (x : FoundLists). x.answer) all) ∙ found_bare op s c
 
       pub coords_are : oc' ≡ front oc scene.coords
       coords_are = ap (λ (x : FoundLists). x.coords) all ∙ ap (front oc) (coords_bare op s c)
@@ -121,14 +130,14 @@ module _ (op m : ℕ) (s c : Mesh) where
       work_is = ap (λ (x : FoundLists). x.work) all ∙ worked_bare op s c w₀
 
       none : first_refusal m (length oc / 2) 0 0 (found_events op s c) ≡ 0
-      none = sym (code_is 0 0) ∙ z
+      none = sym (code_is 0 0) ∙ ap refused_with is
 
       pub calm : crowded scene ≡ false
       calm = not_crowded (length oc / 2) 0 0 none
 
       -- what the regions of the answer hold, and that they have their places
-      pub holds : Holds op s c r.regions w'
+      pub holds : Holds op s c f.regions w'
       holds = rw (answer_is, work_is) (found_holds (length oc / 2) 0 0 none w₀ ok)
 
-      pub low : Low op m s c r.regions
+      pub low : Low op m s c f.regions
       low = rw answer_is (found_low (length oc / 2) 0 0 none w₀ ok)

@@ -74,7 +74,7 @@ module _ (lines : Bool) (s c : Mesh) where
   netted_bare w = refl
 
 abbrev found_with : Regions → ℕ → Found
-found_with g next = record { code = 0; regions = g; next = next }
+found_with g next = record { regions = g; next = next }
 
 module _ (op : ℕ) (s c : Mesh) where
   pub met_bare : (scene_for op (bare s) (bare c)).met ≡ (scene_for op s c).met

@@ -7,14 +7,16 @@ use native.Mathlib.Decide.{ℕ_discrete}
 use lib.ListN.{length}
 use lib.Ieee.{Float}
 use borrow.Author.Tests.{eq-eqb, ne_eqb}
+use Rattle.std.specs.Prelude.{Result, Ok}
 use Rattle.lists.specs.Regions.{front}
 use Rattle.entry.specs.Mesh.{Mesh}
 use Rattle.rules.specs.Operations.{scene_for}
 use Rattle.rules.specs.Refusals.{first_refusal}
+use Rattle.meetings.proofs.Settled.{code_of}
 use Rattle.finding.specs.declared.stages.Found.{Found}
-use Rattle.finding.specs.Found.{found_events, found_as, refused_as, worked, FoundLists, refused_lists, found_of}
+use Rattle.finding.specs.Found.{found_events, found_as, worked, FoundLists, refused_lists, found_of}
 
-abbrev pub leaves : Found → List Float → List ℕ → FoundLists
+abbrev pub leaves : Result Found ℕ → List Float → List ℕ → FoundLists
 leaves r oc w = record { answer = r; coords = oc; work = w }
 
 module _ (op m : ℕ) (s c : Mesh) (oc : List Float) (w : List ℕ) where
@@ -22,7 +24,7 @@ module _ (op m : ℕ) (s c : Mesh) (oc : List Float) (w : List ℕ) where
   code = first_refusal m (length oc / 2) 0 0 (found_events op s c)
 
   abbrev all : FoundLists
-  all = leaves (found_as op s c) (front oc (scene_for op s c).coords) (worked op s c w)
+  all = leaves (Ok (found_as op s c)) (front oc (scene_for op s c).coords) (worked op s c w)
 
   pub all_left : code ≡ 0 → found_of op m s c oc w ≡ all
   unfolding found_of
@@ -32,10 +34,9 @@ module _ (op m : ℕ) (s c : Mesh) (oc : List Float) (w : List ℕ) where
   unfolding found_of
   zeros_left z = ap (λ (t : Bool). cond t all (refused_lists code oc w)) (ne_eqb code 0 z)
 
-  pub code_left : (found_of op m s c oc w).answer.code ≡ code
-  unfolding found_as refused_as
+  pub code_left : code_of (found_of op m s c oc w).answer ≡ code
   code_left = go (ℕ_discrete code 0)
     where
-      go : Dec (code ≡ 0) → (found_of op m s c oc w).answer.code ≡ code
-      go (yes z) = ap (λ (x : FoundLists). x.answer.code) (all_left z) ∙ sym z
-      go (no z) = ap (λ (x : FoundLists). x.answer.code) (zeros_left z)
+      go : Dec (code ≡ 0) → code_of (found_of op m s c oc w).answer ≡ code
+      go (yes z) = ap (λ (x : FoundLists). code_of x.answer) (all_left z) ∙ sym z
+      go (no z) = ap (λ (x : FoundLists). code_of x.answer) (zeros_left z)

@@ -1,5 +1,5 @@
 -- What is found before any cell is cut. Assumes nothing.
-use Rattle.std.specs.Prelude.{Bool, cond, ◌||◌, List, [], ◌∷◌, ◌++◌, ℕ, ◌+◌, ◌*◌, ◌/◌, ◌≤◌, ◌<◌, eqb, length, replicate, Float}
+use Rattle.std.specs.Prelude.{Result, Ok, Err, Bool, cond, ◌||◌, List, [], ◌∷◌, ◌++◌, ℕ, ◌+◌, ◌*◌, ◌/◌, ◌≤◌, ◌<◌, eqb, length, replicate, Float}
 use Rattle.lists.specs.Search.{has}
 use Rattle.lists.specs.Gather.{joined}
 use Rattle.lists.specs.Regions.{run, front, put, zeros, fzeros}
@@ -9,7 +9,6 @@ use Rattle.rules.specs.Nodes.{crowded}
 use Rattle.rules.specs.Operations.{scene_for}
 use Rattle.rules.specs.Refusals.{Event, point, stop, of_meeting, first_refusal}
 use Rattle.regions.specs.declared.Run.{Run}
-use Rattle.regions.specs.declared.MeshRuns.{MeshRuns}
 use Rattle.regions.specs.declared.Regions.{Regions}
 use Rattle.regions.specs.Runs.{run_in, Lies, mesh_edges}
 use Rattle.meetings.specs.Booked.{booked}
@@ -44,19 +43,11 @@ regions_by n met h =
       links = between end (end + 2 * (h + met));
     }
 
-abbrev pub no_regions : Regions
-no_regions =
-    let none : MeshRuns = record { edges = between 0 0; entries = between 0 0 } in
-    record { subject = none; cutter = none; met = between 0 0; links = between 0 0 }
-
 -- the answer
 unfoldable pub found_as : ℕ → Mesh → Mesh → Found
 found_as op s c =
     let sc = scene_for op s c in
-    record { code = 0; regions = regions_by (nets_of (eqb op 5) s c) (length sc.met) (chains s c); next = length sc.coords / 2 }
-
-unfoldable pub refused_as : ℕ → Found
-refused_as code = record { code = code; regions = no_regions; next = 0 }
+    record { regions = regions_by (nets_of (eqb op 5) s c) (length sc.met) (chains s c); next = length sc.coords / 2 }
 
 -- the meetings' links, along these chains
 abbrev pub links_in : ℕ → Mesh → Mesh → List ℕ
@@ -66,21 +57,21 @@ links_in op s c = let sc = scene_for op s c in links_of (chains s c) sc.subject.
 unfoldable pub worked : ℕ → Mesh → Mesh → List ℕ → List ℕ
 worked op s c w = put (netted (eqb op 5) s c w) (met_at s c) (booked (scene_for op s c).met ++ links_in op s c)
 
--- ---- what finding leaves: the answer, the coordinates and the working list
+-- ---- what finding leaves: the answer or the refusal's number, the coordinates and the working list
 
 pub record FoundLists : Type 0 where
-  pub answer : Found
+  pub answer : Result Found ℕ
   pub coords : List Float
   pub work : List ℕ
 
 -- on a refusal both lists are zeros
 abbrev pub refused_lists : ℕ → List Float → List ℕ → FoundLists
-refused_lists code oc w = record { answer = refused_as code; coords = fzeros (length oc); work = zeros (length w) }
+refused_lists code oc w = record { answer = Err code; coords = fzeros (length oc); work = zeros (length w) }
 
 unfoldable pub found_of : (op m : ℕ) → Mesh → Mesh → List Float → List ℕ → FoundLists
 found_of op m s c oc w =
     let code = first_refusal m (length oc / 2) 0 0 (found_events op s c) in
-    cond (eqb code 0) (record { answer = found_as op s c; coords = front oc (scene_for op s c).coords; work = worked op s c w }) (refused_lists code oc w)
+    cond (eqb code 0) (record { answer = Ok (found_as op s c); coords = front oc (scene_for op s c).coords; work = worked op s c w }) (refused_lists code oc w)
 
 -- ---- what only an inner function's contract cites
 

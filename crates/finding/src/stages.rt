@@ -2,6 +2,7 @@
 ghost use Rattle.std.specs.Prelude.{◌≡◌, true, ◌++◌, ◌+◌, ◌≤◌, leb, length};
 ghost use Rattle.lists.specs.Regions.{front};
 ghost use Rattle.cutting.specs.Lent.{pairs};
+ghost use Rattle.refusals.specs.Numbers.{number, by_number};
 ghost use Rattle.regions.specs.Runs.{run_in};
 ghost use Rattle.edge_nodes.specs.Links.{Linked};
 ghost use Rattle.finding.specs.Nets.{plain, FindAsks};
@@ -11,38 +12,23 @@ use crate::numbering::{NetPlaces, nets};
 use edge_nodes::{LinkedMeetings, link_meetings};
 use lists::copy_at;
 use meetings::compute_intersections;
+use refusals::Refusal;
 use regions::{MeshRuns, Regions, Run, part};
 
-// The refusal or 0; where both meshes, the meetings and their links stand in the working list; how many nodes there are.
+// Where both meshes, the meetings and their links stand in the working list; how many nodes there are.
 #[derive(Clone, Copy)]
 pub struct Found {
-    pub code: u32,
     pub regions: Regions,
     pub next: usize,
 }
 
-// Both lists to zero, and the refusal's number.
-fn refused(oc: &mut [f64], w: &mut [u32], code: u32) -> Found
-    ensures { record { answer = result; coords = oc.new; work = w.new } ≡ refused_lists code oc.old w.old }
+// Both lists to zero, and the refusal.
+fn refused(oc: &mut [f64], w: &mut [u32], refusal: Refusal) -> Result<Found, Refusal>
+    ensures { record { answer = by_number result; coords = oc.new; work = w.new } ≡ refused_lists (number refusal) oc.old w.old }
 {
     oc.fill(0.0);
     w.fill(0);
-    let none = Run { from: 0, end: 0 };
-    let mesh = MeshRuns {
-        edges: none,
-        entries: none,
-    };
-    let regions = Regions {
-        subject: mesh,
-        cutter: mesh,
-        met: none,
-        links: none,
-    };
-    Found {
-        code,
-        regions,
-        next: 0,
-    }
+    Err(refusal)
 }
 
 // Places the coordinates of both meshes, the subject's first. Answers whether they have their place.
@@ -139,30 +125,25 @@ pub fn find(
     ce: &[u32],
     oc: &mut [f64],
     w: &mut [u32],
-) -> Found
+) -> Result<Found, Refusal>
     requires { FindAsks op m (plain sc.now sn.now se.now) (plain cc.now cn.now ce.now) (length w.old) }
-    ensures { record { answer = result; coords = oc.new; work = w.new }
+    ensures { record { answer = by_number result; coords = oc.new; work = w.new }
         ≡ found_of op m (plain sc.now sn.now se.now) (plain cc.now cn.now ce.now) oc.old w.old }
 {
     if !place_coords(sc, cc, oc) {
-        return refused(oc, w, 12);
+        return refused(oc, w, Refusal::NoPlace);
     }
     let placed = sc.len() + cc.len();
     let n = nets(op == 5, &oc[..placed], sc, sn, se, cc, cn, ce, w);
     let f = compute_intersections(
         oc, w, placed, n.from, n.subject, n.at, n.cutter, n.index, n.base, m as usize,
-    );
-    let code = f.code;
-    if code != 0 {
-        return refused(oc, w, code);
-    }
+    )?;
     let g = link(w, n, f.met, placed / 2 + 1);
     if crowded(w, g) {
-        return refused(oc, w, 9);
+        return refused(oc, w, Refusal::CrowdedEdge);
     }
-    Found {
-        code: 0,
+    Ok(Found {
         regions: g,
         next: f.next,
-    }
+    })
 }

@@ -1,17 +1,21 @@
 -- The turns of the two loops, over plain values. Assumes nothing.
-use mathlib.Core.Path.{◌≡◌, refl, sym, ap, ap₂, ◌∙◌}
+use mathlib.Core.Path.{◌≡◌, refl, sym, ap, ap₂, ◌∙◌, subst}
 use mathlib.Core.Bool.{Bool, true, false, cond}
 use mathlib.Core.List.{List, [], ◌∷◌, ◌++◌, append-nil, append_assoc}
 use Prim.Native.Nat.{ℕ, zero, suc, ◌+◌, ◌*◌, ◌-◌, ◌/◌, ◌≤◌, ◌<◌}
-use native.Mathlib.Decide.{ℕ_discrete, dec_le}
+use native.Mathlib.Decide.{dec_le}
 use native.Mathlib.Numerals.{add-one}
 use native.Mathlib.Omega.{arith}
 use lib.ListN.{length, get_or, take, drop, drop_of_length-le, take-append-drop}
 use lib.Seq.{length-take-le, take_all, drop-cons, get_or-take}
 use lib.Ieee.{Float}
+use Rattle.std.specs.Prelude.{Result, Ok, Err, is_err}
 use Rattle.lists.specs.Gather.{joined}
 use Rattle.lists.specs.Regions.{run, put, zeros, fzeros}
 use Rattle.lists.proofs.Regions.{put_before, run_before, length_run, get_or_run, take_front_of}
+use Rattle.refusals.specs.declared.Refusal.{Refusal}
+use Rattle.refusals.specs.Numbers.{number, by_number}
+use Rattle.refusals.proofs.Numbers.{some_not_zero}
 use Rattle.segments.specs.Meet.{meeting}
 use Rattle.segments.specs.declared.Meeting.{Meeting}
 use Rattle.segments.specs.declared.Meeting.TheVariants.{Apart, Existing, New, Overlap}
@@ -21,7 +25,7 @@ use Rattle.cutting.proofs.Pairs.{pairs_length, pairs_at}
 use Rattle.rules.specs.SpatialIndex.{edge_box, candidates}
 use Rattle.rules.specs.Neighbours.{Net}
 use Rattle.rules.specs.Meetings.{Met, segment_of, recorded, added_by, met_pair, met_all, meetings_to, meetings}
-use Rattle.rules.specs.Refusals.{Event, of_meeting, first_refusal}
+use Rattle.rules.specs.Refusals.{of_meeting, first_refusal}
 use Rattle.rules.proofs.Course.{edges_behind}
 use Rattle.spatial_index.specs.Candidates.{places_among, places_from, meets}
 use Rattle.spatial_index.proofs.Candidates.{candidates_from_lem}
@@ -32,9 +36,9 @@ use Rattle.meetings.specs.declared.Found.{Found}
 use Rattle.meetings.specs.Booked.{booked, net_on, edges_in, meetings_at}
 use Rattle.meetings.specs.MeetingsFound.{MeetingsRoom, CutterIndexed, meetings_found}
 use Rattle.meetings.specs.Steps.{edge_in, candidates_from, met_of, met_with, StandBefore, Ready, Grown, Answered}
-use Rattle.meetings.proofs.Settled.{leaves, found_with, all_left, zeros_left}
+use Rattle.meetings.proofs.Settled.{leaves, all_left, zeros_left}
 use Rattle.meetings.proofs.Near.{candidate_below}
-use Rattle.meetings.proofs.Adding.{length_added, grown_none, grown_then, answered_then, answered_stop, answered, onto, length_points, length_numbers}
+use Rattle.meetings.proofs.Adding.{length_added, grown_none, answered_then, answered_stop, onto, length_points, length_numbers}
 
 -- ---- the meetings of an edge, behind those found
 
@@ -177,20 +181,20 @@ module _ (oc : List Float) (w js : List ℕ) (placed se ce base m i met next : �
       same_w = w_same oc w placed base m met next ready done oc' w' g gr;
     }
 
-    pub walk_start : (g : Found) → g.code ≡ 0 → g.met ≡ met → g.next ≡ next → Walked₀ oc w g js
-    walk_start g c a n = walked [] oc w g js (grown_none m base oc w met next g c a n ready.4 ready.6) (ap (λ (x : ℕ). from x js) (sym n))
+    pub walk_start : (g : Found) → g.met ≡ met → g.next ≡ next → Walked₀ oc w g js
+    walk_start g a n = walked [] oc w g js (grown_none m base oc w met next g a n ready.4 ready.6) (ap (λ (x : ℕ). from x js) (sym n))
 
     -- the edges ys are the next
     module _ (ys zs : List ℕ) (before : StandBefore base ce ys) (oc₁ : List Float) (w₁ : List ℕ) (g : Found) (v : Walked₀ oc₁ w₁ g (ys ++ zs))
-        (oc₂ : List Float) (w₂ : List ℕ) (h : Found)
-        (ans : Answered m base oc₁ w₁ g.met g.next (met_with (take placed oc₁) i (edge_in w₁ se i) (edge_in w₁ ce) g.next ys) oc₂ w₂ h) where
+        (oc₂ : List Float) (w₂ : List ℕ) (r : Result Found Refusal)
+        (ans : Answered m base oc₁ w₁ g.met g.next (met_with (take placed oc₁) i (edge_in w₁ se i) (edge_in w₁ ce) g.next ys) oc₂ w₂ r) where
       abbrev some : List Met
       some = from g.next ys
 
-      found : Answered m base oc₁ w₁ g.met g.next some oc₂ w₂ h
+      found : Answered m base oc₁ w₁ g.met g.next some oc₂ w₂ r
       found =
           let kept = edge_kept oc w placed base m met next ready v.done oc₁ w₁ g v.grown in
-          onto m base oc₁ w₁ g.met g.next some _ oc₂ w₂ h
+          onto m base oc₁ w₁ g.met g.next some _ oc₂ w₂ r
           (with_same (take placed oc) i e₀ (edge_in w ce) (edge_in w₁ ce) g.next ys (λ k l. sym (kept ce (get_or ys k 0) (before k l).1))
           ∙ ap₂ (λ (cs : List Float) (e : Edge). met_with cs i e (edge_in w₁ ce) g.next ys)
           (sym (coords_kept oc w placed base m met next ready v.done oc₁ w₁ g v.grown)) (sym (kept se i hs))) ans
@@ -200,27 +204,29 @@ module _ (oc : List Float) (w js : List ℕ) (placed se ce base m i met next : �
           v.left ∙ ap (λ (l : List Met). v.done ++ l) (with_both (take placed oc) i e₀ (edge_in w ce) g.next ys zs)
           ∙ sym (append_assoc v.done some _)
 
-      pub some_stop : (h.code ≡ 0 → ⊥) → Answered m base oc w met next whole oc₂ w₂ h
-      some_stop z =
-          onto m base oc w met next whole _ oc₂ w₂ h left
-          (answered_stop m base oc w met next (v.done ++ some) (from (g.next + length (added_by some) / 2) zs) oc₂ w₂ h oc₂ w₂
-          (answered_then m base oc w met next (enough oc w placed base m met next ready) v.done oc₁ w₁ g v.grown some oc₂ w₂ h found) z)
+      so_far : Answered m base oc w met next (v.done ++ some) oc₂ w₂ r
+      so_far = answered_then m base oc w met next (enough oc w placed base m met next ready) v.done oc₁ w₁ g v.grown some oc₂ w₂ r found
 
-      pub some_added : h.code ≡ 0 → Walked₀ oc₂ w₂ h zs
-      some_added z =
-          let step = found.grown z in
+      pub some_stop : (e : Refusal) → r ≡ Err e → Answered m base oc w met next whole oc₂ w₂ (Err e)
+      some_stop e z =
+          onto m base oc w met next whole _ oc₂ w₂ (Err e) left
+          (answered_stop m base oc w met next (v.done ++ some) (from (g.next + length (added_by some) / 2) zs) oc₂ w₂ e oc₂ w₂
+          (subst (Answered m base oc w met next (v.done ++ some) oc₂ w₂) z so_far))
+
+      pub some_added : (h : Found) → r ≡ Ok h → Walked₀ oc₂ w₂ h zs
+      some_added h z =
+          let step : Answered m base oc₁ w₁ g.met g.next some oc₂ w₂ (Ok h) = subst (Answered m base oc₁ w₁ g.met g.next some oc₂ w₂) z found in
           let on : g.next + length (added_by some) / 2 ≡ h.next = omega (arith, step.next_is) in
-          walked (v.done ++ some) oc₂ w₂ h zs
-          (grown_then m base oc w met next (enough oc w placed base m met next ready) v.done oc₁ w₁ g v.grown some oc₂ w₂ h step)
+          walked (v.done ++ some) oc₂ w₂ h zs (subst (Answered m base oc w met next (v.done ++ some) oc₂ w₂) z so_far)
           (left ∙ ap (λ (n : ℕ). (v.done ++ some) ++ from n zs) on)
 
     -- edge j is the next of js
     module _ (before : StandBefore base ce js) (oc₁ : List Float) (w₁ : List ℕ) (g : Found) (k : ℕ) (v : Walked₀ oc₁ w₁ g (drop k js)) (l : k < length js)
-        (oc₂ : List Float) (w₂ : List ℕ) (h : Found) where
+        (oc₂ : List Float) (w₂ : List ℕ) (r : Result Found Refusal) where
       abbrev j : ℕ
       j = get_or js k 0
 
-      module _ (ans : Answered m base oc₁ w₁ g.met g.next (met_of (take placed oc₁) i j g.next (edge_in w₁ se i) (edge_in w₁ ce j)) oc₂ w₂ h) where
+      module _ (ans : Answered m base oc₁ w₁ g.met g.next (met_of (take placed oc₁) i j g.next (edge_in w₁ se i) (edge_in w₁ ce j)) oc₂ w₂ r) where
         behind_j : Walked₀ oc₁ w₁ g ((j ∷ []) ++ drop (k + 1) js)
         behind_j = let e : drop k js ≡ j ∷ drop (k + 1) js = drop-cons js k 0 l ∙ ap (λ (n : ℕ). j ∷ drop n js) (sym (add-one k)) in rw (← e) v
 
@@ -228,24 +234,24 @@ module _ (oc : List Float) (w js : List ℕ) (placed se ce base m i met next : �
         j_before zero b = before k l
         j_before (suc q) b = absurd (omega (arith, b))
 
-        alone : Answered m base oc₁ w₁ g.met g.next (met_with (take placed oc₁) i (edge_in w₁ se i) (edge_in w₁ ce) g.next (j ∷ [])) oc₂ w₂ h
+        alone : Answered m base oc₁ w₁ g.met g.next (met_with (take placed oc₁) i (edge_in w₁ se i) (edge_in w₁ ce) g.next (j ∷ [])) oc₂ w₂ r
         unfolding met_with
-        alone = onto m base oc₁ w₁ g.met g.next _ _ oc₂ w₂ h (append-nil _) ans
+        alone = onto m base oc₁ w₁ g.met g.next _ _ oc₂ w₂ r (append-nil _) ans
 
-        pub walk_stop : (h.code ≡ 0 → ⊥) → Answered m base oc w met next whole oc₂ w₂ h
-        walk_stop = some_stop (j ∷ []) (drop (k + 1) js) j_before oc₁ w₁ g behind_j oc₂ w₂ h alone
+        pub walk_stop : (e : Refusal) → r ≡ Err e → Answered m base oc w met next whole oc₂ w₂ (Err e)
+        walk_stop = some_stop (j ∷ []) (drop (k + 1) js) j_before oc₁ w₁ g behind_j oc₂ w₂ r alone
 
-        pub walk_turn : h.code ≡ 0 → Walked₀ oc₂ w₂ h (drop (k + 1) js)
-        walk_turn = some_added (j ∷ []) (drop (k + 1) js) j_before oc₁ w₁ g behind_j oc₂ w₂ h alone
+        pub walk_turn : (h : Found) → r ≡ Ok h → Walked₀ oc₂ w₂ h (drop (k + 1) js)
+        walk_turn = some_added (j ∷ []) (drop (k + 1) js) j_before oc₁ w₁ g behind_j oc₂ w₂ r alone
 
     -- none is left
-    pub all_added : (oc₁ : List Float) (w₁ : List ℕ) (g : Found) (ks : List ℕ) → Walked₀ oc₁ w₁ g ks → ks ≡ [] → Answered m base oc w met next whole oc₁ w₁ g
+    pub all_added : (oc₁ : List Float) (w₁ : List ℕ) (g : Found) (ks : List ℕ) → Walked₀ oc₁ w₁ g ks → ks ≡ [] → Answered m base oc w met next whole oc₁ w₁ (Ok g)
     unfolding met_with
     all_added oc₁ w₁ g ks v none =
         let all : whole ≡ v.done = v.left ∙ ap (λ (xs : List ℕ). v.done ++ from g.next xs) none ∙ append-nil v.done in
-        onto m base oc w met next whole v.done oc₁ w₁ g all (answered m base oc w met next v.done oc₁ w₁ g v.grown)
+        onto m base oc w met next whole v.done oc₁ w₁ (Ok g) all v.grown
 
-    pub walk_end : (oc₁ : List Float) (w₁ : List ℕ) (g : Found) (k : ℕ) → Walked₀ oc₁ w₁ g (drop k js) → length js ≤ k → Answered m base oc w met next whole oc₁ w₁ g
+    pub walk_end : (oc₁ : List Float) (w₁ : List ℕ) (g : Found) (k : ℕ) → Walked₀ oc₁ w₁ g (drop k js) → length js ≤ k → Answered m base oc w met next whole oc₁ w₁ (Ok g)
     walk_end oc₁ w₁ g k v l = all_added oc₁ w₁ g (drop k js) v (drop_of_length-le js {i = k} l)
 
 -- ---- `of_edge`
@@ -282,11 +288,11 @@ module _ (oc : List Float) (w : List ℕ) (placed se ce cn base m i met next : �
   abbrev pub Gone : List Float → List ℕ → Found → ℕ → Type 0
   Gone oc' w' g from = Walked oc w (near 0) placed se ce base m i met next oc' w' g (near from)
 
-  abbrev AnsweredAll : List Float → List ℕ → Found → Type 0
+  abbrev AnsweredAll : List Float → List ℕ → Result Found Refusal → Type 0
   AnsweredAll oc' w' g = Answered m base oc w met next (met_with (take placed oc) i (edge_in w se i) (edge_in w ce) next (near 0)) oc' w' g
 
   module _ (ready : Ready oc w placed base m met next) (hs : se + 2 * i + 2 ≤ base) (hc : ce + 2 * cn ≤ base) where
-    pub gone_start : (g : Found) → g.code ≡ 0 → g.met ≡ met → g.next ≡ next → Gone oc w g 0
+    pub gone_start : (g : Found) → g.met ≡ met → g.next ≡ next → Gone oc w g 0
     gone_start = walk_start oc w (near 0) placed se ce base m i met next ready hs
 
     count_near : length (edges_in w ce cn) ≡ cn
@@ -306,7 +312,7 @@ module _ (oc : List Float) (w : List ℕ) (placed se ce cn base m i met next : �
           let n : ix + r - ix ≡ index_size cn = omega (arith, e) in
           rw (n, same_coords, same_run ce (2 * cn) hc, same_run ix (index_size cn) c.index_fits) c.indexed
 
-      pub gone_all : cn ≤ from → AnsweredAll oc₁ w₁ g
+      pub gone_all : cn ≤ from → AnsweredAll oc₁ w₁ (Ok g)
       unfolding places_among
       gone_all l =
           let none : length (edges_in w ce cn) - from ≡ 0 = omega (arith, l, count_near) in
@@ -339,22 +345,22 @@ module _ (oc : List Float) (w : List ℕ) (placed se ce cn base m i met next : �
         pub taken_before : cn ≤ 65536 → StandBefore base ce (take r out')
         taken_before few = rw taken (λ k l. (omega (arith, (one_within k l).1, few), omega (arith, (one_within k l).1, hc)))
 
-        module _ (few : cn ≤ 65536) (oc₂ : List Float) (w₂ : List ℕ) (h : Found)
-            (ans : Answered m base oc₁ w₁ g.met g.next (met_with (take placed oc₁) i (edge_in w₁ se i) (edge_in w₁ ce) g.next (take r out')) oc₂ w₂ h) where
+        module _ (few : cn ≤ 65536) (oc₂ : List Float) (w₂ : List ℕ) (a : Result Found Refusal)
+            (ans : Answered m base oc₁ w₁ g.met g.next (met_with (take placed oc₁) i (edge_in w₁ se i) (edge_in w₁ ce) g.next (take r out')) oc₂ w₂ a) where
           split : near from ≡ take r out' ++ drop (length out) (near from)
           split = sym (take-append-drop (length out) (near from)) ∙ ap (λ (xs : List ℕ). xs ++ drop (length out) (near from)) (sym taken)
 
-          pub round_stop : (h.code ≡ 0 → ⊥) → AnsweredAll oc₂ w₂ h
+          pub round_stop : (e : Refusal) → a ≡ Err e → AnsweredAll oc₂ w₂ (Err e)
           round_stop = some_stop oc w (near 0) placed se ce base m i met next ready hs (take r out') (drop (length out) (near from)) (taken_before few) oc₁ w₁ g
-              (rw (← split) v) oc₂ w₂ h ans
+              (rw (← split) v) oc₂ w₂ a ans
 
-          pub round_last : r < length out → h.code ≡ 0 → AnsweredAll oc₂ w₂ h
-          round_last l z =
+          pub round_last : r < length out → (h : Found) → a ≡ Ok h → AnsweredAll oc₂ w₂ (Ok h)
+          round_last l h z =
               let p : ℕ → Bool = meets (take placed oc) (edges_in w ce cn) (edge_box (take placed oc) (edge_in w se i)) in
               let all : near from ≡ take r out' ++ [] =
               sym (all_taken p from (length (edges_in w ce cn)) (length out) (omega (arith, l, count_taken))) ∙ sym taken ∙ sym (append-nil (take r out')) in
               all_added oc w (near 0) placed se ce base m i met next ready hs oc₂ w₂ h []
-              (some_added oc w (near 0) placed se ce base m i met next ready hs (take r out') [] (taken_before few) oc₁ w₁ g (rw (← all) v) oc₂ w₂ h ans z) refl
+              (some_added oc w (near 0) placed se ce base m i met next ready hs (take r out') [] (taken_before few) oc₁ w₁ g (rw (← all) v) oc₂ w₂ a ans h z) refl
 
         -- the list is full
         module _ (some : 0 < length out) (full : length out ≤ r) where
@@ -380,12 +386,12 @@ module _ (oc : List Float) (w : List ℕ) (placed se ce cn base m i met next : �
               ∙ ap (λ (x : ℕ). take x (near from) ++ places_from p (get_or (take x (near from)) (r - 1) 0 + 1) n) one
               ∙ ap₂ (λ (xs : List ℕ) (x : ℕ). xs ++ places_from p (x + 1) n) (sym taken) last_is
 
-          pub round_full : (few : cn ≤ 65536) (oc₂ : List Float) (w₂ : List ℕ) (h : Found)
-              → Answered m base oc₁ w₁ g.met g.next (met_with (take placed oc₁) i (edge_in w₁ se i) (edge_in w₁ ce) g.next (take r out')) oc₂ w₂ h
-              → h.code ≡ 0 → Gone oc₂ w₂ h (get_or out' (r - 1) 0 + 1)
-          round_full few oc₂ w₂ h ans =
+          pub round_full : (few : cn ≤ 65536) (oc₂ : List Float) (w₂ : List ℕ) (a : Result Found Refusal)
+              → Answered m base oc₁ w₁ g.met g.next (met_with (take placed oc₁) i (edge_in w₁ se i) (edge_in w₁ ce) g.next (take r out')) oc₂ w₂ a
+              → (h : Found) → a ≡ Ok h → Gone oc₂ w₂ h (get_or out' (r - 1) 0 + 1)
+          round_full few oc₂ w₂ a ans =
               some_added oc w (near 0) placed se ce base m i met next ready hs (take r out') (near (get_or out' (r - 1) 0 + 1)) (taken_before few) oc₁ w₁ g
-              (rw (← round_on) v) oc₂ w₂ h ans
+              (rw (← round_on) v) oc₂ w₂ a ans
 
 -- ---- `of_edges` and `compute_intersections`
 
@@ -437,48 +443,45 @@ module _ (oc : List Float) (w : List ℕ) (placed se sn ce cn base m : ℕ) wher
 
     -- ---- what the contract says
 
-    module _ (oc' : List Float) (w' : List ℕ) (r : Found) (a : Answered m base oc w 0 (placed / 2) all_met oc' w' r) where
-      abbrev refused_with : ℕ
-      refused_with = first_refusal m (length oc / 2 - placed / 2) 0 0 (joined of_meeting all_met)
+    abbrev code : ℕ
+    code = first_refusal m (length oc / 2 - placed / 2) 0 0 (joined of_meeting all_met)
 
-      coded : Dec (r.code ≡ 0) → r.code ≡ refused_with
-      unfolding first_refusal
-      coded (yes z) =
-          let whole : m - 0 ≡ m = omega arith in
-          z ∙ sym ((a.grown z).goes 0 0 []) ∙ ap₂ (λ (k : ℕ) (es : List Event). first_refusal k (length oc / 2 - placed / 2) 0 0 es) whole (append-nil (joined of_meeting all_met))
-      coded (no z) =
-          let whole : m - 0 ≡ m = omega arith in
-          a.refused z 0 0 ∙ ap (λ (k : ℕ). first_refusal k (length oc / 2 - placed / 2) 0 0 (joined of_meeting all_met)) whole
+    from_start : first_refusal (m - 0) (length oc / 2 - placed / 2) 0 0 (joined of_meeting all_met) ≡ code
+    from_start =
+        let whole : m - 0 ≡ m = omega arith in
+        ap (λ (k : ℕ). first_refusal k (length oc / 2 - placed / 2) 0 0 (joined of_meeting all_met)) whole
 
-      code_is : r.code ≡ refused_with
-      code_is = coded (ℕ_discrete r.code 0)
+    -- none is refused
+    pub all_found : (oc' : List Float) (w' : List ℕ) (r : Result Found Refusal) → is_err r ≡ false → Answered m base oc w 0 (placed / 2) all_met oc' w' r
+        → leaves (by_number r) oc' w' ≡ meetings_found m placed se sn ce cn base oc w
+    unfolding first_refusal
+    all_found oc' w' (Err e) z g = cc
+    all_found oc' w' (Ok r) z g =
+        let none : 0 ≡ code = sym (g.goes 0 0 []) ∙ ap (first_refusal (m - 0) (length oc / 2 - placed / 2) 0 0) (append-nil (joined of_meeting all_met)) ∙ from_start in
+        let at : base + 5 * 0 ≡ base = omega arith in
+        let count : r.met ≡ length all_met = omega (arith, g.met_is) in
+        let half : r.next ≡ (placed + length (added_by all_met)) / 2 = omega (arith, g.next_is, pre.placed_even) in
+        let points : oc' ≡ put oc placed (added_by all_met) = g.points ∙ ap (λ (k : ℕ). put oc k (added_by all_met)) pre.placed_even in
+        let numbers : w' ≡ put w base (booked all_met) = g.numbers ∙ ap (λ (k : ℕ). put w k (booked all_met)) at in
+        ap₂ (λ (i j : ℕ). leaves (Ok (record { met = i; next = j })) oc' w') count half
+        ∙ ap₂ (leaves (Ok (record { met = length all_met; next = (placed + length (added_by all_met)) / 2 }))) points numbers
+        ∙ sym (all_left m placed se sn ce cn base oc w (sym none))
 
-      -- none is refused
-      pub all_found : r.code ≡ 0 → leaves r oc' w' ≡ meetings_found m placed se sn ce cn base oc w
-      all_found z =
-          let g = a.grown z in
-          let at : base + 5 * 0 ≡ base = omega arith in
-          let count : r.met ≡ length all_met = omega (arith, g.met_is) in
-          let half : r.next ≡ (placed + length (added_by all_met)) / 2 = omega (arith, g.next_is, pre.placed_even) in
-          let points : oc' ≡ put oc placed (added_by all_met) = g.points ∙ ap (λ (k : ℕ). put oc k (added_by all_met)) pre.placed_even in
-          let numbers : w' ≡ put w base (booked all_met) = g.numbers ∙ ap (λ (k : ℕ). put w k (booked all_met)) at in
-          ap (λ (k : ℕ). leaves (found_with k r.met r.next) oc' w') z
-          ∙ ap₂ (λ (i j : ℕ). leaves (found_with 0 i j) oc' w') count half
-          ∙ ap₂ (leaves (found_with 0 (length all_met) ((placed + length (added_by all_met)) / 2))) points numbers
-          ∙ sym (all_left m placed se sn ce cn base oc w (sym code_is ∙ z))
+    -- one is
+    pub one_refused : (oc' : List Float) (w' : List ℕ) (r : Result Found Refusal) → is_err r ≡ true → Answered m base oc w 0 (placed / 2) all_met oc' w' r
+        → length oc' ≡ length oc → length w' ≡ length w → (oc'' : List Float) (w'' : List ℕ) → oc'' ≡ fzeros (length oc') → w'' ≡ zeros (length w')
+        → leaves (by_number r) oc'' w'' ≡ meetings_found m placed se sn ce cn base oc w
+    one_refused oc' w' (Ok r) z a lo lw oc'' w'' eo ew = cc
+    one_refused oc' w' (Err e) z a lo lw oc'' w'' eo ew =
+        let number_is : number e ≡ code = a 0 0 ∙ from_start in
+        ap₂ (leaves (Err (number e))) (eo ∙ ap fzeros lo) (ew ∙ ap zeros lw)
+        ∙ ap (λ (k : ℕ). leaves (Err k) (fzeros (length oc)) (zeros (length w))) number_is
+        ∙ sym (zeros_left m placed se sn ce cn base oc w (λ y. some_not_zero e (number_is ∙ y)))
 
-      -- one is
-      pub one_refused : (r.code ≡ 0 → ⊥) → length oc' ≡ length oc → length w' ≡ length w → (oc'' : List Float) (w'' : List ℕ) → oc'' ≡ fzeros (length oc') → w'' ≡ zeros (length w')
-          → leaves (found_with r.code 0 0) oc'' w'' ≡ meetings_found m placed se sn ce cn base oc w
-      one_refused z lo lw oc'' w'' eo ew =
-          ap₂ (leaves (found_with r.code 0 0)) (eo ∙ ap fzeros lo) (ew ∙ ap zeros lw)
-          ∙ ap (λ (k : ℕ). leaves (found_with k 0 0) (fzeros (length oc)) (zeros (length w))) code_is
-          ∙ sym (zeros_left m placed se sn ce cn base oc w (λ y. z (code_is ∙ y)))
-
-    pub begin : (f : Found) → f.code ≡ 0 → f.met ≡ 0 → f.next ≡ placed / 2 → Through₀ oc w f 0
+    pub begin : (f : Found) → f.met ≡ 0 → f.next ≡ placed / 2 → Through₀ oc w f 0
     unfolding meetings_to
-    begin f c a b =
-        through oc w f 0 (omega arith) (grown_none m base oc w 0 (placed / 2) f c a b (omega arith) (omega (arith, pre.placed_fits, pre.placed_even)))
+    begin f a b =
+        through oc w f 0 (omega arith) (grown_none m base oc w 0 (placed / 2) f a b (omega arith) (omega (arith, pre.placed_fits, pre.placed_even)))
 
     module _ (oc₁ : List Float) (w₁ : List ℕ) (f : Found) (i : ℕ) (inv : Through₀ oc₁ w₁ f i) where
       now_coords : take placed oc₁ ≡ take placed oc
@@ -521,8 +524,8 @@ module _ (oc : List Float) (w : List ℕ) (placed se sn ce cn base m : ℕ) wher
         near_below k h =
             omega (arith, candidate_below (take placed oc) cutter.edges (edge_box (take placed oc) e₁) k h, count_in w ce cn (omega (arith, pre.cutter_fits, pre.met_fits)))
 
-        module _ (oc₂ : List Float) (w₂ : List ℕ) (h : Found)
-            (ans : Answered m base oc₁ w₁ f.met f.next (met_with (take placed oc₁) i (edge_in w₁ se i) (edge_in w₁ ce) f.next near₁) oc₂ w₂ h) where
+        module _ (oc₂ : List Float) (w₂ : List ℕ) (r : Result Found Refusal)
+            (ans : Answered m base oc₁ w₁ f.met f.next (met_with (take placed oc₁) i (edge_in w₁ se i) (edge_in w₁ ce) f.next near₁) oc₂ w₂ r) where
           -- those of the subject's edge i
           abbrev here : List Met
           here = met_with (take placed oc) i e₁ (edge_at cutter.edges) ((length (take placed oc) + length (added_by (met_to i))) / 2) js₁
@@ -541,34 +544,35 @@ module _ (oc : List Float) (w : List ℕ) (placed se sn ce cn base m : ℕ) wher
               ∙ ap₂ (λ (cs : List Float) (n : ℕ). met_with cs i e₁ (edge_in w₁ ce) n js₁) (sym now_coords) (sym next_is)
               ∙ ap₂ (λ (e : Edge) (js : List ℕ). met_with (take placed oc₁) i e (edge_in w₁ ce) f.next js) (sym now_edge) (sym near_is)
 
-          found_here : Answered m base oc₁ w₁ f.met f.next here oc₂ w₂ h
-          found_here = onto m base oc₁ w₁ f.met f.next here _ oc₂ w₂ h here_is ans
+          found_here : Answered m base oc₁ w₁ f.met f.next here oc₂ w₂ r
+          found_here = onto m base oc₁ w₁ f.met f.next here _ oc₂ w₂ r here_is ans
 
           behind : met_to (i + 1) ≡ met_to i ++ here
           behind = more_edges (take placed oc) subject cutter i ∙ all_from (take placed oc) subject cutter i _ (met_to i)
 
-          so_far : Answered m base oc w 0 (placed / 2) (met_to (i + 1)) oc₂ w₂ h
-          so_far =
-              onto m base oc w 0 (placed / 2) (met_to (i + 1)) _ oc₂ w₂ h behind
-              (answered_then m base oc w 0 (placed / 2) (enough oc w placed base m 0 (placed / 2) ready₀) (met_to i) oc₁ w₁ f inv.grown here oc₂ w₂ h found_here)
+          all_so_far : Answered m base oc w 0 (placed / 2) (met_to (i + 1)) oc₂ w₂ r
+          all_so_far =
+              onto m base oc w 0 (placed / 2) (met_to (i + 1)) _ oc₂ w₂ r behind
+              (answered_then m base oc w 0 (placed / 2) (enough oc w placed base m 0 (placed / 2) ready₀) (met_to i) oc₁ w₁ f inv.grown here oc₂ w₂ r found_here)
 
-          pub go_on : h.code ≡ 0 → Through₀ oc₂ w₂ h (i + 1)
-          go_on z = through oc₂ w₂ h (i + 1) (omega arith) (so_far.grown z)
+          pub go_on : (h : Found) → r ≡ Ok h → Through₀ oc₂ w₂ h (i + 1)
+          go_on h z = through oc₂ w₂ h (i + 1) (omega arith) (subst (Answered m base oc w 0 (placed / 2) (met_to (i + 1)) oc₂ w₂) z all_so_far)
 
           count : length subject.edges ≡ sn
           count = count_in w se sn (omega (arith, pre.subject_fits, pre.met_fits))
 
-          pub stop : (h.code ≡ 0 → ⊥) → Answered m base oc w 0 (placed / 2) all_met oc₂ w₂ h
+          pub stop : (e : Refusal) → r ≡ Err e → Answered m base oc w 0 (placed / 2) all_met oc₂ w₂ (Err e)
           unfolding meetings
-          stop z =
+          stop e z =
               let rest = edges_behind (take placed oc) subject cutter (i + 1) (sn - (i + 1)) in
               let all : sn - (i + 1) + (i + 1) ≡ length subject.edges = omega (arith, count) in
               let whole : all_met ≡ met_to (i + 1) ++ rest.0 = ap (λ (k : ℕ). met_to k) (sym all) ∙ rest.1 in
-              onto m base oc w 0 (placed / 2) _ _ oc₂ w₂ h whole (answered_stop m base oc w 0 (placed / 2) (met_to (i + 1)) rest.0 oc₂ w₂ h oc₂ w₂ so_far z)
+              onto m base oc w 0 (placed / 2) _ _ oc₂ w₂ (Err e) whole
+              (answered_stop m base oc w 0 (placed / 2) (met_to (i + 1)) rest.0 oc₂ w₂ e oc₂ w₂ (subst (Answered m base oc w 0 (placed / 2) (met_to (i + 1)) oc₂ w₂) z all_so_far))
 
-    pub finish : (oc₁ : List Float) (w₁ : List ℕ) (f : Found) (i : ℕ) → Through₀ oc₁ w₁ f i → sn ≤ i → Answered m base oc w 0 (placed / 2) all_met oc₁ w₁ f
+    pub finish : (oc₁ : List Float) (w₁ : List ℕ) (f : Found) (i : ℕ) → Through₀ oc₁ w₁ f i → sn ≤ i → Answered m base oc w 0 (placed / 2) all_met oc₁ w₁ (Ok f)
     unfolding meetings
     finish oc₁ w₁ f i inv l =
         let all : length subject.edges ≡ i = omega (arith, inv.within, count_in w se sn (omega (arith, pre.subject_fits, pre.met_fits))) in
         let whole : all_met ≡ met_to i = ap (λ (k : ℕ). met_to k) all in
-        onto m base oc w 0 (placed / 2) _ _ oc₁ w₁ f whole (answered m base oc w 0 (placed / 2) (met_to i) oc₁ w₁ f inv.grown)
+        onto m base oc w 0 (placed / 2) _ _ oc₁ w₁ (Ok f) whole inv.grown

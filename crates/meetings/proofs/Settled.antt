@@ -7,6 +7,7 @@ use native.Mathlib.Decide.{ℕ_discrete}
 use lib.ListN.{length}
 use lib.Ieee.{Float}
 use borrow.Author.Tests.{eq-eqb, ne_eqb}
+use Rattle.std.specs.Prelude.{Result, Ok, Err}
 use Rattle.lists.specs.Gather.{joined}
 use Rattle.lists.specs.Regions.{put, zeros, fzeros}
 use Rattle.rules.specs.Meetings.{Met, added_by}
@@ -15,11 +16,18 @@ use Rattle.meetings.specs.declared.Found.{Found}
 use Rattle.meetings.specs.Booked.{booked, meetings_at}
 use Rattle.meetings.specs.MeetingsFound.{MeetingsFound, meetings_found}
 
-abbrev pub leaves : Found → List Float → List ℕ → MeetingsFound
+abbrev pub leaves : Result Found ℕ → List Float → List ℕ → MeetingsFound
 leaves r oc w = record { answer = r; coords = oc; work = w }
 
-abbrev pub found_with : ℕ → ℕ → ℕ → Found
-found_with code met next = record { code = code; met = met; next = next }
+-- the refusal's number, or 0
+abbrev pub code_of : {A : Type 0} → Result A ℕ → ℕ
+code_of (Ok x) = 0
+code_of (Err k) = k
+
+-- what an answer has found, or else x
+abbrev pub found_in : {A : Type 0} → A → Result A ℕ → A
+found_in x (Ok y) = y
+found_in x (Err k) = x
 
 module _ (m placed se sn ce cn base : ℕ) (oc : List Float) (w : List ℕ) where
   abbrev met : List Met
@@ -29,10 +37,10 @@ module _ (m placed se sn ce cn base : ℕ) (oc : List Float) (w : List ℕ) wher
   code = first_refusal m (length oc / 2 - placed / 2) 0 0 (joined of_meeting met)
 
   abbrev all : MeetingsFound
-  all = leaves (found_with 0 (length met) ((placed + length (added_by met)) / 2)) (put oc placed (added_by met)) (put w base (booked met))
+  all = leaves (Ok (record { met = length met; next = (placed + length (added_by met)) / 2 })) (put oc placed (added_by met)) (put w base (booked met))
 
   abbrev cleared : MeetingsFound
-  cleared = leaves (found_with code 0 0) (fzeros (length oc)) (zeros (length w))
+  cleared = leaves (Err code) (fzeros (length oc)) (zeros (length w))
 
   pub all_left : code ≡ 0 → meetings_found m placed se sn ce cn base oc w ≡ all
   unfolding meetings_found
@@ -42,9 +50,9 @@ module _ (m placed se sn ce cn base : ℕ) (oc : List Float) (w : List ℕ) wher
   unfolding meetings_found
   zeros_left z = ap (λ (t : Bool). cond t all cleared) (ne_eqb code 0 z)
 
-  pub code_left : (meetings_found m placed se sn ce cn base oc w).answer.code ≡ code
+  pub code_left : code_of (meetings_found m placed se sn ce cn base oc w).answer ≡ code
   code_left = go (ℕ_discrete code 0)
     where
-      go : Dec (code ≡ 0) → (meetings_found m placed se sn ce cn base oc w).answer.code ≡ code
-      go (yes z) = ap (λ (x : MeetingsFound). x.answer.code) (all_left z) ∙ sym z
-      go (no z) = ap (λ (x : MeetingsFound). x.answer.code) (zeros_left z)
+      go : Dec (code ≡ 0) → code_of (meetings_found m placed se sn ce cn base oc w).answer ≡ code
+      go (yes z) = ap (λ (x : MeetingsFound). code_of x.answer) (all_left z) ∙ sym z
+      go (no z) = ap (λ (x : MeetingsFound). code_of x.answer) (zeros_left z)

@@ -1,5 +1,5 @@
 -- What finding the meetings asks, and what it leaves. Assumes nothing.
-use Rattle.std.specs.Prelude.{◌≡◌, cond, List, [], ℕ, ◌+◌, ◌*◌, ◌-◌, ◌/◌, ◌≤◌, eqb, length, Float}
+use Rattle.std.specs.Prelude.{◌≡◌, cond, List, [], Result, Ok, Err, ℕ, ◌+◌, ◌*◌, ◌-◌, ◌/◌, ◌≤◌, eqb, length, Float}
 use Rattle.lists.specs.Gather.{joined}
 use Rattle.lists.specs.Regions.{run, put, zeros, fzeros}
 use Rattle.rules.specs.Meetings.{added_by}
@@ -25,9 +25,9 @@ pub record CutterIndexed (coords : List Float) (work : List ℕ) (ce cn ix base 
   pub index_fits : ix + index_size cn ≤ base
   pub indexed : Indexed coords (run work ce (2 * cn)) [] (run work ix (index_size cn))
 
--- what finding the meetings leaves: the answer, the coordinates and the working list
+-- what finding the meetings leaves: the answer or the refusal's number, the coordinates and the working list
 pub record MeetingsFound : Type 0 where
-  pub answer : Found
+  pub answer : Result Found ℕ
   pub coords : List Float
   pub work : List ℕ
 
@@ -38,8 +38,8 @@ meetings_found m placed se sn ce cn base oc w =
     let code = first_refusal m (length oc / 2 - placed / 2) 0 0 (joined of_meeting ms) in
     cond (eqb code 0)
     (record {
-      answer = record { code = 0; met = length ms; next = (placed + length (added_by ms)) / 2 };
+      answer = Ok (record { met = length ms; next = (placed + length (added_by ms)) / 2 });
       coords = put oc placed (added_by ms);
       work = put w base (booked ms);
     })
-    (record { answer = record { code = code; met = 0; next = 0 }; coords = fzeros (length oc); work = zeros (length w) })
+    (record { answer = Err code; coords = fzeros (length oc); work = zeros (length w) })

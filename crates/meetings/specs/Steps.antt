@@ -1,7 +1,9 @@
 -- What only the contracts of inner functions cite: how meetings are added to those found so far. Assumes nothing.
-use Rattle.std.specs.Prelude.{◌≡◌, List, [], ◌∷◌, ◌++◌, ℕ, ◌+◌, ◌*◌, ◌-◌, ◌/◌, ◌≤◌, ◌<◌, length, get_or, Float}
+use Rattle.std.specs.Prelude.{◌≡◌, MatchResult, Result, List, [], ◌∷◌, ◌++◌, ℕ, ◌+◌, ◌*◌, ◌-◌, ◌/◌, ◌≤◌, ◌<◌, length, get_or, Float}
 use Rattle.lists.specs.Gather.{joined}
 use Rattle.lists.specs.Regions.{put}
+use Rattle.refusals.specs.declared.Refusal.{Refusal}
+use Rattle.refusals.specs.Numbers.{number}
 use Rattle.segments.specs.Meet.{meeting}
 use Rattle.cutting.specs.Edges.{Edge}
 use Rattle.rules.specs.SpatialIndex.{edge_box}
@@ -41,7 +43,6 @@ Ready oc w placed base m met next =
 
 -- The meetings ms are added: their points to oc, their numbers to w.
 pub record Grown (m base : ℕ) (oc : List Float) (w : List ℕ) (met next : ℕ) (ms : List Met) (oc' : List Float) (w' : List ℕ) (g : Found) : Type 0 where
-  pub none : g.code ≡ 0
   pub met_is : g.met ≡ met + length ms
   pub next_is : 2 * g.next ≡ 2 * next + length (added_by ms)
   pub few : length (added_by ms) ≤ 2 * length ms
@@ -52,6 +53,6 @@ pub record Grown (m base : ℕ) (oc : List Float) (w : List ℕ) (met next : ℕ
   pub goes : (q n : ℕ) (es : List Event) → first_refusal (m - met) (length oc / 2 - next) q n (joined of_meeting ms ++ es) ≡ first_refusal (m - g.met) (length oc / 2 - g.next) q n es
 
 -- They are, or the answer is the first refusal among them.
-pub record Answered (m base : ℕ) (oc : List Float) (w : List ℕ) (met next : ℕ) (ms : List Met) (oc' : List Float) (w' : List ℕ) (g : Found) : Type 0 where
-  pub grown : g.code ≡ 0 → Grown m base oc w met next ms oc' w' g
-  pub refused : (g.code ≡ 0 → ⊥) → (q n : ℕ) → g.code ≡ first_refusal (m - met) (length oc / 2 - next) q n (joined of_meeting ms)
+abbrev pub Answered : (m base : ℕ) → List Float → List ℕ → (met next : ℕ) → List Met → List Float → List ℕ → Result Found Refusal → Type 0
+Answered m base oc w met next ms oc' w' r =
+    MatchResult r (Grown m base oc w met next ms oc' w') (λ e. (q n : ℕ) → number e ≡ first_refusal (m - met) (length oc / 2 - next) q n (joined of_meeting ms))

@@ -20,6 +20,9 @@ use Rattle.rules.specs.Neighbours.{Net, subject_net, cutter_net}
 use Rattle.rules.specs.SpatialIndex.{edge_box, candidates}
 use Rattle.rules.specs.Meetings.{Met, Scene, added_by, recorded, segment_of, met_pair, met_all, meetings_to, meetings, scene_of}
 use Rattle.rules.specs.Operations.{scene_for}
+use Rattle.std.specs.Prelude.{Result, Ok}
+use Rattle.refusals.specs.declared.Refusal.{Refusal}
+use Rattle.refusals.specs.Numbers.{by_number, refused_with}
 use Rattle.finding.specs.declared.stages.Found.{Found}
 use Rattle.finding.specs.Nets.{FindAsks}
 use Rattle.finding.specs.Found.{found_as, found_of}
@@ -87,8 +90,8 @@ module _ (op : ℕ) (s c : Mesh) (es : length s.coords ≡ 2 * node_count s) (ec
 
 -- ---- what `find` leaves
 
-module _ (op m : ℕ) (s c : Mesh) (w₀ : List ℕ) (ok : Passed op m s c (length w₀)) (oc oc' : List Float) (w' : List ℕ) (x : Found)
-    (told : leaves x oc' w' ≡ found_of op m (bare s) (bare c) oc w₀) (z : x.code ≡ 0) where
+module _ (op m : ℕ) (s c : Mesh) (w₀ : List ℕ) (ok : Passed op m s c (length w₀)) (oc oc' : List Float) (w' : List ℕ) (r : Result Found Refusal)
+    (told : leaves (by_number r) oc' w' ≡ found_of op m (bare s) (bare c) oc w₀) (x : Found) (z : r ≡ Ok x) where
   abbrev sc : Scene
   sc = scene_for op s c
 
@@ -96,19 +99,19 @@ module _ (op m : ℕ) (s c : Mesh) (w₀ : List ℕ) (ok : Passed op m s c (leng
   asks = ready op m s c (length w₀) ok
 
   held : Holds op s c x.regions w'
-  held = holds op m s c w₀ asks oc oc' w' x told z
+  held = holds op m s c w₀ asks oc oc' w' r told x z
 
   work_long : length w' ≡ length w₀
   work_long =
-      ap length (work_is op m s c w₀ asks oc oc' w' x told z) ∙ worked_long op m s c (length oc / 2) 0 0 (sym (code_is op m s c w₀ asks oc oc' w' x told 0 0) ∙ z) w₀ asks
+      ap length (work_is op m s c w₀ asks oc oc' w' r told x z) ∙ worked_long op m s c (length oc / 2) 0 0 (sym (code_is op m s c w₀ asks oc oc' w' r told 0 0) ∙ ap refused_with z) w₀ asks
 
   pub placed : oc' ≡ front oc sc.coords
-  placed = coords_are op m s c w₀ asks oc oc' w' x told z
+  placed = coords_are op m s c w₀ asks oc oc' w' r told x z
 
   -- the number of the next point
   pub next_is : x.next ≡ length sc.coords / 2
   unfolding found_as
-  next_is = ap (λ (y : Found). y.next) (answer_is op m s c w₀ asks oc oc' w' x told z)
+  next_is = ap (λ (y : Found). y.next) (answer_is op m s c w₀ asks oc oc' w' r told x z)
 
   pub next_long : length sc.coords ≡ 2 * x.next
   next_long = let k = coords_long op s c ok.subject.even ok.cutter.even in omega (arith, next_is, k.1)
@@ -123,21 +126,21 @@ module _ (op m : ℕ) (s c : Mesh) (w₀ : List ℕ) (ok : Passed op m s c (leng
   -- ---- with the indexes
 
   pub asks_index : Asks w' x.regions s.ends c.ends
-  asks_index = index_asks op m s c x.regions w' (length w₀) ok work_long held (low op m s c w₀ asks oc oc' w' x told z)
+  asks_index = index_asks op m s c x.regions w' (length w₀) ok work_long held (low op m s c w₀ asks oc oc' w' r told x z)
 
   module _ (i : Indexes) (w'' : List ℕ) (built : (i ≡ indexes_at (take (2 * x.next) oc') w' x.regions s.ends c.ends)
       × (w'' ≡ put w' x.regions.links.end (indexes (take (2 * x.next) oc') w' x.regions s.ends c.ends))) where
     held'' : Holds op s c x.regions w''
     held'' =
         subst (λ (v : List ℕ). Holds op s c x.regions v) (sym built.1)
-        (holds_after op m s c x.regions w' (length w₀) ok work_long held (low op m s c w₀ asks oc oc' w' x told z) (take (2 * x.next) oc'))
+        (holds_after op m s c x.regions w' (length w₀) ok work_long held (low op m s c w₀ asks oc oc' w' r told x z) (take (2 * x.next) oc'))
 
     pub lists_hold : MeshesIn sc (take (2 * x.next) oc') w'' x.regions s.ends c.ends
     lists_hold = meshes_in op s c x.regions w'' held'' (take (2 * x.next) oc') (sym points)
 
     pub lists_ready : MeshesReady op (take (2 * x.next) oc') w'' x.regions i s.ends c.ends
     lists_ready =
-        meshes_ready op s c x.regions w'' held'' m (length w₀) ok (calm op m s c w₀ asks oc oc' w' x told z) (take (2 * x.next) oc') i
+        meshes_ready op s c x.regions w'' held'' m (length w₀) ok (calm op m s c w₀ asks oc oc' w' r told x z) (take (2 * x.next) oc') i
         (both (λ (y : Indexes) (v : List ℕ). MeshIndexed (take (2 * x.next) oc') v x.regions.subject s.ends y.subject)
         (subject_indexed (take (2 * x.next) oc') w' x.regions s.ends c.ends asks_index))
         (both (λ (y : Indexes) (v : List ℕ). MeshIndexed (take (2 * x.next) oc') v x.regions.cutter c.ends y.cutter)

@@ -19,6 +19,10 @@ use Rattle.regions.specs.declared.Indexes.{Indexes}
 use Rattle.indexing.specs.Indexes.{indexes, indexes_at, Asks}
 use Rattle.pieces.specs.declared.Listed.{Listed}
 use Rattle.pieces.specs.Pieces.{Yield, placing, placed_behind}
+use Rattle.std.specs.Prelude.{Result, Ok, Err}
+use Rattle.refusals.specs.declared.Refusal.{Refusal}
+use Rattle.refusals.specs.Numbers.{number, by_number, refused_with}
+use Rattle.refusals.proofs.Numbers.{some_not_zero}
 use Rattle.finding.specs.declared.stages.Found.{Found}
 use Rattle.finding.specs.Found.{found_events, found_of}
 use Rattle.finding.proofs.Passed.{bare, ready}
@@ -32,8 +36,8 @@ use Rattle.overlay.proofs.Yielded.{of_side, MeshesIn, meshes_events, meshes_piec
 use Rattle.overlay.proofs.Whole.{found_refused, cells_state, count_low, tags_fit, cells_answered, points_are}
 use Rattle.overlay.proofs.Found.{coords_long, placed, next_is, next_long, points_in_lem, asks_index, lists_hold, lists_ready}
 
-module _ (op m : ℕ) (s c : Mesh) (l : Lists) (pa : Passed op m s c (length l.work)) (x : Found) (oc₁ : List Float) (w₁ : List ℕ)
-    (told : leaves x oc₁ w₁ ≡ found_of op m (bare s) (bare c) l.coords l.work) where
+module _ (op m : ℕ) (s c : Mesh) (l : Lists) (pa : Passed op m s c (length l.work)) (found : Result Found Refusal) (oc₁ : List Float) (w₁ : List ℕ)
+    (told : leaves (by_number found) oc₁ w₁ ≡ found_of op m (bare s) (bare c) l.coords l.work) where
   abbrev sc : Scene
   sc = scene_for op s c
 
@@ -47,32 +51,32 @@ module _ (op m : ℕ) (s c : Mesh) (l : Lists) (pa : Passed op m s c (length l.w
       (code ≡ state_of op m s c l)
       × (code ≡ 0 → result_of 0 pieces points doubled (lent_lists oc₂ on₂ oe₂ ok₂ of₂ om₂ oi₂ (zeros (length l.work))) ≡ answered op s c l)
 
-  told_all : (q n : ℕ) → x.code ≡ first_refusal m (length l.coords / 2) q n (found_events op s c)
-  told_all = code_is op m s c l.work (ready op m s c (length l.work) pa) l.coords oc₁ w₁ x told
+  told_all : (q n : ℕ) → refused_with found ≡ first_refusal m (length l.coords / 2) q n (found_events op s c)
+  told_all = code_is op m s c l.work (ready op m s c (length l.work) pa) l.coords oc₁ w₁ found told
 
-  pub stops_found : (x.code ≡ 0 → ⊥) → (a p q d : ℕ) → a ≡ x.code → (oc₂ : List Float) (on₂ oe₂ ok₂ of₂ om₂ oi₂ : List ℕ)
+  pub stops_found : (r : Refusal) → found ≡ Err r → (a p q d : ℕ) → a ≡ number r → (oc₂ : List Float) (on₂ oe₂ ok₂ of₂ om₂ oi₂ : List ℕ)
       → Ran a p q d oc₂ on₂ oe₂ ok₂ of₂ om₂ oi₂
-  stops_found n a p q d e oc₂ on₂ oe₂ ok₂ of₂ om₂ oi₂ = (
-    e ∙ found_refused op m s c l (found_events op s c) (course_is op s c) x.code n
-        told_all,
-    λ z. absurd (n (sym e ∙ z)),
+  stops_found r is a p q d e oc₂ on₂ oe₂ ok₂ of₂ om₂ oi₂ = (
+    e ∙ found_refused op m s c l (found_events op s c) (course_is op s c) (number r) (some_not_zero r)
+        (λ q n. sym (ap refused_with is) ∙ told_all q n),
+    λ z. absurd (some_not_zero r (sym e ∙ z)),
   )
 
-  module _ (z : x.code ≡ 0) where
+  module _ (x : Found) (z : found ≡ Ok x) where
     passed : first_refusal m (length l.coords / 2) (room) (length l.nodes) (found_events op s c) ≡ 0
-    passed = sym (told_all (room) (length l.nodes)) ∙ z
+    passed = sym (told_all (room) (length l.nodes)) ∙ ap refused_with z
 
     -- what `index_meshes` asks
     pub index_asked : Asks w₁ x.regions s.ends c.ends
-    index_asked = asks_index op m s c l.work pa l.coords oc₁ w₁ x told z
+    index_asked = asks_index op m s c l.work pa l.coords oc₁ w₁ found told x z
 
     pub points_fit : 2 * x.next ≤ length oc₁
-    points_fit = points_in_lem op m s c l.work pa l.coords oc₁ w₁ x told z
+    points_fit = points_in_lem op m s c l.work pa l.coords oc₁ w₁ found told x z
 
     pub next_range : ((length s.coords + length c.coords) / 2 ≤ x.next) × (x.next < 2 ^ 32)
     next_range =
         let k = coords_long op s c pa.subject.even pa.cutter.even in
-        let long = next_long op m s c l.work pa l.coords oc₁ w₁ x told z in
+        let long = next_long op m s c l.work pa l.coords oc₁ w₁ found told x z in
         let few = met_few op m s c (length l.coords / 2) (room) (length l.nodes) passed in
         (omega (arith, long, k.1, pa.subject.even, pa.cutter.even), omega (arith, long, k.1, k.2, few, pa.most, pa.subject.most_nodes, pa.cutter.most_nodes))
 
@@ -86,11 +90,11 @@ module _ (op m : ℕ) (s c : Mesh) (l : Lists) (pa : Passed op m s c (length l.w
       coords = take (2 * x.next) oc₁
 
       ins : MeshesIn sc coords w₂ g s.ends c.ends
-      ins = lists_hold op m s c l.work pa l.coords oc₁ w₁ x told z i w₂ built
+      ins = lists_hold op m s c l.work pa l.coords oc₁ w₁ found told x z i w₂ built
 
       -- what `cut_meshes` asks
       pub asked : MeshesReady op (take (2 * x.next) oc₁) w₂ x.regions i s.ends c.ends
-      asked = lists_ready op m s c l.work pa l.coords oc₁ w₁ x told z i w₂ built
+      asked = lists_ready op m s c l.work pa l.coords oc₁ w₁ found told x z i w₂ built
 
       -- what the cells yield
       abbrev y : Yield
@@ -163,9 +167,9 @@ module _ (op m : ℕ) (s c : Mesh) (l : Lists) (pa : Passed op m s c (length l.w
                     (meshes_kinds op sc coords w₂ g s.ends c.ends ins s.kinds c.kinds pa.subject.kinds_long kinds_stand)
                     (meshes_families op sc coords w₂ g s.ends c.ends ins s.families c.families pa.subject.families_long families_stand)
                     (meshes_parent_meshes op sc coords w₂ g s.ends c.ends ins) (meshes_parent_cells op sc coords w₂ g s.ends c.ends ins)
-                    ok' fs om' oi' e.kinds e.families e.meshes e.cells oc₁ (placed op m s c l.work pa l.coords oc₁ w₁ x told z)
+                    ok' fs om' oi' e.kinds e.families e.meshes e.cells oc₁ (placed op m s c l.work pa l.coords oc₁ w₁ found told x z)
                     (x.next - (length s.coords + length c.coords) / 2)
-                    (points_are op s c x.next ((length s.coords + length c.coords) / 2) half (next_is op m s c l.work pa l.coords oc₁ w₁ x told z)),
+                    (points_are op s c x.next ((length s.coords + length c.coords) / 2) half (next_is op m s c l.work pa l.coords oc₁ w₁ found told x z)),
               )
 
           pub ran : (ok' fs om' oi' : List ℕ) → ok' ≡ front l.kinds (map (kind_by s.kinds c.kinds) (tags top))

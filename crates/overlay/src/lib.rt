@@ -84,11 +84,10 @@ fn run(
         (mesh cc.now cn.now ce.now ck.now cf.now)
         (lent_lists oc.old on.old oe.old ok.old of.old om.old oi.old work.old)) }
 {
-    let f = find(op, m, sc, sn, se, cc, cn, ce, oc, work);
-    let code = f.code;
-    if code != 0 {
-        return plain(code);
-    }
+    let f = match find(op, m, sc, sn, se, cc, cn, ce, oc, work) {
+        Ok(f) => f,
+        Err(refusal) => return plain(refusal.number()),
+    };
     let next = f.next;
     let k = 2 * next;
     let g = f.regions;

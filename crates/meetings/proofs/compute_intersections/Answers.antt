@@ -1,20 +1,17 @@
 -- `meetings::compute_intersections` meets its contract. Assumes nothing.
+use mathlib.Core.Path.{sym, ◌∙◌}
 use Rattle.meetings.proofs.Loops.{all_found, one_refused}
 use Rattle.meetings.proofs.compute_intersections.Goals as goal
 
-pub returns-then-code-ne0 : goal.returns-then-code-ne0
-returns-then-code-ne0 c =
-    let cleared-w = c.fill-then-code-ne0 in
-    let cleared-oc = c.fill in
-    let x = c.of_edges-f in
+pub returns-then-is_err : goal.returns-then-is_err
+returns-then-is_err c =
+    let x = c.of_edges-answer in
     let a = c.args in
-    one_refused a.oc.now a.w.now a.placed a.se a.sn a.ce a.cn a.base a.m c.requires.0 x.new.oc x.new.w x.result x.ensures
-    c.if-code-ne0.true x.auto.oc x.auto.w cleared-oc.new.self cleared-w.new.self
-    (cleared-oc.ensures.after (λ _ h. h)) (cleared-w.ensures.after (λ _ h. h))
+    one_refused a.oc.now a.w.now a.placed a.se a.sn a.ce a.cn a.base a.m c.requires.0 x.new.oc x.new.w x.result (sym c.is_err.ensures.value ∙ c.if-is_err.true) x.ensures
+    x.auto.oc x.auto.w c.fill.new.self c.fill-then-is_err.new.self (c.fill.ensures.after (λ _ h. h)) (c.fill-then-is_err.ensures.after (λ _ h. h))
 
-pub returns : goal.returns
-returns c =
-    let x = c.of_edges-f in
+pub returns-else-is_err : goal.returns-else-is_err
+returns-else-is_err c =
+    let x = c.of_edges-answer in
     let a = c.args in
-    all_found a.oc.now a.w.now a.placed a.se a.sn a.ce a.cn a.base a.m c.requires.0 x.new.oc x.new.w x.result x.ensures
-    c.if-code-ne0.false
+    all_found a.oc.now a.w.now a.placed a.se a.sn a.ce a.cn a.base a.m c.requires.0 x.new.oc x.new.w x.result (sym c.is_err.ensures.value ∙ c.if-is_err.false) x.ensures

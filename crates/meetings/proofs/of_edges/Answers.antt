@@ -1,22 +1,22 @@
 use mathlib.Core.Path.{refl, ◌∙◌}
 use native.Mathlib.Omega.{arith}
+use Rattle.std.proofs.lemmas.Result.{err_from_is_err_and}
 use Rattle.meetings.proofs.Loops.{begin, still_cutter, go_on, stop, finish}
 use Rattle.meetings.proofs.of_edges.Goals as goal
 
 pub loop-i-init : goal.loop-i-init
 loop-i-init c =
     let a = c.args in (
-      begin a.oc.now a.w.now a.placed a.se a.sn a.ce a.cn a.base a.m c.requires.0 _ refl refl refl,
+      begin a.oc.now a.w.now a.placed a.se a.sn a.ce a.cn a.base a.m c.requires.0 _ refl refl,
       refl,
     )
 
-pub of_edge-f-requires : goal.of_edge-f-requires
-of_edge-f-requires c =
+pub of_edge-requires : goal.of_edge-requires
+of_edge-requires c =
     let a = c.args in
     let l = c.loop-i in
     let test = c.loop-i-test.true in (
       l.invariant.0.ready,
-      l.invariant.0.grown.none,
       omega (arith, test, c.requires.0.subject_fits),
       omega (arith, test, c.requires.0.subject_most),
       c.requires.0.cutter_fits,
@@ -26,27 +26,23 @@ of_edge-f-requires c =
       omega (arith, c.requires.2, l.invariant.1),
     )
 
-pub returns-then-f-ne0 : goal.returns-then-f-ne0
-returns-then-f-ne0 c =
-    let x = c.of_edge-f in
+pub returns-in_err-f : goal.returns-in_err-f
+returns-in_err-f c =
+    let x = c.of_edge in
     let a = c.args in
     let l = c.loop-i in
-    stop a.oc.now a.w.now a.placed a.se a.sn a.ce a.cn a.base a.m c.requires.0 l.oc l.w l.f l.i l.invariant.0
-    c.loop-i-test.true x.new.oc x.new.w x.result x.ensures c.if-f-ne0.true
-
-pub overflow_step-i : goal.overflow_step-i
-overflow_step-i c = omega (arith, c.loop-i-test.true, c.requires.0.subject_most)
-
-pub loop-i-smaller : goal.loop-i-smaller
-loop-i-smaller c = omega (arith, c.loop-i-test.true)
+    let p = err_from_is_err_and c.from_residual.result c.from_residual.ensures.1 in
+    rw (p.1, p.2)
+    (stop a.oc.now a.w.now a.placed a.se a.sn a.ce a.cn a.base a.m c.requires.0 l.oc l.w l.f l.i l.invariant.0
+    c.loop-i-test.true x.new.oc x.new.w x.result x.ensures _ c.in_err-f.was)
 
 pub loop-i-preserved : goal.loop-i-preserved
 loop-i-preserved c =
-    let x = c.of_edge-f in
+    let x = c.of_edge in
     let a = c.args in
     let l = c.loop-i in (
       go_on a.oc.now a.w.now a.placed a.se a.sn a.ce a.cn a.base a.m c.requires.0 l.oc l.w l.f l.i l.invariant.0
-          c.loop-i-test.true x.new.oc x.new.w x.result x.ensures c.if-f-ne0.false,
+          c.loop-i-test.true x.new.oc x.new.w x.result x.ensures _ c.in_ok-f.was,
       x.auto.found ∙ l.invariant.1,
     )
 

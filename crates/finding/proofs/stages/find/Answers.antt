@@ -6,6 +6,7 @@ use Prim.Native.Nat.{◌+◌, ◌≤◌}
 use native.Mathlib.Omega.{arith}
 use lib.ListN.{length, take}
 use lib.Seq.{length-take-le}
+use Rattle.std.proofs.lemmas.Result.{err_from_is_err_and}
 use Rattle.finding.proofs.Ends.{twelve, coords_lent, asked, indexed, met_stop, link_asked, crowded_asks, nine_stop, all_found}
 use Rattle.finding.proofs.stages.find.Goals as goal
 
@@ -49,8 +50,8 @@ nets-n-requires c =
     let ok = c.requires in
     (ok.subject, ok.cutter, omega (arith, ok.room), lent.1)
 
-pub compute_intersections-f-requires : goal.compute_intersections-f-requires
-compute_intersections-f-requires c =
+pub compute_intersections-requires : goal.compute_intersections-requires
+compute_intersections-requires c =
     let oc-last = c.place_coords.new.oc in
     let w-last = c.nets-n.new.w in
     let ix = indexed _ _ _ _ _ _ _ _ c.args.w.now c.requires c.args.oc.now
@@ -62,16 +63,17 @@ compute_intersections-f-requires c =
       record { index_fits = ix.0; indexed = ix.1 },
     )
 
-pub returns-then-code-ne0 : goal.returns-then-code-ne0
-returns-then-code-ne0 c =
+pub returns-in_err-f : goal.returns-in_err-f
+returns-in_err-f c =
     let oc-last = c.place_coords.new.oc in
     let w-last = c.nets-n.new.w in
-    let met = c.compute_intersections-f in
-    met_stop _ _ _ _ _ _ _ _ c.args.w.now c.requires c.args.oc.now
+    let met = c.compute_intersections in
+    let p = err_from_is_err_and c.from_residual.result c.from_residual.ensures.1 in
+    rw (p.1, p.2)
+    (met_stop _ _ _ _ _ _ _ _ c.args.w.now c.requires c.args.oc.now
     c.place_coords.result oc-last c.place_coords.ensures (ap not c.if-not-place_coords.false)
     c.nets-n.result w-last c.nets-n.ensures
-    met.result met.new.oc met.new.w met.ensures met.auto.oc met.auto.w
-    c.if-code-ne0.true _ c.refused-then-code-ne0.ensures
+    met.result met.new.oc met.new.w met.ensures met.auto.oc met.auto.w _ c.in_err-f.was)
 
 pub overflow_add-placed-2 : goal.overflow_add-placed-2
 overflow_add-placed-2 c =
@@ -81,36 +83,36 @@ pub link-g-requires : goal.link-g-requires
 link-g-requires c =
     let oc-last = c.place_coords.new.oc in
     let w-last = c.nets-n.new.w in
-    let met = c.compute_intersections-f in
+    let met = c.compute_intersections in
     link_asked _ _ _ _ _ _ _ _ c.args.w.now c.requires c.args.oc.now
     c.place_coords.result oc-last c.place_coords.ensures (ap not c.if-not-place_coords.false)
     c.nets-n.result w-last c.nets-n.ensures
     met.result met.new.oc met.new.w met.ensures met.auto.oc met.auto.w
-    c.if-code-ne0.false _ refl
+    _ c.in_ok-f.was _ refl
 
 pub crowded-requires : goal.crowded-requires
 crowded-requires c =
     let oc-last = c.place_coords.new.oc in
     let w-last-by-nets = c.nets-n.new.w in
     let w-last-by-link = c.link-g.new.w in
-    let met = c.compute_intersections-f in
+    let met = c.compute_intersections in
     crowded_asks _ _ _ _ _ _ _ _ c.args.w.now c.requires c.args.oc.now
     c.place_coords.result oc-last c.place_coords.ensures (ap not c.if-not-place_coords.false)
     c.nets-n.result w-last-by-nets c.nets-n.ensures
     met.result met.new.oc met.new.w met.ensures met.auto.oc met.auto.w
-    c.if-code-ne0.false _ refl c.link-g.result w-last-by-link c.link-g.ensures
+    _ c.in_ok-f.was _ refl c.link-g.result w-last-by-link c.link-g.ensures
 
 pub returns-then-crowded : goal.returns-then-crowded
 returns-then-crowded c =
     let oc-last = c.place_coords.new.oc in
     let w-last-by-nets = c.nets-n.new.w in
     let w-last-by-link = c.link-g.new.w in
-    let met = c.compute_intersections-f in
+    let met = c.compute_intersections in
     nine_stop _ _ _ _ _ _ _ _ c.args.w.now c.requires c.args.oc.now
     c.place_coords.result oc-last c.place_coords.ensures (ap not c.if-not-place_coords.false)
     c.nets-n.result w-last-by-nets c.nets-n.ensures
     met.result met.new.oc met.new.w met.ensures met.auto.oc met.auto.w
-    c.if-code-ne0.false _ refl c.link-g.result w-last-by-link c.link-g.ensures
+    _ c.in_ok-f.was _ refl c.link-g.result w-last-by-link c.link-g.ensures
     c.crowded.result c.crowded.ensures c.if-crowded.true _ c.refused-then-crowded.ensures
 
 pub returns : goal.returns
@@ -118,10 +120,10 @@ returns c =
     let oc-last = c.place_coords.new.oc in
     let w-last-by-nets = c.nets-n.new.w in
     let w-last-by-link = c.link-g.new.w in
-    let met = c.compute_intersections-f in
+    let met = c.compute_intersections in
     all_found _ _ _ _ _ _ _ _ c.args.w.now c.requires c.args.oc.now
     c.place_coords.result oc-last c.place_coords.ensures (ap not c.if-not-place_coords.false)
     c.nets-n.result w-last-by-nets c.nets-n.ensures
     met.result met.new.oc met.new.w met.ensures met.auto.oc met.auto.w
-    c.if-code-ne0.false _ refl c.link-g.result w-last-by-link c.link-g.ensures
+    _ c.in_ok-f.was _ refl c.link-g.result w-last-by-link c.link-g.ensures
     c.crowded.result c.crowded.ensures c.if-crowded.false
