@@ -30,12 +30,9 @@ fn renumber(cn: &[u32], w: &mut [u32], at: usize)
     requires { Below at cn.now × (at + length cn.now ≤ length w.old) }
     ensures { w.new ≡ put w.old at (map (λ n. get_or w.old n 0) cn.now) }
 {
-    let mut i: usize = 0;
-    while i < cn.len() {
-        let k = cn[i] as usize;
-        let v = w[k];
-        w[at + i] = v;
-        i += 1;
+    // by index: the numbers are read from the list that is written
+    for (i, &k) in cn.iter().enumerate() {
+        w[at + i] = w[k as usize];
     }
 }
 

@@ -11,7 +11,7 @@ ghost use Rattle.finding.specs.Found.{regions_by, refused_lists, found_of, both_
 use crate::numbering::{NetPlaces, nets};
 use edge_nodes::{LinkedMeetings, link_meetings};
 use lists::copy_at;
-use meetings::compute_intersections;
+use meetings::{Places, compute_intersections};
 use refusals::Refusal;
 use regions::{MeshRuns, Regions, Run, part};
 
@@ -135,9 +135,17 @@ pub fn find(
     }
     let placed = sc.len() + cc.len();
     let n = nets(op == 5, &oc[..placed], sc, sn, se, cc, cn, ce, w);
-    let f = compute_intersections(
-        oc, w, placed, n.from, n.subject, n.at, n.cutter, n.index, n.base, m as usize,
-    )?;
+    let at = Places {
+        placed,
+        subject: n.from,
+        subjects: n.subject,
+        cutter: n.at,
+        cutters: n.cutter,
+        index: n.index,
+        base: n.base,
+        limit: m as usize,
+    };
+    let f = compute_intersections(oc, w, at)?;
     let g = link(w, n, f.met, placed / 2 + 1);
     if crowded(w, g) {
         return refused(oc, w, Refusal::CrowdedEdge);

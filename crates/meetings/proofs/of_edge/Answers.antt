@@ -9,7 +9,7 @@ use Rattle.meetings.proofs.of_edge.Goals as goal
 pub loop-from-init : goal.loop-from-init
 loop-from-init c =
     let a = c.args in (
-      gone_start a.oc.now a.w.now a.placed a.se a.ce a.cn a.base a.m a.i a.f.met a.f.next c.requires.0 c.requires.1 c.requires.3 _ refl refl,
+      gone_start a.oc.now a.w.now a.at.placed a.at.subject a.at.cutter a.at.cutters a.at.base a.at.limit a.i a.f.met a.f.next c.requires.0 c.requires.1 c.requires.3 _ refl refl,
       refl,
     )
 
@@ -24,8 +24,8 @@ gather_near-k-requires c =
       omega (arith, c.index_size.ensures, c.requires.5.index_fits, long),
       c.requires.2,
       c.requires.4,
-      still_indexed a.oc.now a.w.now a.placed a.se a.ce a.cn a.base a.m a.i a.f.met a.f.next c.requires.0 c.requires.1 c.requires.3
-          l.oc l.w l.g l.from l.invariant.0 a.ix c.index_size.result c.requires.5 c.index_size.ensures,
+      still_indexed a.oc.now a.w.now a.at.placed a.at.subject a.at.cutter a.at.cutters a.at.base a.at.limit a.i a.f.met a.f.next c.requires.0 c.requires.1 c.requires.3
+          l.oc l.w l.g l.from l.invariant.0 a.at.index c.index_size.result c.requires.5 c.index_size.ensures,
     )
 
 pub of_places-requires : goal.of_places-requires
@@ -36,7 +36,7 @@ of_places-requires c =
       l.invariant.0.ready,
       c.requires.1,
       c.requires.2,
-      taken_before a.oc.now a.w.now a.placed a.se a.ce a.cn a.base a.m a.i a.f.met a.f.next c.requires.0 c.requires.1 c.requires.3
+      taken_before a.oc.now a.w.now a.at.placed a.at.subject a.at.cutter a.at.cutters a.at.base a.at.limit a.i a.f.met a.f.next c.requires.0 c.requires.1 c.requires.3
           l.oc l.w l.g l.from l.invariant.0 c.loop-from-test.true l.found x.result c.gather_near-k.new.found x.ensures c.requires.4,
     )
 
@@ -47,7 +47,7 @@ returns-in_err-g c =
     let l = c.loop-from in
     let p = err_from_is_err_and c.from_residual.result c.from_residual.ensures.1 in
     rw (p.1, p.2)
-    (round_stop a.oc.now a.w.now a.placed a.se a.ce a.cn a.base a.m a.i a.f.met a.f.next c.requires.0 c.requires.1 c.requires.3
+    (round_stop a.oc.now a.w.now a.at.placed a.at.subject a.at.cutter a.at.cutters a.at.base a.at.limit a.i a.f.met a.f.next c.requires.0 c.requires.1 c.requires.3
     l.oc l.w l.g l.from l.invariant.0 c.loop-from-test.true l.found c.gather_near-k.result c.gather_near-k.new.found c.gather_near-k.ensures c.requires.4
     x.new.oc x.new.w x.result x.ensures _ c.in_err-g.was)
 
@@ -56,7 +56,7 @@ returns-then-k-found c =
     let x = c.of_places in
     let a = c.args in
     let l = c.loop-from in
-    round_last a.oc.now a.w.now a.placed a.se a.ce a.cn a.base a.m a.i a.f.met a.f.next c.requires.0 c.requires.1 c.requires.3
+    round_last a.oc.now a.w.now a.at.placed a.at.subject a.at.cutter a.at.cutters a.at.base a.at.limit a.i a.f.met a.f.next c.requires.0 c.requires.1 c.requires.3
     l.oc l.w l.g l.from l.invariant.0 c.loop-from-test.true l.found c.gather_near-k.result c.gather_near-k.new.found c.gather_near-k.ensures c.requires.4
     x.new.oc x.new.w x.result x.ensures (omega (arith, c.if-k-found.true, c.gather_near-k.auto.found)) _ c.in_ok-g.was
 
@@ -66,9 +66,9 @@ loop-from-smaller c =
     let all-places : (length c.loop-from.found ≤ c.gather_near-k.result) = omega (arith, c.if-k-found.false, c.gather_near-k.auto.found) in
     let a = c.args in
     let last_low : (c.loop-from.from ≤ get_or c.gather_near-k.new.found (c.gather_near-k.result - 1) 0)
-    × (get_or c.gather_near-k.new.found (c.gather_near-k.result - 1) 0 < c.args.cn) =
+    × (get_or c.gather_near-k.new.found (c.gather_near-k.result - 1) 0 < c.args.at.cutters) =
     let l = c.loop-from in
-    last_within a.oc.now a.w.now a.placed a.se a.ce a.cn a.base a.m a.i a.f.met a.f.next c.requires.0 c.requires.1 c.requires.3
+    last_within a.oc.now a.w.now a.at.placed a.at.subject a.at.cutter a.at.cutters a.at.base a.at.limit a.i a.f.met a.f.next c.requires.0 c.requires.1 c.requires.3
     l.oc l.w l.g l.from l.invariant.0 c.loop-from-test.true l.found c.gather_near-k.result (c.gather_near-k.new.found) c.gather_near-k.ensures one_place all-places in
     omega (arith, last_low, c.loop-from-test.true)
 
@@ -80,7 +80,7 @@ loop-from-preserved c =
     let x = c.of_places in
     let a = c.args in
     let l = c.loop-from in (
-      round_full a.oc.now a.w.now a.placed a.se a.ce a.cn a.base a.m a.i a.f.met a.f.next c.requires.0 c.requires.1 c.requires.3
+      round_full a.oc.now a.w.now a.at.placed a.at.subject a.at.cutter a.at.cutters a.at.base a.at.limit a.i a.f.met a.f.next c.requires.0 c.requires.1 c.requires.3
           l.oc l.w l.g l.from l.invariant.0 c.loop-from-test.true l.found c.gather_near-k.result c.gather_near-k.new.found c.gather_near-k.ensures
           one_place all-places c.requires.4 x.new.oc x.new.w x.result x.ensures _ c.in_ok-g.was,
       found-held,
@@ -90,5 +90,5 @@ pub returns : goal.returns
 returns c =
     let a = c.args in
     let l = c.loop-from in
-    gone_all a.oc.now a.w.now a.placed a.se a.ce a.cn a.base a.m a.i a.f.met a.f.next c.requires.0 c.requires.1 c.requires.3
+    gone_all a.oc.now a.w.now a.at.placed a.at.subject a.at.cutter a.at.cutters a.at.base a.at.limit a.i a.f.met a.f.next c.requires.0 c.requires.1 c.requires.3
     l.oc l.w l.g l.from l.invariant.0 c.loop-from-test.false

@@ -7,7 +7,7 @@ use Rattle.meetings.proofs.of_edges.Goals as goal
 pub loop-i-init : goal.loop-i-init
 loop-i-init c =
     let a = c.args in (
-      begin a.oc.now a.w.now a.placed a.se a.sn a.ce a.cn a.base a.m c.requires.0 _ refl refl,
+      begin a.oc.now a.w.now a.at.placed a.at.subject a.at.subjects a.at.cutter a.at.cutters a.at.base a.at.limit c.requires.0 _ refl refl,
       refl,
     )
 
@@ -21,7 +21,7 @@ of_edge-requires c =
       omega (arith, test, c.requires.0.subject_most),
       c.requires.0.cutter_fits,
       c.requires.0.cutter_most,
-      still_cutter a.oc.now a.w.now a.placed a.se a.sn a.ce a.cn a.base a.m c.requires.0 l.oc l.w l.f l.i l.invariant.0 a.ix
+      still_cutter a.oc.now a.w.now a.at.placed a.at.subject a.at.subjects a.at.cutter a.at.cutters a.at.base a.at.limit c.requires.0 l.oc l.w l.f l.i l.invariant.0 a.at.index
           c.requires.1,
       omega (arith, c.requires.2, l.invariant.1),
     )
@@ -33,7 +33,7 @@ returns-in_err-f c =
     let l = c.loop-i in
     let p = err_from_is_err_and c.from_residual.result c.from_residual.ensures.1 in
     rw (p.1, p.2)
-    (stop a.oc.now a.w.now a.placed a.se a.sn a.ce a.cn a.base a.m c.requires.0 l.oc l.w l.f l.i l.invariant.0
+    (stop a.oc.now a.w.now a.at.placed a.at.subject a.at.subjects a.at.cutter a.at.cutters a.at.base a.at.limit c.requires.0 l.oc l.w l.f l.i l.invariant.0
     c.loop-i-test.true x.new.oc x.new.w x.result x.ensures _ c.in_err-f.was)
 
 pub loop-i-preserved : goal.loop-i-preserved
@@ -41,7 +41,7 @@ loop-i-preserved c =
     let x = c.of_edge in
     let a = c.args in
     let l = c.loop-i in (
-      go_on a.oc.now a.w.now a.placed a.se a.sn a.ce a.cn a.base a.m c.requires.0 l.oc l.w l.f l.i l.invariant.0
+      go_on a.oc.now a.w.now a.at.placed a.at.subject a.at.subjects a.at.cutter a.at.cutters a.at.base a.at.limit c.requires.0 l.oc l.w l.f l.i l.invariant.0
           c.loop-i-test.true x.new.oc x.new.w x.result x.ensures _ c.in_ok-f.was,
       x.auto.found ∙ l.invariant.1,
     )
@@ -50,5 +50,5 @@ pub returns : goal.returns
 returns c =
     let a = c.args in
     let l = c.loop-i in
-    finish a.oc.now a.w.now a.placed a.se a.sn a.ce a.cn a.base a.m c.requires.0 l.oc l.w l.f l.i l.invariant.0
+    finish a.oc.now a.w.now a.at.placed a.at.subject a.at.subjects a.at.cutter a.at.cutters a.at.base a.at.limit c.requires.0 l.oc l.w l.f l.i l.invariant.0
     c.loop-i-test.false

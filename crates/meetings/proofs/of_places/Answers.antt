@@ -6,7 +6,7 @@ use Rattle.meetings.proofs.of_places.Goals as goal
 pub loop-j-init : goal.loop-j-init
 loop-j-init c =
     let a = c.args in
-    walk_start a.oc.now a.w.now a.js.now a.placed a.se a.ce a.base a.m a.i a.f.met a.f.next c.requires.0 c.requires.1 _ refl refl
+    walk_start a.oc.now a.w.now a.js.now a.at.placed a.at.subject a.at.cutter a.at.base a.at.limit a.i a.f.met a.f.next c.requires.0 c.requires.1 _ refl refl
 
 pub add_intersection-requires : goal.add_intersection-requires
 add_intersection-requires c =
@@ -21,7 +21,7 @@ returns-in_err-g c =
     let l = c.loop-j in
     let p = err_from_is_err_and c.from_residual.result c.from_residual.ensures.1 in
     rw (p.1, p.2)
-    (walk_stop a.oc.now a.w.now a.js.now a.placed a.se a.ce a.base a.m a.i a.f.met a.f.next c.requires.0 c.requires.1 c.requires.3
+    (walk_stop a.oc.now a.w.now a.js.now a.at.placed a.at.subject a.at.cutter a.at.base a.at.limit a.i a.f.met a.f.next c.requires.0 c.requires.1 c.requires.3
     l.oc l.w l.g l.j-index l.invariant c.loop-j-test.true x.new.oc x.new.w x.result x.ensures _ c.in_err-g.was)
 
 pub loop-j-preserved : goal.loop-j-preserved
@@ -29,12 +29,12 @@ loop-j-preserved c =
     let x = c.add_intersection in
     let a = c.args in
     let l = c.loop-j in
-    walk_turn a.oc.now a.w.now a.js.now a.placed a.se a.ce a.base a.m a.i a.f.met a.f.next c.requires.0 c.requires.1 c.requires.3
+    walk_turn a.oc.now a.w.now a.js.now a.at.placed a.at.subject a.at.cutter a.at.base a.at.limit a.i a.f.met a.f.next c.requires.0 c.requires.1 c.requires.3
     l.oc l.w l.g l.j-index l.invariant c.loop-j-test.true x.new.oc x.new.w x.result x.ensures _ c.in_ok-g.was
 
 pub returns : goal.returns
 returns c =
     let a = c.args in
     let l = c.loop-j in
-    walk_end a.oc.now a.w.now a.js.now a.placed a.se a.ce a.base a.m a.i a.f.met a.f.next c.requires.0 c.requires.1
+    walk_end a.oc.now a.w.now a.js.now a.at.placed a.at.subject a.at.cutter a.at.base a.at.limit a.i a.f.met a.f.next c.requires.0 c.requires.1
     l.oc l.w l.g l.j-index l.invariant c.loop-j-test.false

@@ -4,4 +4,4 @@ use Rattle.meetings.proofs.Loops.{Walked}
 use Rattle.meetings.proofs.of_places.Given as goal
 
 abbrev pub invariant-loop-j : goal.invariant-loop-j
-invariant-loop-j l = Walked l.initial.oc l.initial.w l.js l.placed l.se l.ce l.base l.m l.i l.fn.f.met l.fn.f.next l.oc l.w l.g (drop l.j-index l.js)
+invariant-loop-j l = Walked l.initial.oc l.initial.w l.js l.at.placed l.at.subject l.at.cutter l.at.base l.at.limit l.i l.fn.f.met l.fn.f.next l.oc l.w l.g (drop l.j-index l.js)
