@@ -230,13 +230,9 @@ fn of_edge(
 }
 
 // Those of all the subject's edges.
-fn of_edges(
-    oc: &mut [f64],
-    w: &mut [u32],
-    found: &mut [u32],
-    at: Places,
-) -> Result<Found, Refusal>
-    requires { MeetingsRoom (length oc.old) (length w.old) at.placed at.subject at.subjects at.cutter at.cutters at.base at.limit × CutterIndexed (take at.placed oc.old) w.old at.cutter at.cutters at.index at.base
+fn of_edges(oc: &mut [f64], w: &mut [u32], found: &mut [u32], at: Places) -> Result<Found, Refusal>
+    requires { MeetingsRoom (length oc.old) (length w.old) at.placed at.subject at.subjects at.cutter at.cutters at.base at.limit
+        × CutterIndexed (take at.placed oc.old) w.old at.cutter at.cutters at.index at.base
         × (0 < length found.old) }
     ensures { Answered at.limit at.base oc.old w.old 0 (at.placed / 2) (meetings_at oc.old w.old at.placed at.subject at.subjects at.cutter at.cutters)
         oc.new w.new result }
@@ -252,12 +248,9 @@ fn of_edges(
 }
 
 // The meetings by subject edge, then candidate in rising index, five numbers each; new points are numbered as found. A refusal leaves zeros.
-pub fn compute_intersections(
-    oc: &mut [f64],
-    w: &mut [u32],
-    at: Places,
-) -> Result<Found, Refusal>
-    requires { MeetingsRoom (length oc.old) (length w.old) at.placed at.subject at.subjects at.cutter at.cutters at.base at.limit × CutterIndexed (take at.placed oc.old) w.old at.cutter at.cutters at.index at.base }
+pub fn compute_intersections(oc: &mut [f64], w: &mut [u32], at: Places) -> Result<Found, Refusal>
+    requires { MeetingsRoom (length oc.old) (length w.old) at.placed at.subject at.subjects at.cutter at.cutters at.base at.limit
+        × CutterIndexed (take at.placed oc.old) w.old at.cutter at.cutters at.index at.base }
     ensures { record { answer = by_number result; coords = oc.new; work = w.new }
         ≡ meetings_found at.limit at.placed at.subject at.subjects at.cutter at.cutters at.base oc.old w.old }
 {

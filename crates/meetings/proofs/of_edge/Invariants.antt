@@ -7,7 +7,8 @@ use Rattle.meetings.proofs.of_edge.Given as goal
 
 abbrev pub invariant-loop-from : goal.invariant-loop-from
 invariant-loop-from l =
-    Gone l.initial.oc l.initial.w l.at.placed l.at.subject l.at.cutter l.at.cutters l.at.base l.at.limit l.i l.initial.g.met l.initial.g.next l.oc l.w l.g l.from × (length l.found ≡ length l.initial.found)
+    Gone l.initial.oc l.initial.w l.at.placed l.at.subject l.at.cutter l.at.cutters l.at.base l.at.limit l.i l.initial.g.met l.initial.g.next l.oc l.w l.g l.from
+    × (length l.found ≡ length l.initial.found)
 
 abbrev pub decreases-loop-from : goal.decreases-loop-from
 decreases-loop-from l = l.at.cutters - l.from

@@ -19,7 +19,7 @@ returns-then-eq c =
     let l = c.loop-e in
     found c.args.h c.args.edges.now c.args.links.now c.args.a c.args.b c.requires.2 l.e
     (l.e - 1) l.invariant (omega (arith, c.loop-e-test.true))
-    (key_is c.args.edges.now c.args.a c.args.b (l.e - 1) (omega (arith, l.invariant.0, c.loop-e-test.true)) 
+    (key_is c.args.edges.now c.args.a c.args.b (l.e - 1) (omega (arith, l.invariant.0, c.loop-e-test.true))
     ∙ one_key _ _ c.new.ensures c.new-key.ensures ∙ sym c.eq.ensures ∙ c.if-eq.true)
 
 pub overflow_cast-e-in-loop-e : goal.overflow_cast-e-in-loop-e
@@ -37,7 +37,7 @@ loop-e-preserved c =
     let l = c.loop-e in
     further c.args.h c.args.edges.now c.args.links.now c.args.a c.args.b c.requires.2 l.e
     (l.e - 1) l.invariant (omega (arith, c.loop-e-test.true))
-    (key_is c.args.edges.now c.args.a c.args.b (l.e - 1) (omega (arith, l.invariant.0, c.loop-e-test.true)) 
+    (key_is c.args.edges.now c.args.a c.args.b (l.e - 1) (omega (arith, l.invariant.0, c.loop-e-test.true))
     ∙ one_key _ _ c.new.ensures c.new-key.ensures ∙ sym c.eq.ensures ∙ c.if-eq.false)
 
 pub returns : goal.returns

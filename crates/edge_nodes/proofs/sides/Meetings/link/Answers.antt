@@ -28,7 +28,8 @@ loop-q-preserved c =
     let back : q + 1 ≡ l.q = omega (arith, c.loop-q-test.true) in
     let wide : length l.heads ≡ h = l.invariant.wide in
     link_turn h (pairs m.edges.now) m.met.now (number m.side) (length m.met.now / 5) q c.chain-c.result l.heads l.nexts
-    (chain_is h (pairs m.edges.now) m.met.now (number m.side) (length m.met.now / 5) q c.chain-c.result c.key.result c.key.ensures (c.chain-c.ensures.0 ∙ ap (λ (k : ℕ). chain_of k c.key.result.first) wide))
+    (chain_is h (pairs m.edges.now) m.met.now (number m.side) (length m.met.now / 5) q c.chain-c.result c.key.result c.key.ensures
+    (c.chain-c.ensures.0 ∙ ap (λ (k : ℕ). chain_of k c.key.result.first) wide))
     (omega (arith, c.chain-c.ensures.1, wide)) (omega (arith, l.auto.q, back, c.requires.1))
     (subst (λ (k : ℕ). Linking h (pairs m.edges.now) m.met.now (number m.side) (length m.met.now / 5) k l.heads l.nexts) (sym back) l.invariant)
 
