@@ -93,13 +93,12 @@ fn sorted_indices_for(coords: &[f64], s: &mut [u32]) -> usize
     let mut block = [0u32; 128];
     let mut k: usize = 0;
     let mut b: usize = 0;
-    let mut i: usize = 0;
-    while i < s.len() {
+    // By index: of s, whose marks are read, the front is written.
+    for i in 0..s.len() {
         b = put_in_order(coords, s, &mut block, b, i);
         let full = merge_full(coords, s, k, &block, b);
         k += full;
         b -= full;
-        i += 1;
     }
     merge(coords, s, k, &block[..b]);
     k + b

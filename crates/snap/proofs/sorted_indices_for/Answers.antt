@@ -17,7 +17,7 @@ put_in_order-b-requires c =
     let l = c.loop-i in
     let ready = blocks_ready c.args.coords.now c.args.s.now c.requires.2 c.requires.1 l.s l.block l.k l.b
     l.i l.invariant.3 l.invariant.0 in
-    (l.invariant.2, c.loop-i-test.true, omega (arith, l.invariant.3.size, c.requires.0), ready.3)
+    (l.invariant.2, omega (arith, c.loop-i-test.true, l.invariant.3.size), omega (arith, l.invariant.3.size, c.requires.0), ready.3)
 
 pub slice_bounds-merge_full-end : goal.slice_bounds-merge_full-end
 slice_bounds-merge_full-end c =
@@ -29,7 +29,7 @@ merge_full-full-requires c =
     let l = c.loop-i in
     let put = c.put_in_order-b in
     next_ready c.args.coords.now c.args.s.now c.requires.2 c.requires.1 l.s l.block l.k l.b l.i l.invariant.3 l.invariant.2
-    c.loop-i-test.true put.result put.new.block put.ensures.0 put.ensures.1
+    (omega (arith, c.loop-i-test.true, l.invariant.3.size)) put.result put.new.block put.ensures.0 put.ensures.1
 
 pub overflow_add-k : goal.overflow_add-k
 overflow_add-k c =
@@ -37,7 +37,7 @@ overflow_add-k c =
     let put = c.put_in_order-b in
     let full = c.merge_full-full in
     let fits = next_fits c.args.coords.now c.args.s.now c.requires.2 c.requires.1 l.s l.block l.k l.b l.i l.invariant.3 l.invariant.2
-    c.loop-i-test.true put.result put.new.block put.ensures.0 put.ensures.1 full.result full.ensures.0 in
+    (omega (arith, c.loop-i-test.true, l.invariant.3.size)) put.result put.new.block put.ensures.0 put.ensures.1 full.result full.ensures.0 in
     record { fits = omega (arith, fits.1, c.requires.0) }
 
 pub overflow_sub-b : goal.overflow_sub-b
@@ -46,7 +46,7 @@ overflow_sub-b c =
     let put = c.put_in_order-b in
     let full = c.merge_full-full in
     (next_fits c.args.coords.now c.args.s.now c.requires.2 c.requires.1 l.s l.block l.k l.b l.i l.invariant.3 l.invariant.2
-    c.loop-i-test.true put.result put.new.block put.ensures.0 put.ensures.1 full.result full.ensures.0).0
+    (omega (arith, c.loop-i-test.true, l.invariant.3.size)) put.result put.new.block put.ensures.0 put.ensures.1 full.result full.ensures.0).0
 
 pub loop-i-preserved : goal.loop-i-preserved
 loop-i-preserved c =
@@ -56,7 +56,7 @@ loop-i-preserved c =
     let len = put.auto.block ∙ l.invariant.1 in
     let turned = next_full c.args.coords.now c.args.s.now c.requires.2 c.requires.1 l.s l.block l.k l.b l.i
     l.invariant.3 l.invariant.2
-    c.loop-i-test.true put.result put.new.block put.ensures.0 put.ensures.1 full.new.s
+    (omega (arith, c.loop-i-test.true, l.invariant.3.size)) put.result put.new.block put.ensures.0 put.ensures.1 full.new.s
     full.result (omega (arith, len)) full.ensures.0 full.ensures.1 in
     (turned.0, len, turned.1, turned.2)
 
