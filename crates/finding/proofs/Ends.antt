@@ -1,13 +1,13 @@
 -- How `place_coords`, `crowded` and `find` end, over plain variables. Assumes nothing.
 use mathlib.Core.Path.{◌≡◌, refl, sym, ap, ap₂, ◌∙◌, subst}
-use mathlib.Core.Bool.{Bool, true, false, cond, not, ◌||◌, true≢false}
+use mathlib.Core.Bool.{Bool, true, false, cond, not, ◌||◌}
 use mathlib.Core.List.{List, [], ◌++◌, append-nil}
 use Prim.Native.Nat.{ℕ, ◌+◌, ◌*◌, ◌-◌, ◌/◌, ◌≤◌}
 use native.Mathlib.Omega.{arith}
 use lib.Dec.{eqb, leb}
 use lib.ListN.{length, take, length-append}
 use lib.Ieee.{Float}
-use borrow.Author.Tests.{leb-true, leb-false, lt-leb, not-true, not-false}
+use borrow.Author.Tests.{leb-true, leb-false, not-true, not-false}
 use Rattle.std.specs.Prelude.{Result, Ok, Err}
 use Rattle.lists.specs.Search.{has}
 use Rattle.lists.specs.Gather.{joined}
@@ -70,12 +70,6 @@ met_number (Err e) = refl
 -- ---- `place_coords`
 
 module _ (sc cc oc : List Float) where
-  pub first_none : (r : Bool) (oc' : List Float) → r ≡ leb (0 + length sc) (length oc) → r ≡ false
-      → (false ≡ leb (length sc + length cc) (length oc)) × (false ≡ true → oc' ≡ front oc (sc ++ cc))
-  first_none r oc' e f =
-      let less = leb-false (0 + length sc) (length oc) (sym e ∙ f) in
-      (sym (lt-leb (length sc + length cc) (length oc) (omega (arith, less))), λ t. absurd (true≢false (sym t)))
-
   pub both : (r r' : Bool) (oc₁ oc₂ : List Float) → r ≡ leb (0 + length sc) (length oc) → r ≡ true → oc₁ ≡ copied oc 0 sc
       → (r' ≡ leb (length sc + length cc) (length oc₁)) × (oc₂ ≡ copied oc₁ (length sc) cc)
       → (r' ≡ leb (length sc + length cc) (length oc)) × (r' ≡ true → oc₂ ≡ front oc (sc ++ cc))

@@ -4,7 +4,6 @@ use mathlib.Core.List.{List, [], ◌∷◌, ◌++◌, map}
 use Prim.Native.Nat.{ℕ, suc, ◌+◌, ◌≤◌, ◌<◌}
 use native.Mathlib.Omega.{arith}
 use lib.ListN.{length, get_or, set, take, length-append, length-map, length-set, get_or-append, get_or-map}
-use lib.Seq.{take_all}
 use Rattle.lists.specs.Regions.{front, put}
 use Rattle.lists.proofs.Gather.{get_or_any}
 use Rattle.lists.proofs.Regions.{front_in, put_before, copy_start, copy_turn}
@@ -38,9 +37,6 @@ module _ (w₀ cn : List ℕ) (at : ℕ) (below : Below at cn) (fits : at + leng
         length-set w (at + i) (get_or w k 0) ∙ inv.1,
         ap (set w (at + i)) is ∙ copy_turn w₀ at (map read cn) (omega (arith, len)) w i 0 (omega (arith, len)) inv.2,
       )
-
-  pub end : (w : List ℕ) (i : ℕ) → Renumbered w₀ cn at w i → length cn ≤ i → w ≡ put w₀ at (map read cn)
-  end w i inv past = inv.2 ∙ ap (put w₀ at) (take_all i (map read cn) (omega (arith, len)))
 
 -- ---- what is read
 

@@ -8,10 +8,14 @@ use Rattle.snap.specs.Steps.{AllPlaced}
 use Rattle.rules.specs.Neighbours.{subject_net, cutter_net}
 use Rattle.strips.specs.Index.{index_of}
 use Rattle.finding.specs.declared.numbering.NetPlaces.{NetPlaces}
+use Rattle.finding.specs.declared.numbering.Shape.{Shape}
 
 -- a mesh without its kinds and families, at which nothing here looks (proofs/Scenes.antt)
 abbrev pub plain : List Float → List ℕ → List ℕ → Mesh
 plain coords nodes ends = mesh coords nodes ends [] []
+
+abbrev pub plain_of : Shape → Mesh
+plain_of x = plain x.coords.now x.nodes.now x.ends.now
 
 -- ---- what passed the entry, as far as it is needed here (proofs/Passed.antt)
 

@@ -5,4 +5,5 @@
 mod numbering;
 mod stages;
 
+pub use numbering::Shape;
 pub use stages::{Found, find};

@@ -4,12 +4,20 @@
 ghost use Rattle.std.specs.Prelude.{◌≡◌, false, ◌++◌, map, ◌+◌, ◌≤◌, length, get_or};
 ghost use Rattle.lists.specs.Regions.{put};
 ghost use Rattle.snap.specs.Steps.{Below};
-ghost use Rattle.finding.specs.Nets.{plain, Fit, NetRoom, nets_of, edged, netted};
+ghost use Rattle.finding.specs.Nets.{plain_of, Fit, NetRoom, nets_of, edged, netted};
 
 use lists::copy_at;
 use neighbours::compute_descending;
 use snap::duplicates_from;
 use strips::Things;
+
+// A mesh without its kinds and families, at which nothing here looks.
+#[derive(Clone, Copy)]
+pub struct Shape<'a> {
+    pub coords: &'a [f64],
+    pub nodes: &'a [u32],
+    pub ends: &'a [u32],
+}
 
 // Where the cutter's entries begin, then the subject's; where the subject's edges begin and how many there are; the same of the cutter's; where the index
 // of these begins; where there is room behind it.
@@ -37,77 +45,54 @@ fn renumber(cn: &[u32], w: &mut [u32], at: usize)
 }
 
 // All but the index.
-fn edges(
-    lines: bool,
-    sc: &[f64],
-    sn: &[u32],
-    se: &[u32],
-    cc: &[f64],
-    cn: &[u32],
-    ce: &[u32],
-    w: &mut [u32],
-) -> NetPlaces
-    requires { Fit false (plain sc.now sn.now se.now) × Fit lines (plain cc.now cn.now ce.now)
-        × NetRoom 0 (plain sc.now sn.now se.now) (plain cc.now cn.now ce.now) (length w.old) }
-    ensures { (result ≡ nets_of lines (plain sc.now sn.now se.now) (plain cc.now cn.now ce.now))
-        × (w.new ≡ edged lines (plain sc.now sn.now se.now) (plain cc.now cn.now ce.now) w.old) }
+fn edges(lines: bool, s: Shape, c: Shape, w: &mut [u32]) -> NetPlaces
+    requires { Fit false (plain_of s) × Fit lines (plain_of c)
+        × NetRoom 0 (plain_of s) (plain_of c) (length w.old) }
+    ensures { (result ≡ nets_of lines (plain_of s.entry) (plain_of c.entry))
+        × (w.new ≡ edged lines (plain_of s.entry) (plain_of c.entry) w.old) }
 {
-    let entries = cc.len() / 2;
-    let copied = entries + cn.len();
-    let from = copied + sn.len();
-    let at = from + 2 * sn.len();
-    let index = at + 2 * cn.len();
-    let base = index + (4 * cn.len() + 12);
+    let entries = c.coords.len() / 2;
+    let copied = entries + c.nodes.len();
+    let from = copied + s.nodes.len();
+    let at = from + 2 * s.nodes.len();
+    let index = at + 2 * c.nodes.len();
+    let base = index + (4 * c.nodes.len() + 12);
     // The edges are on h chains while they are written, where the meetings will stand.
-    let h = sc.len() / 2 + entries + 1;
-    let n = sn.len() + cn.len();
-    duplicates_from(sc, sn, cc, cn, w);
-    renumber(cn, w, entries);
-    copy_at(w, copied, sn);
-    let subject = compute_descending(w, se, copied, sn.len(), from, base, h, n);
-    if lines {
-        return NetPlaces {
-            entries,
-            copied,
-            from,
-            subject,
-            at: entries,
-            cutter: cn.len() / 2,
-            index,
-            base,
-        };
-    }
-    let cutter = compute_descending(w, ce, entries, cn.len(), at, base, h, n);
-    NetPlaces {
+    let h = s.coords.len() / 2 + entries + 1;
+    let n = s.nodes.len() + c.nodes.len();
+    duplicates_from(s.coords, s.nodes, c.coords, c.nodes, w);
+    renumber(c.nodes, w, entries);
+    copy_at(w, copied, s.nodes);
+    let subject = compute_descending(w, s.ends, copied, s.nodes.len(), from, base, h, n);
+    let places = NetPlaces {
         entries,
         copied,
         from,
         subject,
-        at,
-        cutter,
+        at: entries,
+        cutter: c.nodes.len() / 2,
         index,
         base,
+    };
+    if lines {
+        return places;
+    }
+    let cutter = compute_descending(w, c.ends, entries, c.nodes.len(), at, base, h, n);
+    NetPlaces {
+        at,
+        cutter,
+        ..places
     }
 }
 
 // The regions of both meshes. `coords` are the coordinates of both.
-pub(crate) fn nets(
-    lines: bool,
-    coords: &[f64],
-    sc: &[f64],
-    sn: &[u32],
-    se: &[u32],
-    cc: &[f64],
-    cn: &[u32],
-    ce: &[u32],
-    w: &mut [u32],
-) -> NetPlaces
-    requires { Fit false (plain sc.now sn.now se.now) × Fit lines (plain cc.now cn.now ce.now)
-        × NetRoom 0 (plain sc.now sn.now se.now) (plain cc.now cn.now ce.now) (length w.old) × (coords.now ≡ sc.now ++ cc.now) }
-    ensures { (result ≡ nets_of lines (plain sc.now sn.now se.now) (plain cc.now cn.now ce.now))
-        × (w.new ≡ netted lines (plain sc.now sn.now se.now) (plain cc.now cn.now ce.now) w.old) }
+pub(crate) fn nets(lines: bool, coords: &[f64], s: Shape, c: Shape, w: &mut [u32]) -> NetPlaces
+    requires { Fit false (plain_of s) × Fit lines (plain_of c)
+        × NetRoom 0 (plain_of s) (plain_of c) (length w.old) × (coords.now ≡ s.coords.now ++ c.coords.now) }
+    ensures { (result ≡ nets_of lines (plain_of s.entry) (plain_of c.entry))
+        × (w.new ≡ netted lines (plain_of s.entry) (plain_of c.entry) w.old) }
 {
-    let n = edges(lines, sc, sn, se, cc, cn, ce, w);
+    let n = edges(lines, s, c, w);
     let from = n.at;
     let end = from + 2 * n.cutter;
     let (before, ix) = w.split_at_mut(n.index);
@@ -115,7 +100,7 @@ pub(crate) fn nets(
     let things = Things {
         coords,
         nodes: &before[from..end],
-        ends: &sn[..0],
+        ends: &s.nodes[..0],
     };
     things.build(ix);
     n

@@ -5,10 +5,10 @@ ghost use Rattle.cutting.specs.Lent.{pairs};
 ghost use Rattle.refusals.specs.Numbers.{number, by_number};
 ghost use Rattle.regions.specs.Runs.{run_in};
 ghost use Rattle.edge_nodes.specs.Links.{Linked};
-ghost use Rattle.finding.specs.Nets.{plain, FindAsks};
+ghost use Rattle.finding.specs.Nets.{plain_of, FindAsks};
 ghost use Rattle.finding.specs.Found.{regions_by, refused_lists, found_of, both_full, LinkedIn, LinkRoom, linked_by};
 
-use crate::numbering::{NetPlaces, nets};
+use crate::numbering::{NetPlaces, Shape, nets};
 use edge_nodes::{LinkedMeetings, link_meetings};
 use lists::copy_at;
 use meetings::{Places, compute_intersections};
@@ -36,10 +36,7 @@ fn place_coords(sc: &[f64], cc: &[f64], oc: &mut [f64]) -> bool
     ensures { (result ≡ leb (length sc.now + length cc.now) (length oc.old))
         × (result ≡ true → oc.new ≡ front oc.old (sc.now ++ cc.now)) }
 {
-    if !copy_at(oc, 0, sc) {
-        return false;
-    }
-    copy_at(oc, sc.len(), cc)
+    copy_at(oc, 0, sc) && copy_at(oc, sc.len(), cc)
 }
 
 // Whether over 256 nodes are collected under the key of an edge of either mesh.
@@ -47,10 +44,7 @@ fn either_overfull(m: &LinkedMeetings) -> bool
     requires { length m.now.met.now ≤ 327680 }
     ensures { result ≡ both_full m.now.subject.now m.now.cutter.now m.now.met.now }
 {
-    if m.overfull(m.subject) {
-        return true;
-    }
-    m.overfull(m.cutter)
+    m.overfull(m.subject) || m.overfull(m.cutter)
 }
 
 // Refusal 9, by the working list.
@@ -117,24 +111,20 @@ fn link(w: &mut [u32], n: NetPlaces, met: usize, h: usize) -> Regions
 pub fn find(
     op: u32,
     m: u32,
-    sc: &[f64],
-    sn: &[u32],
-    se: &[u32],
-    cc: &[f64],
-    cn: &[u32],
-    ce: &[u32],
+    s: Shape,
+    c: Shape,
     oc: &mut [f64],
     w: &mut [u32],
 ) -> Result<Found, Refusal>
-    requires { FindAsks op m (plain sc.now sn.now se.now) (plain cc.now cn.now ce.now) (length w.old) }
+    requires { FindAsks op m (plain_of s) (plain_of c) (length w.old) }
     ensures { record { answer = by_number result; coords = oc.new; work = w.new }
-        ≡ found_of op m (plain sc.now sn.now se.now) (plain cc.now cn.now ce.now) oc.old w.old }
+        ≡ found_of op m (plain_of s.entry) (plain_of c.entry) oc.old w.old }
 {
-    if !place_coords(sc, cc, oc) {
+    if !place_coords(s.coords, c.coords, oc) {
         return refused(oc, w, Refusal::NoPlace);
     }
-    let placed = sc.len() + cc.len();
-    let n = nets(op == 5, &oc[..placed], sc, sn, se, cc, cn, ce, w);
+    let placed = s.coords.len() + c.coords.len();
+    let n = nets(op == 5, &oc[..placed], s, c, w);
     let at = Places {
         placed,
         subject: n.from,

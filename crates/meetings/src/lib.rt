@@ -241,6 +241,7 @@ fn of_edges(oc: &mut [f64], w: &mut [u32], found: &mut [u32], at: Places) -> Res
         met: 0,
         next: at.placed / 2,
     };
+    // by number: it is the edge's number that a meeting is written with
     for i in 0..at.subjects {
         f = of_edge(oc, w, found, at, i, f)?;
     }

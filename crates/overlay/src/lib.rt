@@ -9,7 +9,7 @@ ghost use Rattle.rules.specs.Overlay.{lent_lists, result_of, cleared, state_of, 
 
 use cutting_cells::cut_meshes;
 use entry::entry;
-use finding::find;
+use finding::{Shape, find};
 use indexing::index_meshes;
 use passes::{write_families, write_kinds, write_parents};
 use views::MeshView;
@@ -84,7 +84,17 @@ fn run(
         (mesh cc.now cn.now ce.now ck.now cf.now)
         (lent_lists oc.old on.old oe.old ok.old of.old om.old oi.old work.old)) }
 {
-    let f = match find(op, m, sc, sn, se, cc, cn, ce, oc, work) {
+    let subject = Shape {
+        coords: sc,
+        nodes: sn,
+        ends: se,
+    };
+    let cutter = Shape {
+        coords: cc,
+        nodes: cn,
+        ends: ce,
+    };
+    let f = match find(op, m, subject, cutter, oc, work) {
         Ok(f) => f,
         Err(refusal) => return plain(refusal.number()),
     };

@@ -25,8 +25,8 @@ overflow_add-placed c =
 pub slice_bounds-nets-end : goal.slice_bounds-nets-end
 slice_bounds-nets-end c =
     let a = c.args in
-    let lent : (length a.sc.now + length a.cc.now ≤ length c.place_coords.new.oc)
-    × (take (length a.sc.now + length a.cc.now) c.place_coords.new.oc ≡ a.sc.now ++ a.cc.now) =
+    let lent : (length a.s.coords.now + length a.c.coords.now ≤ length c.place_coords.new.oc)
+    × (take (length a.s.coords.now + length a.c.coords.now) c.place_coords.new.oc ≡ a.s.coords.now ++ a.c.coords.now) =
     coords_lent _ _ _ _ _ _ _ _ c.args.w.now c.requires c.args.oc.now c.place_coords.result c.place_coords.new.oc
     c.place_coords.ensures (ap not c.if-not-place_coords.false) c.place_coords.auto.oc in
     lent.0
@@ -34,8 +34,8 @@ slice_bounds-nets-end c =
 pub slice_bounds-nets-end-2 : goal.slice_bounds-nets-end-2
 slice_bounds-nets-end-2 c =
     let a = c.args in
-    let lent : (length a.sc.now + length a.cc.now ≤ length c.place_coords.new.oc)
-    × (take (length a.sc.now + length a.cc.now) c.place_coords.new.oc ≡ a.sc.now ++ a.cc.now) =
+    let lent : (length a.s.coords.now + length a.c.coords.now ≤ length c.place_coords.new.oc)
+    × (take (length a.s.coords.now + length a.c.coords.now) c.place_coords.new.oc ≡ a.s.coords.now ++ a.c.coords.now) =
     coords_lent _ _ _ _ _ _ _ _ c.args.w.now c.requires c.args.oc.now c.place_coords.result c.place_coords.new.oc
     c.place_coords.ensures (ap not c.if-not-place_coords.false) c.place_coords.auto.oc in
     sym (length-take-le _ _ lent.0)
@@ -43,8 +43,8 @@ slice_bounds-nets-end-2 c =
 pub nets-n-requires : goal.nets-n-requires
 nets-n-requires c =
     let a = c.args in
-    let lent : (length a.sc.now + length a.cc.now ≤ length c.place_coords.new.oc)
-    × (take (length a.sc.now + length a.cc.now) c.place_coords.new.oc ≡ a.sc.now ++ a.cc.now) =
+    let lent : (length a.s.coords.now + length a.c.coords.now ≤ length c.place_coords.new.oc)
+    × (take (length a.s.coords.now + length a.c.coords.now) c.place_coords.new.oc ≡ a.s.coords.now ++ a.c.coords.now) =
     coords_lent _ _ _ _ _ _ _ _ c.args.w.now c.requires c.args.oc.now c.place_coords.result c.place_coords.new.oc
     c.place_coords.ensures (ap not c.if-not-place_coords.false) c.place_coords.auto.oc in
     let ok = c.requires in

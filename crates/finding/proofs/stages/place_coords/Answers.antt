@@ -1,16 +1,9 @@
 -- `finding::stages::place_coords` meets its contract. Assumes nothing.
-use Rattle.finding.proofs.Ends.{first_none, both}
+use Rattle.finding.proofs.Ends.{both}
 use Rattle.finding.proofs.stages.place_coords.Goals as goal
 
-pub returns-then-not-copy_at : goal.returns-then-not-copy_at
-returns-then-not-copy_at c =
-    let dst-last = c.copy_at.new.dst in
-    first_none c.args.sc.now c.args.cc.now c.args.oc.now c.copy_at.result dst-last
-    c.copy_at.ensures.fits c.if-not-copy_at.true
-
-pub returns : goal.returns
-returns c =
-    let dst-last = c.copy_at.new.dst in
-    both c.args.sc.now c.args.cc.now c.args.oc.now c.copy_at.result c.copy_at-2.result
-    dst-last c.copy_at-2.new.dst
-    c.copy_at.ensures.fits c.if-not-copy_at.false c.copy_at.ensures.after (c.copy_at-2.ensures.fits, c.copy_at-2.ensures.after)
+pub returns-then-copy_at : goal.returns-then-copy_at
+returns-then-copy_at c =
+    let x = c.copy_at in
+    let y = c.copy_at-then-copy_at in
+    both c.args.sc.now c.args.cc.now c.args.oc.now x.result y.result x.new.dst y.new.dst x.ensures.fits c.if-copy_at.true x.ensures.after (y.ensures.fits, y.ensures.after)
