@@ -36,6 +36,7 @@ impl Model for Nodes {
     ghost invariant = { λ t. t.count ≤ 257 };
 }
 
+// Total order, -0 before +0. No `total_cmp`: it asks for numbers, and coordinates may be any.
 fn total_before(x: f64, y: f64) -> bool
     ensures { result ≡ total_before x y }
 {
@@ -111,7 +112,7 @@ impl Nodes {
     }
 }
 
-// Puts v behind the first k, unless it equals the last of them.
+// Puts v behind the first k, unless it equals the last of them. List and count are no struct: what holds of both can be no ghost field beside a `&mut`.
 fn push(out: &mut [u32], k: usize, v: u32) -> usize
     requires { k < length out.old }
     ensures { (result ≡ length (pushed (take k out.old) v)) × (out.new ≡ front out.old (pushed (take k out.old) v)) }
