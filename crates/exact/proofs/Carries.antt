@@ -1,5 +1,5 @@
 -- Two rows compared from the lowest cell up: what is known after i cells, and how one more cell changes it. Assumes nothing.
-use mathlib.Core.Path.{◌≡◌, refl, sym, ap, ap₂, ◌∙◌}
+use mathlib.Core.Path.{◌≡◌, refl, sym, ap, ap₂, ◌∙◌, subst}
 use mathlib.Core.List.{List, [], ◌∷◌}
 use Prim.Native.Nat.{ℕ, zero, suc, ◌+◌, ◌*◌, ◌/◌, ◌%◌, ◌^◌, ◌≤◌, ◌<◌}
 use native.Mathlib.Nat.{not-suc-le-zero, le_of_suc-le-suc, add_assoc, add-mul, mul_assoc, mod-lt, div-add-mod'}
@@ -12,8 +12,9 @@ use lib.Arith.{digits_lt, digits_div, digits_mod}
 use Rattle.exact.specs.Exact.{ordered}
 use Rattle.exact.specs.InnerRows.{value, Row}
 use Rattle.std.specs.declared.cmp.Ordering.{Ordering}
-use Rattle.std.specs.declared.cmp.Ordering.TheVariants.{Less, Equal, Greater}
-use Rattle.exact.proofs.Orders.{ordered_equal, first_less, first_greater, first_same}
+use Rattle.std.specs.declared.cmp.Ordering.TheVariants.{Equal}
+use Rattle.std.specs.Ordering.{nat_cmp, ordering_then}
+use Rattle.exact.proofs.Orders.{ordered_equal, by_digit}
 use Rattle.exact.proofs.Cells.{place, weigh}
 
 pub value_take : (xs : List ℕ) (i : ℕ) → i < length xs → value (take (suc i) xs) ≡ value (take i xs) + get_or xs i 0 * 2 ^ (32 * i)
@@ -85,14 +86,13 @@ module _ {p n : List ℕ} {order : Ordering} {u v i : ℕ} (s : State p n order 
   abbrev pub digit' : ℕ
   digit' = (get_or n i 0 + v) % 2 ^ 32
 
-  pub one_more : (o : Ordering)
-      → o ≡ ordered (digit * 2 ^ (32 * i) + value (take i p) % 2 ^ (32 * i)) (digit' * 2 ^ (32 * i) + value (take i n) % 2 ^ (32 * i))
-      → State p n o ((get_or p i 0 + u) / 2 ^ 32) ((get_or n i 0 + v) / 2 ^ 32) (i + 1)
-  one_more o e = record {
+  pub one_more : State p n (ordering_then (nat_cmp digit digit') order) ((get_or p i 0 + u) / 2 ^ 32) ((get_or n i 0 + v) / 2 ^ 32) (i + 1)
+  one_more = record {
     passed = omega arith;
     carry = next p u rp s.carry;
     carry' = next n v rn s.carry';
-    seen = e ∙ ap₂ (λ (x y : ℕ). ordered x y) (low p u rp s.carry) (low n v rn s.carry');
+    seen = ap (ordering_then (nat_cmp digit digit')) s.seen ∙ by_digit digit digit' (rest_under p i) (rest_under n i)
+        ∙ ap₂ (λ (x y : ℕ). ordered x y) (low p u rp s.carry) (low n v rn s.carry');
     small = small_of _ _ (rp.low i) s.small;
     small' = small_of _ _ (rn.low i) s.small';
   }
@@ -100,16 +100,15 @@ module _ {p n : List ℕ} {order : Ordering} {u v i : ℕ} (s : State p n order 
       small_of : (x w : ℕ) → x ≤ 64 * 2 ^ 34 → w ≤ 2 ^ 32 → (x + w) / 2 ^ 32 ≤ 2 ^ 32
       small_of x w a b = omega arith
 
-  pub more_less : digit < digit' → State p n Less ((get_or p i 0 + u) / 2 ^ 32) ((get_or n i 0 + v) / 2 ^ 32) (i + 1)
-  more_less k = one_more Less (sym (first_less digit digit' (rest_under p i) (rest_under n i) k))
-
-  pub more_greater : digit' < digit → State p n Greater ((get_or p i 0 + u) / 2 ^ 32) ((get_or n i 0 + v) / 2 ^ 32) (i + 1)
-  more_greater k = one_more Greater (sym (first_greater digit digit' (rest_under p i) (rest_under n i) k))
-
-  pub more_same : digit ≤ digit' → digit' ≤ digit → State p n order ((get_or p i 0 + u) / 2 ^ 32) ((get_or n i 0 + v) / 2 ^ 32) (i + 1)
-  more_same k l =
-      one_more order
-      (s.seen ∙ sym (first_same digit digit' (rest_under p i) (rest_under n i) k l))
+  -- the same, as a turn of the loop gives it
+  pub turn : {a b j : ℕ} {o : Ordering} → a ≡ get_or p i 0 → b ≡ get_or n i 0 → o ≡ ordering_then (nat_cmp ((a + u) % 2 ^ 32) ((b + v) % 2 ^ 32)) order → j ≡ i + 1
+      → State p n o ((a + u) / 2 ^ 32) ((b + v) / 2 ^ 32) j
+  turn {a} {b} {j} {o} ea eb eo ej =
+      subst (λ (k : ℕ). State p n o ((a + u) / 2 ^ 32) ((b + v) / 2 ^ 32) k) (sym ej)
+      (subst (λ (q : Ordering). State p n q ((a + u) / 2 ^ 32) ((b + v) / 2 ^ 32) (i + 1)) (sym eo)
+      (subst (λ (x : ℕ). State p n (ordering_then (nat_cmp ((x + u) % 2 ^ 32) ((b + v) % 2 ^ 32)) order) ((x + u) / 2 ^ 32) ((b + v) / 2 ^ 32) (i + 1)) (sym ea)
+      (subst (λ (y : ℕ). State p n (ordering_then (nat_cmp ((get_or p i 0 + u) % 2 ^ 32) ((y + v) % 2 ^ 32)) order) ((get_or p i 0 + u) / 2 ^ 32) ((y + v) / 2 ^ 32) (i + 1)) (sym eb)
+      one_more)))
 
 -- ---- at the end
 module _ {p n : List ℕ} {order : Ordering} {u v i : ℕ} (s : State p n order u v i) (rp : Row 64 p) (rn : Row 64 n) (h : 136 ≤ i) where
@@ -118,14 +117,7 @@ module _ {p n : List ℕ} {order : Ordering} {u v i : ℕ} (s : State p n order 
       ap (λ (x : ℕ). x * 2 ^ (32 * i) + value (take i xs) % 2 ^ (32 * i)) e ∙ div-add-mod' (value (take i xs)) (2 ^ (32 * i))
       ∙ ap value (take_all i xs (omega (arith, r.long)))
 
-  both : ordered (u * 2 ^ (32 * i) + value (take i p) % 2 ^ (32 * i)) (v * 2 ^ (32 * i) + value (take i n) % 2 ^ (32 * i)) ≡ ordered (value p) (value n)
-  both = ap₂ (λ (x y : ℕ). ordered x y) (whole p u rp s.carry) (whole n v rn s.carry')
-
-  pub end_less : u < v → Less ≡ ordered (value p) (value n)
-  end_less k = sym (first_less u v (rest_under p i) (rest_under n i) k) ∙ both
-
-  pub end_greater : v < u → Greater ≡ ordered (value p) (value n)
-  end_greater k = sym (first_greater u v (rest_under p i) (rest_under n i) k) ∙ both
-
-  pub end_same : u ≤ v → v ≤ u → order ≡ ordered (value p) (value n)
-  end_same k l = s.seen ∙ sym (first_same u v (rest_under p i) (rest_under n i) k l) ∙ both
+  pub at_end : ordering_then (nat_cmp u v) order ≡ ordered (value p) (value n)
+  at_end =
+      ap (ordering_then (nat_cmp u v)) s.seen ∙ by_digit u v (rest_under p i) (rest_under n i)
+      ∙ ap₂ (λ (x y : ℕ). ordered x y) (whole p u rp s.carry) (whole n v rn s.carry')

@@ -1,15 +1,13 @@
 -- Rows of cells: what a store adds to the number, how much a cell grows, and the cells' number by its lowest cells. Assumes nothing.
 use mathlib.Core.Path.{◌≡◌, refl, sym, ap, ap₂, ◌∙◌, subst}
-use mathlib.Core.Bool.{Bool, true, false}
 use mathlib.Core.List.{List, [], ◌∷◌}
 use Prim.Native.Nat.{ℕ, zero, suc, ◌+◌, ◌*◌, ◌/◌, ◌%◌, ◌^◌, ◌≤◌, ◌<◌}
-use native.Mathlib.Nat.{not-suc-le-zero, le_of_suc-le-suc, le_trans, add_assoc, add_comm, add-mul, mul_assoc, mul_comm, mul_left_comm, mul-suc, add-zero, mul-le-mul_right}
+use native.Mathlib.Nat.{not-suc-le-zero, le_of_suc-le-suc, le_trans, add_assoc, add_comm, add-mul, mul_assoc, mul_comm, mul_left_comm, mul-suc, mul-le-mul_right, div-add-mod'}
 use native.Mathlib.Numerals.{add-one, add-two}
 use native.Mathlib.Omega.{arith}
 use lib.ListN.{length, get_or, set, length-set}
 use lib.Pow.{pow-add, shl_exact}
-use Rattle.exact.proofs.TwoWords.{scaled_of}
-use Rattle.exact.specs.InnerRows.{value, Row, RowGrown, RowAdded}
+use Rattle.exact.specs.InnerRows.{value, Row, RowGrown}
 
 -- the weight of a cell
 pub place : (i : ℕ) → 2 ^ (32 * suc i) ≡ 2 ^ 32 * 2 ^ (32 * i)
@@ -144,12 +142,12 @@ fits₂ xs v e r =
     more : (x y z d d' : ℕ) → x ≤ 64 * 2 ^ 34 → y ≤ x + d → z ≤ y + d' → d < 2 ^ 32 → d' < 2 ^ 33 → z ≤ 65 * 2 ^ 34
     more x y z d d' p q q' r r' = omega arith
 
--- ---- two words of a product, and a term with its sign
+-- ---- a product by its two words
 
-pub grown_product : (xs ys zs : List ℕ) (l h m n e f : ℕ) → RowGrown 1 (l * 2 ^ (e + f)) xs ys → RowGrown 1 (h * 2 ^ (e + f + 64)) ys zs → h * 2 ^ 64 + l ≡ m * n
-    → RowGrown 2 (m * 2 ^ e * (n * 2 ^ f)) xs zs
-grown_product xs ys zs l h m n e f a b w = record {
-  total = b.total ∙ ap (λ (x : ℕ). x + h * 2 ^ (e + f + 64)) a.total ∙ add_assoc (value xs) (l * 2 ^ (e + f)) (h * 2 ^ (e + f + 64))
+pub grown_product : {xs ys zs : List ℕ} (w e : ℕ) → RowGrown 1 (w % 2 ^ 64 * 2 ^ e) xs ys → RowGrown 1 (w / 2 ^ 64 * 2 ^ (e + 64)) ys zs
+    → RowGrown 2 (w * 2 ^ e) xs zs
+grown_product {xs} {ys} {zs} w e a b = record {
+  total = b.total ∙ ap (λ (x : ℕ). x + w / 2 ^ 64 * 2 ^ (e + 64)) a.total ∙ add_assoc (value xs) (w % 2 ^ 64 * 2 ^ e) (w / 2 ^ 64 * 2 ^ (e + 64))
       ∙ ap (λ (x : ℕ). value xs + x) sum;
   row = λ k r. subst (λ (j : ℕ). Row j zs) (omega arith) (b.row (k + 1) (a.row k r));
 }
@@ -157,24 +155,10 @@ grown_product xs ys zs l h m n e f a b w = record {
     one : (l h p : ℕ) → l * p + h * (p * 2 ^ 64) ≡ (h * 2 ^ 64 + l) * p
     one l h p = simp (add-mul, mul_assoc, mul_comm, add_comm) refl
 
-    sum : l * 2 ^ (e + f) + h * 2 ^ (e + f + 64) ≡ m * 2 ^ e * (n * 2 ^ f)
-    sum = ap (λ (x : ℕ). l * 2 ^ (e + f) + h * x) (pow-add 2 (e + f) 64) ∙ one l h (2 ^ (e + f)) ∙ scaled_of (h * 2 ^ 64 + l) m n e f w
+    sum : w % 2 ^ 64 * 2 ^ e + w / 2 ^ 64 * 2 ^ (e + 64) ≡ w * 2 ^ e
+    sum =
+        ap (λ (x : ℕ). w % 2 ^ 64 * 2 ^ e + w / 2 ^ 64 * x) (pow-add 2 e 64) ∙ one (w % 2 ^ 64) (w / 2 ^ 64) (2 ^ e)
+        ∙ ap (λ (x : ℕ). x * 2 ^ e) (div-add-mod' w (2 ^ 64))
 
-kept : {xs : List ℕ} (k : ℕ) → Row k xs → Row (k + 2) xs
+pub kept : {xs : List ℕ} (k : ℕ) → Row k xs → Row (k + 2) xs
 kept k r = row_more (k + 2) r (omega arith)
-
-pub added_less : {t : ℕ} {p n n' : List ℕ} {s : Bool} → s ≡ true → RowGrown 2 t n n' → RowAdded s t p n p n'
-added_less {t} {p} {n} {n'} {s} e g = subst (λ (b : Bool). RowAdded b t p n p n') (sym e) record {
-  more = sym (add-zero (value p));
-  less = g.total;
-  row = λ k r. kept k r;
-  row' = g.row;
-}
-
-pub added_more : {t : ℕ} {p n p' : List ℕ} {s : Bool} → s ≡ false → RowGrown 2 t p p' → RowAdded s t p n p' n
-added_more {t} {p} {n} {p'} {s} e g = subst (λ (b : Bool). RowAdded b t p n p' n) (sym e) record {
-  more = g.total;
-  less = sym (add-zero (value n));
-  row = g.row;
-  row' = λ k r. kept k r;
-}

@@ -6,7 +6,6 @@ use Prim.Native.Nat.{ℕ, zero, suc, ◌+◌, ◌*◌}
 use native.Mathlib.Nat.{add_assoc, add_comm, add_left_comm, mul_comm, mul-add, add-mul}
 use native.Mathlib.Omega.{arith}
 use lib.IntN.{ℤ, pos, negsuc, neg_ℤ, sub_ℕ, ◌+ℤ◌, ◌-ℤ◌, ◌*ℤ◌}
-use lib.Ieee.{unlike}
 use borrow.Author.Tests.{lt-ltb, le-ltb}
 use Rattle.exact.specs.Exact.{ordered, sign, signed}
 use Rattle.exact.proofs.Orders.{ordered_less, ordered_greater, ordered_equal}
@@ -123,7 +122,7 @@ pub every : (P : ℤ → Type 0) → ((a b : ℕ) → P (diff a b)) → (z : ℤ
 every P h z = subst P (sym (whole z)) (h (plus z) (less z))
 
 -- and so for several
-every₂ : (P : ℤ → ℤ → Type 0) → ((a a' b b' : ℕ) → P (diff a a') (diff b b')) → (x y : ℤ) → P x y
+pub every₂ : (P : ℤ → ℤ → Type 0) → ((a a' b b' : ℕ) → P (diff a a') (diff b b')) → (x y : ℤ) → P x y
 every₂ P h x y = every (λ (x : ℤ). P x y) (λ a a'. every (λ (y : ℤ). P (diff a a') y) (λ b b'. h a a' b b') y) x
 
 every₆ : (P : ℤ → ℤ → ℤ → ℤ → ℤ → ℤ → Type 0)
@@ -175,16 +174,22 @@ signed_mul s t m n = ap₂ ◌*ℤ◌ (signed_diff s m) (signed_diff t n) ∙ go
     go true false = diff_mul 0 m n 0 ∙ diff_same _ _ _ _ (omega arith)
     go true true = diff_mul 0 m 0 n ∙ diff_same _ _ _ _ (omega arith)
 
--- a term is added to a difference, or where u is true taken from it
-pub add_signed : (u : Bool) (a b : ℕ) (s : Bool) (t : ℕ)
-    → diff (a + cond (unlike s u) 0 t) (b + cond (unlike s u) t 0) ≡ diff a b +ℤ cond u (neg_ℤ (signed s t)) (signed s t)
-add_signed u a b s t = go u s
+-- a signed number is added to a difference
+pub add_signed : (a b : ℕ) (s : Bool) (t : ℕ) → diff (a + cond s 0 t) (b + cond s t 0) ≡ diff a b +ℤ signed s t
+add_signed a b false t = sym (ap (λ (z : ℤ). diff a b +ℤ z) (signed_diff false t) ∙ diff_add a b t 0)
+add_signed a b true t = sym (ap (λ (z : ℤ). diff a b +ℤ z) (signed_diff true t) ∙ diff_add a b 0 t)
+
+pub signed_neg : (s : Bool) (n : ℕ) → signed (not s) n ≡ neg_ℤ (signed s n)
+signed_neg s n = signed_diff (not s) n ∙ go s ∙ ap neg_ℤ (sym (signed_diff s n))
   where
-    go : (u s : Bool) → diff (a + cond (unlike s u) 0 t) (b + cond (unlike s u) t 0) ≡ diff a b +ℤ cond u (neg_ℤ (signed s t)) (signed s t)
-    go false false = sym (ap (λ (z : ℤ). diff a b +ℤ z) (signed_diff false t) ∙ diff_add a b t 0)
-    go false true = sym (ap (λ (z : ℤ). diff a b +ℤ z) (signed_diff true t) ∙ diff_add a b 0 t)
-    go true false = sym (ap (λ (z : ℤ). diff a b -ℤ z) (signed_diff false t) ∙ ap (λ (z : ℤ). diff a b +ℤ z) (diff_neg t 0) ∙ diff_add a b 0 t)
-    go true true = sym (ap (λ (z : ℤ). diff a b -ℤ z) (signed_diff true t) ∙ ap (λ (z : ℤ). diff a b +ℤ z) (diff_neg 0 t) ∙ diff_add a b t 0)
+    go : (s : Bool) → diff (cond (not s) 0 n) (cond (not s) n 0) ≡ neg_ℤ (diff (cond s 0 n) (cond s n 0))
+    go false = sym (diff_neg n 0)
+    go true = sym (diff_neg 0 n)
+
+pub add_negated : (x y z : ℤ) → x +ℤ neg_ℤ y *ℤ z ≡ x -ℤ y *ℤ z
+add_negated x y z =
+    ap (λ (n : ℤ). x +ℤ n) (every₂ (λ (y z : ℤ). neg_ℤ y *ℤ z ≡ neg_ℤ (y *ℤ z))
+    (λ a a' b b'. simp (diff_neg, diff_mul) (diff_same _ _ _ _ (omega arith))) y z)
 
 -- one signed number less another
 pub minus_signed : (s t : Bool) (m n : ℕ) → signed s m -ℤ signed t n ≡ diff (cond s 0 m + cond t n 0) (cond s m 0 + cond t 0 n)

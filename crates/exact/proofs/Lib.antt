@@ -1,18 +1,19 @@
 -- numbers
 mod Orders
 pub mod Integers
-mod Columns
-mod TwoWords
+mod Leading
 -- floats
 mod Fields
 pub mod ExactUnits
 -- signs and angles
 mod SignLaws
+mod Places
 -- the far path
 mod Cells
 mod Carries
 mod Terms
 -- the near path
 mod Nearby
+mod Scaled
 -- K8 and others by computation
 pub mod Samples

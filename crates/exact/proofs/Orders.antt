@@ -1,13 +1,16 @@
 -- `ordered` from the fact, and how it goes through sums and products. Assumes nothing.
 use mathlib.Core.Path.{◌≡◌, refl, sym, ap, ◌∙◌}
 use mathlib.Core.Logic.{◌⊎◌, inl, inr}
-use Prim.Native.Nat.{ℕ, zero, suc, ◌+◌, ◌*◌, ◌≤◌, ◌<◌}
-use native.Mathlib.Nat.{le_antisymm, lt_of_lt_of_le, le-add_right, mul-lt-mul_of_pos_right}
+use Prim.Native.Nat.{ℕ, zero, suc, ◌+◌, ◌*◌, ◌<◌}
+use native.Mathlib.Nat.{lt_of_lt_of_le, le-add_right, mul-lt-mul_of_pos_right}
 use native.Mathlib.Omega.{arith}
 use lib.Arith.{digits_lt}
 use borrow.Author.Tests.{lt-ltb, le-ltb}
 use Rattle.exact.specs.Exact.{ordered}
+use Rattle.std.specs.declared.cmp.Ordering.{Ordering}
 use Rattle.std.specs.declared.cmp.Ordering.TheVariants.{Less, Equal, Greater}
+use Rattle.std.specs.Ordering.{nat_cmp, ordering_then}
+use Rattle.std.specs.Cmp.{nat_cmp_is}
 
 pub ordered_less : {a b : ℕ} → a < b → ordered a b ≡ Less
 unfolding ordered
@@ -46,16 +49,27 @@ pub ordered_scale : (a b : ℕ) {k : ℕ} → 0 < k → ordered (a * k) (b * k) 
 ordered_scale a b {k} p =
     ordered_as a b (λ h. mul-lt-mul_of_pos_right h p) (λ h. ap (λ (n : ℕ). n * k) h) (λ h. mul-lt-mul_of_pos_right h p)
 
--- ---- two numbers with a leading digit each
+-- as `cmp` gives it
+pub ordered_cmp : (a b : ℕ) → nat_cmp a b ≡ ordered a b
+ordered_cmp a b = go (tri a b)
+  where
+    go : (a < b) ⊎ ((a ≡ b) ⊎ (b < a)) → nat_cmp a b ≡ ordered a b
+    go (inl h) = sym (ordered_less h ∙ nat_cmp_is a b Less h)
+    go (inr (inl h)) = sym (ordered_equal h ∙ nat_cmp_is a b Equal h)
+    go (inr (inr h)) = sym (ordered_greater h ∙ nat_cmp_is a b Greater h)
 
-module _ {M A B : ℕ} (x y : ℕ) (hA : A < M) (hB : B < M) where
-  pub first_less : x < y → ordered (x * M + A) (y * M + B) ≡ Less
-  first_less h = ordered_less (lt_of_lt_of_le (digits_lt h hA) (le-add_right (y * M) B))
+-- ---- two numbers with a leading digit each: by the digits, and where these are the same, by the rest
 
-  pub first_greater : y < x → ordered (x * M + A) (y * M + B) ≡ Greater
-  first_greater h = ordered_greater (lt_of_lt_of_le (digits_lt h hB) (le-add_right (x * M) A))
-
-  pub first_same : x ≤ y → y ≤ x → ordered (x * M + A) (y * M + B) ≡ ordered A B
-  first_same h k =
-      ap (λ (n : ℕ). ordered (n * M + A) (y * M + B)) (le_antisymm h k)
-      ∙ ordered_as A B (λ l. omega arith) (λ l. omega arith) (λ l. omega arith)
+pub by_digit : {M A B : ℕ} (x y : ℕ) → A < M → B < M → ordering_then (nat_cmp x y) (ordered A B) ≡ ordered (x * M + A) (y * M + B)
+by_digit {M} {A} {B} x y hA hB = ap (λ (o : Ordering). ordering_then o (ordered A B)) (ordered_cmp x y) ∙ go (tri x y)
+  where
+    go : (x < y) ⊎ ((x ≡ y) ⊎ (y < x)) → ordering_then (ordered x y) (ordered A B) ≡ ordered (x * M + A) (y * M + B)
+    go (inl h) =
+        ap (λ (o : Ordering). ordering_then o (ordered A B)) (ordered_less h)
+        ∙ sym (ordered_less (lt_of_lt_of_le (digits_lt h hA) (le-add_right (y * M) B)))
+    go (inr (inl h)) =
+        ap (λ (o : Ordering). ordering_then o (ordered A B)) (ordered_equal h)
+        ∙ sym (ap (λ (n : ℕ). ordered (n * M + A) (y * M + B)) h ∙ ordered_as A B (λ l. omega arith) (λ l. omega arith) (λ l. omega arith))
+    go (inr (inr h)) =
+        ap (λ (o : Ordering). ordering_then o (ordered A B)) (ordered_greater h)
+        ∙ sym (ordered_greater (lt_of_lt_of_le (digits_lt h hB) (le-add_right (x * M) A)))

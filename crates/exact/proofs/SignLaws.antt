@@ -10,14 +10,14 @@ use lib.Pow.{pow_pos}
 use lib.Ieee.{Float, unlike}
 use borrow.Author.Tests.{eq-eqb, ne_eqb, eqb-true}
 use Rattle.exact.specs.Exact.{coord, ordered, sign, signed, sign_number, signum}
-use Rattle.exact.specs.Inner.{Taken, size, signed_size}
+use Rattle.exact.specs.Inner.{size, signed_size}
 use Rattle.exact.specs.Angle.{part_at, within, cross_product, turn, turn_number, angles, angles_number}
 use Rattle.exact.specs.declared.parts.Parts.{Parts}
 use Rattle.std.specs.declared.cmp.Ordering.{Ordering}
 use Rattle.std.specs.declared.cmp.Ordering.TheVariants.{Less, Equal, Greater}
+use Rattle.std.specs.Ordering.{is_eq}
 use Rattle.exact.proofs.Orders.{ordered_less, ordered_greater, ordered_equal}
 use Rattle.exact.proofs.Integers.{minus_signed, sign_diff, signed_mul}
-use Rattle.exact.proofs.Fields.{coord_of}
 
 -- ---- one number
 
@@ -108,32 +108,28 @@ module _ (a b c d : Parts) where
   cross_greater e f h = apart_pos neg neg' (size a * size b) (size c * size d) e f h ∙ crossed
 
 -- ---- the part of the plane
+
 module _ (x y : Parts) where
-  pub part_below : (y.m ≡ 0 → ⊥) → y.neg ≡ true → 2 ≡ part_at (sign (signed_size x)) (sign (signed_size y))
-  part_below h e = sym (ap (part_at (sign (signed_size x))) (sign_neg y.neg (size y) e (size_some y.m y.e h)))
+  pub part_below : 0 < size y → y.neg ≡ true → 2 ≡ part_at (sign (signed_size x)) (sign (signed_size y))
+  part_below h e = sym (ap (part_at (sign (signed_size x))) (sign_neg y.neg (size y) e h))
 
-  pub part_above : (y.m ≡ 0 → ⊥) → y.neg ≡ false → 0 ≡ part_at (sign (signed_size x)) (sign (signed_size y))
-  part_above h e = sym (ap (part_at (sign (signed_size x))) (sign_pos y.neg (size y) e (size_some y.m y.e h)))
+  pub part_above : 0 < size y → y.neg ≡ false → 0 ≡ part_at (sign (signed_size x)) (sign (signed_size y))
+  part_above h e = sym (ap (part_at (sign (signed_size x))) (sign_pos y.neg (size y) e h))
 
-  pub part_west : (x.m ≡ 0 → ⊥) → x.neg ≡ true → y.m ≡ 0 → 0 ≡ part_at (sign (signed_size x)) (sign (signed_size y))
-  part_west h e z = sym (ap₂ part_at (sign_neg x.neg (size x) e (size_some x.m x.e h)) (sign_none y.neg (size y) (size_none y.m y.e z)))
+  pub part_west : 0 < size x → x.neg ≡ true → size y ≡ 0 → 0 ≡ part_at (sign (signed_size x)) (sign (signed_size y))
+  part_west h e z = sym (ap₂ part_at (sign_neg x.neg (size x) e h) (sign_none y.neg (size y) z))
 
-  pub part_east : (x.m ≡ 0 → ⊥) → x.neg ≡ false → y.m ≡ 0 → 1 ≡ part_at (sign (signed_size x)) (sign (signed_size y))
-  part_east h e z = sym (ap₂ part_at (sign_pos x.neg (size x) e (size_some x.m x.e h)) (sign_none y.neg (size y) (size_none y.m y.e z)))
+  pub part_east : 0 < size x → x.neg ≡ false → size y ≡ 0 → 1 ≡ part_at (sign (signed_size x)) (sign (signed_size y))
+  part_east h e z = sym (ap₂ part_at (sign_pos x.neg (size x) e h) (sign_none y.neg (size y) z))
 
-  pub part_none : x.m ≡ 0 → y.m ≡ 0 → 1 ≡ part_at (sign (signed_size x)) (sign (signed_size y))
-  part_none e z = sym (ap₂ part_at (sign_none x.neg (size x) (size_none x.m x.e e)) (sign_none y.neg (size y) (size_none y.m y.e z)))
+  pub part_none : size x ≡ 0 → size y ≡ 0 → 1 ≡ part_at (sign (signed_size x)) (sign (signed_size y))
+  part_none e z = sym (ap₂ part_at (sign_none x.neg (size x) e) (sign_none y.neg (size y) z))
 
--- ---- a product that is zero, or is not
+-- ---- a size that is zero, or is not
 
-pub vanish_left : (m e n : ℕ) → m ≡ 0 → true ≡ eqb (m * 2 ^ e * n) 0
-vanish_left m e n h = sym (eq-eqb _ 0 (ap (λ (x : ℕ). x * n) (size_none m e h) ∙ zero-mul n))
-
-pub vanish_right : (m e n f : ℕ) → (m ≡ 0 → ⊥) → eqb n 0 ≡ eqb (m * 2 ^ e * (n * 2 ^ f)) 0
-vanish_right m e zero f h = sym (eq-eqb _ 0 (ap (λ (x : ℕ). m * 2 ^ e * x) (zero-mul (2 ^ f)) ∙ mul-zero (m * 2 ^ e)))
-vanish_right m e (suc n) f h =
-    let p = mul-pos (size_some m e h) (size_some (suc n) f (λ q. omega arith)) in
-    ne_eqb (suc n) 0 (λ q. omega arith) ∙ sym (ne_eqb (m * 2 ^ e * (suc n * 2 ^ f)) 0 (λ q. omega arith))
+pub zero_size : (m e : ℕ) → eqb m 0 ≡ eqb (m * 2 ^ e) 0
+zero_size zero e = sym (eq-eqb _ 0 (zero-mul (2 ^ e)))
+zero_size (suc m) e = ne_eqb (suc m) 0 (λ q. omega arith) ∙ sym (ne_eqb _ 0 (λ q. omega (arith, size_some (suc m) e (λ p. omega arith))))
 
 pub none : {r : Bool} (p : ℕ) → r ≡ eqb p 0 → r ≡ true → p ≡ 0
 none p e t = eqb-true p 0 (sym e ∙ t)
@@ -142,17 +138,43 @@ pub some : {r : Bool} (p : ℕ) → r ≡ eqb p 0 → r ≡ false → 0 < p
 some zero e t = absurd (true≢false (sym e ∙ t))
 some (suc p) e t = omega arith
 
+-- a product is zero where its first factor is, and else where its second one is
+pub vanish_left : {r : Bool} (p q : ℕ) → r ≡ eqb p 0 → r ≡ true → true ≡ eqb (p * q) 0
+vanish_left p q e t = sym (eq-eqb _ 0 (ap (λ (x : ℕ). x * q) (none p e t) ∙ zero-mul q))
+
+pub vanish_right : {r s : Bool} (p q : ℕ) → r ≡ eqb p 0 → r ≡ false → s ≡ eqb q 0 → s ≡ eqb (p * q) 0
+vanish_right p zero e t f = f ∙ sym (eq-eqb _ 0 (mul-zero p))
+vanish_right p (suc q) e t f =
+    let h : 0 < p * suc q = mul-pos (some p e t) (omega arith) in
+    f ∙ ne_eqb (suc q) 0 (λ z. omega arith) ∙ sym (ne_eqb (p * suc q) 0 (λ z. omega arith))
+
 -- ---- two directions
 
--- by the parts, where their order is o
-pub by_part : {s t : ℕ} (o : Ordering) (x y x' y' : ℤ) → s ≡ part_at (sign x) (sign y) → t ≡ part_at (sign x') (sign y') → ordered s t ≡ o
-    → within o (cross_product x y x' y') ≡ turn x y x' y'
-by_part o x y x' y' p q h = ap (λ (o : Ordering). within o (cross_product x y x' y')) (sym h ∙ ap₂ (λ (m n : ℕ). ordered m n) p q)
+-- by the parts' order, which is that of their numbers
+by_part : {s t : ℕ} (x y x' y' : ℤ) → s ≡ part_at (sign x) (sign y) → t ≡ part_at (sign x') (sign y') → within (ordered s t) (cross_product x y x' y') ≡ turn x y x' y'
+by_part x y x' y' p q = ap₂ (λ (m n : ℕ). within (ordered m n) (cross_product x y x' y')) p q
 
-pub to_angles : {x y u v : Float} {a b c d : Parts} → Taken x a → Taken y b → Taken u c → Taken v d
-    → turn (signed_size a) (signed_size b) (signed_size c) (signed_size d) ≡ angles x y u v
+pub same_part : {s t : ℕ} {o : Ordering} {b : Bool} (x y x' y' : ℤ) → s ≡ part_at (sign x) (sign y) → t ≡ part_at (sign x') (sign y') → o ≡ ordered s t
+    → b ≡ is_eq o → b ≡ true → sign (cross_product x y x' y') ≡ turn x y x' y'
+same_part {s} {t} {o} x y x' y' p q e f g = go o (sym f ∙ g) ∙ ap (λ (o : Ordering). within o (cross_product x y x' y')) e ∙ by_part x y x' y' p q
+  where
+    go : (o : Ordering) → is_eq o ≡ true → sign (cross_product x y x' y') ≡ within o (cross_product x y x' y')
+    go Less h = absurd (false≢true h)
+    go Equal h = refl
+    go Greater h = absurd (false≢true h)
+
+pub other_part : {s t : ℕ} {o : Ordering} {b : Bool} (x y x' y' : ℤ) → s ≡ part_at (sign x) (sign y) → t ≡ part_at (sign x') (sign y') → o ≡ ordered s t
+    → b ≡ is_eq o → b ≡ false → o ≡ turn x y x' y'
+other_part {s} {t} {o} x y x' y' p q e f g = go o (sym f ∙ g) ∙ ap (λ (o : Ordering). within o (cross_product x y x' y')) e ∙ by_part x y x' y' p q
+  where
+    go : (o : Ordering) → is_eq o ≡ false → o ≡ within o (cross_product x y x' y')
+    go Less h = refl
+    go Equal h = absurd (true≢false h)
+    go Greater h = refl
+
+pub to_angles : (x y u v : Float) {a b c d : ℤ} → a ≡ coord x → b ≡ coord y → c ≡ coord u → d ≡ coord v → turn a b c d ≡ angles x y u v
 unfolding angles
-to_angles ta tb tc td = λ i. turn (coord_of ta i) (coord_of tb i) (coord_of tc i) (coord_of td i)
+to_angles x y u v p q r s = λ i. turn (p i) (q i) (r i) (s i)
 
 -- ---- the answer's number
 

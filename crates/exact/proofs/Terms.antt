@@ -1,21 +1,23 @@
 -- Six signed products added into two rows are the determinant. Assumes nothing.
 use mathlib.Core.Path.{◌≡◌, refl, sym, ap, ap₂, ◌∙◌}
-use mathlib.Core.Bool.{Bool, cond}
+use mathlib.Core.Bool.{Bool, true, false, cond}
 use mathlib.Core.List.{List}
-use Prim.Native.Nat.{ℕ, zero, suc, ◌*◌}
+use Prim.Native.Nat.{ℕ, zero, suc, ◌+◌, ◌*◌, ◌≤◌}
+use native.Mathlib.Nat.{add-zero}
+use Rattle.exact.proofs.Cells.{kept, row_more}
 use native.Mathlib.Omega.{arith}
 use lib.IntN.{ℤ, neg_ℤ, ◌+ℤ◌, ◌-ℤ◌, ◌*ℤ◌}
 use lib.ListN.{get_or, replicate, length-replicate}
 use lib.Ieee.{Float, unlike}
-use Rattle.exact.specs.Exact.{coord, ordered, sign, sign_number, signum}
-use Rattle.exact.specs.Inner.{Taken, size, signed_size}
-use Rattle.exact.specs.InnerRows.{value, Row, RowAdded}
+use Rattle.exact.specs.Exact.{coord, signed, ordered, sign, sign_number, signum}
+use Rattle.exact.specs.Inner.{size, signed_size}
+use Rattle.exact.specs.InnerRows.{value, Row, RowGrown, Filled, net}
+use Rattle.exact.specs.declared.rows.Rows.{Rows}
 use Rattle.exact.specs.Angle.{det, orientation}
 use Rattle.exact.specs.declared.parts.Parts.{Parts}
 use Rattle.std.specs.declared.cmp.Ordering.{Ordering}
-use Rattle.exact.proofs.Fields.{coord_of}
 use Rattle.exact.proofs.SignLaws.{sign_number_lem}
-use Rattle.exact.proofs.Integers.{diff, diff_add, every, six, signed_mul, add_signed, sign_diff}
+use Rattle.exact.proofs.Integers.{diff, diff_add, diff_same, every, six, signed_mul, add_signed, add_negated, minus_signed, sign_diff}
 
 -- ---- an empty row
 
@@ -35,52 +37,76 @@ get_or_zeros (suc n) (suc k) = get_or_zeros n k
 pub zero_row : Row 0 (zeros 136)
 zero_row = record { long = length-replicate {A = ℕ} 136 0; low = λ k. omega (arith, get_or_zeros 136 k) }
 
--- ---- one term
+-- ---- one product more
 
--- the number that two rows stand for
-abbrev pub net : List ℕ → List ℕ → ℤ
-net p n = diff (value p) (value n)
+pub net_is : (r : Rows) → net r ≡ diff (value r.more) (value r.less)
+net_is r = minus_signed false false (value r.more) (value r.less) ∙ diff_same _ _ _ _ (omega arith)
 
-pub term : (u : Bool) (a b : Parts) {p n p' n' : List ℕ} → RowAdded (unlike (unlike a.neg b.neg) u) (size a * size b) p n p' n'
-    → net p' n' ≡ net p n +ℤ cond u (neg_ℤ (signed_size a *ℤ signed_size b)) (signed_size a *ℤ signed_size b)
-term u a b {p} {n} d =
-    ap₂ diff d.more d.less ∙ add_signed u (value p) (value n) (unlike a.neg b.neg) (size a * size b)
-    ∙ ap (λ (z : ℤ). net p n +ℤ cond u (neg_ℤ z) z) (sym (signed_mul a.neg b.neg (size a) (size b)))
+-- the sign of what two rows stand for
+pub net_sign : (r : Rows) → ordered (value r.more) (value r.less) ≡ sign (net r)
+net_sign r = sym (ap sign (net_is r) ∙ sign_diff (value r.more) (value r.less))
+
+one_more : (r r' : Rows) (a b : Parts) (s : Bool) → s ≡ unlike a.neg b.neg
+    → value r'.more ≡ value r.more + cond s 0 (size a * size b) → value r'.less ≡ value r.less + cond s (size a * size b) 0
+    → net r' ≡ net r +ℤ signed_size a *ℤ signed_size b
+one_more r r' a b s h p q =
+    net_is r' ∙ ap₂ diff p q ∙ add_signed (value r.more) (value r.less) s (size a * size b)
+    ∙ ap₂ (λ (x y : ℤ). x +ℤ y) (sym (net_is r)) (ap (λ (t : Bool). signed t (size a * size b)) h ∙ sym (signed_mul a.neg b.neg (size a) (size b)))
+
+module _ (r : Rows) (a b : Parts) {t : ℕ} {xs : List ℕ} where
+  pub taken_away : unlike a.neg b.neg ≡ true → t ≡ size a * size b → RowGrown 2 t r.less xs
+      → net (record { more = r.more; less = xs }) ≡ net r +ℤ signed_size a *ℤ signed_size b
+  taken_away h e g =
+      one_more r (record { more = r.more; less = xs }) a b true (sym h) (sym (add-zero (value r.more))) (g.total ∙ ap (λ (x : ℕ). value r.less + x) e)
+
+  pub added : unlike a.neg b.neg ≡ false → t ≡ size a * size b → RowGrown 2 t r.more xs
+      → net (record { more = xs; less = r.less }) ≡ net r +ℤ signed_size a *ℤ signed_size b
+  added h e g =
+      one_more r (record { more = xs; less = r.less }) a b false (sym h) (g.total ∙ ap (λ (x : ℕ). value r.more + x) e) (sym (add-zero (value r.less)))
+
+module _ {r : Rows} {t : ℕ} {xs : List ℕ} (k : ℕ) (f : Filled k r) where
+  pub filled_less : RowGrown 2 t r.less xs → Filled (k + 2) (record { more = r.more; less = xs })
+  filled_less g = record { more = kept k f.more; less = g.row k f.less }
+
+  pub filled_more : RowGrown 2 t r.more xs → Filled (k + 2) (record { more = xs; less = r.less })
+  filled_more g = record { more = g.row k f.more; less = kept k f.less }
+
+pub filled_up : {m : ℕ} {r : Rows} (n : ℕ) → Filled m r → m ≤ n → Filled n r
+filled_up n f h = record { more = row_more n f.more h; less = row_more n f.less h }
+
+pub no_steps : Filled 0 (record { more = zeros 136; less = zeros 136 })
+no_steps = record { more = zero_row; less = zero_row }
 
 -- ---- all six
 
 nothing : (z : ℤ) → diff 0 0 +ℤ z ≡ z
 nothing = every (λ (z : ℤ). diff 0 0 +ℤ z ≡ z) (λ a b. diff_add 0 0 a b ∙ ap₂ diff (omega arith) (omega arith))
 
-empty : net (zeros 136) (zeros 136) ≡ diff 0 0
-empty = ap₂ diff (value_zeros 136) (value_zeros 136)
+pub none : net (record { more = zeros 136; less = zeros 136 }) ≡ diff 0 0
+none = net_is (record { more = zeros 136; less = zeros 136 }) ∙ ap₂ diff (value_zeros 136) (value_zeros 136)
 
-pub all : (ax ay bx by cx cy d₁ d₂ d₃ d₄ d₅ : ℤ) (p n : List ℕ)
-    → d₁ ≡ net (zeros 136) (zeros 136) +ℤ ax *ℤ by
-    → d₂ ≡ d₁ -ℤ ax *ℤ cy
-    → d₃ ≡ d₂ -ℤ cx *ℤ by
-    → d₄ ≡ d₃ -ℤ ay *ℤ bx
+pub all : (ax ay bx by cx cy : ℤ) {ax' cx' ay' d₀ d₁ d₂ d₃ d₄ d₅ d₆ : ℤ} → ax' ≡ neg_ℤ ax → cx' ≡ neg_ℤ cx → ay' ≡ neg_ℤ ay → d₀ ≡ diff 0 0
+    → d₁ ≡ d₀ +ℤ ax *ℤ by
+    → d₂ ≡ d₁ +ℤ ax' *ℤ cy
+    → d₃ ≡ d₂ +ℤ cx' *ℤ by
+    → d₄ ≡ d₃ +ℤ ay' *ℤ bx
     → d₅ ≡ d₄ +ℤ ay *ℤ cx
-    → net p n ≡ d₅ +ℤ cy *ℤ bx
-    → ordered (value p) (value n) ≡ sign (det ax ay bx by cx cy)
-all ax ay bx by cx cy d₁ d₂ d₃ d₄ d₅ p n e₁ e₂ e₃ e₄ e₅ e₆ =
-    let f₁ : d₁ ≡ ax *ℤ by = e₁ ∙ ap (λ (z : ℤ). z +ℤ ax *ℤ by) empty ∙ nothing (ax *ℤ by) in
-    let f₂ : d₂ ≡ ax *ℤ by -ℤ ax *ℤ cy = e₂ ∙ ap (λ (z : ℤ). z -ℤ ax *ℤ cy) f₁ in
-    let f₃ : d₃ ≡ ax *ℤ by -ℤ ax *ℤ cy -ℤ cx *ℤ by = e₃ ∙ ap (λ (z : ℤ). z -ℤ cx *ℤ by) f₂ in
-    let f₄ : d₄ ≡ ax *ℤ by -ℤ ax *ℤ cy -ℤ cx *ℤ by -ℤ ay *ℤ bx = e₄ ∙ ap (λ (z : ℤ). z -ℤ ay *ℤ bx) f₃ in
-    let f₅ : d₅ ≡ ax *ℤ by -ℤ ax *ℤ cy -ℤ cx *ℤ by -ℤ ay *ℤ bx +ℤ ay *ℤ cx = e₅ ∙ ap (λ (z : ℤ). z +ℤ ay *ℤ cx) f₄ in
-    sym (sign_diff (value p) (value n)) ∙ ap sign (e₆ ∙ ap (λ (z : ℤ). z +ℤ cy *ℤ bx) f₅ ∙ sym (six ax ay bx by cx cy))
+    → d₆ ≡ d₅ +ℤ cy *ℤ bx
+    → d₆ ≡ det ax ay bx by cx cy
+all ax ay bx by cx cy {d₁ = d₁} {d₂ = d₂} {d₃ = d₃} p q r e₀ e₁ e₂ e₃ e₄ e₅ e₆ =
+    let f₁ = e₁ ∙ ap (λ (z : ℤ). z +ℤ ax *ℤ by) e₀ ∙ nothing (ax *ℤ by) in
+    let f₂ = e₂ ∙ ap (λ (z : ℤ). d₁ +ℤ z *ℤ cy) p ∙ add_negated d₁ ax cy ∙ ap (λ (z : ℤ). z -ℤ ax *ℤ cy) f₁ in
+    let f₃ = e₃ ∙ ap (λ (z : ℤ). d₂ +ℤ z *ℤ by) q ∙ add_negated d₂ cx by ∙ ap (λ (z : ℤ). z -ℤ cx *ℤ by) f₂ in
+    let f₄ = e₄ ∙ ap (λ (z : ℤ). d₃ +ℤ z *ℤ bx) r ∙ add_negated d₃ ay bx ∙ ap (λ (z : ℤ). z -ℤ ay *ℤ bx) f₃ in
+    let f₅ = e₅ ∙ ap (λ (z : ℤ). z +ℤ ay *ℤ cx) f₄ in
+    e₆ ∙ ap (λ (z : ℤ). z +ℤ cy *ℤ bx) f₅ ∙ sym (six ax ay bx by cx cy)
 
 -- ---- the floats' determinant is that of their parts
 
--- equal coordinates
-pub same_sign : {a a' b b' c c' d d' e e' f f' : ℤ} → a ≡ a' → b ≡ b' → c ≡ c' → d ≡ d' → e ≡ e' → f ≡ f' → sign (det a b c d e f) ≡ sign (det a' b' c' d' e' f')
-same_sign p q r s t u = λ i. sign (det (p i) (q i) (r i) (s i) (t i) (u i))
-
-pub to_orientation : {ax ay bx by cx cy : Float} {a b c d e f : Parts} → Taken ax a → Taken ay b → Taken bx c → Taken by d → Taken cx e → Taken cy f
-    → sign (det (signed_size a) (signed_size b) (signed_size c) (signed_size d) (signed_size e) (signed_size f)) ≡ orientation ax ay bx by cx cy
+pub to_orientation : (ax ay bx by cx cy : Float) {a b c d e f : ℤ} → a ≡ coord ax → b ≡ coord ay → c ≡ coord bx → d ≡ coord by → e ≡ coord cx → f ≡ coord cy
+    → sign (det a b c d e f) ≡ orientation ax ay bx by cx cy
 unfolding orientation
-to_orientation ta tb tc td te tf = same_sign (coord_of ta) (coord_of tb) (coord_of tc) (coord_of td) (coord_of te) (coord_of tf)
+to_orientation ax ay bx by cx cy p q r s t u = λ i. sign (det (p i) (q i) (r i) (s i) (t i) (u i))
 
 -- ---- the answer's number
 

@@ -5,7 +5,6 @@ use Rattle.std.specs.Float.Ieee.{up, down, size}
 use Rattle.std.specs.declared.cmp.Ordering.{Ordering}
 use Rattle.std.specs.declared.cmp.Ordering.TheVariants.{Less, Equal, Greater}
 use Rattle.std.specs.Ordering.{is_lt, is_gt}
-use Rattle.exact.specs.declared.parts.Parts.{Parts}
 
 -- ---- a float in units of 2 ^ -1074. What is not finite counts as 0.
 
@@ -31,8 +30,8 @@ unfoldable pub coord : Float → ℤ
 coord x = signed (minus x) (mag x)
 
 -- its sign, its significand of 53 binary digits at most, and its exponent, the count of digits beyond those
-unfoldable pub take_apart : Float → Parts
-take_apart x = record { neg = minus x; m = mag x / 2 ^ (size (mag x) - 53); e = size (mag x) - 53 }
+unfoldable pub take_apart : Float → Bool × ℕ × ℕ
+take_apart x = (minus x, mag x / 2 ^ (size (mag x) - 53), size (mag x) - 53)
 
 -- ---- three-way comparisons
 

@@ -1,5 +1,6 @@
 -- Cited only by the contracts of inner functions: a row of cells, each of which counts 2 ^ 32 times the one before, and the number that it stands for. Assumes nothing.
-use Rattle.std.specs.Prelude.{◌≡◌, Bool, cond, List, [], ◌∷◌, ℕ, ◌+◌, ◌*◌, ◌^◌, ◌≤◌, length, get_or}
+use Rattle.std.specs.Prelude.{◌≡◌, ℤ, pos, ◌-ℤ◌, List, [], ◌∷◌, ℕ, ◌+◌, ◌*◌, ◌^◌, ◌≤◌, length, get_or}
+use Rattle.exact.specs.declared.rows.Rows.{Rows}
 
 unfoldable pub value : List ℕ → ℕ
 value [] = 0
@@ -15,9 +16,10 @@ pub record RowGrown (steps t : ℕ) (xs ys : List ℕ) : Type 0 where
   pub total : value ys ≡ value xs + t
   pub row : (k : ℕ) → Row k xs → Row (k + steps) ys
 
--- the number that two rows stand for, p less n, has grown by t, or fallen by it where s is true
-pub record RowAdded (s : Bool) (t : ℕ) (p n p' n' : List ℕ) : Type 0 where
-  pub more : value p' ≡ value p + cond s 0 t
-  pub less : value n' ≡ value n + cond s t 0
-  pub row : (k : ℕ) → Row k p → Row (k + 2) p'
-  pub row' : (k : ℕ) → Row k n → Row (k + 2) n'
+-- both rows, and the number that they stand for
+pub record Filled (n : ℕ) (r : Rows) : Type 0 where
+  pub more : Row n r.more
+  pub less : Row n r.less
+
+abbrev pub net : Rows → ℤ
+net r = pos (value r.more) -ℤ pos (value r.less)

@@ -1,44 +1,25 @@
-// The sign of a · b − c · d.
-ghost use Rattle.std.specs.Prelude.{◌≡◌, ◌*◌, eqb, ◌-ℤ◌, ◌*ℤ◌};
-ghost use Rattle.exact.specs.Exact.{ordered, sign};
-ghost use Rattle.exact.specs.Inner.{Short, signed_size, size};
+// The sign of v.x · w.y − v.y · w.x.
+ghost use Rattle.std.specs.Prelude.{◌≡◌};
+ghost use Rattle.exact.specs.Exact.{sign};
+ghost use Rattle.exact.specs.Inner.{cross_of};
 
-use crate::parts::Parts;
-use crate::words::{compare_scaled, product};
+use crate::vectors::Vector;
 use std::cmp::Ordering;
 
-// |a · b| against |c · d|, by the leading bits first.
-fn compare_products(a: Parts, b: Parts, c: Parts, d: Parts) -> Ordering
-    requires { (Short a) × (Short b) × (Short c) × (Short d) }
-    ensures { result ≡ ordered (size a * size b) (size c * size d) }
+// Inlined, as a call would pass the vectors through memory.
+#[inline(always)]
+pub(crate) fn cross_sign(v: Vector, w: Vector) -> Ordering
+    ensures { result ≡ sign (cross_of v w) }
 {
-    compare_scaled(product(a.m, b.m), a.e + b.e, product(c.m, d.m), c.e + d.e)
-}
-
-// Whether the product of a and b is zero.
-fn vanishes(a: Parts, b: Parts) -> bool
-    ensures { result ≡ eqb (size a * size b) 0 }
-{
-    if a.m == 0 { true } else { b.m == 0 }
-}
-
-pub(crate) fn cross_sign(a: Parts, b: Parts, c: Parts, d: Parts) -> Ordering
-    requires { (Short a) × (Short b) × (Short c) × (Short d) }
-    ensures { result ≡ sign (signed_size a *ℤ signed_size b -ℤ signed_size c *ℤ signed_size d) }
-{
-    let s = a.neg != b.neg;
-    let t = c.neg != d.neg;
+    let s = v.x.neg != w.y.neg;
+    let t = v.y.neg != w.x.neg;
     if s == t {
-        return if s {
-            compare_products(c, d, a, b)
-        } else {
-            compare_products(a, b, c, d)
-        };
+        let p = v.x.times(w.y);
+        let q = v.y.times(w.x);
+        return if s { q.compare(p) } else { p.compare(q) };
     }
-    if vanishes(a, b) {
-        if vanishes(c, d) {
-            return Ordering::Equal;
-        }
+    if v.x.vanishes(w.y) && v.y.vanishes(w.x) {
+        return Ordering::Equal;
     }
     if s { Ordering::Less } else { Ordering::Greater }
 }

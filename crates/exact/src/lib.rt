@@ -4,13 +4,16 @@
 #![tactic(auto)]
 
 mod angle; // the order of directions
-mod cross; // the sign of a · b − c · d
+mod cross; // the sign of a cross product
+mod floats; // an f64 taken apart by its bits
 mod near; // orientation where the exponents are close
 mod orient; // orientation, by the path that fits
-mod parts; // an f64 taken apart by its bits
+mod parts; // numbers by sign, significand and exponent
+mod products; // the sizes of products
 mod rows; // orientation whatever the exponents
-mod words; // numbers of two words
+mod vectors; // points and directions of such numbers
 
 pub use angle::{compare_angles, compare_around};
+pub use floats::is_finite;
 pub use orient::orient2d;
-pub use parts::{Parts, is_finite};
+pub use parts::Parts;

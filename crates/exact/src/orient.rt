@@ -2,11 +2,12 @@
 ghost use Rattle.std.specs.Prelude.{◌≡◌, ◌≤◌};
 ghost use Rattle.exact.specs.Exact.{coord, sign_number, signum};
 ghost use Rattle.exact.specs.Angle.{det, orientation};
-ghost use Rattle.exact.specs.InnerNear.{Holds};
+ghost use Rattle.exact.specs.InnerNear.{Holds, HoldsBoth};
 
 use crate::near::orient_near;
-use crate::parts::{Parts, take_apart};
+use crate::parts::Parts;
 use crate::rows::orient_far;
+use crate::vectors::Vector;
 use plane::Point;
 use std::cmp::Ordering;
 
@@ -17,23 +18,30 @@ pub(crate) struct Window {
     pub(crate) top: usize,
 }
 
-fn widen(w: Window, p: Parts) -> Window
-    ensures { (Holds result p) × (result.base ≤ w.base) × (w.top ≤ result.top) }
-{
-    if p.m == 0 {
-        return w;
+impl Window {
+    fn widened(self, p: Parts) -> Window
+        ensures { (Holds result p) × (result.base ≤ self.base) × (self.top ≤ result.top) }
+    {
+        if p.is_zero() {
+            return self;
+        }
+        Window {
+            base: p.e.min(self.base),
+            top: p.e.max(self.top),
+        }
     }
-    Window {
-        base: p.e.min(w.base),
-        top: p.e.max(w.top),
-    }
-}
 
-fn spread(a: Parts, b: Parts, c: Parts, d: Parts, e: Parts, f: Parts) -> Window
-    ensures { (Holds result a) × (Holds result b) × (Holds result c) × (Holds result d) × (Holds result e) × (Holds result f) × (result.base ≤ 2045) }
-{
-    let w = Window { base: 2045, top: 0 };
-    widen(widen(widen(widen(widen(widen(w, a), b), c), d), e), f)
+    fn of(a: Vector, b: Vector, c: Vector) -> Window
+        ensures { (HoldsBoth result a) × (HoldsBoth result b) × (HoldsBoth result c) × (result.base ≤ 2045) }
+    {
+        let none = Window { base: 2045, top: 0 };
+        none.widened(a.x)
+            .widened(a.y)
+            .widened(b.x)
+            .widened(b.y)
+            .widened(c.x)
+            .widened(c.y)
+    }
 }
 
 // The sign of (a.x−c.x)(b.y−c.y) − (a.y−c.y)(b.x−c.x): greater than 0 where c lies to the left of
@@ -42,16 +50,13 @@ pub fn orient2d(a: Point, b: Point, c: Point) -> Ordering
     ensures value { result ≡ orientation a.x a.y b.x b.y c.x c.y }
     ensures number { sign_number result ≡ signum (det (coord a.x) (coord a.y) (coord b.x) (coord b.y) (coord c.x) (coord c.y)) }
 {
-    let pax = take_apart(a.x);
-    let pay = take_apart(a.y);
-    let pbx = take_apart(b.x);
-    let pby = take_apart(b.y);
-    let pcx = take_apart(c.x);
-    let pcy = take_apart(c.y);
-    let w = spread(pax, pay, pbx, pby, pcx, pcy);
+    let a = Vector::of(a);
+    let b = Vector::of(b);
+    let c = Vector::of(c);
+    let w = Window::of(a, b, c);
     if w.top <= w.base + 9 {
-        orient_near(pax, pay, pbx, pby, pcx, pcy, w.base)
+        orient_near(a, b, c, w.base)
     } else {
-        orient_far(pax, pay, pbx, pby, pcx, pcy)
+        orient_far(a, b, c)
     }
 }

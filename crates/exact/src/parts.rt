@@ -1,54 +1,68 @@
-// An f64 taken apart by its bits.
-ghost use Rattle.std.specs.Prelude.{◌≡◌, T};
-ghost use Rattle.std.specs.Float.Ieee.Scale.{finite};
-ghost use Rattle.exact.specs.Exact.{take_apart};
-ghost use Rattle.exact.specs.Inner.{Taken};
+// Numbers by their sign, significand and exponent.
+ghost use Rattle.std.specs.Prelude.{◌<◌, ◌≤◌, ◌^◌};
 
-// The number ±m · 2^e, in units of 2^-1074.
+use crate::products::Product;
+
+// A float as ±m · 2^e, in units of 2^-1074. The sign stands beside m, since a zero has one too.
 #[derive(Clone, Copy)]
 pub struct Parts {
     pub neg: bool,
     pub m: u64,
     pub e: usize,
+    ghost digits: { m < 2 ^ 53 },
+    ghost range: { e ≤ 2045 },
 }
 
-// Whether x is a number, and no infinity.
-pub fn is_finite(x: f64) -> bool
-    ensures { result ≡ finite x }
-{
-    (x < 1.0 / 0.0) & (-1.0 / 0.0 < x)
-}
+impl Parts {
+    ghost use Rattle.std.specs.Prelude.{◌≡◌, ◌==◌, ◌*◌, neg_ℤ};
+    ghost use Rattle.exact.specs.Inner.{signed_size, size, product_size};
+    ghost use Rattle.exact.specs.InnerNear.{Close, Over};
 
-// The sign, the significand and the exponent of a float. What is not finite counts as 0.
-pub(crate) fn take_apart(x: f64) -> Parts
-    ensures value { result ≡ take_apart x }
-    ensures taken { Taken x result }
-{
-    if is_finite(x) {
-        return take_finite(x);
+    pub(crate) fn is_zero(self) -> bool
+        ensures { result ≡ (size self == 0) }
+    {
+        self.m == 0
     }
-    Parts {
-        neg: false,
-        m: 0,
-        e: 0,
-    }
-}
 
-fn take_finite(x: f64) -> Parts
-    requires { T (finite x) }
-    ensures { Taken x result }
-{
-    let b = f64::to_bits(x);
-    let neg = b >= 0x8000_0000_0000_0000;
-    let t = b % 0x0010_0000_0000_0000;
-    let f = b % 0x8000_0000_0000_0000 / 0x0010_0000_0000_0000;
-    if f == 0 {
-        Parts { neg, m: t, e: 0 }
-    } else {
+    // Whether the product is zero.
+    pub(crate) fn vanishes(self, other: Parts) -> bool
+        ensures { result ≡ (size self * size other == 0) }
+    {
+        if self.is_zero() {
+            return true;
+        }
+        other.is_zero()
+    }
+
+    pub(crate) fn negated(self) -> Parts
+        ensures { signed_size result ≡ neg_ℤ (signed_size self) }
+    {
         Parts {
-            neg,
-            m: 0x0010_0000_0000_0000 + t,
-            e: (f - 1) as usize,
+            neg: !self.neg,
+            m: self.m,
+            e: self.e,
+        }
+    }
+
+    // The same number, counted in units of 2^base.
+    pub(crate) fn over(self, base: usize) -> i64
+        requires { Close base self }
+        ensures { Over base self result }
+    {
+        if self.m == 0 {
+            return 0;
+        }
+        let m = (self.m << (self.e - base)) as i64;
+        if self.neg { -m } else { m }
+    }
+
+    // The size of the product.
+    pub(crate) fn times(self, other: Parts) -> Product
+        ensures { product_size result ≡ size self * size other }
+    {
+        Product {
+            w: self.m as u128 * other.m as u128,
+            e: self.e + other.e,
         }
     }
 }

@@ -1,15 +1,21 @@
 // Orientation whatever the exponents: six products added into two rows of cells, one for what is
 // added and one for what is taken away. A cell is worth 2^32 times the one before.
-ghost use Rattle.std.specs.Prelude.{◌≡◌, ◌*◌, ◌^◌, ◌<◌};
-ghost use Rattle.std.specs.Float.Ieee.{unlike};
-ghost use Rattle.exact.specs.Exact.{ordered, sign};
-ghost use Rattle.exact.specs.Angle.{det};
-ghost use Rattle.exact.specs.Inner.{Short, signed_size, size};
-ghost use Rattle.exact.specs.InnerRows.{RowAdded, RowGrown, Row, value};
+ghost use Rattle.std.specs.Prelude.{◌≡◌, ◌*◌, ◌^◌, ◌<◌, ◌+ℤ◌, ◌*ℤ◌, ℕ, ◌+◌};
+ghost use Rattle.exact.specs.Exact.{sign};
+ghost use Rattle.exact.specs.Inner.{det_of, product_size, signed_size};
+ghost use Rattle.exact.specs.InnerRows.{RowGrown, Row, Filled, net};
 
 use crate::parts::Parts;
-use crate::words::product;
+use crate::products::Product;
+use crate::vectors::Vector;
 use std::cmp::Ordering;
+
+// The number of the first row less that of the second.
+#[derive(Drop)]
+pub(crate) struct Rows {
+    pub(crate) more: [u64; 136],
+    pub(crate) less: [u64; 136],
+}
 
 // v · 2^e is added to the number that the cells stand for. Nothing is carried.
 fn add_word(acc: &mut [u64; 136], v: u64, e: usize)
@@ -25,79 +31,61 @@ fn add_word(acc: &mut [u64; 136], v: u64, e: usize)
     acc[j + 2] += b / 0x1_0000_0000;
 }
 
-fn add_product(acc: &mut [u64; 136], a: Parts, b: Parts)
-    requires { (Short a) × (Short b) × Row 60 acc.old }
-    ensures { RowGrown 2 (size a * size b) acc.old acc.new }
+fn add_product(acc: &mut [u64; 136], p: Product)
+    requires { Row 60 acc.old }
+    ensures { RowGrown 2 (product_size p) acc.old acc.new }
 {
-    let w = product(a.m, b.m);
-    let e = a.e + b.e;
-    add_word(acc, w.lo, e);
-    add_word(acc, w.hi, e + 64);
+    add_word(acc, (p.w % 0x1_0000_0000_0000_0000) as u64, p.e);
+    add_word(acc, (p.w >> 64) as u64, p.e + 64);
 }
 
-// The product of a and b, or where minus is true its negative, is added to p less n.
-fn add_term(p: &mut [u64; 136], n: &mut [u64; 136], a: Parts, b: Parts, minus: bool)
-    requires { (Short a) × (Short b) × Row 60 p.old × Row 60 n.old }
-    ensures { RowAdded (unlike (unlike a.neg b.neg) minus) (size a * size b) p.old n.old p.new n.new }
-{
-    if (a.neg != b.neg) != minus {
-        add_product(n, a, b);
-    } else {
-        add_product(p, a, b);
-    }
-}
-
-// The two numbers compared, from the lowest cells up, each carry taken along.
-fn compare_cells(p: &[u64; 136], n: &[u64; 136]) -> Ordering
-    requires { Row 64 p.now × Row 64 n.now }
-    ensures { result ≡ ordered (value p.now) (value n.now) }
-{
-    let mut order = Ordering::Equal;
-    let mut u: u64 = 0;
-    let mut v: u64 = 0;
-    let mut i: usize = 0;
-    while i < 136 {
-        let a = p[i] + u;
-        let b = n[i] + v;
-        let x = a % 0x1_0000_0000;
-        let y = b % 0x1_0000_0000;
-        if x < y {
-            order = Ordering::Less;
-        } else if y < x {
-            order = Ordering::Greater;
+impl Rows {
+    // Adds the product of a and b.
+    fn add(&mut self, a: Parts, b: Parts)
+        requires { Filled 60 self.old }
+        ensures total { net self.new ≡ net self.old +ℤ signed_size a *ℤ signed_size b }
+        ensures filled { (k : ℕ) → Filled k self.old → Filled (k + 2) self.new }
+    {
+        if a.neg != b.neg {
+            add_product(&mut self.less, a.times(b));
+        } else {
+            add_product(&mut self.more, a.times(b));
         }
-        u = a / 0x1_0000_0000;
-        v = b / 0x1_0000_0000;
-        i += 1;
     }
-    if u < v {
-        Ordering::Less
-    } else if v < u {
-        Ordering::Greater
-    } else {
-        order
+
+    // From the lowest cells up, each carry taken along.
+    fn sign(&self) -> Ordering
+        requires { Filled 64 self.now }
+        ensures { result ≡ sign (net self.now) }
+    {
+        let mut order = Ordering::Equal;
+        let mut u: u64 = 0;
+        let mut v: u64 = 0;
+        for (p, n) in self.more.iter().zip(&self.less) {
+            let a = *p + u;
+            let b = *n + v;
+            order = (a % 0x1_0000_0000).cmp(&(b % 0x1_0000_0000)).then(order);
+            u = a / 0x1_0000_0000;
+            v = b / 0x1_0000_0000;
+        }
+        u.cmp(&v).then(order)
     }
 }
 
-// The sign of (ax−cx)(by−cy) − (ay−cy)(bx−cx).
-pub(crate) fn orient_far(
-    ax: Parts,
-    ay: Parts,
-    bx: Parts,
-    by: Parts,
-    cx: Parts,
-    cy: Parts,
-) -> Ordering
-    requires { (Short ax) × (Short ay) × (Short bx) × (Short by) × (Short cx) × (Short cy) }
-    ensures { result ≡ sign (det (signed_size ax) (signed_size ay) (signed_size bx) (signed_size by) (signed_size cx) (signed_size cy)) }
+// The sign of (a.x−c.x)(b.y−c.y) − (a.y−c.y)(b.x−c.x). Inlined, as a call would pass the vectors through memory.
+#[inline(always)]
+pub(crate) fn orient_far(a: Vector, b: Vector, c: Vector) -> Ordering
+    ensures { result ≡ sign (det_of a b c) }
 {
-    let mut p = [0u64; 136];
-    let mut n = [0u64; 136];
-    add_term(&mut p, &mut n, ax, by, false);
-    add_term(&mut p, &mut n, ax, cy, true);
-    add_term(&mut p, &mut n, cx, by, true);
-    add_term(&mut p, &mut n, ay, bx, true);
-    add_term(&mut p, &mut n, ay, cx, false);
-    add_term(&mut p, &mut n, cy, bx, false);
-    compare_cells(&p, &n)
+    let mut rows = Rows {
+        more: [0; 136],
+        less: [0; 136],
+    };
+    rows.add(a.x, b.y);
+    rows.add(a.x.negated(), c.y);
+    rows.add(c.x.negated(), b.y);
+    rows.add(a.y.negated(), b.x);
+    rows.add(a.y, c.x);
+    rows.add(c.y, b.x);
+    rows.sign()
 }

@@ -3,14 +3,8 @@ use native.Mathlib.Omega.{arith}
 use Rattle.exact.proofs.Cells.{row_more, grown_product}
 use Rattle.exact.proofs.rows.add_product.Goals as goal
 
-pub add_word-requires : goal.add_word-requires
-add_word-requires c =
-    (omega arith, row_more 64 c.requires.2 (omega arith))
-
 pub add_word-requires-2 : goal.add_word-requires-2
-add_word-requires-2 c =
-    (omega arith, row_more 64 (c.add_word.ensures.row 60 c.requires.2) (omega arith))
+add_word-requires-2 c = (omega (arith, c.args.p.range), row_more 64 (c.add_word.ensures.row 60 c.requires) (omega arith))
 
 pub returns : goal.returns
-returns c =
-    grown_product _ _ _ _ _ _ _ _ _ c.add_word.ensures c.add_word-2.ensures c.product-w.ensures
+returns c = grown_product c.args.p.w c.args.p.e c.add_word.ensures c.add_word-2.ensures

@@ -1,0 +1,48 @@
+// The sizes of products, and how they compare.
+ghost use Rattle.std.specs.Prelude.{◌≤◌};
+
+use std::cmp::Ordering;
+
+// The number w · 2^e.
+#[derive(Clone, Copy)]
+pub(crate) struct Product {
+    pub(crate) w: u128,
+    pub(crate) e: usize,
+    ghost range: { e ≤ 4090 },
+}
+
+impl Product {
+    ghost use Rattle.std.specs.Prelude.{◌≡◌};
+    ghost use Rattle.exact.specs.Exact.{ordered};
+    ghost use Rattle.exact.specs.Inner.{Lead, product_size};
+
+    // How many zeros stand above the leading bit of w, by its high word and its low one: 128 for 0.
+    fn lead(self) -> u32
+        ensures { Lead self.w result }
+    {
+        let high = (self.w >> 64) as u64;
+        if high != 0 {
+            high.leading_zeros()
+        } else {
+            64 + (self.w as u64).leading_zeros()
+        }
+    }
+
+    // By the places of the leading bits, and where those are the same, by the digits, each number
+    // moved up until its leading bit is at the top.
+    pub(crate) fn compare(self, other: Product) -> Ordering
+        ensures { result ≡ ordered (product_size self) (product_size other) }
+    {
+        let i = self.lead();
+        let j = other.lead();
+        if i == 128 || j == 128 {
+            return j.cmp(&i);
+        }
+        let s = self.e + j as usize;
+        let t = other.e + i as usize;
+        if s != t {
+            return s.cmp(&t);
+        }
+        (self.w << i).cmp(&(other.w << j))
+    }
+}
