@@ -1,5 +1,5 @@
 // Refusal 2: the shape of a mesh's lists.
-ghost use Rattle.std.specs.Prelude.{◌≡◌, length};
+ghost use Rattle.std.specs.Prelude.{◌≡◌};
 ghost use Rattle.entry.specs.Mesh.{mesh_of};
 ghost use Rattle.entry.specs.Refused.{ends_ok, shape_ok};
 

@@ -1,7 +1,7 @@
 // The geometry layer for C and Rust programs: numbers in the place of structs and enums, points written into lent lists.
 #![tactic(auto)]
 
-ghost use Rattle.std.specs.Prelude.{◌≡◌, true, false, ◌≤◌};
+ghost use Rattle.std.specs.Prelude.{◌≡◌};
 ghost use Rattle.exact.specs.Angle.{orientation, angles};
 ghost use Rattle.segments.specs.Meet.{meeting};
 ghost use Rattle.corners.specs.Corners.{oriented, turned};
@@ -20,7 +20,7 @@ fn point_of(x: f64, y: f64) -> Point
     Point { x, y }
 }
 
-// 0 below, 1 zero, 2 above.
+// 0 below, 1 zero, 2 above. No From: both types are std's.
 fn side_number(o: Ordering) -> u8
     ensures { result ≡ side_number o }
 {

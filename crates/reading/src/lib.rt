@@ -1,7 +1,7 @@
 // Reading an input of the program into lent lists.
 #![tactic(auto)]
 
-ghost use Rattle.std.specs.Prelude.{◌≡◌, ◌*◌, ◌/◌, ◌≤◌, min, length, IfSome};
+ghost use Rattle.std.specs.Prelude.{◌≡◌, ◌*◌, ◌/◌, ◌≤◌, length, IfSome};
 ghost use Rattle.text.specs.Read.{mesh_from, input_from};
 ghost use Rattle.text.specs.Given.{at_most};
 ghost use Rattle.reading_lines.specs.Lines.{read_by};

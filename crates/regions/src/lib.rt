@@ -5,21 +5,21 @@ ghost use Rattle.std.specs.Prelude.{◌≡◌, length};
 ghost use Rattle.regions.specs.Runs.{Within, run_in};
 
 // From `from` up to `end`.
-#[derive(Clone, Copy)]
+#[derive(Clone, Copy, Debug, PartialEq, Eq)]
 pub struct Run {
     pub from: usize,
     pub end: usize,
 }
 
 // Of one mesh: its edges, two numbers each, and the node entries of its cells, under one numbering of both meshes.
-#[derive(Clone, Copy)]
+#[derive(Clone, Copy, Debug, PartialEq, Eq)]
 pub struct MeshRuns {
     pub edges: Run,
     pub entries: Run,
 }
 
 // The two meshes; the meetings, five numbers each, and the links that chain them.
-#[derive(Clone, Copy)]
+#[derive(Clone, Copy, Debug, PartialEq, Eq)]
 pub struct Regions {
     pub subject: MeshRuns,
     pub cutter: MeshRuns,
@@ -28,13 +28,13 @@ pub struct Regions {
 }
 
 // The indexes of one mesh, of its edges and of its cells.
-#[derive(Clone, Copy)]
+#[derive(Clone, Copy, Debug, PartialEq, Eq)]
 pub struct MeshIndex {
     pub edges: Run,
     pub cells: Run,
 }
 
-#[derive(Clone, Copy)]
+#[derive(Clone, Copy, Debug, PartialEq, Eq)]
 pub struct Indexes {
     pub subject: MeshIndex,
     pub cutter: MeshIndex,
