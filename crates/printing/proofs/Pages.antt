@@ -10,8 +10,9 @@ use borrow.Author.Tests.{lt-ltb, le-ltb, le-leb, lt-leb, ltb-true, ltb-false}
 use lib.Dec.{ltb, leb}
 use lib.ListN.{length, get_or, set, take, drop, length-set, drop_of_length-le, take-append-drop}
 use lib.Seq.{drop-cons, take-suc-set, drop-set-lt, take_all, append_snoc}
-use Rattle.std.specs.Prelude.{Ok, Err, IsErr}
-use Rattle.std.proofs.lemmas.Bool.{false≢true}
+use Rattle.std.specs.Prelude.{Ok}
+use Rattle.printing.specs.declared.writer.Writer.{Writer}
+use Rattle.printing.specs.Written.{page_of, Wrote}
 use Rattle.printing.specs.Page.{Place, full, Prints, Page, page, byte, page_with, room_for, laid_over}
 
 -- a text after a text
@@ -39,16 +40,6 @@ module _ (o : List ℕ) (p b : ℕ) (t : List ℕ) where
   cons_full : length o ≤ p → page_with (page (Ok p) o) (b ∷ t) ≡ page full o
   unfolding page_with page byte
   cons_full h = ap (λ (x : Bool). page_with (cond x (page (Ok (p + 1)) (set o p b)) (page full o)) t) (le-ltb _ _ h) ∙ written_full o t
-
-module _ (o w : List ℕ) (p i : ℕ) where
-  pub bytes_end : length w ≤ i → page_with (page (Ok p) o) (drop i w) ≡ page (Ok p) o
-  bytes_end h = rw (drop_of_length-le w h) (written_nil (page (Ok p) o))
-
-  pub bytes_full : i < length w → length o ≤ p → page_with (page (Ok p) o) (drop i w) ≡ page full o
-  bytes_full h g = rw (drop-cons w i 0 h) (cons_full o p (get_or w i 0) (drop (suc i) w) g)
-
-  pub bytes_turn : i < length w → p < length o → page_with (page (Ok p) o) (drop i w) ≡ page_with (page (Ok (p + 1)) (set o p (get_or w i 0))) (drop (i + 1) w)
-  bytes_turn h g = rw (drop-cons w i 0 h, add-one i) (cons_fits o p (get_or w i 0) (drop (suc i) w) g)
 
 -- ---- what a list holds after a text
 -- the place after n bytes from p on, in a list of m
@@ -108,30 +99,36 @@ pub parts : {p q : Place} {o u : List ℕ} → page p o ≡ page q u → (p ≡ 
 unfolding page
 parts e = (ap (λ (g : Page). g.place) e, ap (λ (g : Page). g.bytes) e)
 
--- one text, then another
-pub then : {g₁ g₂ : Page} (g : Page) (t u : List ℕ) → g₁ ≡ page_with g t → g₂ ≡ page_with g₁ u → g₂ ≡ page_with g (t ++ u)
-then g t u e f = f ∙ ap (λ (x : Page). page_with x u) e ∙ sym (written_append g t u)
-
-is_full : (r : Place) → IsErr r → r ≡ full
-is_full (Ok p) h = absurd (false≢true h)
-is_full (Err e) h = refl
-
--- a text that the list cuts off, and what would have come after it
-pub stopped : (r : Place) (o : List ℕ) (g : Page) (t u : List ℕ) → page full o ≡ page_with g t → IsErr r → page r o ≡ page_with g (t ++ u)
-stopped r o g t u e h = rw (is_full r h) (then g t u e (sym (written_full o u)))
-
--- a loop's turn: what is left begins with t
-pub turn : {g₁ : Page} {rest : List ℕ} (g : Page) (t rest₁ : List ℕ) → rest ≡ t ++ rest₁ → g₁ ≡ page_with g t → page_with g₁ rest₁ ≡ page_with g rest
-turn g t rest₁ e f = rw (f, e) (sym (written_append g t rest₁))
-
--- the list cuts a turn's text off
-pub cut : (r : Place) (o : List ℕ) {rest : List ℕ} (g : Page) (t rest₁ : List ℕ) → rest ≡ t ++ rest₁ → page full o ≡ page_with g t → IsErr r
-    → page r o ≡ page_with g rest
-cut r o g t rest₁ e f h = rw e (stopped r o g t rest₁ f h)
-
-pub ended : {rest : List ℕ} (g : Page) → rest ≡ [] → page_with g rest ≡ g
-ended g e = rw e (written_nil g)
-
 -- what a call leaves that writes the text t from the first place on
-pub printed : {r : Place} {u : List ℕ} (o t : List ℕ) {t' : List ℕ} → t ≡ t' → page r u ≡ page_with (page (Ok 0) o) t → Prints r o u t'
-printed o t h e = let (p, b) = parts (e ∙ whole o t) in rw (← h) (record { place = p; bytes = b })
+pub printed : {v w : Writer} {t : List ℕ} → Wrote v w t → v.place ≡ Ok 0 → Prints w.place v.bytes.now w.bytes.now t
+printed {v} {w} {t} h e =
+    let (p, b) = parts (h.text ∙ ap (λ (x : Place). page_with (page x v.bytes.now) t) e ∙ whole v.bytes.now t) in
+    record { place = p; bytes = b }
+
+-- one text, then another
+pub then : {u v w : Writer} {s t : List ℕ} → Wrote u v s → Wrote v w t → Wrote u w (s ++ t)
+then {u} {s = s} {t} g h =
+    record { text = h.text ∙ ap (λ (x : Page). page_with x t) g.text ∙ sym (written_append (page_of u) s t); list = h.list ∙ g.list }
+
+-- ---- a loop that writes: u began to write the text t, v has `rest` of it left
+pub record Left (u v : Writer) (rest t : List ℕ) : Type 0 where
+  pub text : page_with (page_of v) rest ≡ page_with (page_of u) t
+  pub list : v.bytes.ghost_name ≡ u.bytes.ghost_name
+
+pub start : {u : Writer} {rest t : List ℕ} → rest ≡ t → Left u u rest t
+start {u} e = record { text = ap (page_with (page_of u)) e; list = refl }
+
+-- what is left begins with s
+pub turn : {u v w : Writer} {s rest rest₁ t : List ℕ} → Left u v rest t → rest ≡ s ++ rest₁ → Wrote v w s → Left u w rest₁ t
+turn {v = v} {s = s} {rest₁ = rest₁} l e h = record { text = rw (h.text, ← written_append (page_of v) s rest₁, ← e) l.text; list = h.list ∙ l.list }
+
+pub ended : {u v : Writer} {rest t : List ℕ} → Left u v rest t → rest ≡ [] → Wrote u v t
+ended {v = v} l e = record { text = sym (written_nil (page_of v)) ∙ ap (page_with (page_of v)) (sym e) ∙ l.text; list = l.list }
+
+-- what is left of a list of bytes
+module _ (w : List ℕ) (i : ℕ) where
+  pub bytes_end : length w ≤ i → drop i w ≡ []
+  bytes_end h = drop_of_length-le w h
+
+  pub bytes_turn : i < length w → drop i w ≡ (get_or w i 0 ∷ []) ++ drop (i + 1) w
+  bytes_turn h = rw (drop-cons w i 0 h, add-one i)

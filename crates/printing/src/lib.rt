@@ -1,15 +1,16 @@
 // Printing the program's text into a lent list.
 #![tactic(auto)]
 
-ghost use Rattle.std.specs.Prelude.{◌≡◌, Ok};
 ghost use Rattle.text.specs.Text.{listing_text, answer_text};
-ghost use Rattle.printing.specs.Page.{page, page_with, Prints};
+ghost use Rattle.printing.specs.Page.{Prints};
 ghost use Rattle.printing.specs.Told.{bits, lines_of, told};
+ghost use Rattle.printing.specs.Written.{Wrote};
 
 mod digits;
 mod lines;
+mod writer;
 
-use lines::{put, put_line, put_nodes, put_pieces};
+use writer::Writer;
 
 // the list ends before the text
 #[derive(Clone, Copy, Debug, PartialEq, Eq)]
@@ -23,7 +24,8 @@ pub struct Counts {
     pub doubled: u32,
 }
 
-// what the program has to say; of an overlay, how many nodes the lists hold, and what was counted
+// what the program has to say, in three cases: a refusal by its number, as an overlay answers it; of an overlay, how many nodes the lists hold, and what was
+// counted
 #[derive(Clone, Copy, Debug, PartialEq, Eq)]
 pub enum Answer {
     Unread,
@@ -43,34 +45,47 @@ pub struct Listing<'a> {
     pub cells: &'a [u32],
 }
 
-fn put_listing(out: &mut [u8], lists: &Listing, counts: Counts) -> Result<usize, Full>
-    ensures { page result out.new ≡ page_with (page (Ok 0) out.old) (listing_text (bits lists.now.coords.now)
-        (lines_of lists.now) counts.pieces counts.points counts.doubled) }
-{
-    let at = put(out, 0, b"(overlay\n")?;
-    let at = put_nodes(out, at, lists.coords)?;
-    let at = put_pieces(out, at, lists)?;
-    let numbers = [counts.pieces, counts.points, counts.doubled];
-    let at = put_line(out, at, b"(count", &numbers)?;
-    put(out, at, b")\n")
+impl<'a> Writer<'a> {
+    fn put_listing(&mut self, lists: &Listing, counts: Counts)
+        ensures { Wrote self.old self.new (listing_text (bits lists.now.coords.now)
+            (lines_of lists.now) counts.pieces counts.points counts.doubled) }
+    {
+        let numbers = [counts.pieces, counts.points, counts.doubled];
+        self.put(b"(overlay\n");
+        self.put_nodes(lists.coords);
+        self.put_pieces(lists);
+        self.put_line(b"(count", &numbers);
+        self.put(b")\n");
+    }
+
+    fn put_answer(&mut self, answer: Answer, lists: &Listing)
+        ensures { Wrote self.old self.new (answer_text (told answer lists.now)) }
+    {
+        match answer {
+            Answer::Unread => self.put(b"(unread)\n"),
+            Answer::Refused(n) => self.put_line(b"(refused", &[n]),
+            Answer::Overlay { nodes, counts } => {
+                let n = (2 * nodes as usize).min(lists.coords.len());
+                let k = (counts.pieces as usize).min(lists.ends.len());
+                let shown = Listing {
+                    coords: &lists.coords[..n],
+                    ends: &lists.ends[..k],
+                    ..*lists
+                };
+                self.put_listing(&shown, counts);
+            }
+        }
+    }
 }
 
 // The text of an answer, from the list's first place on: the place after it.
 pub fn print_answer(out: &mut [u8], answer: Answer, lists: &Listing) -> Result<usize, Full>
     ensures { Prints result out.old out.new (answer_text (told answer lists.now)) }
 {
-    match answer {
-        Answer::Unread => put(out, 0, b"(unread)\n"),
-        Answer::Refused(n) => put_line(out, 0, b"(refused", &[n]),
-        Answer::Overlay { nodes, counts } => {
-            let n = (2 * nodes as usize).min(lists.coords.len());
-            let k = (counts.pieces as usize).min(lists.ends.len());
-            let shown = Listing {
-                coords: &lists.coords[..n],
-                ends: &lists.ends[..k],
-                ..*lists
-            };
-            put_listing(out, &shown, counts)
-        }
-    }
+    let mut writer = Writer {
+        bytes: out,
+        place: Ok(0),
+    };
+    writer.put_answer(answer, lists);
+    writer.place
 }
