@@ -93,7 +93,8 @@ fn copy_marks(slots: &[Slot], marks: &mut [u32])
     }
 }
 
-// Walks the slots from those on the heap, of which there are `top`. A turn is a step of the definition.
+// Walks the slots from those on the heap, of which there are `top`: each that is unmarked begins a piece, which goes on until it is back at its first
+// node. A turn of a loop is a step of the definition.
 fn walk_on(
     slots: &[Slot],
     top: usize,
@@ -107,53 +108,41 @@ fn walk_on(
         × Written (of_walk (walk_from true (length slots.now) (srcs slots.now) (dsts slots.now) marks.old (stacked heap.old top))) nodes.old
         stops.old nodes.new stops.new }
 {
-    let n = slots.len();
     let mut sp = top;
-    let mut at = n;
-    let mut start: u32 = 0;
     let mut m: usize = 0;
     let mut k: usize = 0;
-    loop {
-        if at < n {
-            marks[at] = 1;
-            let (x, y) = ends(slots, at);
-            let Some(back) = find(slots, y, x) else {
-                return Err(Refusal::OpenWalk);
-            };
-            heap[sp] = back as u32;
-            sp += 1;
-            if y == start {
-                stops[k] = m as u32;
-                k += 1;
-                at = n;
-            } else {
-                let Some(next) = next_open(slots, marks, y, back) else {
-                    return Err(Refusal::OpenWalk);
-                };
+    while 0 < sp {
+        sp -= 1;
+        let first = heap[sp] as usize;
+        if slots.len() <= first {
+            return Err(Refusal::OpenWalk);
+        }
+        if marks[first] == 0 {
+            let start = ends(slots, first).0;
+            nodes[m] = start;
+            m += 1;
+            let mut at = first;
+            loop {
+                marks[at] = 1;
+                let (x, y) = ends(slots, at);
+                let back = find(slots, y, x).ok_or(Refusal::OpenWalk)?;
+                heap[sp] = back as u32;
+                sp += 1;
+                if y == start {
+                    break;
+                }
+                at = next_open(slots, marks, y, back).ok_or(Refusal::OpenWalk)?;
                 nodes[m] = y;
                 m += 1;
-                at = next;
             }
-        } else {
-            if sp == 0 {
-                return Ok(Counts {
-                    pieces: k,
-                    entries: m,
-                });
-            }
-            sp -= 1;
-            let i = heap[sp] as usize;
-            if n <= i {
-                return Err(Refusal::OpenWalk);
-            }
-            if marks[i] == 0 {
-                start = ends(slots, i).0;
-                nodes[m] = start;
-                m += 1;
-                at = i;
-            }
+            stops[k] = m as u32;
+            k += 1;
         }
     }
+    Ok(Counts {
+        pieces: k,
+        entries: m,
+    })
 }
 
 // Walks the slots with lists of its own for the marks and the heap.

@@ -1,149 +1,72 @@
-use mathlib.Core.Path.{refl, ap, ◌∙◌}
-use Prim.Native.Nat.{◌<◌}
+use mathlib.Core.Path.{◌≡◌, ◌∙◌}
 use native.Mathlib.Omega.{arith}
-use lib.ListN.{length}
-use Rattle.cutting.specs.Walk.{slot, srcs, dsts}
+use Rattle.std.proofs.Common.{rules, Err}
+use Rattle.refusals.specs.Numbers.{by_number}
 use Rattle.dart_walk.proofs.Turns.{at_first, missing, turn_skip, corner_fits, turn_open, at_close, lost, fewer, push_fits, stop_fits, turn_close, no_way, next_fits, turn_onward}
 use Rattle.dart_walk.proofs.walk_on.Goals as goal
 
-pub loop-at-init : goal.loop-at-init
-loop-at-init c =
-    at_first c.requires
+pub loop-sp-init : goal.loop-sp-init
+loop-sp-init c = at_first c.requires
 
-pub returns-in_default : goal.returns-in_default
-returns-in_default c =
-    let v = c.loop-at.invariant in
-    let h = c.if-at-n.true in
-    let t = c.args.slots.now in
-    let y = c.ends-x.result.1 in
-    let ey = c.ends-x.ensures.1 in
-    let eq = c.in_default.ensures.found ∙ ap (slot (length t) (srcs t) (dsts t) y) c.ends-x.ensures.0 in
-    lost c.requires v h y _ ey eq (omega arith)
+pub returns-then-slots-first : goal.returns-then-slots-first
+returns-then-slots-first c = missing c.requires c.loop-sp.invariant c.loop-sp-test.true c.if-slots-first.true
 
-pub bounds-heap-sp : goal.bounds-heap-sp
-bounds-heap-sp c =
-    let v = c.loop-at.invariant in
-    let h = c.if-at-n.true in
-    let t = c.args.slots.now in
-    let y = c.ends-x.result.1 in
-    let ey = c.ends-x.ensures.1 in
-    let q = c.in-Some.back in
-    let eq = c.in-Some.ensures.found ∙ ap (slot (length t) (srcs t) (dsts t) y) c.ends-x.ensures.0 in
-    let below = c.in-Some.ensures.within in
-    push_fits c.requires v h y q ey eq below
+pub bounds-nodes-m : goal.bounds-nodes-m
+bounds-nodes-m c = corner_fits c.requires c.loop-sp.invariant c.loop-sp-test.true c.if-slots-first.false c.if-marks-first-eq0.true
+
+pub loop-back-init : goal.loop-back-init
+loop-back-init c =
+    (turn_open c.requires c.loop-sp.invariant c.loop-sp-test.true c.if-slots-first.false c.if-marks-first-eq0.true _ c.ends-start.ensures.0, omega arith)
+
+pub returns-in_err-back : goal.returns-in_err-back
+returns-in_err-back c =
+    let code : by_number c.from_residual.result ≡ Err 11 = search rules in
+    let e = lost c.requires c.loop-back.invariant.0 c.ends-x.ensures _ c.find.ensures.found c.in_err-back.ensures.ok_part in
+    (code ∙ e.0, e.1)
+
+pub bounds-heap-sp-in-loop-back : goal.bounds-heap-sp-in-loop-back
+bounds-heap-sp-in-loop-back c =
+    push_fits c.requires c.loop-back.invariant.0 c.ends-x.ensures _ c.find.ensures.found c.in_ok-back.ensures.ok_part c.find.ensures.within
+
+pub returns-in_err-at : goal.returns-in_err-at
+returns-in_err-at c =
+    let code : by_number c.from_residual-in_err-at.result ≡ Err 11 = search rules in
+    let e = no_way c.requires c.loop-back.invariant.0 c.ends-x.ensures _ c.find.ensures.found c.in_ok-back.ensures.ok_part c.find.ensures.within
+    c.if-y-start.false _ c.next_open.ensures.found c.in_err-at.ensures.ok_part in
+    (code ∙ e.0, e.1)
+
+pub bounds-nodes-m-in-loop-back : goal.bounds-nodes-m-in-loop-back
+bounds-nodes-m-in-loop-back c =
+    next_fits c.requires c.loop-back.invariant.0 c.ends-x.ensures _ c.find.ensures.found c.in_ok-back.ensures.ok_part c.find.ensures.within
+    c.if-y-start.false _ c.next_open.ensures.found c.in_ok-at.ensures.ok_part c.next_open.ensures.within
+
+pub loop-back-smaller : goal.loop-back-smaller
+loop-back-smaller c =
+    omega (arith, fewer c.requires c.loop-back.invariant.0 c.ends-x.ensures _ c.find.ensures.found c.in_ok-back.ensures.ok_part c.find.ensures.within)
+
+pub loop-back-preserved : goal.loop-back-preserved
+loop-back-preserved c =
+    let one = fewer c.requires c.loop-back.invariant.0 c.ends-x.ensures _ c.find.ensures.found c.in_ok-back.ensures.ok_part c.find.ensures.within in (
+      turn_onward c.requires c.loop-back.invariant.0 c.ends-x.ensures _ c.find.ensures.found c.in_ok-back.ensures.ok_part c.find.ensures.within
+          c.if-y-start.false _ c.next_open.ensures.found c.in_ok-at.ensures.ok_part c.next_open.ensures.within,
+      omega (arith, one, c.loop-back.invariant.1),
+    )
 
 pub bounds-stops-k : goal.bounds-stops-k
 bounds-stops-k c =
-    let v = c.loop-at.invariant in
-    let h = c.if-at-n.true in
-    let t = c.args.slots.now in
-    let y = c.ends-x.result.1 in
-    let ey = c.ends-x.ensures.1 in
-    let q = c.in-Some.back in
-    let eq = c.in-Some.ensures.found ∙ ap (slot (length t) (srcs t) (dsts t) y) c.ends-x.ensures.0 in
-    let below = c.in-Some.ensures.within in
-    stop_fits c.requires v h y q ey eq below
+    stop_fits c.requires c.loop-back.invariant.0 c.ends-x.ensures _ c.find.ensures.found c.in_ok-back.ensures.ok_part c.find.ensures.within
 
-pub loop-at-smaller-then-y-start : goal.loop-at-smaller-then-y-start
-loop-at-smaller-then-y-start c =
-    let v = c.loop-at.invariant in
-    let h = c.if-at-n.true in
-    let t = c.args.slots.now in
-    let y = c.ends-x.result.1 in
-    let ey = c.ends-x.ensures.1 in
-    let q = c.in-Some.back in
-    let eq = c.in-Some.ensures.found ∙ ap (slot (length t) (srcs t) (dsts t) y) c.ends-x.ensures.0 in
-    let below = c.in-Some.ensures.within in
-    omega (arith, fewer c.requires v h y q ey eq below)
+pub loop-sp-smaller-then-marks-first-eq0 : goal.loop-sp-smaller-then-marks-first-eq0
+loop-sp-smaller-then-marks-first-eq0 c =
+    let one = fewer c.requires c.loop-back.invariant.0 c.ends-x.ensures _ c.find.ensures.found c.in_ok-back.ensures.ok_part c.find.ensures.within in
+    omega (arith, one, c.loop-back.invariant.1, c.loop-sp-test.true)
 
-pub loop-at-preserved-then-y-start : goal.loop-at-preserved-then-y-start
-loop-at-preserved-then-y-start c =
-    let v = c.loop-at.invariant in
-    let h = c.if-at-n.true in
-    let t = c.args.slots.now in
-    let y = c.ends-x.result.1 in
-    let ey = c.ends-x.ensures.1 in
-    let q = c.in-Some.back in
-    let eq = c.in-Some.ensures.found ∙ ap (slot (length t) (srcs t) (dsts t) y) c.ends-x.ensures.0 in
-    let below = c.in-Some.ensures.within in
-    turn_close c.requires v h y q ey eq below c.if-y-start.true
+pub loop-sp-preserved-then-marks-first-eq0 : goal.loop-sp-preserved-then-marks-first-eq0
+loop-sp-preserved-then-marks-first-eq0 c =
+    turn_close c.requires c.loop-back.invariant.0 c.ends-x.ensures _ c.find.ensures.found c.in_ok-back.ensures.ok_part c.find.ensures.within c.if-y-start.true
 
-pub returns-in_default-next_open : goal.returns-in_default-next_open
-returns-in_default-next_open c =
-    let v = c.loop-at.invariant in
-    let h = c.if-at-n.true in
-    let t = c.args.slots.now in
-    let y = c.ends-x.result.1 in
-    let ey = c.ends-x.ensures.1 in
-    let q = c.in-Some.back in
-    let eq = c.in-Some.ensures.found ∙ ap (slot (length t) (srcs t) (dsts t) y) c.ends-x.ensures.0 in
-    let below = c.in-Some.ensures.within in
-    no_way c.requires v h y q ey eq below c.if-y-start.false _ c.in_default-next_open.ensures.found (omega arith)
+pub loop-sp-preserved : goal.loop-sp-preserved
+loop-sp-preserved c = turn_skip c.requires c.loop-sp.invariant c.loop-sp-test.true c.if-slots-first.false c.if-marks-first-eq0.false
 
-pub bounds-nodes-m : goal.bounds-nodes-m
-bounds-nodes-m c =
-    let v = c.loop-at.invariant in
-    let h = c.if-at-n.true in
-    let t = c.args.slots.now in
-    let y = c.ends-x.result.1 in
-    let ey = c.ends-x.ensures.1 in
-    let q = c.in-Some.back in
-    let eq = c.in-Some.ensures.found ∙ ap (slot (length t) (srcs t) (dsts t) y) c.ends-x.ensures.0 in
-    let below = c.in-Some.ensures.within in
-    next_fits c.requires v h y q ey eq below c.if-y-start.false _ c.in-Some-next_open.ensures.found c.in-Some-next_open.ensures.within
-
-pub loop-at-smaller-else-y-start : goal.loop-at-smaller-else-y-start
-loop-at-smaller-else-y-start c =
-    let v = c.loop-at.invariant in
-    let h = c.if-at-n.true in
-    let t = c.args.slots.now in
-    let y = c.ends-x.result.1 in
-    let ey = c.ends-x.ensures.1 in
-    let q = c.in-Some.back in
-    let eq = c.in-Some.ensures.found ∙ ap (slot (length t) (srcs t) (dsts t) y) c.ends-x.ensures.0 in
-    let below = c.in-Some.ensures.within in
-    omega (arith, fewer c.requires v h y q ey eq below)
-
-pub loop-at-preserved-else-y-start : goal.loop-at-preserved-else-y-start
-loop-at-preserved-else-y-start c =
-    let v = c.loop-at.invariant in
-    let h = c.if-at-n.true in
-    let t = c.args.slots.now in
-    let y = c.ends-x.result.1 in
-    let ey = c.ends-x.ensures.1 in
-    let q = c.in-Some.back in
-    let eq = c.in-Some.ensures.found ∙ ap (slot (length t) (srcs t) (dsts t) y) c.ends-x.ensures.0 in
-    let below = c.in-Some.ensures.within in
-    turn_onward c.requires v h y q ey eq below c.if-y-start.false _ c.in-Some-next_open.ensures.found c.in-Some-next_open.ensures.within
-
-pub returns-then-sp-eq0 : goal.returns-then-sp-eq0
-returns-then-sp-eq0 c =
-    at_close c.requires c.loop-at.invariant c.if-at-n.false c.if-sp-eq0.true
-
-pub returns-then-n-i : goal.returns-then-n-i
-returns-then-n-i c =
-    let v = c.loop-at.invariant in
-    let h = c.if-at-n.false in
-    let some : 0 < c.loop-at.sp = omega (arith, c.if-sp-eq0.false) in
-    missing c.requires v h some _ refl c.if-n-i.true
-
-pub bounds-nodes-m-then-marks-i-eq0 : goal.bounds-nodes-m-then-marks-i-eq0
-bounds-nodes-m-then-marks-i-eq0 c =
-    let v = c.loop-at.invariant in
-    let h = c.if-at-n.false in
-    let some : 0 < c.loop-at.sp = omega (arith, c.if-sp-eq0.false) in
-    corner_fits c.requires v h some _ refl c.if-n-i.false c.if-marks-i-eq0.true
-
-pub loop-at-preserved-then-marks-i-eq0 : goal.loop-at-preserved-then-marks-i-eq0
-loop-at-preserved-then-marks-i-eq0 c =
-    let v = c.loop-at.invariant in
-    let h = c.if-at-n.false in
-    let some : 0 < c.loop-at.sp = omega (arith, c.if-sp-eq0.false) in
-    rw (c.ends-start.ensures.0) (turn_open c.requires v h some _ refl c.if-n-i.false c.if-marks-i-eq0.true)
-
-pub loop-at-preserved : goal.loop-at-preserved
-loop-at-preserved c =
-    let v = c.loop-at.invariant in
-    let h = c.if-at-n.false in
-    let some : 0 < c.loop-at.sp = omega (arith, c.if-sp-eq0.false) in
-    turn_skip c.requires v h some _ refl c.if-n-i.false c.if-marks-i-eq0.false
+pub returns : goal.returns
+returns c = at_close c.requires c.loop-sp.invariant (omega (arith, c.loop-sp-test.false))
