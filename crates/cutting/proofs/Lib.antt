@@ -2,6 +2,7 @@
 pub mod Before
 pub mod CellLaws
 pub mod Cells
+pub mod Chunks
 pub mod Closing
 pub mod EdgeLaws
 pub mod Ends

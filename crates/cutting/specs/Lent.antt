@@ -20,6 +20,10 @@ pairs [] = []
 pairs (a ∷ []) = []
 pairs (a ∷ b ∷ xs) = (a, b) ∷ pairs xs
 
+-- an edge as its two nodes stand in an array
+abbrev pub pair_of : List ℕ → Edge
+pair_of e = (get_or e 0 0, get_or e 1 0)
+
 -- the first k entries of a list, the last of them first
 unfoldable pub stacked : List ℕ → ℕ → List ℕ
 stacked xs zero = []

@@ -2,9 +2,9 @@
 #![tactic(auto)]
 
 ghost use Rattle.std.specs.Prelude.{◌≡◌, [], ◌∷◌, List, map, take, ◌+◌, ◌*◌, ◌≤◌, ◌<◌, length};
-ghost use Rattle.std.specs.List.{position, position_or_len};
+ghost use Rattle.std.specs.List.{position};
 ghost use Rattle.lists.specs.Sort.{insert, sort_onto};
-ghost use Rattle.lists.specs.Regions.{front, put, put_in};
+ghost use Rattle.lists.specs.Regions.{put};
 ghost use Rattle.cutting.specs.declared.Slot.{Slot};
 ghost use Rattle.cutting.specs.Edges.{reversed_if};
 ghost use Rattle.cutting.specs.Cell.{windows, darts_along, own_darts, near_darts, edge_slots, reverse_mark, names, stands, stands_before};

@@ -2,8 +2,7 @@
 use mathlib.Core.Path.{◌≡◌, refl, sym, ap, ap₂, ◌∙◌}
 use mathlib.Core.Bool.{Bool, ◌||◌}
 use mathlib.Core.List.{List, [], ◌∷◌, map}
-use Prim.Native.Nat.{ℕ, suc, ◌/◌}
-use native.Mathlib.Omega.{arith}
+use Prim.Native.Nat.{ℕ, ◌/◌}
 use lib.Dec.{ltb}
 use lib.ListN.{length}
 use Rattle.std.specs.List.{list_any}
@@ -11,19 +10,11 @@ use Rattle.std.specs.Simd.{first_chunks}
 use Rattle.lists.specs.Search.{has}
 use Rattle.lists.proofs.Library.{has_list}
 use Rattle.cutting.specs.Edges.{Edge, key}
-use Rattle.cutting.specs.Lent.{pairs}
+use Rattle.cutting.specs.Lent.{pairs, pair_of}
+use Rattle.cutting.proofs.Chunks.{chunked}
 use Rattle.cutting.proofs.Pairs.{pairs_length}
-use Rattle.edge_nodes.specs.Chained.{pair_of}
 use Rattle.edge_nodes.specs.Lent.{collected_in, most_nodes, crowded_at}
 use Rattle.edge_nodes.proofs.InRegions.{key_collected}
-
-chunked : (xs : List ℕ) → map pair_of (first_chunks 2 (length xs / 2) xs) ≡ pairs xs
-unfolding pairs
-chunked [] = refl
-chunked (a ∷ []) = refl
-chunked (a ∷ b ∷ xs) =
-    let n : length (a ∷ b ∷ xs) / 2 ≡ suc (length xs / 2) = omega arith in
-    ap (λ (k : ℕ). map pair_of (first_chunks 2 k (a ∷ b ∷ xs))) n ∙ ap (λ (es : List Edge). (a, b) ∷ es) (chunked xs)
 
 module _ (subject cutter : List Edge) (met : List ℕ) where
   abbrev crowded : Edge → Bool

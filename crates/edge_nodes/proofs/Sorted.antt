@@ -1,26 +1,19 @@
 -- The sorted nodes of an edge, from what was put in order. Assumes nothing.
 use mathlib.Core.Path.{◌≡◌, refl, sym, ap, ap₂, ◌∙◌}
-use mathlib.Core.Bool.{Bool, true, false, cond, not}
+use mathlib.Core.Bool.{Bool, true, false}
 use mathlib.Core.List.{List, [], ◌∷◌, ◌++◌, map}
 use Prim.Native.Nat.{ℕ, suc, ◌+◌, ◌/◌, ◌≤◌, ◌<◌}
 use native.Mathlib.Numerals.{add-one}
 use native.Mathlib.Omega.{arith}
 use lib.Dec.{eqb}
-use lib.ListN.{length, get_or, take, drop, length-map}
-use lib.Seq.{drop-cons, length-take-le, get_or-take}
-use borrow.Author.Tests.{ltb-false}
-use Rattle.std.proofs.Common.{Some, None, unwrap_or, nat_lt}
-use Rattle.std.specs.List.{position, position_or_len}
+use lib.ListN.{length, get_or, drop, length-map}
+use lib.Seq.{drop-cons}
 use Rattle.std.proofs.lemmas.List.{drop_all}
 use lib.Ieee.{Float}
 use Rattle.lists.specs.Gather.{slim}
 use Rattle.lists.specs.Sort.{insert, sort_onto, sorted}
-use Rattle.lists.specs.Regions.{front, insert_at}
-use Rattle.lists.specs.Search.{first}
-use Rattle.lists.proofs.Search.{first_ext}
-use Rattle.lists.proofs.Library.{first_list}
-use Rattle.lists.proofs.Regions.{take_front_of}
-use Rattle.lists.proofs.Sort.{length_insert, insert_at_is, sort_onto_append, length_sort_onto}
+use Rattle.lists.specs.Regions.{front}
+use Rattle.lists.proofs.Sort.{sort_onto_append, length_sort_onto}
 use Rattle.cutting.specs.Edges.{Edge, key}
 use Rattle.keys.specs.declared.SortedKey.{SortedKey}
 use Rattle.rules.specs.Nodes.{Projected, projected, by_projection, along_edge}
@@ -30,34 +23,6 @@ use Rattle.edge_nodes.specs.Lent.{placed, stands_before, node_of, under, collect
 use Rattle.edge_nodes.proofs.Under.{map_append, sorted_key}
 
 -- ---- one after the other
-
-place_le : (p : Placed → Bool) (xs : List Placed) → position_or_len p xs ≤ length xs
-place_le p [] = omega arith
-place_le p (x ∷ xs) = go (p x) (place_le p xs)
-  where
-    go : (t : Bool) → position_or_len p xs ≤ length xs → cond (not t) (1 + position_or_len p xs) 0 ≤ length (x ∷ xs)
-    go true ih = omega arith
-    go false ih = omega (arith, ih)
-
-pub place_is : (p : Placed → Bool) (xs : List Placed) → unwrap_or (position p xs) (length xs) ≡ position_or_len p xs
-place_is p xs = go (nat_lt (position_or_len p xs) (length xs)) refl
-  where
-    go : (t : Bool) → nat_lt (position_or_len p xs) (length xs) ≡ t → unwrap_or (cond t (Some (position_or_len p xs)) None) (length xs) ≡ position_or_len p xs
-    go true e = refl
-    go false e = omega (arith, ltb-false (position_or_len p xs) (length xs) e, place_le p xs)
-
--- one put in among the first n of a list
-pub put_there : (x d : Placed) (w w' : List Placed) (n k : ℕ) → n < length w → k ≡ position_or_len (stands_before x) (take n w) → w' ≡ insert_at w n k x
-    → take (n + 1) w' ≡ insert stands_before x (take n w)
-put_there x d w w' n k room at e =
-    let t : List Placed = take n w in
-    let long : length t ≡ n = length-take-le n w (omega (arith, room)) in
-    let first-is : k ≡ first (λ i. stands_before x (get_or t i d)) 0 (length t) = at ∙ sym (first_list (stands_before x) t d) in
-    let ext : first (λ i. stands_before x (get_or t i d)) 0 n ≡ first (λ i. stands_before x (get_or w i d)) 0 n =
-    first_ext (λ i. stands_before x (get_or t i d)) (λ i. stands_before x (get_or w i d)) n (λ i h. ap (stands_before x) (get_or-take n w i d h)) in
-    let k-is : k ≡ first (λ i. stands_before x (get_or w i d)) 0 n = first-is ∙ ap (λ (m : ℕ). first (λ i. stands_before x (get_or t i d)) 0 m) long ∙ ext in
-    ap (take (n + 1)) (e ∙ insert_at_is stands_before w n k x d room k-is)
-    ∙ take_front_of w (insert stands_before x t) (n + 1) (length_insert stands_before x t ∙ ap (λ (m : ℕ). m + 1) long)
 
 -- the next of some nodes is put in
 pub one_on : (f : ℕ → Placed) (nodes : List ℕ) (i : ℕ) (ys zs : List Placed) (x : Placed) → i < length nodes → x ≡ f (get_or nodes i 0) → zs ≡ insert stands_before x ys

@@ -6,30 +6,17 @@ use Prim.Native.Nat.{ℕ, zero, suc, ◌+◌, ◌*◌, ◌-◌, ◌/◌, ◌≤�
 use native.Mathlib.Nat.{le_antisymm}
 use native.Mathlib.Omega.{arith}
 use lib.Dec.{eqb}
-use lib.ListN.{length, get_or, take, drop, length-append, length-map, get_or-eq_default}
+use lib.ListN.{length, get_or, take, drop, length-append, length-map}
 use lib.Seq.{drop-cons}
 use Rattle.lists.specs.Gather.{gathered}
 use Rattle.lists.specs.Sort.{sort_onto}
 use Rattle.lists.proofs.Gather.{gathered_more}
 use Rattle.lists.proofs.Sort.{sort_onto_append, length_sort_onto}
 use Rattle.cutting.specs.Edges.{Edge, edge_at, key, same_key}
-use Rattle.cutting.specs.Lent.{pairs}
-use Rattle.cutting.proofs.Pairs.{pairs_length, pairs_at}
 use Rattle.keys.specs.declared.SortedKey.{SortedKey}
 use Rattle.edge_nodes.specs.declared.nodes.Placed.{Placed}
 use Rattle.edge_nodes.specs.Lent.{stands_before, met_nodes, under_at, under}
 use Rattle.edge_nodes.specs.Chained.{edge_of}
-
--- ---- edges read from a flat list
-
-none_there : (s : List ℕ) (e : ℕ) → length s / 2 ≤ e → edge_at (pairs s) e ≡ (0, 0)
-none_there s e h = get_or-eq_default (pairs s) (0, 0) (omega (arith, pairs_length s))
-
-pub key_there : (s : List ℕ) (e : ℕ) → e < length s / 2 → key (get_or s (2 * e) 0, get_or s (2 * e + 1) 0) ≡ key (edge_at (pairs s) e)
-key_there s e h = ap key (sym (pairs_at s e h))
-
-pub no_key : (s : List ℕ) (e : ℕ) → length s / 2 ≤ e → key (0, 0) ≡ key (edge_at (pairs s) e)
-no_key s e h = ap key (sym (none_there s e h))
 
 -- ---- the nodes of a meeting
 

@@ -1,5 +1,5 @@
 -- The meetings by the edges of one mesh, and their chains: what only inner functions' contracts cite. Assumes nothing.
-use Rattle.std.specs.Prelude.{List, ℕ, ◌/◌, length, get_or}
+use Rattle.std.specs.Prelude.{List, ℕ, ◌/◌, length}
 use Rattle.lists.specs.Gather.{each}
 use Rattle.cutting.specs.Edges.{Edge}
 use Rattle.cutting.specs.Lent.{pairs}
@@ -17,10 +17,6 @@ number Cutter = 1
 -- a key as an edge
 abbrev pub edge_of : SortedKey → Edge
 edge_of k = (k.first, k.second)
-
--- an edge as its two nodes stand in an array
-abbrev pub pair_of : List ℕ → Edge
-pair_of e = (get_or e 0 0, get_or e 1 0)
 
 -- the first meeting of each of h chains
 abbrev pub heads_in : ℕ → Meetings → List ℕ

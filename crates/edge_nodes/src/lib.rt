@@ -11,8 +11,8 @@ ghost use Rattle.std.specs.List.{list_any};
 ghost use Rattle.lists.specs.Search.{has};
 ghost use Rattle.lists.specs.Sort.{sort_onto};
 ghost use Rattle.cutting.specs.Edges.{key};
-ghost use Rattle.cutting.specs.Lent.{pairs};
-ghost use Rattle.edge_nodes.specs.Chained.{edge_of, pair_of};
+ghost use Rattle.cutting.specs.Lent.{pairs, pair_of};
+ghost use Rattle.edge_nodes.specs.Chained.{edge_of};
 ghost use Rattle.edge_nodes.specs.Lent.{placed, stands_before, under_in, collected_in, sorted_in, most_nodes, crowded_at, FrontIs, nodes_on, Few};
 
 use chains::Chains;

@@ -26,11 +26,8 @@ pub(crate) struct Meetings<'a> {
 fn key_at(edges: &[u32], e: usize) -> SortedKey
     ensures { edge_of result ≡ key (edge_at (pairs edges.now) e) }
 {
-    if e < edges.len() / 2 {
-        SortedKey::new(edges[2 * e], edges[2 * e + 1])
-    } else {
-        SortedKey::new(0, 0)
-    }
+    let [a, b] = edges.as_chunks::<2>().0.get(e).copied().unwrap_or([0, 0]);
+    SortedKey::new(a, b)
 }
 
 impl<'a> Meetings<'a> {

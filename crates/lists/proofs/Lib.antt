@@ -7,3 +7,4 @@ pub mod Halving
 pub mod Rising
 pub mod Merging
 pub mod Library
+pub mod InPlace

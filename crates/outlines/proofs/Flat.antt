@@ -2,20 +2,19 @@
 use mathlib.Core.Path.{◌≡◌, refl, sym, ap, ap₂, subst, ◌∙◌}
 use mathlib.Core.Bool.{Bool, true, false, ◌||◌}
 use mathlib.Core.List.{List, [], ◌∷◌, ◌++◌, map, append-nil, append_assoc}
-use Prim.Native.Nat.{ℕ, suc, ◌+◌, ◌*◌, ◌/◌, ◌≤◌, ◌<◌}
+use Prim.Native.Nat.{ℕ, ◌+◌, ◌*◌, ◌≤◌, ◌<◌}
 use native.Mathlib.Omega.{arith}
 use lib.Dec.{eqb}
 use lib.ListN.{length, get_or, set, take, drop, length-append, length-set, length-drop}
 use borrow.Author.Tests.{eq-eqb, ne_eqb}
 use Rattle.std.specs.List.{list_any}
-use Rattle.std.specs.Simd.{first_chunks}
 use Rattle.lists.specs.Gather.{joined}
 use Rattle.lists.specs.Regions.{front, put}
 use Rattle.lists.proofs.Regions.{put_none, front_put}
 use Rattle.cutting.specs.Edges.{Edge, same_key, reversed_if, hops}
 use Rattle.cutting.specs.Cell.{windows, or_ends, darts_along, own_darts, among, repeats}
-use Rattle.cutting.specs.Lent.{flat_edges, pairs}
-use Rattle.outlines.specs.Meets.{pair_of, edges_meet}
+use Rattle.cutting.specs.Lent.{flat_edges, pair_of}
+use Rattle.outlines.specs.Meets.{edges_meet}
 use Rattle.cutting.proofs.Pairs.{ends_more}
 
 -- ---- `lay_along`
@@ -93,14 +92,6 @@ module _ (a b : ℕ) (nodes : List ℕ) (r : ℕ) (list list' : List ℕ) where
       go (m ∷ ns) h x = x
 
 -- ---- `is_among`, `edges_repeat`, `edges_meet`: a flat list of pairs as arrays of two
-
-pub chunked : (xs : List ℕ) → map pair_of (first_chunks 2 (length xs / 2) xs) ≡ pairs xs
-unfolding pairs
-chunked [] = refl
-chunked (a ∷ []) = refl
-chunked (a ∷ b ∷ xs) =
-    let n : length (a ∷ b ∷ xs) / 2 ≡ suc (length xs / 2) = omega arith in
-    ap (λ (k : ℕ). map pair_of (first_chunks 2 k (a ∷ b ∷ xs))) n ∙ ap (λ (es : List Edge). (a, b) ∷ es) (chunked xs)
 
 abbrev pub named : List (List ℕ) → Edge → Bool
 named es e = list_any (λ x. same_key (pair_of x) e) es

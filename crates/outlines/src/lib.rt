@@ -6,8 +6,8 @@ ghost use Rattle.std.specs.List.{list_any};
 ghost use Rattle.lists.specs.Regions.{front};
 ghost use Rattle.cutting.specs.Edges.{same_key, reversed_if};
 ghost use Rattle.cutting.specs.Cell.{windows, own_darts, repeats};
-ghost use Rattle.cutting.specs.Lent.{flat_edges, pairs};
-ghost use Rattle.outlines.specs.Meets.{pair_of, edges_meet};
+ghost use Rattle.cutting.specs.Lent.{flat_edges, pairs, pair_of};
+ghost use Rattle.outlines.specs.Meets.{edges_meet};
 
 use keys::SortedKey;
 

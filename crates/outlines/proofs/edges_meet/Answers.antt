@@ -1,8 +1,10 @@
 -- `outlines::edges_meet` meets its contract. Assumes nothing.
 use mathlib.Core.Path.{ap, ap₂, ◌∙◌}
 use mathlib.Core.List.{map}
-use Rattle.outlines.specs.Meets.{pair_of, edges_meet}
-use Rattle.outlines.proofs.Flat.{chunked, meets_named}
+use Rattle.cutting.specs.Lent.{pair_of}
+use Rattle.cutting.proofs.Chunks.{chunked}
+use Rattle.outlines.specs.Meets.{edges_meet}
+use Rattle.outlines.proofs.Flat.{meets_named}
 use Rattle.outlines.proofs.edges_meet.Goals as goal
 
 pub returns : goal.returns

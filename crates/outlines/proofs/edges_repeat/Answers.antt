@@ -3,8 +3,9 @@ use mathlib.Core.Bool.{Bool, true, ◌||◌}
 use mathlib.Core.List.{List, ◌∷◌, map}
 use Prim.Native.Nat.{ℕ}
 use Rattle.cutting.specs.Cell.{repeats}
-use Rattle.outlines.specs.Meets.{pair_of}
-use Rattle.outlines.proofs.Flat.{chunked, repeats_loop, repeats_on, repeats_none}
+use Rattle.cutting.specs.Lent.{pair_of}
+use Rattle.cutting.proofs.Chunks.{chunked}
+use Rattle.outlines.proofs.Flat.{repeats_loop, repeats_on, repeats_none}
 use Rattle.outlines.proofs.edges_repeat.Goals as goal
 use Rattle.outlines.proofs.edges_repeat.Goals.{then-a-b-via-then-a-b, then-a-b-via-else-a-b+then-is_among}
 

@@ -4,7 +4,7 @@ use mathlib.Core.List.{map}
 use lib.ListN.{length}
 use Rattle.cutting.specs.Cell.{repeats}
 use Rattle.cutting.specs.Lent.{pairs}
-use Rattle.outlines.specs.Meets.{pair_of}
+use Rattle.cutting.specs.Lent.{pair_of}
 use Rattle.outlines.proofs.edges_repeat.Given as goal
 
 abbrev pub invariant-loop-a : goal.invariant-loop-a

@@ -6,7 +6,7 @@ use native.Mathlib.Omega.{arith}
 use lib.ListN.{length, take}
 use Rattle.std.specs.declared.slice.Windows.{Windows}
 use Rattle.cutting.specs.Edges.{reversed_if}
-use Rattle.outlines.specs.Meets.{pair_of}
+use Rattle.cutting.specs.Lent.{pair_of}
 use Rattle.outlines.proofs.Flat.{Laying, laying_start, laying_turn, laying_end}
 use Rattle.outlines.proofs.lay_along.Goals as goal
 use Rattle.outlines.proofs.lay_along.Goals.{then-inv, else-inv}

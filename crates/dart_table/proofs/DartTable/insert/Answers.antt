@@ -8,7 +8,7 @@ use Rattle.std.specs.List.{position, position_or_len}
 use Rattle.lists.specs.Sort.{insert}
 use Rattle.cutting.specs.declared.Slot.{Slot}
 use Rattle.cutting.specs.Cell.{stands_before}
-use Rattle.dart_table.proofs.Slots.{put_there, place_is}
+use Rattle.lists.proofs.InPlace.{put_there, place_is}
 use Rattle.dart_table.proofs.DartTable.insert.Goals as goal
 
 pub returns : goal.returns

@@ -1,9 +1,11 @@
-use mathlib.Core.Path.{◌∙◌}
-use Rattle.edge_nodes.proofs.Under.{key_there, no_key}
+use mathlib.Core.Path.{ap, ◌∙◌}
+use native.Mathlib.Omega.{arith}
+use mathlib.Core.List.{[], ◌∷◌}
+use Rattle.cutting.specs.Edges.{key}
+use Rattle.cutting.proofs.Chunks.{chunk_at}
 use Rattle.edge_nodes.proofs.sides.key_at.Goals as goal
 
-pub returns-then-e-edges : goal.returns-then-e-edges
-returns-then-e-edges c = c.new.ensures ∙ key_there c.args.edges.now c.args.e c.if-e-edges.true
-
-pub returns-else-e-edges : goal.returns-else-e-edges
-returns-else-e-edges c = c.new-else-e-edges.ensures ∙ no_key c.args.edges.now c.args.e c.if-e-edges.false
+pub returns : goal.returns
+returns c =
+    let pair = c.unwrap_or.ensures ∙ rw (c.copied.ensures) (c.get.ensures.lookup.4 (omega arith) (0 ∷ 0 ∷ [])) in
+    c.new.ensures ∙ ap key (chunk_at c.args.edges.now _ c.args.e _ c.as_chunks.ensures.front pair)
