@@ -1,5 +1,5 @@
 -- What a cell comes to, from its table and its walk. Assumes nothing.
-use mathlib.Core.Path.{◌≡◌, sym, ap, ◌∙◌, subst}
+use mathlib.Core.Path.{◌≡◌, sym, ap, ◌∙◌}
 use mathlib.Core.Bool.{true, false}
 use mathlib.Core.List.{List, []}
 use Prim.Native.Nat.{ℕ, ◌≤◌, ◌<◌}
@@ -18,7 +18,6 @@ use Rattle.cutting.specs.Lent.{flat_edges, pairs}
 use Rattle.dart_walk.specs.Answer.{answer, corners_in, ends_in}
 use Rattle.std.proofs.Common.{Result, Ok, Err}
 use Rattle.refusals.specs.declared.Refusal.{Refusal}
-use Rattle.dart_table.specs.declared.Full.{Full}
 use Rattle.refusals.specs.Numbers.{number, by_number}
 use Rattle.dart_walk.specs.declared.Counts.{Counts}
 use Rattle.cutting.proofs.Pairs.{pairs_ends}
@@ -26,8 +25,7 @@ use Rattle.dart_table.proofs.Joins.{cell_length, cut_repeats, cut_over, cut_fits
 use Rattle.edge_nodes.specs.Lent.{FrontIs}
 use Rattle.regions.specs.declared.Run.{Run}
 use Rattle.regions.specs.declared.Regions.{Regions}
-use Rattle.regions.specs.Runs.{run_in}
-use Rattle.cells.specs.Cells.{outline_in, near_in, table_in, edges_in, Places, AllFew, Cut, cut, cut_to, cut_as, cut_by, cut_cell, Held}
+use Rattle.cells.specs.Cells.{outline_in, near_in, table_in, edges_in, Cut, cut, cut_to, cut_as, cut_by, cut_cell}
 
 -- ---- refusals 10 and 19
 
@@ -104,19 +102,6 @@ answered (refusal c) (Err r) on os on' os' e en es =
     λ t. cut_to (record { code = code t; pieces = 0; entries = 0 }) (en t) (es t)
 answered (pieces ps) (Err r) on os on' os' e en es = cc
 answered (refusal c) (Ok k) on os on' os' e en es = cc
-
--- ---- the edges near a cell, where they are lent by themselves
-
-module _ (coords : List Float) (work : List ℕ) (g : Regions) (edges : Run) (js near : List ℕ) (lent : near ≡ run_in work edges) where
-  pub near_few : AllFew work g (edges_in work edges) → AllFew work g (pairs near)
-  near_few h = subst (λ (ns : List ℕ). AllFew work g (pairs ns)) (sym lent) h
-
-  pub near_places : Places js (edges_in work edges) → Places js (pairs near)
-  near_places h = subst (λ (ns : List ℕ). Places js (pairs ns)) (sym lent) h
-
-  pub near_held : (outline : List Edge) (r : Result (Unit {0}) Full) (t : List Slot) → Held (cell_table coords outline (near_in coords work g (pairs near) js)) r t
-      → Held (cell_table coords outline (near_in coords work g (edges_in work edges) js)) r t
-  near_held outline r t h = subst (λ (ns : List ℕ). Held (cell_table coords outline (near_in coords work g (pairs ns) js)) r t) lent h
 
 -- ---- a list's front
 

@@ -1,5 +1,5 @@
 pub mod Own
-pub mod NearEdges
+pub mod Near
 pub mod Cut
 pub mod Scene
 pub mod Over

@@ -22,12 +22,15 @@ use Rattle.lists.proofs.Gather.{length_slim}
 use Rattle.lists.proofs.Regions.{take_front_of}
 use Rattle.lists.proofs.Sort.{length_sorted}
 use Rattle.rules.specs.Nodes.{Projected, projected, by_projection, along_edge}
-use Rattle.rules.proofs.Rings.{side, length_ring, ring_at, ring_from}
+use Rattle.rules.proofs.Rings.{length_ring, ring_from}
 use Rattle.edge_nodes.specs.Lent.{collected_on, unless_none, sorted_in, nodes_on, Few}
 use Rattle.regions.specs.declared.Regions.{Regions}
-use Rattle.cells.specs.Cells.{laid_in, outline_in, AllFew, outline_from, LaidIn}
+use Rattle.cells.specs.declared.OwnEdges.{OwnEdges}
+use Rattle.cells.specs.Cells.{laid_in, outline_in}
+use Rattle.cells.specs.Near.{outline_of, darts_at, outline_from, LaidIn}
+use Rattle.cells.proofs.Own.{few_at}
 
--- ---- `lay_own`
+-- ---- `lay`
 
 along_short : (coords : List Float) (k : Edge) (ns : List ℕ) → length (along_edge coords k ns) ≤ length ns + 2
 unfolding along_edge
@@ -43,7 +46,7 @@ along_short coords k ns =
       length-map (k.0 ∷ ns) (projected coords k),
     )
 
-pub sorted_short : (coords : List Float) (work : List ℕ) (g : Regions) (e : Edge) → length (collected_on work g e) ≤ 256
+sorted_short : (coords : List Float) (work : List ℕ) (g : Regions) (e : Edge) → length (collected_on work g e) ≤ 256
     → length (nodes_on coords work g e) ≤ 258
 unfolding sorted_in
 sorted_short coords work g e h = go (collected_on work g e) h
@@ -57,31 +60,44 @@ unfolding own_darts
 own_short e [] = omega (arith, darts_length e.1 (e.0 ∷ e.1 ∷ []) (omega arith))
 own_short e (m ∷ ns) = omega (arith, darts_length e.1 (m ∷ ns) (omega arith))
 
-pub laid_own : (e : Edge) (ns xs : List ℕ) (r : ℕ) (list list' : List ℕ) → ns ≡ xs → length ns ≤ 258
+laid_own : (e : Edge) (ns xs : List ℕ) (r : ℕ) (list list' : List ℕ) → ns ≡ xs → length ns ≤ 258
     → Holds (own_darts (record { edge = e; nodes = ns })) r list list' → LaidIn (own_darts (record { edge = e; nodes = xs })) r list list'
 laid_own e ns xs r list list' q few p =
     subst (λ (l : List ℕ). LaidIn (own_darts (record { edge = e; nodes = l })) r list list') q
     (record { count = p.0; few = omega (arith, p.0, own_short e ns, few); held = p.1 })
 
+-- the own edge at corner i, by its nodes as they are found
+module _ (o : OwnEdges) (i : ℕ) (h : i < length o.cell.now) {b : ℕ} (eb : b ≡ next_corner o.cell.now i) {ns : List ℕ}
+    (en : ns ≡ nodes_on o.scene.coords.now o.scene.work.now o.scene.regions (get_or o.cell.now i 0, b)) where
+  pub nodes_few : length ns ≤ 258
+  nodes_few =
+      let few = subst (λ (c : ℕ). Few o.scene.work.now o.scene.regions (get_or o.cell.now i 0, c)) (sym eb) (few_at o i h) in
+      omega (arith, ap length en, sorted_short o.scene.coords.now o.scene.work.now o.scene.regions (get_or o.cell.now i 0, b) few.few)
+
+  pub laid_at : {r : ℕ} {list list' : List ℕ} → Holds (own_darts (record { edge = (get_or o.cell.now i 0, b); nodes = ns })) r list list' → LaidIn (darts_at o i) r list list'
+  laid_at {r} {list} {list'} v =
+      let darts : ℕ → List Edge = λ c. own_darts (laid_in o.scene.coords.now o.scene.work.now o.scene.regions (get_or o.cell.now i 0, c)) in
+      subst (λ (c : ℕ). LaidIn (darts c) r list list') eb (laid_own (get_or o.cell.now i 0, b) ns _ r list list' en nodes_few v)
+
 -- read back
-module _ (darts : List Edge) (r : ℕ) (list list' : List ℕ) (v : LaidIn darts r list list') where
-  pub laid_read : pairs (take r list') ≡ darts
-  laid_read = ap (λ (l : List ℕ). pairs (take r l)) v.held ∙ ap pairs (take_front_of list (flat_edges darts) r (ends_length darts ∙ sym v.count)) ∙ pairs_ends darts
+laid_read : {darts : List Edge} {r : ℕ} {list list' : List ℕ} → LaidIn darts r list list' → pairs (take r list') ≡ darts
+laid_read {darts} {r} {list} {list'} v =
+    ap (λ (l : List ℕ). pairs (take r l)) v.held ∙ ap pairs (take_front_of list (flat_edges darts) r (ends_length darts ∙ sym v.count)) ∙ pairs_ends darts
 
--- ---- `meets_later` and `outline_repeats`
+-- ---- `meets_later` and `outline_repeats`: what the edges from one on say is what all say
 
-module _ (coords : List Float) (work : List ℕ) (g : Regions) (cell : List ℕ) where
+module _ (o : OwnEdges) where
+  abbrev cell : List ℕ
+  cell = o.cell.now
+
   abbrev laid : Edge → Laid
-  laid = laid_in coords work g
+  laid = laid_in o.scene.coords.now o.scene.work.now o.scene.regions
 
-  abbrev from : ℕ → List Edge
-  from k = outline_from coords work g cell k
-
-  pub all_from : outline_in coords work g cell ≡ from 0
+  pub all_from : outline_from o 0 ≡ outline_of o
   unfolding outline_in outline_from
   all_from = refl
 
-  none_from : (j : ℕ) → length cell ≤ j → from j ≡ []
+  none_from : (j : ℕ) → length o.cell.now ≤ j → outline_from o j ≡ []
   unfolding outline_from outline_darts joined
   none_from j h = ap (λ (es : List Edge). outline_darts (map laid es)) (drop_past (ring cell) j (omega (arith, h, length_ring cell)))
     where
@@ -91,53 +107,50 @@ module _ (coords : List Float) (work : List ℕ) (g : Regions) (cell : List ℕ)
       drop_past (e ∷ es) zero h = absurd (omega (arith, h))
       drop_past (e ∷ es) (suc k) h = drop_past es k (omega (arith, h))
 
-  module _ (j b : ℕ) (h : j < length cell) (eb : b ≡ next_corner cell j) where
-    abbrev e : Edge
-    e = (get_or cell j 0, b)
-
-    e_is : side cell j ≡ e
-    e_is = ap (λ (c : ℕ). (get_or cell j 0, c)) (sym eb)
-
-    pub from_few : AllFew work g (ring cell) → Few work g e
-    from_few u = subst (λ (f : Edge). Few work g f) (ring_at cell j h ∙ e_is) (u j (omega (arith, h, length_ring cell)))
-
-    from_next : from j ≡ own_darts (laid e) ++ from (j + 1)
+  module _ (j : ℕ) (h : j < length o.cell.now) where
+    from_next : outline_from o j ≡ darts_at o j ++ outline_from o (j + 1)
     unfolding outline_from outline_darts joined
-    from_next = ap (λ (es : List Edge). outline_darts (map laid es)) (ring_from cell j h ∙ ap (λ (f : Edge). f ∷ drop (j + 1) (ring cell)) e_is)
+    from_next = ap (λ (es : List Edge). outline_darts (map laid es)) (ring_from cell j h)
 
-    module _ (ds : List Edge) (t : Bool) (et : t ≡ edges_meet ds (own_darts (laid e))) where
-      both_meet : edges_meet ds (from j) ≡ t || edges_meet ds (from (j + 1))
-      both_meet = ap (edges_meet ds) from_next ∙ meets_append ds (own_darts (laid e)) (from (j + 1)) ∙ ap (λ (x : Bool). x || edges_meet ds (from (j + 1))) (sym et)
+    module _ {r : ℕ} {list list' : List ℕ} (v : LaidIn (darts_at o j) r list list') where
+      module _ (ds : List Edge) {t : Bool} (et : t ≡ edges_meet ds (pairs (take r list'))) {all : Bool} (inv : edges_meet ds (outline_from o j) ≡ all) where
+        both_meet : t || edges_meet ds (outline_from o (j + 1)) ≡ all
+        both_meet = ap (λ (x : Bool). x || edges_meet ds (outline_from o (j + 1))) (et ∙ ap (edges_meet ds) (laid_read v))
+            ∙ sym (ap (edges_meet ds) from_next ∙ meets_append ds (darts_at o j) (outline_from o (j + 1))) ∙ inv
 
-      pub meets_now : t ≡ true → edges_meet ds (from j) ≡ true
-      meets_now f = both_meet ∙ ap (λ (x : Bool). x || edges_meet ds (from (j + 1))) f
+        pub meets_now : t ≡ true → true ≡ all
+        meets_now f = ap (λ (x : Bool). x || edges_meet ds (outline_from o (j + 1))) (sym f) ∙ both_meet
 
-      pub meets_on : t ≡ false → edges_meet ds (from j) ≡ edges_meet ds (from (j + 1))
-      meets_on f = both_meet ∙ ap (λ (x : Bool). x || edges_meet ds (from (j + 1))) f
+        pub meets_on : t ≡ false → edges_meet ds (outline_from o (j + 1)) ≡ all
+        meets_on f = ap (λ (x : Bool). x || edges_meet ds (outline_from o (j + 1))) (sym f) ∙ both_meet
 
-    module _ (t : Bool) (et : t ≡ repeats (own_darts (laid e))) where
-      both_repeat : (u : Bool) → u ≡ edges_meet (own_darts (laid e)) (from (j + 1)) → repeats (from j) ≡ t || u || repeats (from (j + 1))
-      both_repeat u eu = ap repeats from_next ∙ repeats_append (own_darts (laid e)) (from (j + 1)) ∙ ap₂ (λ (x y : Bool). x || y || repeats (from (j + 1))) (sym et) (sym eu)
+      module _ {t : Bool} (et : t ≡ repeats (pairs (take r list'))) {all : Bool} (inv : repeats (outline_from o j) ≡ all) where
+        both_repeat : t || edges_meet (darts_at o j) (outline_from o (j + 1)) || repeats (outline_from o (j + 1)) ≡ all
+        both_repeat = ap (λ (x : Bool). x || edges_meet (darts_at o j) (outline_from o (j + 1)) || repeats (outline_from o (j + 1))) (et ∙ ap repeats (laid_read v))
+            ∙ sym (ap repeats from_next ∙ repeats_append (darts_at o j) (outline_from o (j + 1))) ∙ inv
 
-      pub repeats_now : t ≡ true → repeats (from j) ≡ true
-      repeats_now f = both_repeat (edges_meet (own_darts (laid e)) (from (j + 1))) refl ∙ ap
-          (λ (x : Bool). x || edges_meet (own_darts (laid e)) (from (j + 1)) || repeats (from (j + 1))) f
+        pub repeats_now : t ≡ true → true ≡ all
+        repeats_now f = ap (λ (x : Bool). x || edges_meet (darts_at o j) (outline_from o (j + 1)) || repeats (outline_from o (j + 1))) (sym f) ∙ both_repeat
 
-      module _ (f : t ≡ false) (u : Bool) (eu : u ≡ edges_meet (own_darts (laid e)) (from (j + 1))) where
-        pub repeats_later : u ≡ true → repeats (from j) ≡ true
-        repeats_later g = both_repeat u eu ∙ ap₂ (λ (x y : Bool). x || y || repeats (from (j + 1))) f g
+        module _ (f : t ≡ false) {u : Bool} (eu : u ≡ edges_meet (pairs (take r list')) (outline_from o (j + 1))) where
+          later : u || repeats (outline_from o (j + 1)) ≡ all
+          later = ap₂ (λ (x y : Bool). x || y || repeats (outline_from o (j + 1))) (sym f)
+              (eu ∙ ap (λ (ds : List Edge). edges_meet ds (outline_from o (j + 1))) (laid_read v)) ∙ both_repeat
 
-        pub repeats_on : u ≡ false → repeats (from j) ≡ repeats (from (j + 1))
-        repeats_on g = both_repeat u eu ∙ ap₂ (λ (x y : Bool). x || y || repeats (from (j + 1))) f g
+          pub repeats_later : u ≡ true → true ≡ all
+          repeats_later g = ap (λ (x : Bool). x || repeats (outline_from o (j + 1))) (sym g) ∙ later
 
-  pub meets_out : (ds : List Edge) (j : ℕ) → length cell ≤ j → edges_meet ds (from j) ≡ false
+          pub repeats_on : u ≡ false → repeats (outline_from o (j + 1)) ≡ all
+          repeats_on g = ap (λ (x : Bool). x || repeats (outline_from o (j + 1))) (sym g) ∙ later
+
+  pub meets_out : (ds : List Edge) (j : ℕ) {all : Bool} → length o.cell.now ≤ j → edges_meet ds (outline_from o j) ≡ all → false ≡ all
   unfolding edges_meet among
-  meets_out ds j h = ap (edges_meet ds) (none_from j h) ∙ none ds
+  meets_out ds j h inv = sym (ap (edges_meet ds) (none_from j h) ∙ none ds) ∙ inv
     where
       none : (es : List Edge) → edges_meet es [] ≡ false
       none [] = refl
       none (e ∷ es) = none es
 
-  pub repeats_out : (j : ℕ) → length cell ≤ j → repeats (from j) ≡ false
+  pub repeats_out : (j : ℕ) {all : Bool} → length o.cell.now ≤ j → repeats (outline_from o j) ≡ all → false ≡ all
   unfolding repeats
-  repeats_out j h = ap repeats (none_from j h)
+  repeats_out j h inv = sym (ap repeats (none_from j h)) ∙ inv

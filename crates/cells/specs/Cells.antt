@@ -1,19 +1,18 @@
 -- One cell cut by the other mesh's edges near it (document 01, modules 6 and 7), where edges, meetings and links stand in regions of the working list.
 -- Assumes nothing.
-use Rattle.std.specs.Prelude.{◌≡◌, true, false, Result, Ok, Err, is_err, List, map, ℕ, ◌*◌, ◌≤◌, ◌<◌, length, get_or, drop, Float}
+use Rattle.std.specs.Prelude.{Result, Ok, Err, List, map, ℕ, ◌<◌, length, get_or, Float}
 use Rattle.lists.specs.Regions.{front, zeros}
 use Rattle.cutting.specs.Edges.{Edge, edge_at, ring}
 use Rattle.cutting.specs.Cell.{Laid, outline_darts, cell_table}
 use Rattle.cutting.specs.declared.Slot.{Slot}
 use Rattle.cutting.specs.Outcome as Outcome
 use Rattle.cutting.specs.Outcome.{Outcome, pieces, refusal, cut_outcome, flat}
-use Rattle.cutting.specs.Lent.{flat_edges, pairs}
+use Rattle.cutting.specs.Lent.{pairs}
 use Rattle.regions.specs.declared.Run.{Run}
 use Rattle.regions.specs.declared.Regions.{Regions}
-use Rattle.regions.specs.Runs.{Within, run_in}
+use Rattle.regions.specs.Runs.{run_in}
 use Rattle.edge_nodes.specs.Lent.{nodes_on, Few}
 use Rattle.refusals.specs.declared.Refusal.{Refusal}
-use Rattle.dart_table.specs.declared.Full.{Full}
 use Rattle.refusals.specs.Numbers.{number}
 use Rattle.dart_walk.specs.declared.Counts.{Counts}
 
@@ -81,29 +80,3 @@ cut_cell coords work g edges js cell on os = cut_by (outline_in coords work g ce
 -- The meetings are chained, and under no key of the edges es over 256 nodes were collected (refusal 9).
 abbrev pub AllFew : List ℕ → Regions → List Edge → Type 0
 AllFew work g es = (i : ℕ) → i < length es → Few work g (edge_at es i)
-
--- ---- what only inner functions' contracts cite
-
--- the outline darts of a cell's own edges from edge k on
-unfoldable pub outline_from : List Float → List ℕ → Regions → List ℕ → ℕ → List Edge
-outline_from coords work g cell k = outline_darts (map (laid_in coords work g) (drop k (ring cell)))
-
--- A list comes to hold the darts in front: r entries, at most 518.
-pub record LaidIn (darts : List Edge) (r : ℕ) (list list' : List ℕ) : Type 0 where
-  pub count : r ≡ 2 * length darts
-  pub few : r ≤ 518
-  pub held : list' ≡ front list (flat_edges darts)
-
--- A table holds the slots t, unless an edge was refused: then t has over 1,024.
-pub record Held (t : List Slot) (r : Result (Unit {0}) Full) (table : List Slot) : Type 0 where
-  pub fits : is_err r ≡ false → table ≡ t
-  pub over : is_err r ≡ true → 1024 < length t
-
--- the edges at the places js may cut a cell, and there is room for the nodes of an edge and for pieces
-pub record Ready (work : List ℕ) (g : Regions) (edges : Run) (js nodes on os : List ℕ) : Type 0 where
-  pub within : Within edges (length work)
-  pub few : AllFew work g (edges_in work edges)
-  pub places : Places js (edges_in work edges)
-  pub nodes_fit : 258 ≤ length nodes
-  pub corners_fit : 1024 ≤ length on
-  pub stops_fit : 1024 ≤ length os

@@ -97,16 +97,27 @@ impl<'a> LinkedMeetings<'a> {
     }
 }
 
-// Writes the sorted nodes of the key of a, b to the front of `out`, where edges, meetings and links stand in regions of w. Answers how many they are.
-pub fn nodes_on(coords: &[f64], w: &[u32], g: Regions, a: u32, b: u32, out: &mut [u32]) -> usize
-    requires { Few w.now g (a, b) × (258 ≤ length out.old) }
-    ensures { FrontIs (nodes_on coords.now w.now g (a, b)) out.old result out.new }
-{
-    let meetings = LinkedMeetings {
-        subject: part(w, g.subject.edges),
-        cutter: part(w, g.cutter.edges),
-        met: part(w, g.met),
-        links: part(w, g.links),
-    };
-    meetings.sorted_nodes(coords, SortedKey::new(a, b), out)
+// Where edges and meetings are found: the coordinates of all nodes, and the working list, which has edges, meetings and links in its regions.
+#[derive(Clone, Copy)]
+pub struct SceneLists<'a> {
+    pub coords: &'a [f64],
+    pub work: &'a [u32],
+    pub regions: Regions,
+}
+
+impl<'a> SceneLists<'a> {
+    // Writes the sorted nodes of the key of a, b to the front of `out`. Answers how many they are.
+    pub fn nodes_on(&self, a: u32, b: u32, out: &mut [u32]) -> usize
+        requires { Few self.now.work.now self.now.regions (a, b) × (258 ≤ length out.old) }
+        ensures { FrontIs (nodes_on self.now.coords.now self.now.work.now self.now.regions (a, b)) out.old result out.new }
+    {
+        let g = self.regions;
+        let meetings = LinkedMeetings {
+            subject: part(self.work, g.subject.edges),
+            cutter: part(self.work, g.cutter.edges),
+            met: part(self.work, g.met),
+            links: part(self.work, g.links),
+        };
+        meetings.sorted_nodes(self.coords, SortedKey::new(a, b), out)
+    }
 }

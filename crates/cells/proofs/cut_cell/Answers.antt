@@ -1,58 +1,47 @@
-use mathlib.Core.Path.{sym, ap, ◌∙◌}
+use mathlib.Core.Path.{◌≡◌, sym, ap, ◌∙◌}
 use Prim.Native.Nat.{ℕ}
 use native.Mathlib.Omega.{arith}
-use lib.ListN.{length, take}
-use lib.Seq.{length-take-le}
-use Rattle.cells.specs.Cells.{outline_in}
+use lib.ListN.{length, take, length-take}
+use Rattle.cutting.specs.Outcome.{refusal}
+use Rattle.refusals.specs.declared.Refusal.{Refusal}
+use Rattle.refusals.specs.declared.Refusal.TheVariants.{FullTable, RepeatedEdge}
+use Rattle.refusals.specs.Numbers.{number}
+use Rattle.cells.specs.Cells.{outline_in, cut, cut_as}
 use Rattle.cells.proofs.Cut.{own_table, cut_as_lent, too_many_own, repeated_own}
 use Rattle.cells.proofs.cut_cell.Goals as goal
-
-pub returns-then-outline_repeats : goal.returns-then-outline_repeats
-returns-then-outline_repeats c =
-    let a = c.args in
-    let found = c.outline_repeats.ensures in
-    c.refused.ensures ∙ repeated_own a.coords.now a.w.now a.g a.edges a.js.now a.cell.now a.runs.now a.stops.now
-    (sym found ∙ c.if-outline_repeats.true)
+use Rattle.cells.proofs.cut_cell.Goals.{then-outline_repeats, else-outline_repeats}
 
 pub returns-then-is_err : goal.returns-then-is_err
 returns-then-is_err c =
     let a = c.args in
-    let found = c.outline_repeats.ensures in
-    let own = c.own_darts in
-    c.refused-then-is_err.ensures ∙ too_many_own a.coords.now a.w.now a.g a.edges a.js.now a.cell.now a.runs.now a.stops.now
-    (sym found ∙ c.if-outline_repeats.false) (own.ensures.held.over (sym c.is_err.ensures.value ∙ c.if-is_err.true))
+    let as_refused : (r : Refusal) → c.if-outline_repeats.why ≡ r → cut c.refused.result c.refused.new.runs c.refused.new.stops ≡ cut_as (refusal (number r)) a.runs.now a.stops.now =
+    λ r e. c.refused.ensures ∙ ap (λ (s : Refusal). cut_as (refusal (number s)) a.runs.now a.stops.now) e in
+    elim c.if-outline_repeats.branch [
+      | then-outline_repeats w ↦ as_refused RepeatedEdge w.why-is ∙ repeated_own a.coords.now a.w.now a.g a.edges a.js.now a.cell.now a.runs.now a.stops.now
+          (sym c.outline_repeats.ensures ∙ w.if-outline_repeats.true)
+      | else-outline_repeats w ↦ as_refused FullTable w.why-is ∙ too_many_own a.coords.now a.w.now a.g a.edges a.js.now a.cell.now a.runs.now a.stops.now
+          (sym c.outline_repeats.ensures ∙ w.if-outline_repeats.false) (c.add_darts.ensures.held.over (sym c.is_err.ensures.value ∙ c.if-is_err.true))
+    ]
 
-pub slice_bounds-cut_outlined-end : goal.slice_bounds-cut_outlined-end
-slice_bounds-cut_outlined-end c =
-    let own = c.own_darts in
-    sym (length-take-le _ _ (omega (arith, c.slots-entries.ensures.few, ap length c.slots-entries.ensures.slots, own.auto.outline)))
-
-pub cut_outlined-requires : goal.cut_outlined-requires
-cut_outlined-requires c =
+pub cut-requires : goal.cut-requires
+cut-requires c =
     let a = c.args in
-    let own = c.own_darts in
+    let own = c.add_darts in
     let fits = sym c.is_err.ensures.value ∙ c.if-is_err.false in
     let same = ap length c.slots-entries.ensures.slots in
-    let long = length-take-le (length c.slots-entries.result.now) own.new.outline (omega (arith, c.slots-entries.ensures.few, same, own.auto.outline)) in
     let lent = ap (λ (n : ℕ). take n own.new.outline) same ∙ own.ensures.outlined fits in (
-      record {
-        within = c.requires.1;
-        few = c.requires.2;
-        places = c.requires.3;
-        nodes_fit = omega (arith, own.auto.nodes);
-        corners_fit = c.requires.4;
-        stops_fit = c.requires.5;
-      },
-      omega (arith, long, c.slots-entries.ensures.few, same),
+      omega (arith, length-take (length c.slots-entries.result.now) own.new.outline, c.slots-entries.ensures.few, same),
       own_table a.coords.now (outline_in a.coords.now a.w.now a.g a.cell.now) own.new.outline (length c.slots-entries.result.now) lent own.new.table (own.ensures.held.fits fits),
+      c.requires.4,
+      c.requires.5,
     )
 
 pub returns : goal.returns
 returns c =
     let a = c.args in
-    let own = c.own_darts in
+    let own = c.add_darts in
     let fits = sym c.is_err.ensures.value ∙ c.if-is_err.false in
     let same = ap length c.slots-entries.ensures.slots in
     let lent = ap (λ (n : ℕ). take n own.new.outline) same ∙ own.ensures.outlined fits in
     cut_as_lent a.coords.now a.w.now a.g a.edges a.js.now a.cell.now a.runs.now a.stops.now own.new.outline (length c.slots-entries.result.now) _
-    lent c.cut_outlined.ensures
+    lent (rw (← c.part.ensures) c.cut.ensures)

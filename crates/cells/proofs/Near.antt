@@ -17,46 +17,52 @@ use Rattle.dart_table.specs.Table.{table_in, with_edges}
 use Rattle.dart_table.proofs.Joins.{near_turn, near_full}
 use Rattle.cutting.proofs.Pairs.{pairs_length, pairs_at}
 use Rattle.edge_nodes.specs.Lent.{nodes_on, Few}
-use Rattle.regions.specs.declared.Regions.{Regions}
-use Rattle.cells.specs.Cells.{laid_in, near_in, Places, AllFew}
+use Rattle.cells.specs.declared.NearEdges.{NearEdges}
+use Rattle.cells.specs.Cells.{laid_in, near_in}
+use Rattle.cells.specs.Near.{laid_near}
 
 -- the table holds the edges at the first k places
-pub record Nearing (coords : List Float) (work : List ℕ) (g : Regions) (near js : List ℕ) (outline : List Edge) (t : List Slot) (k : ℕ) : Type 0 where
-  pub within : k ≤ length js
-  pub held : t ≡ cell_table coords outline (near_in coords work g (pairs near) (take k js))
+pub record Nearing (n : NearEdges) (outline : List Edge) (t : List Slot) (k : ℕ) : Type 0 where
+  pub within : k ≤ length n.places.now
+  pub held : t ≡ cell_table n.scene.coords.now outline (near_in n.scene.coords.now n.scene.work.now n.scene.regions (pairs n.edges.now) (take k n.places.now))
 
-module _ (coords : List Float) (work : List ℕ) (g : Regions) (near js : List ℕ) (outline : List Edge) where
+module _ (n : NearEdges) (outline : List Edge) where
+  abbrev coords : List Float
+  coords = n.scene.coords.now
+
+  abbrev near : List ℕ
+  near = n.edges.now
+
+  abbrev js : List ℕ
+  js = n.places.now
+
   abbrev laid : Edge → Laid
-  laid = laid_in coords work g
+  laid = laid_in n.scene.coords.now n.scene.work.now n.scene.regions
 
   abbrev near_by : List ℕ → List Laid
-  near_by = near_in coords work g (pairs near)
+  near_by = near_in n.scene.coords.now n.scene.work.now n.scene.regions (pairs n.edges.now)
 
-  abbrev Nearing₀ : List Slot → ℕ → Type 0
-  Nearing₀ = Nearing coords work g near js outline
-
-  pub near_start : (t : List Slot) → t ≡ cell_table coords outline [] → Nearing₀ t 0
+  pub near_start : (t : List Slot) → t ≡ cell_table n.scene.coords.now outline [] → Nearing n outline t 0
   unfolding near_in
   near_start t e = record { within = omega arith; held = e }
 
-  module _ (t : List Slot) (k : ℕ) (v : Nearing₀ t k) where
-    module _ (h : k < length js) (places : Places js (pairs near)) where
+  module _ {t : List Slot} {k : ℕ} (v : Nearing n outline t k) where
+    module _ (h : k < length n.places.now) where
       abbrev j : ℕ
       j = get_or js k 0
 
       abbrev e : Edge
       e = (get_or near (2 * j) 0, get_or near (2 * j + 1) 0)
 
-      pub place_low : get_or js k 0 < length near / 2
-      place_low = omega (arith, places k h, pairs_length near)
+      pub place_low : get_or n.places.now k 0 < length n.edges.now / 2
+      place_low = omega (arith, n.within k h, pairs_length near)
 
       at_j : edge_at (pairs near) j ≡ e
       at_j = pairs_at near j place_low
 
-      pub near_few : AllFew work g (pairs near) → Few work g e
-      near_few u = subst (λ (f : Edge). Few work g f) at_j (u j (places k h))
+      pub near_few : Few n.scene.work.now n.scene.regions (get_or n.edges.now (2 * get_or n.places.now k 0) 0, get_or n.edges.now (2 * get_or n.places.now k 0 + 1) 0)
+      near_few = subst (λ (f : Edge). Few n.scene.work.now n.scene.regions f) at_j (n.few j (n.within k h))
 
-      -- with this one
       more : near_by (take k js) ++ laid e ∷ [] ≡ near_by (take (k + 1) js)
       unfolding near_in
       more =
@@ -70,23 +76,25 @@ module _ (coords : List Float) (work : List ℕ) (g : Regions) (near js : List �
           sym (append_assoc (near_by (take k js)) (laid e ∷ []) (near_by (drop (k + 1) js))) ∙ ap (λ (l : List Laid). l ++ near_by (drop (k + 1) js)) more
           ∙ sym (map-append (λ (i : ℕ). laid (edge_at (pairs near) i)) (take (k + 1) js) (drop (k + 1) js)) ∙ ap near_by (take-append-drop (k + 1) js)
 
-      module _ (ns : List ℕ) (en : ns ≡ nodes_on coords work g e) (r : Result (Unit {0}) Full) (t' : List Slot)
-          (lent : table_in r t' ≡ with_edges coords (near_darts (record { edge = e; nodes = ns })) t) where
+      module _ (ns : List ℕ) (en : ns ≡ nodes_on n.scene.coords.now n.scene.work.now n.scene.regions
+          (get_or n.edges.now (2 * get_or n.places.now k 0) 0, get_or n.edges.now (2 * get_or n.places.now k 0 + 1) 0)) (r : Result (Unit {0}) Full) (t' : List Slot)
+          (lent : table_in r t' ≡ with_edges n.scene.coords.now
+          (near_darts (record { edge = (get_or n.edges.now (2 * get_or n.places.now k 0) 0, get_or n.edges.now (2 * get_or n.places.now k 0 + 1) 0); nodes = ns })) t) where
         got : table_in r t' ≡ with_edges coords (near_darts (laid e)) t
         got = lent ∙ ap (λ (l : List ℕ). with_edges coords (near_darts (record { edge = e; nodes = l })) t) en
 
-        pub near_step : is_err r ≡ false → Nearing₀ t' (k + 1)
+        pub near_step : is_err r ≡ false → Nearing n outline t' (k + 1)
         near_step fits = record {
           within = omega (arith, h);
           held = near_turn coords outline t r t' (near_by (take k js)) (laid e) got v.held fits ∙ ap (cell_table coords outline) more;
         }
 
         -- too many at this edge are too many in all
-        pub near_many : is_err r ≡ true → 1024 < length (cell_table coords outline (near_by js))
+        pub near_many : is_err r ≡ true → 1024 < length (cell_table n.scene.coords.now outline (laid_near n))
         near_many full =
             let all : 1024 < length (cell_table coords outline (near_by (take k js) ++ laid e ∷ near_by (drop (k + 1) js))) =
             near_full coords outline t r t' (near_by (take k js)) (laid e) got v.held (near_by (drop (k + 1) js)) full in
             omega (arith, all, ap (λ (l : List Laid). length (cell_table coords outline l)) split)
 
-    pub near_end : length js ≤ k → t ≡ cell_table coords outline (near_by js)
+    pub near_end : length n.places.now ≤ k → t ≡ cell_table n.scene.coords.now outline (laid_near n)
     near_end past = v.held ∙ ap (λ (l : List ℕ). cell_table coords outline (near_by l)) (take_all k js past)
