@@ -2,20 +2,20 @@
 use Rattle.std.specs.Prelude.{◌≡◌, Bool, true, false, cond, List, [], ◌++◌, map, ℕ, ◌+◌, ◌*◌, ◌≤◌, ◌<◌, eqb, length, get_or, Float}
 use Rattle.lists.specs.Regions.{front, put, zeros}
 use Rattle.cutting.specs.Lent.{flat_edges}
+use Rattle.views.specs.declared.MeshView.{MeshView}
 use Rattle.entry.specs.Mesh.{Mesh, mesh, node_count, prior, cell_size}
 use Rattle.rules.specs.Snap.{weld}
 use Rattle.snap.specs.Steps.{AllPlaced}
 use Rattle.rules.specs.Neighbours.{subject_net, cutter_net}
 use Rattle.strips.specs.Index.{index_of}
 use Rattle.finding.specs.declared.numbering.NetPlaces.{NetPlaces}
-use Rattle.finding.specs.declared.numbering.Shape.{Shape}
 
 -- a mesh without its kinds and families, at which nothing here looks (proofs/Scenes.antt)
 abbrev pub plain : List Float → List ℕ → List ℕ → Mesh
 plain coords nodes ends = mesh coords nodes ends [] []
 
-abbrev pub plain_of : Shape → Mesh
-plain_of x = plain x.coords.now x.nodes.now x.ends.now
+abbrev pub plain_of : MeshView → Mesh
+plain_of v = plain v.coords.now v.nodes.now v.ends.now
 
 -- ---- what passed the entry, as far as it is needed here (proofs/Passed.antt)
 

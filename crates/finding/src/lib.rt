@@ -5,5 +5,4 @@
 mod numbering;
 mod stages;
 
-pub use numbering::Shape;
 pub use stages::{Found, find};

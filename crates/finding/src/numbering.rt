@@ -10,14 +10,7 @@ use lists::copy_at;
 use neighbours::compute_descending;
 use snap::duplicates_from;
 use strips::Things;
-
-// A mesh without its kinds and families, at which nothing here looks.
-#[derive(Clone, Copy)]
-pub struct Shape<'a> {
-    pub coords: &'a [f64],
-    pub nodes: &'a [u32],
-    pub ends: &'a [u32],
-}
+use views::MeshView;
 
 // Where the cutter's entries begin, then the subject's; where the subject's edges begin and how many there are; the same of the cutter's; where the index
 // of these begins; where there is room behind it.
@@ -45,11 +38,11 @@ fn renumber(cn: &[u32], w: &mut [u32], at: usize)
 }
 
 // All but the index.
-fn edges(lines: bool, s: Shape, c: Shape, w: &mut [u32]) -> NetPlaces
-    requires { Fit false (plain_of s) × Fit lines (plain_of c)
-        × NetRoom 0 (plain_of s) (plain_of c) (length w.old) }
-    ensures { (result ≡ nets_of lines (plain_of s.entry) (plain_of c.entry))
-        × (w.new ≡ edged lines (plain_of s.entry) (plain_of c.entry) w.old) }
+fn edges(lines: bool, s: &MeshView, c: &MeshView, w: &mut [u32]) -> NetPlaces
+    requires { Fit false (plain_of s.now) × Fit lines (plain_of c.now)
+        × NetRoom 0 (plain_of s.now) (plain_of c.now) (length w.old) }
+    ensures { (result ≡ nets_of lines (plain_of s.now) (plain_of c.now))
+        × (w.new ≡ edged lines (plain_of s.now) (plain_of c.now) w.old) }
 {
     let entries = c.coords.len() / 2;
     let copied = entries + c.nodes.len();
@@ -86,11 +79,17 @@ fn edges(lines: bool, s: Shape, c: Shape, w: &mut [u32]) -> NetPlaces
 }
 
 // The regions of both meshes. `coords` are the coordinates of both.
-pub(crate) fn nets(lines: bool, coords: &[f64], s: Shape, c: Shape, w: &mut [u32]) -> NetPlaces
-    requires { Fit false (plain_of s) × Fit lines (plain_of c)
-        × NetRoom 0 (plain_of s) (plain_of c) (length w.old) × (coords.now ≡ s.coords.now ++ c.coords.now) }
-    ensures { (result ≡ nets_of lines (plain_of s.entry) (plain_of c.entry))
-        × (w.new ≡ netted lines (plain_of s.entry) (plain_of c.entry) w.old) }
+pub(crate) fn nets(
+    lines: bool,
+    coords: &[f64],
+    s: &MeshView,
+    c: &MeshView,
+    w: &mut [u32],
+) -> NetPlaces
+    requires { Fit false (plain_of s.now) × Fit lines (plain_of c.now)
+        × NetRoom 0 (plain_of s.now) (plain_of c.now) (length w.old) × (coords.now ≡ s.now.coords.now ++ c.now.coords.now) }
+    ensures { (result ≡ nets_of lines (plain_of s.now) (plain_of c.now))
+        × (w.new ≡ netted lines (plain_of s.now) (plain_of c.now) w.old) }
 {
     let n = edges(lines, s, c, w);
     let from = n.at;

@@ -1,19 +1,20 @@
 // The stages before the cells, one after the other.
 ghost use Rattle.std.specs.Prelude.{◌≡◌, true, ◌++◌, ◌+◌, ◌≤◌, leb, length};
 ghost use Rattle.lists.specs.Regions.{front};
-ghost use Rattle.cutting.specs.Lent.{pairs};
 ghost use Rattle.refusals.specs.Numbers.{number, by_number};
 ghost use Rattle.regions.specs.Runs.{run_in};
-ghost use Rattle.edge_nodes.specs.Links.{Linked};
+ghost use Rattle.entry.specs.Named.{op_number};
 ghost use Rattle.finding.specs.Nets.{plain_of, FindAsks};
 ghost use Rattle.finding.specs.Found.{regions_by, refused_lists, found_of, both_full, LinkedIn, LinkRoom, linked_by};
 
-use crate::numbering::{NetPlaces, Shape, nets};
+use crate::numbering::{NetPlaces, nets};
 use edge_nodes::{LinkedMeetings, link_meetings};
+use entry::Operation;
 use lists::copy_at;
 use meetings::{Places, compute_intersections};
 use refusals::Refusal;
 use regions::{MeshRuns, Regions, Run, part};
+use views::MeshView;
 
 // Where both meshes, the meetings and their links stand in the working list; how many nodes there are.
 #[derive(Clone, Copy)]
@@ -106,25 +107,25 @@ fn link(w: &mut [u32], n: NetPlaces, met: usize, h: usize) -> Regions
     }
 }
 
-// The coordinates of both meshes and the new points go to the front of oc, the edges, the meetings and their links to the working list. A refusal leaves
-// zeros.
+// The coordinates of both meshes and the new points go to the front of `coords`, the edges, the meetings and their links to the working list. A refusal
+// leaves zeros.
 pub fn find(
-    op: u32,
-    m: u32,
-    s: Shape,
-    c: Shape,
-    oc: &mut [f64],
-    w: &mut [u32],
+    op: Operation,
+    limit: u32,
+    subject: &MeshView,
+    cutter: &MeshView,
+    coords: &mut [f64],
+    work: &mut [u32],
 ) -> Result<Found, Refusal>
-    requires { FindAsks op m (plain_of s) (plain_of c) (length w.old) }
-    ensures { record { answer = by_number result; coords = oc.new; work = w.new }
-        ≡ found_of op m (plain_of s.entry) (plain_of c.entry) oc.old w.old }
+    requires { FindAsks (op_number op) limit (plain_of subject.now) (plain_of cutter.now) (length work.old) }
+    ensures { record { answer = by_number result; coords = coords.new; work = work.new }
+        ≡ found_of (op_number op) limit (plain_of subject.now) (plain_of cutter.now) coords.old work.old }
 {
-    if !place_coords(s.coords, c.coords, oc) {
-        return refused(oc, w, Refusal::NoPlace);
+    if !place_coords(subject.coords, cutter.coords, coords) {
+        return refused(coords, work, Refusal::NoPlace);
     }
-    let placed = s.coords.len() + c.coords.len();
-    let n = nets(op == 5, &oc[..placed], s, c, w);
+    let placed = subject.coords.len() + cutter.coords.len();
+    let n = nets(op.takes_lines(), &coords[..placed], subject, cutter, work);
     let at = Places {
         placed,
         subject: n.from,
@@ -133,12 +134,12 @@ pub fn find(
         cutters: n.cutter,
         index: n.index,
         base: n.base,
-        limit: m as usize,
+        limit: limit as usize,
     };
-    let f = compute_intersections(oc, w, at)?;
-    let g = link(w, n, f.met, placed / 2 + 1);
-    if crowded(w, g) {
-        return refused(oc, w, Refusal::CrowdedEdge);
+    let f = compute_intersections(coords, work, at)?;
+    let g = link(work, n, f.met, placed / 2 + 1);
+    if crowded(work, g) {
+        return refused(coords, work, Refusal::CrowdedEdge);
     }
     Ok(Found {
         regions: g,

@@ -10,7 +10,7 @@ overflow_mul-end c =
     omega (
       arith,
       c.well_formed,
-      places_low a.lines a.s.coords.now a.c.coords.now a.s.nodes.now a.s.ends.now a.c.nodes.now a.c.ends.now c.requires.0 c.requires.1
+      places_low a.lines a.s.now.coords.now a.c.now.coords.now a.s.now.nodes.now a.s.now.ends.now a.c.now.nodes.now a.c.now.ends.now c.requires.0 c.requires.1
           a.w.now c.requires.2 a.coords.now c.requires.3 c.edges-n.result c.edges-n.new.w c.edges-n.ensures,
     )
 
@@ -20,28 +20,28 @@ overflow_add-end c =
     omega (
       arith,
       c.well_formed,
-      places_low a.lines a.s.coords.now a.c.coords.now a.s.nodes.now a.s.ends.now a.c.nodes.now a.c.ends.now c.requires.0 c.requires.1
+      places_low a.lines a.s.now.coords.now a.c.now.coords.now a.s.now.nodes.now a.s.now.ends.now a.c.now.nodes.now a.c.now.ends.now c.requires.0 c.requires.1
           a.w.now c.requires.2 a.coords.now c.requires.3 c.edges-n.result c.edges-n.new.w c.edges-n.ensures,
     )
 
 pub split_at_mut-before-requires : goal.split_at_mut-before-requires
 split_at_mut-before-requires c =
     let a = c.args in
-    let asked = build_asked a.lines a.s.coords.now a.c.coords.now a.s.nodes.now a.s.ends.now a.c.nodes.now a.c.ends.now c.requires.0 c.requires.1
+    let asked = build_asked a.lines a.s.now.coords.now a.c.now.coords.now a.s.now.nodes.now a.s.now.ends.now a.c.now.nodes.now a.c.now.ends.now c.requires.0 c.requires.1
     a.w.now c.requires.2 a.coords.now c.requires.3 c.edges-n.result c.edges-n.new.w c.edges-n.ensures _ refl in
     omega (arith, asked.2)
 
 pub offset_bounds-before-from : goal.offset_bounds-before-from
 offset_bounds-before-from c =
     let a = c.args in
-    let asked = build_asked a.lines a.s.coords.now a.c.coords.now a.s.nodes.now a.s.ends.now a.c.nodes.now a.c.ends.now c.requires.0 c.requires.1
+    let asked = build_asked a.lines a.s.now.coords.now a.c.now.coords.now a.s.now.nodes.now a.s.now.ends.now a.c.now.nodes.now a.c.now.ends.now c.requires.0 c.requires.1
     a.w.now c.requires.2 a.coords.now c.requires.3 c.edges-n.result c.edges-n.new.w c.edges-n.ensures _ refl in
     omega (arith, c.well_formed, asked.0, asked.1, asked.2, c.edges-n.auto.w)
 
 pub slice_bounds-things-end : goal.slice_bounds-things-end
 slice_bounds-things-end c =
     let a = c.args in
-    let asked = build_asked a.lines a.s.coords.now a.c.coords.now a.s.nodes.now a.s.ends.now a.c.nodes.now a.c.ends.now c.requires.0 c.requires.1
+    let asked = build_asked a.lines a.s.now.coords.now a.c.now.coords.now a.s.now.nodes.now a.s.now.ends.now a.c.now.nodes.now a.c.now.ends.now c.requires.0 c.requires.1
     a.w.now c.requires.2 a.coords.now c.requires.3 c.edges-n.result c.edges-n.new.w c.edges-n.ensures _ refl in
     omega (arith, asked.1, c.split_at_mut-before.ensures.front_len)
 
@@ -50,7 +50,7 @@ invariant_of-things c =
     let a = c.args in
     record {
       rising = λ i h. absurd (omega (arith, h));
-      few = few_lent a.lines a.s.coords.now a.c.coords.now a.s.nodes.now a.s.ends.now a.c.nodes.now a.c.ends.now c.requires.0 c.requires.1
+      few = few_lent a.lines a.s.now.coords.now a.c.now.coords.now a.s.now.nodes.now a.s.now.ends.now a.c.now.nodes.now a.c.now.ends.now c.requires.0 c.requires.1
           a.w.now c.requires.2 a.coords.now c.requires.3 c.edges-n.result c.edges-n.new.w c.edges-n.ensures _ refl
           c.split_at_mut-before.result.0.now c.split_at_mut-before.result.1.now c.split_at_mut-before.ensures.front c.split_at_mut-before.ensures.back_len;
     }
@@ -58,14 +58,14 @@ invariant_of-things c =
 pub build-requires : goal.build-requires
 build-requires c =
     let a = c.args in
-    room_lent a.lines a.s.coords.now a.c.coords.now a.s.nodes.now a.s.ends.now a.c.nodes.now a.c.ends.now c.requires.0 c.requires.1
+    room_lent a.lines a.s.now.coords.now a.c.now.coords.now a.s.now.nodes.now a.s.now.ends.now a.c.now.nodes.now a.c.now.ends.now c.requires.0 c.requires.1
     a.w.now c.requires.2 a.coords.now c.requires.3 c.edges-n.result c.edges-n.new.w c.edges-n.ensures _ refl
     c.split_at_mut-before.result.0.now c.split_at_mut-before.result.1.now c.split_at_mut-before.ensures.front c.split_at_mut-before.ensures.back_len
 
 pub returns : goal.returns
 returns c =
     let a = c.args in
-    nets_written a.lines a.s.coords.now a.c.coords.now a.s.nodes.now a.s.ends.now a.c.nodes.now a.c.ends.now c.requires.0 c.requires.1
+    nets_written a.lines a.s.now.coords.now a.c.now.coords.now a.s.now.nodes.now a.s.now.ends.now a.c.now.nodes.now a.c.now.ends.now c.requires.0 c.requires.1
     a.w.now c.requires.2 a.coords.now c.requires.3 c.edges-n.result c.edges-n.new.w c.edges-n.ensures _ refl
     c.split_at_mut-before.result.0.now c.split_at_mut-before.result.1.now c.split_at_mut-before.ensures.front c.split_at_mut-before.ensures.back_len
     c.build.new.ix c.split_at_mut-before.ensures.back c.build.ensures.1

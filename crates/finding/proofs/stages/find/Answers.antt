@@ -14,7 +14,7 @@ pub returns-then-not-place_coords : goal.returns-then-not-place_coords
 returns-then-not-place_coords c =
     let oc-last = c.place_coords.new.oc in
     let oc-kept = c.place_coords.auto.oc in
-    twelve _ _ _ _ _ _ _ _ c.args.w.now c.requires c.args.oc.now
+    twelve _ _ _ _ _ _ _ _ c.args.work.now c.requires c.args.coords.now
     c.place_coords.result c.place_coords.ensures.0 (ap not c.if-not-place_coords.true) oc-last
     oc-kept _ c.refused.ensures
 
@@ -25,41 +25,41 @@ overflow_add-placed c =
 pub slice_bounds-nets-end : goal.slice_bounds-nets-end
 slice_bounds-nets-end c =
     let a = c.args in
-    let lent : (length a.s.coords.now + length a.c.coords.now ≤ length c.place_coords.new.oc)
-    × (take (length a.s.coords.now + length a.c.coords.now) c.place_coords.new.oc ≡ a.s.coords.now ++ a.c.coords.now) =
-    coords_lent _ _ _ _ _ _ _ _ c.args.w.now c.requires c.args.oc.now c.place_coords.result c.place_coords.new.oc
+    let lent : (length a.subject.now.coords.now + length a.cutter.now.coords.now ≤ length c.place_coords.new.oc)
+    × (take (length a.subject.now.coords.now + length a.cutter.now.coords.now) c.place_coords.new.oc ≡ a.subject.now.coords.now ++ a.cutter.now.coords.now) =
+    coords_lent _ _ _ _ _ _ _ _ c.args.work.now c.requires c.args.coords.now c.place_coords.result c.place_coords.new.oc
     c.place_coords.ensures (ap not c.if-not-place_coords.false) c.place_coords.auto.oc in
     lent.0
 
 pub slice_bounds-nets-end-2 : goal.slice_bounds-nets-end-2
 slice_bounds-nets-end-2 c =
     let a = c.args in
-    let lent : (length a.s.coords.now + length a.c.coords.now ≤ length c.place_coords.new.oc)
-    × (take (length a.s.coords.now + length a.c.coords.now) c.place_coords.new.oc ≡ a.s.coords.now ++ a.c.coords.now) =
-    coords_lent _ _ _ _ _ _ _ _ c.args.w.now c.requires c.args.oc.now c.place_coords.result c.place_coords.new.oc
+    let lent : (length a.subject.now.coords.now + length a.cutter.now.coords.now ≤ length c.place_coords.new.oc)
+    × (take (length a.subject.now.coords.now + length a.cutter.now.coords.now) c.place_coords.new.oc ≡ a.subject.now.coords.now ++ a.cutter.now.coords.now) =
+    coords_lent _ _ _ _ _ _ _ _ c.args.work.now c.requires c.args.coords.now c.place_coords.result c.place_coords.new.oc
     c.place_coords.ensures (ap not c.if-not-place_coords.false) c.place_coords.auto.oc in
     sym (length-take-le _ _ lent.0)
 
 pub nets-n-requires : goal.nets-n-requires
 nets-n-requires c =
     let a = c.args in
-    let lent : (length a.s.coords.now + length a.c.coords.now ≤ length c.place_coords.new.oc)
-    × (take (length a.s.coords.now + length a.c.coords.now) c.place_coords.new.oc ≡ a.s.coords.now ++ a.c.coords.now) =
-    coords_lent _ _ _ _ _ _ _ _ c.args.w.now c.requires c.args.oc.now c.place_coords.result c.place_coords.new.oc
+    let lent : (length a.subject.now.coords.now + length a.cutter.now.coords.now ≤ length c.place_coords.new.oc)
+    × (take (length a.subject.now.coords.now + length a.cutter.now.coords.now) c.place_coords.new.oc ≡ a.subject.now.coords.now ++ a.cutter.now.coords.now) =
+    coords_lent _ _ _ _ _ _ _ _ c.args.work.now c.requires c.args.coords.now c.place_coords.result c.place_coords.new.oc
     c.place_coords.ensures (ap not c.if-not-place_coords.false) c.place_coords.auto.oc in
     let ok = c.requires in
-    (ok.subject, ok.cutter, omega (arith, ok.room), lent.1)
+    (ok.subject, rw c.takes_lines.ensures ok.cutter, omega (arith, ok.room), lent.1)
 
 pub compute_intersections-requires : goal.compute_intersections-requires
 compute_intersections-requires c =
     let oc-last = c.place_coords.new.oc in
     let w-last = c.nets-n.new.w in
-    let ix = indexed _ _ _ _ _ _ _ _ c.args.w.now c.requires c.args.oc.now
+    let ix = indexed _ _ _ _ _ _ _ _ c.args.work.now c.requires c.args.coords.now
     c.place_coords.result oc-last c.place_coords.ensures (ap not c.if-not-place_coords.false)
-    c.nets-n.result w-last c.nets-n.ensures in (
-      asked _ _ _ _ _ _ _ _ c.args.w.now c.requires c.args.oc.now
+    c.nets-n.result w-last (rw c.takes_lines.ensures at c.nets-n.ensures) in (
+      asked _ _ _ _ _ _ _ _ c.args.work.now c.requires c.args.coords.now
           c.place_coords.result oc-last c.place_coords.ensures (ap not c.if-not-place_coords.false)
-          c.nets-n.result w-last c.nets-n.ensures,
+          c.nets-n.result w-last (rw c.takes_lines.ensures at c.nets-n.ensures),
       record { index_fits = ix.0; indexed = ix.1 },
     )
 
@@ -70,9 +70,9 @@ returns-in_err-f c =
     let met = c.compute_intersections in
     let p = err_from_is_err_and c.from_residual.result c.from_residual.ensures.1 in
     rw (p.1, p.2)
-    (met_stop _ _ _ _ _ _ _ _ c.args.w.now c.requires c.args.oc.now
+    (met_stop _ _ _ _ _ _ _ _ c.args.work.now c.requires c.args.coords.now
     c.place_coords.result oc-last c.place_coords.ensures (ap not c.if-not-place_coords.false)
-    c.nets-n.result w-last c.nets-n.ensures
+    c.nets-n.result w-last (rw c.takes_lines.ensures at c.nets-n.ensures)
     met.result met.new.oc met.new.w met.ensures met.auto.oc met.auto.w _ c.in_err-f.was)
 
 pub overflow_add-placed-2 : goal.overflow_add-placed-2
@@ -84,9 +84,9 @@ link-g-requires c =
     let oc-last = c.place_coords.new.oc in
     let w-last = c.nets-n.new.w in
     let met = c.compute_intersections in
-    link_asked _ _ _ _ _ _ _ _ c.args.w.now c.requires c.args.oc.now
+    link_asked _ _ _ _ _ _ _ _ c.args.work.now c.requires c.args.coords.now
     c.place_coords.result oc-last c.place_coords.ensures (ap not c.if-not-place_coords.false)
-    c.nets-n.result w-last c.nets-n.ensures
+    c.nets-n.result w-last (rw c.takes_lines.ensures at c.nets-n.ensures)
     met.result met.new.oc met.new.w met.ensures met.auto.oc met.auto.w
     _ c.in_ok-f.was _ refl
 
@@ -96,9 +96,9 @@ crowded-requires c =
     let w-last-by-nets = c.nets-n.new.w in
     let w-last-by-link = c.link-g.new.w in
     let met = c.compute_intersections in
-    crowded_asks _ _ _ _ _ _ _ _ c.args.w.now c.requires c.args.oc.now
+    crowded_asks _ _ _ _ _ _ _ _ c.args.work.now c.requires c.args.coords.now
     c.place_coords.result oc-last c.place_coords.ensures (ap not c.if-not-place_coords.false)
-    c.nets-n.result w-last-by-nets c.nets-n.ensures
+    c.nets-n.result w-last-by-nets (rw c.takes_lines.ensures at c.nets-n.ensures)
     met.result met.new.oc met.new.w met.ensures met.auto.oc met.auto.w
     _ c.in_ok-f.was _ refl c.link-g.result w-last-by-link c.link-g.ensures
 
@@ -108,9 +108,9 @@ returns-then-crowded c =
     let w-last-by-nets = c.nets-n.new.w in
     let w-last-by-link = c.link-g.new.w in
     let met = c.compute_intersections in
-    nine_stop _ _ _ _ _ _ _ _ c.args.w.now c.requires c.args.oc.now
+    nine_stop _ _ _ _ _ _ _ _ c.args.work.now c.requires c.args.coords.now
     c.place_coords.result oc-last c.place_coords.ensures (ap not c.if-not-place_coords.false)
-    c.nets-n.result w-last-by-nets c.nets-n.ensures
+    c.nets-n.result w-last-by-nets (rw c.takes_lines.ensures at c.nets-n.ensures)
     met.result met.new.oc met.new.w met.ensures met.auto.oc met.auto.w
     _ c.in_ok-f.was _ refl c.link-g.result w-last-by-link c.link-g.ensures
     c.crowded.result c.crowded.ensures c.if-crowded.true _ c.refused-then-crowded.ensures
@@ -121,9 +121,9 @@ returns c =
     let w-last-by-nets = c.nets-n.new.w in
     let w-last-by-link = c.link-g.new.w in
     let met = c.compute_intersections in
-    all_found _ _ _ _ _ _ _ _ c.args.w.now c.requires c.args.oc.now
+    all_found _ _ _ _ _ _ _ _ c.args.work.now c.requires c.args.coords.now
     c.place_coords.result oc-last c.place_coords.ensures (ap not c.if-not-place_coords.false)
-    c.nets-n.result w-last-by-nets c.nets-n.ensures
+    c.nets-n.result w-last-by-nets (rw c.takes_lines.ensures at c.nets-n.ensures)
     met.result met.new.oc met.new.w met.ensures met.auto.oc met.auto.w
     _ c.in_ok-f.was _ refl c.link-g.result w-last-by-link c.link-g.ensures
     c.crowded.result c.crowded.ensures c.if-crowded.false
