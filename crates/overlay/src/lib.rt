@@ -8,8 +8,8 @@ ghost use Rattle.entry.specs.Refused.{entry_of};
 ghost use Rattle.rules.specs.Overlay.{lent_lists, result_of, cleared, state_of, answered, overlay_of};
 
 use cutting_cells::cut_meshes;
-use entry::entry;
-use finding::{Shape, find};
+use entry::{Operation, entry};
+use finding::find;
 use indexing::index_meshes;
 use passes::{write_families, write_kinds, write_parents};
 use views::MeshView;
@@ -84,17 +84,24 @@ fn run(
         (mesh cc.now cn.now ce.now ck.now cf.now)
         (lent_lists oc.old on.old oe.old ok.old of.old om.old oi.old work.old)) }
 {
-    let subject = Shape {
+    let subject = MeshView {
         coords: sc,
         nodes: sn,
         ends: se,
+        kinds: sk,
+        families: sf,
     };
-    let cutter = Shape {
+    let cutter = MeshView {
         coords: cc,
         nodes: cn,
         ends: ce,
+        kinds: ck,
+        families: cf,
     };
-    let f = match find(op, m, subject, cutter, oc, work) {
+    let Ok(operation) = Operation::try_from(op) else {
+        return plain(1);
+    };
+    let f = match find(operation, m, &subject, &cutter, oc, work) {
         Ok(f) => f,
         Err(refusal) => return plain(refusal.number()),
     };

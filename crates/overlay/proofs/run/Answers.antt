@@ -13,13 +13,21 @@ use Rattle.finding.proofs.Passed.{ready}
 use Rattle.overlay.proofs.Stages.{stops_found, index_asked, asked, points_fit, next_range, stops_cut, count_fits, ran}
 use Rattle.overlay.proofs.run.Goals as goal
 
+pub returns-in_default : goal.returns-in_default
+returns-in_default c =
+    let a = c.args in
+    let s : Mesh = mesh a.sc.now a.sn.now a.se.now a.sk.now a.sf.now in
+    let k : Mesh = mesh a.cc.now a.cn.now a.ce.now a.ck.now a.cf.now in
+    let pa : Passed a.op a.m s k (length a.work.now) = passed a.op a.m s k (length a.work.now) c.requires in
+    absurd (omega (arith, pa.operation, (rw c.in_default.is at c.try_from.ensures).1))
+
 pub find-requires : goal.find-requires
 find-requires c =
     let a = c.args in
     let s : Mesh = mesh a.sc.now a.sn.now a.se.now a.sk.now a.sf.now in
     let k : Mesh = mesh a.cc.now a.cn.now a.ce.now a.ck.now a.cf.now in
     let pa : Passed a.op a.m s k (length a.work.now) = passed a.op a.m s k (length a.work.now) c.requires in
-    ready a.op a.m s k (length a.work.now) pa
+    rw (rw c.in-Ok.is at c.try_from.ensures) (ready a.op a.m s k (length a.work.now) pa)
 
 pub returns-in-Err : goal.returns-in-Err
 returns-in-Err c =
@@ -28,9 +36,9 @@ returns-in-Err c =
     let k : Mesh = mesh a.cc.now a.cn.now a.ce.now a.ck.now a.cf.now in
     let l : Lists = lent_lists a.oc.now a.on.now a.oe.now a.ok.now a.of.now a.om.now a.oi.now a.work.now in
     let pa : Passed a.op a.m s k (length a.work.now) = passed a.op a.m s k (length a.work.now) c.requires in
-    let r = c.plain.result in
-    stops_found a.op a.m s k l pa c.find.result c.find.new.oc c.find.new.w c.find.ensures c.in-Err.refusal c.in-Err.is
-    r.code r.pieces r.points r.doubled (c.plain.ensures.0 ∙ c.number.ensures) c.find.new.oc a.on.now a.oe.now a.ok.now a.of.now
+    let r = c.plain-in-Err.result in
+    stops_found a.op a.m s k l pa c.find.result c.find.new.coords c.find.new.work (rw (rw c.in-Ok.is at c.try_from.ensures) at c.find.ensures) c.in-Err.refusal c.in-Err.is
+    r.code r.pieces r.points r.doubled (c.plain-in-Err.ensures.0 ∙ c.number.ensures) c.find.new.coords a.on.now a.oe.now a.ok.now a.of.now
     a.om.now a.oi.now
 
 pub overflow_mul-k : goal.overflow_mul-k
@@ -40,7 +48,7 @@ overflow_mul-k c =
     let k : Mesh = mesh a.cc.now a.cn.now a.ce.now a.ck.now a.cf.now in
     let l : Lists = lent_lists a.oc.now a.on.now a.oe.now a.ok.now a.of.now a.om.now a.oi.now a.work.now in
     let pa : Passed a.op a.m s k (length a.work.now) = passed a.op a.m s k (length a.work.now) c.requires in
-    let range = next_range a.op a.m s k l pa c.find.result c.find.new.oc c.find.new.w c.find.ensures c.in-Ok.f c.in-Ok.is in
+    let range = next_range a.op a.m s k l pa c.find.result c.find.new.coords c.find.new.work (rw (rw c.in-Ok.is at c.try_from.ensures) at c.find.ensures) c.in-Ok-find.f c.in-Ok-find.is in
     omega (arith, range.1)
 
 pub slice_bounds-index_meshes-end : goal.slice_bounds-index_meshes-end
@@ -50,8 +58,8 @@ slice_bounds-index_meshes-end c =
     let k : Mesh = mesh a.cc.now a.cn.now a.ce.now a.ck.now a.cf.now in
     let l : Lists = lent_lists a.oc.now a.on.now a.oe.now a.ok.now a.of.now a.om.now a.oi.now a.work.now in
     let pa : Passed a.op a.m s k (length a.work.now) = passed a.op a.m s k (length a.work.now) c.requires in
-    let points : 2 * c.in-Ok.f.next ≤ length c.find.new.oc =
-    points_fit a.op a.m s k l pa c.find.result c.find.new.oc c.find.new.w c.find.ensures c.in-Ok.f c.in-Ok.is in
+    let points : 2 * c.in-Ok-find.f.next ≤ length c.find.new.coords =
+    points_fit a.op a.m s k l pa c.find.result c.find.new.coords c.find.new.work (rw (rw c.in-Ok.is at c.try_from.ensures) at c.find.ensures) c.in-Ok-find.f c.in-Ok-find.is in
     points
 
 pub slice_bounds-index_meshes-end-2 : goal.slice_bounds-index_meshes-end-2
@@ -61,9 +69,9 @@ slice_bounds-index_meshes-end-2 c =
     let k : Mesh = mesh a.cc.now a.cn.now a.ce.now a.ck.now a.cf.now in
     let l : Lists = lent_lists a.oc.now a.on.now a.oe.now a.ok.now a.of.now a.om.now a.oi.now a.work.now in
     let pa : Passed a.op a.m s k (length a.work.now) = passed a.op a.m s k (length a.work.now) c.requires in
-    let points : 2 * c.in-Ok.f.next ≤ length c.find.new.oc =
-    points_fit a.op a.m s k l pa c.find.result c.find.new.oc c.find.new.w c.find.ensures c.in-Ok.f c.in-Ok.is in
-    sym (length-take-le (2 * c.in-Ok.f.next) c.find.new.oc points)
+    let points : 2 * c.in-Ok-find.f.next ≤ length c.find.new.coords =
+    points_fit a.op a.m s k l pa c.find.result c.find.new.coords c.find.new.work (rw (rw c.in-Ok.is at c.try_from.ensures) at c.find.ensures) c.in-Ok-find.f c.in-Ok-find.is in
+    sym (length-take-le (2 * c.in-Ok-find.f.next) c.find.new.coords points)
 
 pub index_meshes-x-requires : goal.index_meshes-x-requires
 index_meshes-x-requires c =
@@ -72,7 +80,7 @@ index_meshes-x-requires c =
     let k : Mesh = mesh a.cc.now a.cn.now a.ce.now a.ck.now a.cf.now in
     let l : Lists = lent_lists a.oc.now a.on.now a.oe.now a.ok.now a.of.now a.om.now a.oi.now a.work.now in
     let pa : Passed a.op a.m s k (length a.work.now) = passed a.op a.m s k (length a.work.now) c.requires in
-    index_asked a.op a.m s k l pa c.find.result c.find.new.oc c.find.new.w c.find.ensures c.in-Ok.f c.in-Ok.is
+    index_asked a.op a.m s k l pa c.find.result c.find.new.coords c.find.new.work (rw (rw c.in-Ok.is at c.try_from.ensures) at c.find.ensures) c.in-Ok-find.f c.in-Ok-find.is
 
 pub slice_bounds-cut_meshes-end : goal.slice_bounds-cut_meshes-end
 slice_bounds-cut_meshes-end c =
@@ -81,8 +89,8 @@ slice_bounds-cut_meshes-end c =
     let k : Mesh = mesh a.cc.now a.cn.now a.ce.now a.ck.now a.cf.now in
     let l : Lists = lent_lists a.oc.now a.on.now a.oe.now a.ok.now a.of.now a.om.now a.oi.now a.work.now in
     let pa : Passed a.op a.m s k (length a.work.now) = passed a.op a.m s k (length a.work.now) c.requires in
-    let points : 2 * c.in-Ok.f.next ≤ length c.find.new.oc =
-    points_fit a.op a.m s k l pa c.find.result c.find.new.oc c.find.new.w c.find.ensures c.in-Ok.f c.in-Ok.is in
+    let points : 2 * c.in-Ok-find.f.next ≤ length c.find.new.coords =
+    points_fit a.op a.m s k l pa c.find.result c.find.new.coords c.find.new.work (rw (rw c.in-Ok.is at c.try_from.ensures) at c.find.ensures) c.in-Ok-find.f c.in-Ok-find.is in
     points
 
 pub slice_bounds-cut_meshes-end-2 : goal.slice_bounds-cut_meshes-end-2
@@ -92,9 +100,9 @@ slice_bounds-cut_meshes-end-2 c =
     let k : Mesh = mesh a.cc.now a.cn.now a.ce.now a.ck.now a.cf.now in
     let l : Lists = lent_lists a.oc.now a.on.now a.oe.now a.ok.now a.of.now a.om.now a.oi.now a.work.now in
     let pa : Passed a.op a.m s k (length a.work.now) = passed a.op a.m s k (length a.work.now) c.requires in
-    let points : 2 * c.in-Ok.f.next ≤ length c.find.new.oc =
-    points_fit a.op a.m s k l pa c.find.result c.find.new.oc c.find.new.w c.find.ensures c.in-Ok.f c.in-Ok.is in
-    sym (length-take-le (2 * c.in-Ok.f.next) c.find.new.oc points)
+    let points : 2 * c.in-Ok-find.f.next ≤ length c.find.new.coords =
+    points_fit a.op a.m s k l pa c.find.result c.find.new.coords c.find.new.work (rw (rw c.in-Ok.is at c.try_from.ensures) at c.find.ensures) c.in-Ok-find.f c.in-Ok-find.is in
+    sym (length-take-le (2 * c.in-Ok-find.f.next) c.find.new.coords points)
 
 pub slice_bounds-cut_meshes-end-4 : goal.slice_bounds-cut_meshes-end-4
 slice_bounds-cut_meshes-end-4 c =
@@ -125,7 +133,7 @@ cut_meshes-r-requires c =
     c.least-room.ensures ∙ ap (λ (n : ℕ). min (length a.oe.now) (min (length a.ok.now) n)) c.least-rest.ensures in
     let in_ends : c.least-room.result ≤ length a.oe.now = omega (arith, room_is) in
     let in_families : c.least-room.result ≤ length a.of.now = omega (arith, room_is) in (
-      asked a.op a.m s k l pa c.find.result c.find.new.oc c.find.new.w c.find.ensures c.in-Ok.f c.in-Ok.is
+      asked a.op a.m s k l pa c.find.result c.find.new.coords c.find.new.work (rw (rw c.in-Ok.is at c.try_from.ensures) at c.find.ensures) c.in-Ok-find.f c.in-Ok-find.is
           c.index_meshes-x.result c.index_meshes-x.new.w c.index_meshes-x.ensures,
       omega (arith, length-take-le c.least-room.result a.oe.now in_ends, length-take-le c.least-room.result a.of.now in_families),
     )
@@ -140,10 +148,10 @@ returns-then-full-ne0 c =
     let room_is : c.least-room.result ≡ piece_room l =
     c.least-room.ensures ∙ ap (λ (n : ℕ). min (length a.oe.now) (min (length a.ok.now) n)) c.least-rest.ensures in
     let r = c.plain-then-full-ne0.result in
-    stops_cut a.op a.m s k l pa c.find.result c.find.new.oc c.find.new.w c.find.ensures c.in-Ok.f c.in-Ok.is
+    stops_cut a.op a.m s k l pa c.find.result c.find.new.coords c.find.new.work (rw (rw c.in-Ok.is at c.try_from.ensures) at c.find.ensures) c.in-Ok-find.f c.in-Ok-find.is
     c.index_meshes-x.result c.index_meshes-x.new.w c.index_meshes-x.ensures
     c.least-room.result room_is c.cut_meshes-r.result c.cut_meshes-r.new.on c.cut_meshes-r.new.oe c.cut_meshes-r.new.ot c.cut_meshes-r.ensures c.if-full-ne0.true
-    r.code r.pieces r.points r.doubled c.plain-then-full-ne0.ensures.0 c.find.new.oc c.cut_meshes-r.new.on _ a.ok.now _ a.om.now a.oi.now
+    r.code r.pieces r.points r.doubled c.plain-then-full-ne0.ensures.0 c.find.new.coords c.cut_meshes-r.new.on _ a.ok.now _ a.om.now a.oi.now
 
 pub slice_bounds-write_kinds-end : goal.slice_bounds-write_kinds-end
 slice_bounds-write_kinds-end c =
@@ -157,7 +165,7 @@ slice_bounds-write_kinds-end c =
     let tagged : List ℕ = c.cut_meshes-r.new.ot ++ drop c.least-room.result a.of.now in
     let fits : (c.cut_meshes-r.result.count ≤ c.least-room.result) × (c.cut_meshes-r.result.count < 2 ^ 32)
     × (c.cut_meshes-r.result.count ≤ length tagged) =
-    let low = count_fits a.op a.m s k l pa c.find.result c.find.new.oc c.find.new.w c.find.ensures c.in-Ok.f c.in-Ok.is
+    let low = count_fits a.op a.m s k l pa c.find.result c.find.new.coords c.find.new.work (rw (rw c.in-Ok.is at c.try_from.ensures) at c.find.ensures) c.in-Ok-find.f c.in-Ok-find.is
     c.index_meshes-x.result c.index_meshes-x.new.w c.index_meshes-x.ensures
     c.least-room.result room_is c.cut_meshes-r.result c.cut_meshes-r.new.on c.cut_meshes-r.new.oe c.cut_meshes-r.new.ot c.cut_meshes-r.ensures c.if-full-ne0.false in
     (omega (arith, low.0, room_is), low.1, low.2) in
@@ -175,7 +183,7 @@ slice_bounds-write_kinds-end-2 c =
     c.least-room.ensures ∙ ap (λ (n : ℕ). min (length a.oe.now) (min (length a.ok.now) n)) c.least-rest.ensures in
     let fits : (c.cut_meshes-r.result.count ≤ c.least-room.result) × (c.cut_meshes-r.result.count < 2 ^ 32)
     × (c.cut_meshes-r.result.count ≤ length tagged) =
-    let low = count_fits a.op a.m s k l pa c.find.result c.find.new.oc c.find.new.w c.find.ensures c.in-Ok.f c.in-Ok.is
+    let low = count_fits a.op a.m s k l pa c.find.result c.find.new.coords c.find.new.work (rw (rw c.in-Ok.is at c.try_from.ensures) at c.find.ensures) c.in-Ok-find.f c.in-Ok-find.is
     c.index_meshes-x.result c.index_meshes-x.new.w c.index_meshes-x.ensures
     c.least-room.result room_is c.cut_meshes-r.result c.cut_meshes-r.new.on c.cut_meshes-r.new.oe c.cut_meshes-r.new.ot c.cut_meshes-r.ensures c.if-full-ne0.false in
     (omega (arith, low.0, room_is), low.1, low.2) in
@@ -193,7 +201,7 @@ write_kinds-requires c =
     let pa : Passed a.op a.m s k (length a.work.now) = passed a.op a.m s k (length a.work.now) c.requires in
     let fits : (c.cut_meshes-r.result.count ≤ c.least-room.result) × (c.cut_meshes-r.result.count < 2 ^ 32)
     × (c.cut_meshes-r.result.count ≤ length tagged) =
-    let low = count_fits a.op a.m s k l pa c.find.result c.find.new.oc c.find.new.w c.find.ensures c.in-Ok.f c.in-Ok.is
+    let low = count_fits a.op a.m s k l pa c.find.result c.find.new.coords c.find.new.work (rw (rw c.in-Ok.is at c.try_from.ensures) at c.find.ensures) c.in-Ok-find.f c.in-Ok-find.is
     c.index_meshes-x.result c.index_meshes-x.new.w c.index_meshes-x.ensures
     c.least-room.result room_is c.cut_meshes-r.result c.cut_meshes-r.new.on c.cut_meshes-r.new.oe c.cut_meshes-r.new.ot c.cut_meshes-r.ensures c.if-full-ne0.false in
     (omega (arith, low.0, room_is), low.1, low.2) in
@@ -211,7 +219,7 @@ slice_bounds-write_parents-end c =
     let tagged : List ℕ = c.cut_meshes-r.new.ot ++ drop c.least-room.result a.of.now in
     let fits : (c.cut_meshes-r.result.count ≤ c.least-room.result) × (c.cut_meshes-r.result.count < 2 ^ 32)
     × (c.cut_meshes-r.result.count ≤ length tagged) =
-    let low = count_fits a.op a.m s k l pa c.find.result c.find.new.oc c.find.new.w c.find.ensures c.in-Ok.f c.in-Ok.is
+    let low = count_fits a.op a.m s k l pa c.find.result c.find.new.coords c.find.new.work (rw (rw c.in-Ok.is at c.try_from.ensures) at c.find.ensures) c.in-Ok-find.f c.in-Ok-find.is
     c.index_meshes-x.result c.index_meshes-x.new.w c.index_meshes-x.ensures
     c.least-room.result room_is c.cut_meshes-r.result c.cut_meshes-r.new.on c.cut_meshes-r.new.oe c.cut_meshes-r.new.ot c.cut_meshes-r.ensures c.if-full-ne0.false in
     (omega (arith, low.0, room_is), low.1, low.2) in
@@ -229,7 +237,7 @@ slice_bounds-write_parents-end-2 c =
     c.least-room.ensures ∙ ap (λ (n : ℕ). min (length a.oe.now) (min (length a.ok.now) n)) c.least-rest.ensures in
     let fits : (c.cut_meshes-r.result.count ≤ c.least-room.result) × (c.cut_meshes-r.result.count < 2 ^ 32)
     × (c.cut_meshes-r.result.count ≤ length tagged) =
-    let low = count_fits a.op a.m s k l pa c.find.result c.find.new.oc c.find.new.w c.find.ensures c.in-Ok.f c.in-Ok.is
+    let low = count_fits a.op a.m s k l pa c.find.result c.find.new.coords c.find.new.work (rw (rw c.in-Ok.is at c.try_from.ensures) at c.find.ensures) c.in-Ok-find.f c.in-Ok-find.is
     c.index_meshes-x.result c.index_meshes-x.new.w c.index_meshes-x.ensures
     c.least-room.result room_is c.cut_meshes-r.result c.cut_meshes-r.new.on c.cut_meshes-r.new.oe c.cut_meshes-r.new.ot c.cut_meshes-r.ensures c.if-full-ne0.false in
     (omega (arith, low.0, room_is), low.1, low.2) in
@@ -256,7 +264,7 @@ write_parents-requires c =
     let pa : Passed a.op a.m s k (length a.work.now) = passed a.op a.m s k (length a.work.now) c.requires in
     let fits : (c.cut_meshes-r.result.count ≤ c.least-room.result) × (c.cut_meshes-r.result.count < 2 ^ 32)
     × (c.cut_meshes-r.result.count ≤ length tagged) =
-    let low = count_fits a.op a.m s k l pa c.find.result c.find.new.oc c.find.new.w c.find.ensures c.in-Ok.f c.in-Ok.is
+    let low = count_fits a.op a.m s k l pa c.find.result c.find.new.coords c.find.new.work (rw (rw c.in-Ok.is at c.try_from.ensures) at c.find.ensures) c.in-Ok-find.f c.in-Ok-find.is
     c.index_meshes-x.result c.index_meshes-x.new.w c.index_meshes-x.ensures
     c.least-room.result room_is c.cut_meshes-r.result c.cut_meshes-r.new.on c.cut_meshes-r.new.oe c.cut_meshes-r.new.ot c.cut_meshes-r.ensures c.if-full-ne0.false in
     (omega (arith, low.0, room_is), low.1, low.2) in
@@ -276,7 +284,7 @@ slice_bounds-write_families-end c =
     let tagged : List ℕ = c.cut_meshes-r.new.ot ++ drop c.least-room.result a.of.now in
     let fits : (c.cut_meshes-r.result.count ≤ c.least-room.result) × (c.cut_meshes-r.result.count < 2 ^ 32)
     × (c.cut_meshes-r.result.count ≤ length tagged) =
-    let low = count_fits a.op a.m s k l pa c.find.result c.find.new.oc c.find.new.w c.find.ensures c.in-Ok.f c.in-Ok.is
+    let low = count_fits a.op a.m s k l pa c.find.result c.find.new.coords c.find.new.work (rw (rw c.in-Ok.is at c.try_from.ensures) at c.find.ensures) c.in-Ok-find.f c.in-Ok-find.is
     c.index_meshes-x.result c.index_meshes-x.new.w c.index_meshes-x.ensures
     c.least-room.result room_is c.cut_meshes-r.result c.cut_meshes-r.new.on c.cut_meshes-r.new.oe c.cut_meshes-r.new.ot c.cut_meshes-r.ensures c.if-full-ne0.false in
     (omega (arith, low.0, room_is), low.1, low.2) in
@@ -294,7 +302,7 @@ slice_bounds-write_families-end-2 c =
     c.least-room.ensures ∙ ap (λ (n : ℕ). min (length a.oe.now) (min (length a.ok.now) n)) c.least-rest.ensures in
     let fits : (c.cut_meshes-r.result.count ≤ c.least-room.result) × (c.cut_meshes-r.result.count < 2 ^ 32)
     × (c.cut_meshes-r.result.count ≤ length tagged) =
-    let low = count_fits a.op a.m s k l pa c.find.result c.find.new.oc c.find.new.w c.find.ensures c.in-Ok.f c.in-Ok.is
+    let low = count_fits a.op a.m s k l pa c.find.result c.find.new.coords c.find.new.work (rw (rw c.in-Ok.is at c.try_from.ensures) at c.find.ensures) c.in-Ok-find.f c.in-Ok-find.is
     c.index_meshes-x.result c.index_meshes-x.new.w c.index_meshes-x.ensures
     c.least-room.result room_is c.cut_meshes-r.result c.cut_meshes-r.new.on c.cut_meshes-r.new.oe c.cut_meshes-r.new.ot c.cut_meshes-r.ensures c.if-full-ne0.false in
     (omega (arith, low.0, room_is), low.1, low.2) in
@@ -312,7 +320,7 @@ overflow_cast-result c =
     let tagged : List ℕ = c.cut_meshes-r.new.ot ++ drop c.least-room.result a.of.now in
     let fits : (c.cut_meshes-r.result.count ≤ c.least-room.result) × (c.cut_meshes-r.result.count < 2 ^ 32)
     × (c.cut_meshes-r.result.count ≤ length tagged) =
-    let low = count_fits a.op a.m s k l pa c.find.result c.find.new.oc c.find.new.w c.find.ensures c.in-Ok.f c.in-Ok.is
+    let low = count_fits a.op a.m s k l pa c.find.result c.find.new.coords c.find.new.work (rw (rw c.in-Ok.is at c.try_from.ensures) at c.find.ensures) c.in-Ok-find.f c.in-Ok-find.is
     c.index_meshes-x.result c.index_meshes-x.new.w c.index_meshes-x.ensures
     c.least-room.result room_is c.cut_meshes-r.result c.cut_meshes-r.new.on c.cut_meshes-r.new.oe c.cut_meshes-r.new.ot c.cut_meshes-r.ensures c.if-full-ne0.false in
     (omega (arith, low.0, room_is), low.1, low.2) in
@@ -334,7 +342,7 @@ overflow_sub-result c =
     let k : Mesh = mesh a.cc.now a.cn.now a.ce.now a.ck.now a.cf.now in
     let l : Lists = lent_lists a.oc.now a.on.now a.oe.now a.ok.now a.of.now a.om.now a.oi.now a.work.now in
     let pa : Passed a.op a.m s k (length a.work.now) = passed a.op a.m s k (length a.work.now) c.requires in
-    let range = next_range a.op a.m s k l pa c.find.result c.find.new.oc c.find.new.w c.find.ensures c.in-Ok.f c.in-Ok.is in
+    let range = next_range a.op a.m s k l pa c.find.result c.find.new.coords c.find.new.work (rw (rw c.in-Ok.is at c.try_from.ensures) at c.find.ensures) c.in-Ok-find.f c.in-Ok-find.is in
     omega (arith, range.0)
 
 pub overflow_cast-result-2 : goal.overflow_cast-result-2
@@ -344,7 +352,7 @@ overflow_cast-result-2 c =
     let k : Mesh = mesh a.cc.now a.cn.now a.ce.now a.ck.now a.cf.now in
     let l : Lists = lent_lists a.oc.now a.on.now a.oe.now a.ok.now a.of.now a.om.now a.oi.now a.work.now in
     let pa : Passed a.op a.m s k (length a.work.now) = passed a.op a.m s k (length a.work.now) c.requires in
-    let range = next_range a.op a.m s k l pa c.find.result c.find.new.oc c.find.new.w c.find.ensures c.in-Ok.f c.in-Ok.is in
+    let range = next_range a.op a.m s k l pa c.find.result c.find.new.coords c.find.new.work (rw (rw c.in-Ok.is at c.try_from.ensures) at c.find.ensures) c.in-Ok-find.f c.in-Ok-find.is in
     omega (arith, range.1)
 
 pub returns : goal.returns
@@ -356,7 +364,7 @@ returns c =
     let pa : Passed a.op a.m s k (length a.work.now) = passed a.op a.m s k (length a.work.now) c.requires in
     let room_is : c.least-room.result ≡ piece_room l =
     c.least-room.ensures ∙ ap (λ (n : ℕ). min (length a.oe.now) (min (length a.ok.now) n)) c.least-rest.ensures in
-    ran a.op a.m s k l pa c.find.result c.find.new.oc c.find.new.w c.find.ensures c.in-Ok.f c.in-Ok.is
+    ran a.op a.m s k l pa c.find.result c.find.new.coords c.find.new.work (rw (rw c.in-Ok.is at c.try_from.ensures) at c.find.ensures) c.in-Ok-find.f c.in-Ok-find.is
     c.index_meshes-x.result c.index_meshes-x.new.w c.index_meshes-x.ensures
     c.least-room.result room_is c.cut_meshes-r.result c.cut_meshes-r.new.on c.cut_meshes-r.new.oe c.cut_meshes-r.new.ot c.cut_meshes-r.ensures c.if-full-ne0.false
     c.write_kinds.new.ok c.write_families.new.tags c.write_parents.new.om
