@@ -2,9 +2,8 @@
 // Each float operation rounds once, in the order written there.
 #![tactic(auto)]
 
-ghost use Rattle.std.specs.Prelude.{◌≡◌, get_or};
-ghost use Rattle.std.specs.Float.{nan};
-ghost use Rattle.plane.specs.Plane.{between, dot, cross, along, magnitude, point_at};
+ghost use Rattle.std.specs.Prelude.{◌≡◌};
+ghost use Rattle.plane.specs.Plane.{between, dot, cross, along, magnitude, larger, point_at};
 
 use std::ops::Sub;
 
@@ -64,20 +63,22 @@ pub fn magnitude(x: f64) -> f64
     if x < 0.0 { -x } else { x }
 }
 
-// The coordinate at i, or no number.
-fn coordinate(coords: &[f64], i: usize) -> f64
-    ensures { result ≡ get_or coords.now i nan }
+// Not `f64::max`, which takes the other one where one is no number.
+#[tactic(auto, unfolding(crate::specs::Plane::larger))]
+pub fn larger(x: f64, y: f64) -> f64
+    ensures { result ≡ larger x y }
 {
-    coords.get(i).copied().unwrap_or(f64::NAN)
+    if x < y { y } else { x }
 }
 
+// A coordinate without a place is no number.
 #[tactic(auto, unfolding(crate::specs::Plane::point_at))]
 pub fn point_at(coords: &[f64], n: u32) -> Point
     ensures { result ≡ point_at coords.now n }
 {
     let i = 2 * (n as usize);
     Point {
-        x: coordinate(coords, i),
-        y: coordinate(coords, i + 1),
+        x: coords.get(i).copied().unwrap_or(f64::NAN),
+        y: coords.get(i + 1).copied().unwrap_or(f64::NAN),
     }
 }

@@ -2,13 +2,13 @@
 #![tactic(auto)]
 
 ghost use Rattle.std.specs.Prelude.{◌≡◌, ◌<◌};
-ghost use Rattle.plane.specs.Plane.{is_number, larger, scale, tolerance, in_unit};
+ghost use Rattle.plane.specs.Plane.{is_number, scale, tolerance, in_unit};
 ghost use Rattle.segments.specs.Code.{id_code};
 ghost use Rattle.segments.specs.Colinear.{spread, parameters, orderable, of_order, colinear};
 ghost use Rattle.segments.specs.Meet.{near, settled, crossing, meeting};
 ghost use Rattle.segments.specs.Scans.{exchanged, exchanged_ids, swept};
 
-use plane::{Point, magnitude};
+use plane::{Point, larger, magnitude};
 
 #[derive(Clone, Copy, Debug, PartialEq)]
 pub struct Segment {
@@ -46,14 +46,6 @@ pub enum Meeting {
 }
 
 // ---- Sizes
-
-// Not `max`, which takes the other one where one is no number.
-#[tactic(auto, unfolding(plane::specs::Plane::larger))]
-fn larger(x: f64, y: f64) -> f64
-    ensures { result ≡ larger x y }
-{
-    if x < y { y } else { x }
-}
 
 // Four numbers one after the other: a fold over an array of them is no plainer.
 #[tactic(auto, unfolding(plane::specs::Plane::scale))]

@@ -1,12 +1,12 @@
-// Closed f64 boxes of nodes, edges and points, and whether two of them meet.
+// Closed f64 boxes of nodes, edges and points, and whether two of them meet. They are functions, not methods of `Bounds`: the struct stands in rules, for its
+// definitions, where there is no code, and a trait for one type is no plainer.
 #![tactic(auto)]
 
 ghost use Rattle.std.specs.Prelude.{◌≡◌, []};
-ghost use Rattle.plane.specs.Plane.{larger};
 ghost use Rattle.rules.specs.SpatialIndex.{smaller, stretched, box_of, edge_box, boxes_meet};
 ghost use Rattle.spatial_index.specs.Candidates.{point_box};
 
-use plane::{Point, point_at};
+use plane::{Point, larger, point_at};
 use rules::Bounds;
 
 // Not `f64::min`: where x is no number the box keeps it, and `min` gives y.
@@ -14,14 +14,6 @@ fn smaller(x: f64, y: f64) -> f64
     ensures { result ≡ smaller x y }
 {
     if y < x { y } else { x }
-}
-
-// Not `f64::max`, for the same reason.
-#[tactic(auto, unfolding(plane::specs::Plane::larger))]
-fn larger(x: f64, y: f64) -> f64
-    ensures { result ≡ larger x y }
-{
-    if x < y { y } else { x }
 }
 
 fn stretched(b: Bounds, p: Point) -> Bounds

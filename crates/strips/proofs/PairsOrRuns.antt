@@ -1,27 +1,16 @@
 -- The things, by whether there are ends. Assumes nothing.
 use mathlib.Core.Path.{◌≡◌, refl, sym, ap, ◌∙◌}
-use mathlib.Core.Bool.{Bool, true, false}
 use mathlib.Core.List.{List, [], ◌∷◌}
 use Prim.Native.Nat.{ℕ, zero, suc, ◌+◌, ◌*◌, ◌-◌, ◌/◌, ◌<◌}
 use native.Mathlib.Omega.{arith}
-use lib.Dec.{eqb}
 use lib.ListN.{length, get_or, take, drop}
 use lib.Ieee.{Float}
-use borrow.Author.Tests.{eqb-true, eqb-false}
 use Rattle.lists.specs.Regions.{run}
 use Rattle.cutting.proofs.Pairs.{pairs_at}
 use Rattle.entry.specs.Mesh.{prior}
 use Rattle.rules.specs.declared.Bounds.{Bounds}
 use Rattle.rules.specs.SpatialIndex.{box_of, edge_box}
 use Rattle.strips.specs.Things.{thing_count, start_of, thing_box}
-
--- ---- whether there are ends
-
-pub no_ends : (ends : List ℕ) (b : Bool) → b ≡ eqb (length ends) 0 → b ≡ true → length ends ≡ 0
-no_ends ends b e t = eqb-true (length ends) 0 (sym e ∙ t)
-
-pub some_ends : (ends : List ℕ) (b : Bool) → b ≡ eqb (length ends) 0 → b ≡ false → length ends ≡ 0 → ⊥
-some_ends ends b e f = eqb-false (length ends) 0 (sym e ∙ f)
 
 -- ---- where a run starts
 

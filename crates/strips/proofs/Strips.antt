@@ -2,25 +2,15 @@
 use mathlib.Core.Path.{◌≡◌, refl, sym, ap, ◌∙◌}
 use mathlib.Core.Bool.{Bool, true, false, true≢false}
 use mathlib.Core.List.{List}
-use Prim.Native.Nat.{ℕ, zero, suc, ◌+◌, ◌*◌, ◌-◌, ◌/◌, ◌≤◌, ◌<◌}
+use Prim.Native.Nat.{ℕ, zero, suc, ◌+◌, ◌-◌, ◌/◌, ◌≤◌, ◌<◌}
 use native.Mathlib.Omega.{arith}
 use lib.ListN.{length, get_or}
-use lib.Ieee.{Float, nan, le}
+use lib.Ieee.{Float, le}
 use Rattle.spatial_index.proofs.FloatLe.{le_trans}
 use Rattle.strips.specs.declared.squares.Axis.{Axis}
-use Rattle.strips.specs.declared.squares.Axis.TheVariants.{X, Y}
 use Rattle.strips.specs.Squares.{coordinate_of, strip, strip_of}
 
 -- ---- a coordinate
-
-module _ (coords : List Float) (axis : Axis) (v i : ℕ) where
-  pub coordinate_x : axis ≡ X → i ≡ 2 * v → get_or coords i nan ≡ coordinate_of coords axis v
-  unfolding coordinate_of
-  coordinate_x a e = rw (a, e)
-
-  pub coordinate_y : axis ≡ Y → i ≡ 2 * v + 1 → get_or coords i nan ≡ coordinate_of coords axis v
-  unfolding coordinate_of
-  coordinate_y a e = rw (a, e)
 
 -- ---- a strip
 

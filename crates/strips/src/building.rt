@@ -11,6 +11,7 @@ use crate::things::{Things, number_at};
 use lists::insert_at;
 
 // How many strips there are for n things: the root of n, at least 1 and at most 256.
+#[tactic(auto, using(crate::proofs::Sizes::root_start, crate::proofs::Sizes::root_turn, crate::proofs::Sizes::root_here, crate::proofs::Sizes::root_end))]
 fn side_of(n: usize) -> usize
     ensures { (result ≡ strip_count n) × (1 ≤ result) × (result ≤ 256) }
 {
@@ -41,6 +42,7 @@ pub fn index_size(n: usize) -> usize
 }
 
 // Where the node v goes among those in order.
+#[tactic(auto, using(lists::proofs::Search::first_on, lists::proofs::Search::first_end_lem, lists::proofs::Search::search_here, crate::proofs::Samples::before_is))]
 fn place(coords: &[f64], order: &[u32], axis: Axis, v: u32) -> usize
     ensures { (result ≡ first (λ i. is_before coords.now axis v (get_or order.now i 0)) 0 (length order.now)) × (result ≤ length order.now) }
 {
@@ -54,6 +56,7 @@ fn place(coords: &[f64], order: &[u32], axis: Axis, v: u32) -> usize
 }
 
 // Evenly spread ones of those in order. By index: a contract names what is written.
+#[tactic(auto, using(crate::proofs::Samples::picking_start, crate::proofs::Samples::picking_turn))]
 fn pick(order: &[u32], bounds: &mut [u32])
     requires { (length bounds.old ≤ 256) × (length order.now ≤ 1024) }
     ensures { bounds.new ≡ picked (length bounds.old) (length order.now) order.now }
@@ -69,6 +72,7 @@ impl<'a> Things<'a> {
     // ---- The nodes at which strips begin
 
     // Sample i of k: the first node of a thing.
+    #[tactic(auto, using(crate::proofs::Samples::sample_is))]
     fn sample(&self, k: usize, i: usize) -> u32
         requires { (i < k) × (k ≤ 1024) }
         ensures { result ≡ sample_node self.now.nodes.now self.now.ends.now k i }
@@ -78,7 +82,8 @@ impl<'a> Things<'a> {
         number_at(self.nodes, s)
     }
 
-    // Fills the list with samples in order.
+    // Fills the list with samples in order. By index: those before it are lent while one is put in.
+    #[tactic(auto, using(crate::proofs::Samples::sorting_start, crate::proofs::Samples::sorting_end))]
     fn sort_samples(&self, axis: Axis, order: &mut [u32])
         requires { length order.old ≤ 1024 }
         ensures { order.new ≡ samples_in self.now axis (length order.old) }
@@ -105,6 +110,7 @@ impl<'a> Things<'a> {
     // ---- The chains
 
     // Puts thing j before those on its chain. Answers its level.
+    #[tactic(auto, using(crate::proofs::Linking::thing_chain))]
     fn link_thing(&self, strips: &Strips, heads: &mut [u32], nexts: &mut [u32], j: usize) -> usize
         requires { (j < length nexts.old) × (length nexts.old ≡ count_of self.now) × (length heads.old ≡ chain_count (length nexts.old)) }
         ensures head { heads.new ≡ set heads.old (chain_in self.now strips.now.xs.now strips.now.ys.now j) j }
@@ -119,6 +125,7 @@ impl<'a> Things<'a> {
     }
 
     // Puts all of them on chains. Answers how many levels there are.
+    #[tactic(auto, using(crate::proofs::Sizes::side_range))]
     fn link(&self, xs: &[u32], ys: &[u32], heads: &mut [u32], nexts: &mut [u32]) -> usize
         requires { (length nexts.old ≡ count_of self.now) × (length heads.old ≡ chain_count (length nexts.old))
             × (length xs.now ≡ strip_count (length nexts.old)) × (length ys.now ≡ length xs.now) }
@@ -138,6 +145,7 @@ impl<'a> Things<'a> {
     }
 
     // Writes their index to the front of the list. Answers where it ends.
+    #[tactic(auto, using(crate::proofs::Making::left_behind, crate::proofs::Making::index_made))]
     pub fn build(&self, ix: &mut [u32]) -> usize
         requires { index_size (count_of self.now) ≤ length ix.old }
         ensures { (result ≡ index_size (count_of self.now)) × (ix.new ≡ front ix.old (index_in self.now)) }

@@ -105,6 +105,7 @@ impl<'a> Search<'a> {
     }
 
     // Those on the chains of all levels.
+    #[tactic(auto, using(crate::proofs::Rows::levels_start, crate::proofs::Rows::levels_turn))]
     fn gather_levels(&self, first: Span, most: usize, found: &mut [u32]) -> usize
         requires { Small first × (first.level ≡ 0) × (most ≤ 513) }
         ensures { FrontIs (with_things (length found.old) (wanted self.now) [] (levels self.now first most)) found.old result found.new }
@@ -121,6 +122,7 @@ impl<'a> Search<'a> {
 
 impl<'a> Index<'a> {
     // Writes the things from `from` on whose boxes meet b to the front of `found`, rising, as many as have a place there. Answers how many they are.
+    #[tactic(auto, using(crate::proofs::Searching::search_found, crate::proofs::Searching::levels_read, crate::proofs::Searching::xs_read, crate::proofs::Searching::ys_read))]
     pub fn gather(&self, b: Bounds, from: usize, found: &mut [u32]) -> usize
         ensures { FrontIs (take (length found.old) (things_meeting self.now.things.coords.now self.now.things.nodes.now self.now.things.ends.now b from))
             found.old result found.new }

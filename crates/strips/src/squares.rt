@@ -2,6 +2,7 @@
 ghost use Rattle.std.specs.Prelude.{◌≡◌, ◌≤◌, ◌<◌, length};
 ghost use Rattle.strips.specs.Squares.{coordinate_of, strip_of, span_of, is_wide, halved, narrowed, square_chain, Small};
 
+use plane::point_at;
 use rules::Bounds;
 
 // Which of a node's two coordinates.
@@ -35,21 +36,20 @@ pub(crate) struct Strips<'a> {
 }
 
 // A coordinate of node v.
+#[tactic(auto, unfolding(crate::specs::Squares::coordinate_of, plane::specs::Plane::point_at))]
 pub(crate) fn coordinate(coords: &[f64], axis: Axis, v: u32) -> f64
     ensures { result ≡ coordinate_of coords.now axis v }
 {
-    let i = match axis {
-        Axis::X => 2 * (v as usize),
-        Axis::Y => 2 * (v as usize) + 1,
-    };
-    if i < coords.len() {
-        return coords[i];
+    let p = point_at(coords, v);
+    match axis {
+        Axis::X => p.x,
+        Axis::Y => p.y,
     }
-    0.0 / 0.0
 }
 
 // The strip of v by halving: each strip begins at one of the nodes in `bounds`.
 // No `partition_point`: it promises nothing of bounds that are in no order, which these may be.
+#[tactic(auto, using(crate::proofs::Strips::halving_start, crate::proofs::Strips::halving_up, crate::proofs::Strips::halving_down))]
 pub(crate) fn strip(coords: &[f64], bounds: &[u32], axis: Axis, v: f64) -> usize
     requires { 0 < length bounds.now }
     ensures { (result ≡ strip_of coords.now bounds.now axis v) × (result < length bounds.now) }
@@ -114,6 +114,7 @@ impl Span {
     }
 
     // On the first level where it reaches two strips at most, by x and by y.
+    #[tactic(auto, using(crate::proofs::Spans::way_turn, crate::proofs::Spans::way_end))]
     pub(crate) fn narrowed(self) -> Span
         requires { Small self × (self.level ≡ 0) }
         ensures { (result ≡ narrowed 512 self) × Small result × (result.level ≤ 512) }
@@ -126,6 +127,7 @@ impl Span {
     }
 
     // The chain of a square, of h chains; chain 0 where there are no more.
+    #[tactic(auto, using(crate::proofs::Spans::chain_there, crate::proofs::Spans::chain_none))]
     pub(crate) fn chain(self, h: usize, x: usize, y: usize) -> usize
         requires { (0 < h) × Small self × (x ≤ 256) × (y ≤ 256) }
         ensures { (result ≡ square_chain h self x y) × (result < h) }

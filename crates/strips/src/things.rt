@@ -24,6 +24,7 @@ pub(crate) fn number_at(xs: &[u32], i: usize) -> u32
 
 impl<'a> Things<'a> {
     // How many there are.
+    #[tactic(auto, using(crate::proofs::PairsOrRuns::count_pairs, crate::proofs::PairsOrRuns::count_runs))]
     pub fn count(&self) -> usize
         ensures { result ≡ thing_count self.now.nodes.now self.now.ends.now }
     {
@@ -35,6 +36,7 @@ impl<'a> Things<'a> {
     }
 
     // Where run j starts.
+    #[tactic(auto, using(crate::proofs::PairsOrRuns::prior_first, crate::proofs::PairsOrRuns::prior_later))]
     fn prior(&self, j: usize) -> usize
         ensures { result ≡ prior self.now.ends.now j }
     {
@@ -46,6 +48,7 @@ impl<'a> Things<'a> {
     }
 
     // Where thing j starts.
+    #[tactic(auto, using(crate::proofs::PairsOrRuns::start_pairs, crate::proofs::PairsOrRuns::start_runs))]
     pub(crate) fn start(&self, j: usize) -> usize
         requires { j ≤ 65536 }
         ensures { result ≡ start_of self.now.ends.now j }
@@ -58,6 +61,7 @@ impl<'a> Things<'a> {
     }
 
     // The box of thing j.
+    #[tactic(auto, using(crate::proofs::PairsOrRuns::count_pairs, crate::proofs::PairsOrRuns::count_runs, crate::proofs::PairsOrRuns::box_pairs, crate::proofs::PairsOrRuns::box_runs))]
     pub(crate) fn bounds(&self, j: usize) -> Bounds
         requires { j < thing_count self.now.nodes.now self.now.ends.now }
         ensures { result ≡ thing_box self.now.coords.now self.now.nodes.now self.now.ends.now j }

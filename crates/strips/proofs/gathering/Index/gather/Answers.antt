@@ -1,16 +1,14 @@
-use mathlib.Core.Path.{sym, ap, ap₂, ◌∙◌}
-use mathlib.Core.List.{List}
+use mathlib.Core.Path.{sym, ap, ◌∙◌}
 use Prim.Native.Nat.{ℕ, ◌-◌}
 use native.Mathlib.Omega.{arith}
-use lib.ListN.{length, get_or, take, drop, length-drop}
+use lib.ListN.{length, take, drop, length-drop}
 use lib.Seq.{length-take-le}
 use Rattle.strips.specs.declared.squares.Axis.TheVariants.{X}
 use Rattle.strips.specs.Things.{thing_count}
-use Rattle.strips.specs.Squares.{span_of}
 use Rattle.strips.specs.Index.{chain_count}
 use Rattle.strips.proofs.Sizes.{side_range}
 use Rattle.strips.proofs.IndexAt.{length_bounds}
-use Rattle.strips.proofs.Searching.{levels_few, search_found, index_long, side_read, levels_read, xs_read, ys_read, links_read, chains_read}
+use Rattle.strips.proofs.Searching.{levels_few, index_long, side_read, levels_read, xs_read, links_read, chains_read}
 use Rattle.strips.proofs.gathering.Index.gather.Goals as goal
 
 pub bounds-numbers-0 : goal.bounds-numbers-0
@@ -106,16 +104,3 @@ gather_levels-requires c =
     let s = c.args.self.now in
     let t = s.things in
     (c.span.ensures.1, c.span.ensures.2, omega (arith, levels_read t.coords.now t.nodes.now t.ends.now s.numbers.now s.is, levels_few t.coords.now t.nodes.now t.ends.now))
-
-pub returns : goal.returns
-returns c =
-    let a = c.args in
-    let s = a.self.now in
-    let t = s.things in
-    let xs-is = xs_read t.coords.now t.nodes.now t.ends.now s.numbers.now s.is _ c.split_at.ensures.front in
-    let ys-is = ys_read t.coords.now t.nodes.now t.ends.now s.numbers.now s.is _ c.split_at.ensures.back _ c.split_at-2.ensures.front in
-    let found = search_found t.coords.now t.nodes.now t.ends.now (length a.found.now) a.b a.from (length c.split_at-3.result.0.now) (get_or s.numbers.now 1 0) c.span.result
-    (c.split_at-3.ensures.front_len ∙ c.chain_count.ensures ∙ ap chain_count c.count.ensures)
-    (c.span.ensures.0 ∙ ap₂ (λ (x y : List ℕ). span_of t.coords.now x y a.b) xs-is ys-is)
-    (levels_read t.coords.now t.nodes.now t.ends.now s.numbers.now s.is) in
-    rw (sym found) c.gather_levels.ensures

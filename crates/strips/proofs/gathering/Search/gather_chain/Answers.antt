@@ -1,7 +1,7 @@
 use native.Mathlib.Omega.{arith}
 use Prim.Native.Nat.{◌<◌}
 use Rattle.strips.specs.Search.{wanted, chain_of, count}
-use Rattle.strips.proofs.Walk.{walk_fits, walk_rises, walk_start, walk_turn, walk_end}
+use Rattle.strips.proofs.Walk.{walk_fits, walk_rises, walk_start, walk_turn}
 use Rattle.strips.proofs.gathering.Search.gather_chain.Goals as goal
 
 pub loop-j-init : goal.loop-j-init
@@ -34,10 +34,3 @@ loop-j-preserved c =
     let h : l.j < count s = omega (arith, c.loop-j-test.true, s.chained.long) in
     (walk_turn (chain_of s) (count s) c.args.c (wanted s) c.args.k c.args.found.now c.requires.1 l.j l.r c.gather_thing-r.result _ l.found _ l.invariant h
     (s.chained.next l.j h) c.gather_thing-r.ensures).1
-
-pub returns : goal.returns
-returns c =
-    let s = c.args.self.now in
-    let l = c.loop-j in
-    walk_end (chain_of s) (count s) c.args.c (wanted s) c.args.k c.args.found.now c.requires.1 l.j l.r l.found l.invariant
-    (omega (arith, c.loop-j-test.false, s.chained.long))

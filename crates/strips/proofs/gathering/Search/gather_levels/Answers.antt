@@ -1,13 +1,8 @@
 use native.Mathlib.Omega.{arith}
 use lib.ListN.{length}
 use Rattle.strips.specs.Search.{wanted, chain_of, count}
-use Rattle.strips.proofs.Rows.{levels_start, levels_turn, levels_end, levels_fits, levels_rise}
+use Rattle.strips.proofs.Rows.{levels_end, levels_fits, levels_rise}
 use Rattle.strips.proofs.gathering.Search.gather_levels.Goals as goal
-
-pub loop-l-init : goal.loop-l-init
-loop-l-init c =
-    let s = c.args.self.now in
-    levels_start (chain_of s) (count s) (length s.heads.now) (wanted s) c.args.first c.args.most c.args.found.now c.requires.0 c.requires.1
 
 pub gather_level-r-requires : goal.gather_level-r-requires
 gather_level-r-requires c =
@@ -17,13 +12,6 @@ gather_level-r-requires c =
       levels_fits (chain_of s) (count s) (length s.heads.now) (wanted s) c.args.first c.args.most c.args.found.now l.r l._l l.s l.found l.invariant,
       levels_rise (chain_of s) (count s) (length s.heads.now) (wanted s) c.args.first c.args.most c.args.found.now l.r l._l l.s l.found l.invariant,
     )
-
-pub loop-l-preserved : goal.loop-l-preserved
-loop-l-preserved c =
-    let s = c.args.self.now in
-    let l = c.loop-l in
-    levels_turn (chain_of s) (count s) (length s.heads.now) (wanted s) c.args.first c.args.most c.args.found.now l.r l._l l.s l.found l.invariant c.gather_level-r.result _ _
-    c.loop-l-test.true c.halved-s.ensures.0 c.halved-s.ensures.1 c.gather_level-r.ensures
 
 pub returns : goal.returns
 returns c =

@@ -1,11 +1,10 @@
-use mathlib.Core.Path.{◌≡◌, refl, sym, ap, subst, ◌∙◌}
+use mathlib.Core.Path.{◌≡◌, refl, sym, subst}
 use Prim.Native.Nat.{ℕ, ◌+◌, ◌-◌, ◌<◌}
 use native.Mathlib.Omega.{arith}
 use lib.ListN.{length}
 use Rattle.lists.specs.Gather.{each}
-use Rattle.strips.specs.Index.{head_at, above}
+use Rattle.strips.specs.Index.{head_at}
 use Rattle.strips.specs.Lent.{chain_in, level_in}
-use Rattle.strips.proofs.Sizes.{side_range}
 use Rattle.strips.proofs.Linking.{Linked, chain_by_low, filled, link_start, link_turn, link_heads, link_nexts}
 use Rattle.strips.proofs.things.Things.link.Goals as goal
 
@@ -47,17 +46,3 @@ returns-clause-next c =
     let z : l.j ≡ 0 = omega (arith, c.loop-j-test.false) in
     link_nexts (chain_in t a.xs.now a.ys.now) (level_in t a.xs.now a.ys.now) (length c.fill.new.self) (length a.nexts.now) l.heads l.nexts l.levels
     (subst (λ (k : ℕ). Linked (chain_in t a.xs.now a.ys.now) (level_in t a.xs.now a.ys.now) (length c.fill.new.self) (length a.nexts.now) k l.heads l.nexts l.levels) z l.invariant)
-
-pub returns-clause-level : goal.returns-clause-level
-returns-clause-level c =
-    let a = c.args in
-    let t = a.self.now in
-    let l = c.loop-j in
-    let z : l.j ≡ 0 = omega (arith, c.loop-j-test.false) in
-    let n : length a.nexts.now - 0 ≡ length a.nexts.now = omega arith in
-    (subst (λ (k : ℕ). l.levels ≡ above (level_in t a.xs.now a.ys.now) k (length a.nexts.now - k)) z l.invariant.highest ∙ ap (above (level_in t a.xs.now a.ys.now) 0) n, l.invariant.few)
-
-pub invariant_of-strips : goal.invariant_of-strips
-invariant_of-strips c =
-    let range = side_range (length c.args.nexts.now) in
-    record { some = omega (arith, c.requires.2, range.0); even = c.requires.3; narrow = omega (arith, c.requires.2, range.1) }
