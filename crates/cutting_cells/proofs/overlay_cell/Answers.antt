@@ -2,7 +2,7 @@
 use mathlib.Core.Path.{◌≡◌, refl, sym, ap, ◌∙◌, subst}
 use Rattle.std.proofs.Common.{Result, Ok, Err}
 use Rattle.refusals.specs.declared.Refusal.{Refusal}
-use Rattle.refusals.proofs.Distinct.{not_zero}
+use Rattle.refusals.proofs.Numbers.{some_not_zero}
 use Rattle.dart_walk.specs.declared.Counts.{Counts}
 use mathlib.Core.List.{List, []}
 use Prim.Native.Nat.{ℕ, ◌≤◌}
@@ -77,7 +77,7 @@ returns-in-Err c =
     let r = c.refuse in
     cell_refused a.coords.now a.w.now a.g a.t.other a.ends.now a.on.now a.oe.now a.ot.now a.p a.cell.now a.t.keep a.number
     c.bounds2-bounds.result c.bounds2-bounds.ensures near near-is _ _ outcome is
-    (not_zero c.in-Err.why) r.result r.new.on r.new.oe r.new.ot
+    (some_not_zero c.in-Err.why) r.result r.new.on r.new.oe r.new.ot
     (r.ensures ∙ ap (λ (n : ℕ). refused_by n a.on.now a.oe.now a.ot.now) c.number.ensures)
 
 pub tag_of-tag-requires : goal.tag_of-tag-requires
