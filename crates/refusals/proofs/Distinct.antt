@@ -6,7 +6,3 @@ use Rattle.refusals.specs.Numbers.{number}
 -- No two refusals have one number, so an answer's number tells which it is.
 pub same_number : (r s : Refusal) → number r ≡ number s → r ≡ s
 same_number r s e = grind arith
-
--- 0 is no refusal's number, so it can stand for none.
-pub not_zero : (r : Refusal) → number r ≡ 0 → ⊥
-not_zero r e = grind arith

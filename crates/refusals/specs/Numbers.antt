@@ -19,6 +19,9 @@ number OpenWalk = 11
 number NoPlace = 12
 number RepeatedEdge = 19
 
+-- Two words for an answer: `by_number` keeps what is answered, `refused_with` is the number alone, as C has it. `numbers` of cells/specs/Cells has it among the
+-- counts of a cut cell.
+
 -- an answer with its refusal's number
 abbrev pub by_number : {A : Type 0} → Result A Refusal → Result A ℕ
 by_number (Ok x) = Ok x
