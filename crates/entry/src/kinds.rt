@@ -16,6 +16,7 @@ pub(crate) enum Kind {
 #[derive(Clone, Copy, Debug, PartialEq, Eq)]
 pub(crate) struct UnknownKind(pub u8);
 
+// C and the text hand kinds over as numbers.
 impl TryFrom<u8> for Kind {
     type Error = UnknownKind;
 
@@ -32,6 +33,7 @@ impl TryFrom<u8> for Kind {
     }
 }
 
+// A kind comes as its number, and one that there isn't is refused here. `lines` says of which mesh, by the operation (`takes_lines`). Each kind has its own size.
 #[tactic(auto, unfolding(crate::specs::Refused::kind_ok))]
 fn kind_ok(lines: bool, kind: u8, n: usize) -> bool
     ensures { result ≡ kind_ok lines kind n }

@@ -56,7 +56,8 @@ fn both(a: Result<(), Refusal>, b: Result<(), Refusal>) -> Result<(), Refusal>
     }
 }
 
-// The operation with that number, where nothing is refused because of the input; M is the limit of meetings, `work` the length of the working list.
+// The operation with that number, which C or the text hands over, where nothing is refused because of the input; M is the limit of meetings, `work` the
+// length of the working list.
 pub fn entry(
     op: u32,
     m: u32,

@@ -24,6 +24,7 @@ impl Operation {
     }
 }
 
+// C and the text hand operations over as numbers.
 impl TryFrom<u32> for Operation {
     type Error = Refusal;
 

@@ -121,7 +121,7 @@ fn put_inner(i: Option<Point>, point: &mut [f64])
     }
 }
 
-// 1 where there is an inner point, which goes into `point`.
+// 1 where there is an inner point, which goes into `point`. C hands lists over one by one.
 #[unsafe(no_mangle)]
 pub extern "C" fn geometry_inner(coords: &[f64], corners: &[u32], point: &mut [f64]) -> u8
     ensures value { result ≡ inner_number (strict_interior_point coords.now corners.now) }

@@ -9,11 +9,12 @@ use native.Mathlib.Omega.{arith}
 use lib.Dec.{ltb}
 use lib.ListN.{length, get_or}
 use borrow.Author.Tests.{lt-ltb, le-ltb}
-use Rattle.std.specs.List.{list_all, list_any, filter, position_or_len}
+use Rattle.std.proofs.lemmas.List.Sums.{length-filter}
+use Rattle.std.specs.List.{list_all, list_any, filter, count_by, position_or_len}
 use Rattle.lists.specs.Search.{first, has, every}
-use Rattle.lists.specs.Gather.{gathered, each, all, passing}
+use Rattle.lists.specs.Gather.{gathered, each, all, passing, tally}
 use Rattle.lists.proofs.Search.{first_here, first_shift, first_end_lem}
-use Rattle.lists.proofs.Gather.{each_head}
+use Rattle.lists.proofs.Gather.{each_head, length_passing}
 
 -- the first index apart from the others
 every_head : (p : ℕ → Bool) (n : ℕ) → every (suc n) p ≡ p zero && every n (λ i. p (suc i))
@@ -73,6 +74,9 @@ module _ {A : Type 0} where
       go : (t : Bool) → passing p xs ≡ filter p xs → elim t [ true ↦ x ∷ passing p xs | false ↦ passing p xs ] ≡ cond t (x ∷ filter p xs) (filter p xs)
       go true ih = ap (λ (l : List A). x ∷ l) ih
       go false ih = ih
+
+  pub tally_list : (p : A → Bool) (xs : List A) → tally p xs ≡ count_by p xs
+  tally_list p xs = sym (length_passing p xs) ∙ ap length (passing_list p xs) ∙ length-filter p xs
 
   -- ---- the first that passes
 

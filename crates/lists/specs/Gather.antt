@@ -12,6 +12,8 @@ module _ {A : Type 0} where
   abbrev pub each : ℕ → (ℕ → A) → List A
   each n f = gathered n (λ i. f i ∷ [])
 
+  -- The next three are std's `list_all`, `filter` and `count_by` (proofs/Library), written by cases, as the proofs of ten crates unfold them.
+
   -- all of them pass
   unfoldable pub all : (A → Bool) → List A → Bool
   all p [] = true

@@ -3,9 +3,6 @@ use Rattle.entry.proofs.Lowest.{lower_one}
 use Rattle.entry.specs.ByMesh.{lower_refusal}
 use Rattle.entry.proofs.meshes.both.Goals as goal
 
-pub returns-in-Err-Err : goal.returns-in-Err-Err
-returns-in-Err-Err c = rw (c.in-Err-Err.is-0, c.in-Err-Err.is-1) c.lower.ensures
-
 pub returns-in-Err-Ok : goal.returns-in-Err-Ok
 returns-in-Err-Ok c = rw (c.in-Err-Ok.is-0, c.in-Err-Ok.is-1) (lower_one _ (number_positive c.in-Err-Ok.r))
 
