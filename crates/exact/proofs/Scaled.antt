@@ -110,26 +110,43 @@ over_none base p e = record { same = ap pos (zero-mul (2 ^ base)) ∙ none p.neg
     none false = refl
     none true = refl
 
-pub over_some : (base : ℕ) (p : Parts) (z : ℤ) → Close base p → (p.m ≡ 0 → ⊥) → z ≡ signed p.neg (p.m * 2 ^ (p.e - base) % 2 ^ 64) → Over base p z
-over_some base p z c h e =
-    let n = p.m * 2 ^ (p.e - base) % 2 ^ 64 in
-    record {
-      same = ap (λ (x : ℤ). x *ℤ pos (2 ^ base)) e ∙ times_signed p.neg n (2 ^ base) ∙ align_some base p c h;
-      small = subst (λ (x : ℕ). x < 2 ^ 62) (sym (ap unsigned_abs e ∙ abs_signed p.neg n)) (align_digits base p c h);
-    }
+-- the code's words
+pos_fits : (n : ℕ) → n < 2 ^ 62 → FitsSigned w64 (pos n)
+pos_fits n h = omega (arith, ints)
 
--- as the code's words give it
-pub word_fits : (n : ℕ) → n < 2 ^ 62 → FitsSigned w64 (pos n)
-word_fits n h = omega (arith, ints)
+neg_fits : (n : ℕ) → n < 2 ^ 62 → FitsSigned w64 (pos 0 -ℤ to_z w64 n)
+neg_fits n h = omega (arith, ints)
 
-pub as_it_is : {s : Bool} (n : ℕ) → n < 2 ^ 62 → s ≡ false → to_z w64 n ≡ signed s n
+as_it_is : {s : Bool} (n : ℕ) → n < 2 ^ 62 → s ≡ false → to_z w64 n ≡ signed s n
 as_it_is n h e = omega (arith, ints) ∙ ap (λ (t : Bool). signed t n) (sym e)
 
-pub negated_fits : (n : ℕ) → n < 2 ^ 62 → FitsSigned w64 (pos 0 -ℤ to_z w64 n)
-negated_fits n h = omega (arith, ints)
-
-pub negated : {s : Bool} (n : ℕ) → n < 2 ^ 62 → s ≡ true → to_z w64 (of_z w64 (pos 0 -ℤ to_z w64 n)) ≡ signed s n
+negated : {s : Bool} (n : ℕ) → n < 2 ^ 62 → s ≡ true → to_z w64 (of_z w64 (pos 0 -ℤ to_z w64 n)) ≡ signed s n
 negated n h e = omega (arith, ints) ∙ ap (λ (t : Bool). signed t n) (sym e)
+
+module _ {base : ℕ} {p : Parts} (c : Close base p) (h : p.m ≡ 0 → ⊥) where
+  abbrev shifted : ℕ
+  shifted = p.m * 2 ^ (p.e - base) % 2 ^ 64
+
+  small : shifted < 2 ^ 62
+  small = align_digits base p c h
+
+  over_some : (z : ℤ) → z ≡ signed p.neg shifted → Over base p z
+  over_some z e = record {
+    same = ap (λ (x : ℤ). x *ℤ pos (2 ^ base)) e ∙ times_signed p.neg shifted (2 ^ base) ∙ align_some base p c h;
+    small = subst (λ (x : ℕ). x < 2 ^ 62) (sym (ap unsigned_abs e ∙ abs_signed p.neg shifted)) small;
+  }
+
+  pub word_fits : FitsSigned w64 (pos shifted)
+  word_fits = pos_fits shifted small
+
+  pub negated_fits : FitsSigned w64 (pos 0 -ℤ to_z w64 shifted)
+  negated_fits = neg_fits shifted small
+
+  pub over_positive : p.neg ≡ false → Over base p (to_z w64 shifted)
+  over_positive e = over_some _ (as_it_is shifted small e)
+
+  pub over_negative : p.neg ≡ true → Over base p (to_z w64 (of_z w64 (pos 0 -ℤ to_z w64 shifted)))
+  over_negative e = over_some _ (negated shifted small e)
 
 -- ---- differences and their products
 
@@ -150,11 +167,11 @@ apart_small x y h k = omega (arith, ints)
 module _ {base : ℕ} {o p q r : Parts} {u v x y m n : ℤ} (hu : Over base o u) (hv : Over base p v) (hx : Over base q x) (hy : Over base r y)
     (em : m ≡ to_z w64 (of_z w64 (to_z w64 (of_z w64 u) -ℤ to_z w64 (of_z w64 v))))
     (en : n ≡ to_z w64 (of_z w64 (to_z w64 (of_z w64 x) -ℤ to_z w64 (of_z w64 y)))) where
-  small : unsigned_abs (u -ℤ v) ≤ 2 ^ 63
-  small = apart_small u v hu.small hv.small
+  near_u : unsigned_abs (u -ℤ v) ≤ 2 ^ 63
+  near_u = apart_small u v hu.small hv.small
 
-  small' : unsigned_abs (x -ℤ y) ≤ 2 ^ 63
-  small' = apart_small x y hx.small hy.small
+  near_x : unsigned_abs (x -ℤ y) ≤ 2 ^ 63
+  near_x = apart_small x y hx.small hy.small
 
   itself : (z : ℤ) → unsigned_abs z ≤ 2 ^ 63 → to_z w128 (of_z w128 z) ≡ z
   itself z l = to_z-of_z w128 z (fits_signed_from_abs w128 z (lt_of_le_of_lt l (lit< tt)))
@@ -162,10 +179,10 @@ module _ {base : ℕ} {o p q r : Parts} {u v x y m n : ℤ} (hu : Over base o u)
   as_words : to_z w128 (of_z w128 m) *ℤ to_z w128 (of_z w128 n) ≡ (u -ℤ v) *ℤ (x -ℤ y)
   as_words =
       ap₂ (λ (a b : ℤ). to_z w128 (of_z w128 a) *ℤ to_z w128 (of_z w128 b)) (apart u v hu.small hv.small em) (apart x y hx.small hy.small en)
-      ∙ ap₂ (λ (a b : ℤ). a *ℤ b) (itself (u -ℤ v) small) (itself (x -ℤ y) small')
+      ∙ ap₂ (λ (a b : ℤ). a *ℤ b) (itself (u -ℤ v) near_u) (itself (x -ℤ y) near_x)
 
   pub term_fits : FitsSigned w128 (to_z w128 (of_z w128 m) *ℤ to_z w128 (of_z w128 n))
-  term_fits = subst (λ (z : ℤ). FitsSigned w128 z) (sym as_words) (fits_signed_mul w128 (u -ℤ v) (x -ℤ y) (2 ^ 63) (2 ^ 63) small small' (lit< tt))
+  term_fits = subst (λ (z : ℤ). FitsSigned w128 z) (sym as_words) (fits_signed_mul w128 (u -ℤ v) (x -ℤ y) (2 ^ 63) (2 ^ 63) near_u near_x (lit< tt))
 
   pub term_is : to_z w128 (of_z w128 (to_z w128 (of_z w128 m) *ℤ to_z w128 (of_z w128 n))) ≡ (u -ℤ v) *ℤ (x -ℤ y)
   term_is = to_z-of_z w128 _ term_fits ∙ as_words

@@ -6,6 +6,7 @@ use Prim.Native.Nat.{ℕ, zero, suc, ◌+◌, ◌*◌, ◌≤◌}
 use native.Mathlib.Nat.{add-zero}
 use Rattle.exact.proofs.Cells.{kept, row_more}
 use native.Mathlib.Omega.{arith}
+use lib.Dec.{lit≤}
 use lib.IntN.{ℤ, neg_ℤ, ◌+ℤ◌, ◌-ℤ◌, ◌*ℤ◌}
 use lib.ListN.{get_or, replicate, length-replicate}
 use lib.Ieee.{Float, unlike}
@@ -71,19 +72,56 @@ module _ {r : Rows} {t : ℕ} {xs : List ℕ} (k : ℕ) (f : Filled k r) where
   pub filled_more : RowGrown 2 t r.more xs → Filled (k + 2) (record { more = xs; less = r.less })
   filled_more g = record { more = g.row k f.more; less = kept k f.less }
 
-pub filled_up : {m : ℕ} {r : Rows} (n : ℕ) → Filled m r → m ≤ n → Filled n r
+filled_up : {m : ℕ} {r : Rows} (n : ℕ) → Filled m r → m ≤ n → Filled n r
 filled_up n f h = record { more = row_more n f.more h; less = row_more n f.less h }
 
-pub no_steps : Filled 0 (record { more = zeros 136; less = zeros 136 })
+-- what a product more does to rows
+abbrev pub Grows : Rows → Rows → Type 0
+Grows r s = (k : ℕ) → Filled k r → Filled (k + 2) s
+
+abbrev pub empty : Rows
+empty = record { more = zeros 136; less = zeros 136 }
+
+no_steps : Filled 0 empty
 no_steps = record { more = zero_row; less = zero_row }
+
+-- there is room for one product more: in empty rows, and after one to five products; after six the rows can be compared
+pub room₀ : Filled 60 empty
+room₀ = filled_up 60 no_steps (lit≤ tt)
+
+module _ {r₁ : Rows} (g₁ : Grows empty r₁) where
+  pub room₁ : Filled 60 r₁
+  room₁ = filled_up 60 (g₁ 0 no_steps) (lit≤ tt)
+
+  module _ {r₂ : Rows} (g₂ : Grows r₁ r₂) where
+    pub room₂ : Filled 60 r₂
+    room₂ = filled_up 60 (g₂ 2 (g₁ 0 no_steps)) (lit≤ tt)
+
+    module _ {r₃ : Rows} (g₃ : Grows r₂ r₃) where
+      three : Filled 6 r₃
+      three = g₃ 4 (g₂ 2 (g₁ 0 no_steps))
+
+      pub room₃ : Filled 60 r₃
+      room₃ = filled_up 60 three (lit≤ tt)
+
+      module _ {r₄ : Rows} (g₄ : Grows r₃ r₄) where
+        pub room₄ : Filled 60 r₄
+        room₄ = filled_up 60 (g₄ 6 three) (lit≤ tt)
+
+        module _ {r₅ : Rows} (g₅ : Grows r₄ r₅) where
+          pub room₅ : Filled 60 r₅
+          room₅ = filled_up 60 (g₅ 8 (g₄ 6 three)) (lit≤ tt)
+
+          pub all_six : {r₆ : Rows} → Grows r₅ r₆ → Filled 64 r₆
+          all_six g₆ = filled_up 64 (g₆ 10 (g₅ 8 (g₄ 6 three))) (lit≤ tt)
 
 -- ---- all six
 
 nothing : (z : ℤ) → diff 0 0 +ℤ z ≡ z
 nothing = every (λ (z : ℤ). diff 0 0 +ℤ z ≡ z) (λ a b. diff_add 0 0 a b ∙ ap₂ diff (omega arith) (omega arith))
 
-pub none : net (record { more = zeros 136; less = zeros 136 }) ≡ diff 0 0
-none = net_is (record { more = zeros 136; less = zeros 136 }) ∙ ap₂ diff (value_zeros 136) (value_zeros 136)
+pub none : net empty ≡ diff 0 0
+none = net_is empty ∙ ap₂ diff (value_zeros 136) (value_zeros 136)
 
 pub all : (ax ay bx by cx cy : ℤ) {ax' cx' ay' d₀ d₁ d₂ d₃ d₄ d₅ d₆ : ℤ} → ax' ≡ neg_ℤ ax → cx' ≡ neg_ℤ cx → ay' ≡ neg_ℤ ay → d₀ ≡ diff 0 0
     → d₁ ≡ d₀ +ℤ ax *ℤ by
