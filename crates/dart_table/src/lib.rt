@@ -7,7 +7,7 @@ ghost use Rattle.lists.specs.Sort.{insert, sort_onto};
 ghost use Rattle.lists.specs.Regions.{put};
 ghost use Rattle.cutting.specs.declared.Slot.{Slot};
 ghost use Rattle.cutting.specs.Edges.{reversed_if};
-ghost use Rattle.cutting.specs.Cell.{windows, darts_along, own_darts, near_darts, edge_slots, reverse_mark, names, stands, stands_before};
+ghost use Rattle.cutting.specs.Cell.{windows, darts_along, own_darts, near_darts, edge_slots, reverse_mark, names, stands_before};
 ghost use Rattle.cutting.specs.Lent.{flat_edges};
 ghost use Rattle.refusals.specs.declared.Refusal.TheVariants.{FullTable};
 ghost use Rattle.dart_table.specs.Table.{table_in, with_darts, with_edge, with_edges, outline_with};
@@ -17,16 +17,16 @@ use keys::SortedKey;
 use refusals::Refusal;
 use std::marker::Model;
 
-// Whether the slot from a to b stands before the one from c to d: at one node, by falling angle.
-fn stands(coords: &[f64], a: u32, b: u32, c: u32, d: u32) -> bool
-    ensures { result ≡ stands coords.now a b c d }
+// Whether a slot stands before another one: at one node, by falling angle.
+fn stands_before(coords: &[f64], slot: Slot, other: Slot) -> bool
+    ensures { result ≡ stands_before coords.now slot other }
 {
-    if a != c {
+    if slot.src != other.src {
         return false;
     }
-    let p = plane::point_at(coords, a);
-    let q = plane::point_at(coords, b);
-    let s = plane::point_at(coords, d);
+    let p = plane::point_at(coords, slot.src);
+    let q = plane::point_at(coords, slot.dst);
+    let s = plane::point_at(coords, other.dst);
     exact::compare_around(p, q, s).is_lt()
 }
 
@@ -34,7 +34,9 @@ fn stands(coords: &[f64], a: u32, b: u32, c: u32, d: u32) -> bool
 fn place(coords: &[f64], slots: &[Slot], slot: Slot) -> Option<usize>
     ensures { result ≡ position (stands_before coords.now slot) slots.now }
 {
-    slots.iter().position(|other| stands(coords, slot.src, slot.dst, other.src, other.dst))
+    slots
+        .iter()
+        .position(|other| stands_before(coords, slot, *other))
 }
 
 // The first slot that leads from a to b.

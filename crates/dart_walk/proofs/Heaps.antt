@@ -1,36 +1,54 @@
--- The heap filled from an outline's flat list. Assumes nothing.
-use mathlib.Core.Path.{◌≡◌, refl, sym, ap, ◌∙◌}
-use mathlib.Core.List.{List, [], ◌∷◌, ◌++◌}
-use Prim.Native.Nat.{ℕ, ◌+◌, ◌≤◌, ◌<◌}
+-- The heap in an array, and filled from an outline's edges as arrays of two. Assumes nothing.
+use mathlib.Core.Path.{◌≡◌, refl, sym, ap, ap₂, ◌∙◌}
+use mathlib.Core.List.{List, [], ◌∷◌, map}
+use Prim.Native.Nat.{ℕ, zero, suc, ◌+◌, ◌-◌, ◌≤◌, ◌<◌}
+use native.Mathlib.Numerals.{add-one}
 use native.Mathlib.Omega.{arith}
-use lib.ListN.{length, get_or, set}
+use lib.ListN.{length, get_or, set, drop}
+use lib.Seq.{drop-cons, get_or-set_same, get_or-set_other}
+use Rattle.std.proofs.lemmas.List.{drop_all}
 use Rattle.lists.proofs.Search.{first_le}
 use Rattle.cutting.specs.Edges.{Edge}
 use Rattle.cutting.specs.Walk.{slot, leads, starts}
-use Rattle.cutting.specs.Lent.{pairs, stacked}
-use Rattle.dart_walk.proofs.Steps.{stacked_push}
-use Rattle.cutting.proofs.Pairs.{pairs_short}
+use Rattle.cutting.specs.Lent.{pair_of, stacked}
 
-pub pair_first : (x r : List ℕ) → length x ≡ 2 → pairs (x ++ r) ≡ (get_or x 0 0, get_or x 1 0) ∷ pairs r
-unfolding pairs
-pair_first [] r h = absurd (omega arith)
-pair_first (a ∷ []) r h = absurd (omega arith)
-pair_first (a ∷ b ∷ []) r h = refl
-pair_first (a ∷ b ∷ c ∷ x) r h = absurd (omega arith)
+stacked_set : (xs : List ℕ) (j v q : ℕ) → q ≤ j → stacked (set xs j v) q ≡ stacked xs q
+unfolding stacked
+stacked_set xs j v zero h = refl
+stacked_set xs j v (suc q) h = ap₂ (λ x s. x ∷ s) (get_or-set_other xs j q v 0 (λ e. omega arith)) (stacked_set xs j v q (omega arith))
+
+pub stacked_push : (xs : List ℕ) (sp v : ℕ) → sp < length xs → stacked (set xs sp v) (sp + 1) ≡ v ∷ stacked xs sp
+unfolding stacked
+stacked_push xs sp v h = rw add-one (ap₂ (λ x s. x ∷ s) (get_or-set_same xs sp v 0 h) (stacked_set xs sp v sp (omega arith)))
+
+pub stacked_pop : (xs : List ℕ) (sp : ℕ) → 0 < sp → stacked xs sp ≡ get_or xs (sp - 1) 0 ∷ stacked xs (sp - 1)
+unfolding stacked
+stacked_pop xs sp h = let up : sp ≡ suc (sp - 1) = omega arith in ap (stacked xs) up
+
+pub length_stacked : (xs : List ℕ) (k : ℕ) → length (stacked xs k) ≡ k
+unfolding stacked
+length_stacked xs zero = refl
+length_stacked xs (suc k) = ap suc (length_stacked xs k)
 
 module _ (n : ℕ) (src dst : List ℕ) where
   pub slot_le : (a b s : ℕ) → s ≡ slot n src dst a b → s ≤ n
   unfolding slot
   slot_le a b s e = rw e (first_le (leads src dst a b) 0 n (omega arith))
 
-  -- `rest` are the entries from the next dart on
-  module _ (rest : List ℕ) (k : ℕ) (heap target : List ℕ) (inv : starts n src dst (pairs rest) (stacked heap k) ≡ target) where
-    pub start_turn : (x later : List ℕ) (s : ℕ) → rest ≡ x ++ later → length x ≡ 2 → k < length heap → s ≡ slot n src dst (get_or x 0 0) (get_or x 1 0)
-        → starts n src dst (pairs later) (stacked (set heap k s) (k + 1)) ≡ target
-    unfolding starts
-    start_turn x later s e two l es = ap (starts n src dst (pairs later)) (stacked_push heap k s l ∙ ap (λ (y : ℕ). y ∷ stacked heap k) es) ∙ sym
-        (ap (λ (ds : List Edge). starts n src dst ds (stacked heap k)) (ap pairs e ∙ pair_first x later two)) ∙ inv
+  pub length_starts : (es : List Edge) (heap : List ℕ) → length (starts n src dst es heap) ≡ length es + length heap
+  unfolding starts
+  length_starts [] heap = omega arith
+  length_starts (e ∷ es) heap = omega (arith, length_starts es (slot n src dst e.0 e.1 ∷ heap))
 
-    pub start_end : length rest < 2 → stacked heap k ≡ target
+  -- edge i of those in the arrays
+  module _ (es : List (List ℕ)) (i : ℕ) (heap : List ℕ) {target : List ℕ} (inv : starts n src dst (map pair_of (drop i es)) heap ≡ target) where
+    pub start_turn : (d : List ℕ) {s : ℕ} → i < length es → s ≡ slot n src dst (get_or (get_or es i d) 0 0) (get_or (get_or es i d) 1 0)
+        → starts n src dst (map pair_of (drop (i + 1) es)) (s ∷ heap) ≡ target
     unfolding starts
-    start_end h = sym (ap (λ (ds : List Edge). starts n src dst ds (stacked heap k)) (pairs_short rest (omega (arith, h)))) ∙ inv
+    start_turn d {s} h e =
+        ap₂ (λ (k r : ℕ). starts n src dst (map pair_of (drop k es)) (r ∷ heap)) (add-one i) e
+        ∙ sym (ap (λ (l : List (List ℕ)). starts n src dst (map pair_of l) heap) (drop-cons es i d h)) ∙ inv
+
+    pub start_end : length es ≤ i → heap ≡ target
+    unfolding starts
+    start_end h = sym (ap (λ (l : List (List ℕ)). starts n src dst (map pair_of l) heap) (drop_all i es h)) ∙ inv

@@ -17,9 +17,8 @@ use Rattle.cutting.specs.Walk.{Phase, resting, on_slot, state, Next, walk_steps,
 use Rattle.cutting.proofs.Ways as way
 use Rattle.cutting.proofs.Ways.{reverse_of}
 use Rattle.cutting.specs.Outcome.{of_walk, flat, stops}
-use Rattle.cutting.specs.Lent.{stacked}
 use Rattle.dart_walk.specs.Answer.{Room, closed_with, answer, Written}
-use Rattle.dart_walk.proofs.Steps.{length_stacked, stacked_push, stacked_pop, run_more, run_closed, run_stuck, run_broken}
+use Rattle.dart_walk.proofs.Steps.{run_more, run_closed, run_stuck, run_broken}
 use Rattle.cutting.proofs.Runs.{take_push, drop_push, flat_snoc, stops_snoc, stops_length}
 
 -- refusal 11
@@ -31,26 +30,25 @@ abbrev Shape : ℕ → List ℕ → List ℕ → ℕ → ℕ → List (List ℕ)
 Shape n marks nodes m k done resting = (take m nodes ≡ flat done) × (m + unmarked n marks ≤ n) × (k ≤ m)
 Shape n marks nodes m k done (on_slot first mid i) = (i < n) × (get_or marks i 0 ≡ 0) × (take m nodes ≡ flat done ++ first ∷ mid) × (m + unmarked n marks ≤ n + 1) × (k < m)
 
-pub record Inv (n top : ℕ) (src dst : List ℕ) (r : Next) (marks₀ heap₀ nodes₀ ends₀ marks heap nodes ends : List ℕ) (sp m k : ℕ) (phase : Phase) : Type 0 where
+pub record Inv (n : ℕ) (src dst : List ℕ) (r : Next) (marks₀ heap₀ nodes₀ ends₀ marks heap nodes ends : List ℕ) (m k : ℕ) (phase : Phase) : Type 0 where
   pub same_marks : length marks ≡ length marks₀
-  pub same_heap : length heap ≡ length heap₀
   pub same_nodes : length nodes ≡ length nodes₀
   pub same_ends : length ends ≡ length ends₀
   pub rest_nodes : drop m nodes ≡ drop m nodes₀
   pub rest_ends : drop k ends ≡ drop k ends₀
-  pub fits : sp + unmarked n marks ≤ n + top
+  pub fits : length heap + unmarked n marks ≤ n + length heap₀
   pub fuel : ℕ
-  pub enough : 2 * unmarked n marks + sp < fuel
+  pub enough : 2 * unmarked n marks + length heap < fuel
   pub done : List (List ℕ)
   pub counted : length done ≡ k
   pub ended : take k ends ≡ stops 0 done
   pub shape : Shape n marks nodes m k done phase
-  pub still : walk_steps true n src dst fuel (state marks (stacked heap sp) done phase) ≡ r
+  pub still : walk_steps true n src dst fuel (state marks heap done phase) ≡ r
 
 -- in a piece that began at the node `start`, on the slot `at`
-pub record Inside (n top : ℕ) (src dst : List ℕ) (r : Next) (marks₀ heap₀ nodes₀ ends₀ marks heap nodes ends : List ℕ) (sp m k start at : ℕ) : Type 0 where
+pub record Inside (n : ℕ) (src dst : List ℕ) (r : Next) (marks₀ heap₀ nodes₀ ends₀ marks heap nodes ends : List ℕ) (m k start at : ℕ) : Type 0 where
   pub mid : List ℕ
-  pub inv : Inv n top src dst r marks₀ heap₀ nodes₀ ends₀ marks heap nodes ends sp m k (on_slot start mid at)
+  pub inv : Inv n src dst r marks₀ heap₀ nodes₀ ends₀ marks heap nodes ends m k (on_slot start mid at)
 
 -- what holds of an answer and the lists where the run ends in t
 abbrev pub Ended : List ℕ → List ℕ → List ℕ → List ℕ → Result Counts ℕ → Next → Type 0
@@ -60,21 +58,20 @@ some_unmarked : (n : ℕ) (marks : List ℕ) (i : ℕ) → i < n → get_or mark
 unfolding unmarked
 some_unmarked n marks i h e = many_has (λ k. eqb (get_or marks k 0) 0) n i h (eq-eqb (get_or marks i 0) 0 e)
 
-module _ {n top : ℕ} {src dst marks₀ heap₀ nodes₀ ends₀ : List ℕ} (room : Room n top src dst marks₀ heap₀ nodes₀ ends₀) where
-  pub at_first : Inv n top src dst (walk_from true n src dst marks₀ (stacked heap₀ top)) marks₀ heap₀ nodes₀ ends₀ marks₀ heap₀ nodes₀ ends₀ top 0 0 resting
+module _ {n : ℕ} {src dst marks₀ heap₀ nodes₀ ends₀ : List ℕ} (room : Room n heap₀ marks₀ nodes₀ ends₀) where
+  pub at_first : Inv n src dst (walk_from true n src dst marks₀ heap₀) marks₀ heap₀ nodes₀ ends₀ marks₀ heap₀ nodes₀ ends₀ 0 0 resting
   unfolding walk_from flat stops unmarked
   at_first =
       let most = many_bound (λ i. eqb (get_or marks₀ i 0) 0) n in
       record {
         same_marks = refl;
-        same_heap = refl;
         same_nodes = refl;
         same_ends = refl;
         rest_nodes = refl;
         rest_ends = refl;
         fits = omega arith;
-        fuel = 2 * n + length (stacked heap₀ top) + 1;
-        enough = omega (arith, length_stacked heap₀ top);
+        fuel = 2 * n + length heap₀ + 1;
+        enough = omega arith;
         done = [];
         counted = refl;
         ended = refl;
@@ -82,33 +79,29 @@ module _ {n top : ℕ} {src dst marks₀ heap₀ nodes₀ ends₀ : List ℕ} (r
         still = refl;
       }
 
-  module _ {r : Next} {marks heap nodes ends : List ℕ} {sp m k : ℕ} where
+  module _ {r : Next} {marks heap nodes ends : List ℕ} {m k : ℕ} where
     -- ---- between pieces
 
-    module _ (v : Inv n top src dst r marks₀ heap₀ nodes₀ ends₀ marks heap nodes ends sp m k resting) where
+    module _ (v : Inv n src dst r marks₀ heap₀ nodes₀ ends₀ marks heap nodes ends m k resting) where
       -- the slot i comes off the heap
-      module _ (some : 0 < sp) where
-        abbrev i : ℕ
-        i = get_or heap (sp - 1) 0
+      module _ {i : ℕ} {rest : List ℕ} (off-heap : heap ≡ i ∷ rest) where
+        off : walk_steps true n src dst v.fuel (state marks (i ∷ rest) v.done resting) ≡ r
+        off = subst (λ (h : List ℕ). walk_steps true n src dst v.fuel (state marks h v.done resting) ≡ r) off-heap v.still
 
-        off : walk_steps true n src dst v.fuel (state marks (i ∷ stacked heap (sp - 1)) v.done resting) ≡ r
-        off = rw (← (stacked_pop heap sp some)) v.still
-
-        pub missing : n ≤ get_or heap (sp - 1) 0 → Ended nodes₀ ends₀ nodes ends refused r
+        pub missing : n ≤ i → Ended nodes₀ ends₀ nodes ends refused r
         missing out = subst (Ended nodes₀ ends₀ nodes ends refused) (run_broken true n src dst r v.fuel _ (omega (arith, v.enough)) off (way.missing out)) (refl, tt)
 
-        pub turn_skip : get_or heap (sp - 1) 0 < n → (get_or marks (get_or heap (sp - 1) 0) 0 ≡ 0 → ⊥)
-            → Inv n top src dst r marks₀ heap₀ nodes₀ ends₀ marks heap nodes ends (sp - 1) m k resting
+        pub turn_skip : i < n → (get_or marks (i) 0 ≡ 0 → ⊥)
+            → Inv n src dst r marks₀ heap₀ nodes₀ ends₀ marks rest nodes ends m k resting
         turn_skip i< marked = record {
           same_marks = v.same_marks;
-          same_heap = v.same_heap;
           same_nodes = v.same_nodes;
           same_ends = v.same_ends;
           rest_nodes = v.rest_nodes;
           rest_ends = v.rest_ends;
-          fits = omega (arith, v.fits);
+          fits = omega (arith, v.fits, ap length off-heap);
           fuel = v.fuel - 1;
-          enough = omega (arith, v.enough);
+          enough = omega (arith, v.enough, ap length off-heap);
           done = v.done;
           counted = v.counted;
           ended = v.ended;
@@ -116,25 +109,24 @@ module _ {n top : ℕ} {src dst marks₀ heap₀ nodes₀ ends₀ : List ℕ} (r
           still = run_more true n src dst r v.fuel _ (omega (arith, v.enough)) off _ (way.passes i< marked);
         }
 
-        module _ (i< : get_or heap (sp - 1) 0 < n) (openAt-i : get_or marks (get_or heap (sp - 1) 0) 0 ≡ 0) where
+        module _ (i< : i < n) (openAt-i : get_or marks (i) 0 ≡ 0) where
           pub corner_fits : m < length nodes
           corner_fits = omega (arith, v.shape.1, some_unmarked n marks i i< openAt-i, room.corners, v.same_nodes)
 
           -- x is its first node
-          pub turn_open : (x : ℕ) → x ≡ get_or src (get_or heap (sp - 1) 0) 0
-              → Inside n top src dst r marks₀ heap₀ nodes₀ ends₀ marks heap (set nodes m x) ends (sp - 1) (m + 1) k x (get_or heap (sp - 1) 0)
+          pub turn_open : (x : ℕ) → x ≡ get_or src (i) 0
+              → Inside n src dst r marks₀ heap₀ nodes₀ ends₀ marks rest (set nodes m x) ends (m + 1) k x (i)
           turn_open x ex = rw ex (record {
             mid = [];
             inv = record {
               same_marks = v.same_marks;
-              same_heap = v.same_heap;
               same_nodes = length-set nodes m (get_or src i 0) ∙ v.same_nodes;
               same_ends = v.same_ends;
               rest_nodes = drop_push nodes nodes₀ m (get_or src i 0) v.rest_nodes;
               rest_ends = v.rest_ends;
-              fits = omega (arith, v.fits);
+              fits = omega (arith, v.fits, ap length off-heap);
               fuel = v.fuel - 1;
-              enough = omega (arith, v.enough);
+              enough = omega (arith, v.enough, ap length off-heap);
               done = v.done;
               counted = v.counted;
               ended = v.ended;
@@ -144,10 +136,10 @@ module _ {n top : ℕ} {src dst marks₀ heap₀ nodes₀ ends₀ : List ℕ} (r
           })
 
       -- the heap is empty
-      pub at_close : sp ≡ 0 → Ended nodes₀ ends₀ nodes ends (closed_with k m) r
+      pub at_close : heap ≡ [] → Ended nodes₀ ends₀ nodes ends (closed_with k m) r
       unfolding front
       at_close empty =
-          let bare : walk_steps true n src dst v.fuel (state marks [] v.done resting) ≡ r = unfold stacked in (rw empty at v.still) in
+          let bare = subst (λ (h : List ℕ). walk_steps true n src dst v.fuel (state marks h v.done resting) ≡ r) empty v.still in
           let len : length (flat v.done) ≡ m = sym (ap length v.shape.0) ∙ length-take-le m nodes (omega (arith, v.shape.1, room.corners, v.same_nodes)) in
           subst (Ended nodes₀ ends₀ nodes ends (closed_with k m)) (run_closed true n src dst r v.fuel _ (omega (arith, v.enough)) bare v.done way.ends) (
             ap₂ closed_with (sym v.counted) (sym len),
@@ -160,7 +152,7 @@ module _ {n top : ℕ} {src dst marks₀ heap₀ nodes₀ ends₀ : List ℕ} (r
 
     -- ---- the slot `at` is walked, from the node x to the node y; its reverse is looked for
 
-    module _ {start at : ℕ} (w : Inside n top src dst r marks₀ heap₀ nodes₀ ends₀ marks heap nodes ends sp m k start at) {x y : ℕ}
+    module _ {start at : ℕ} (w : Inside n src dst r marks₀ heap₀ nodes₀ ends₀ marks heap nodes ends m k start at) {x y : ℕ}
         (along : (x ≡ get_or src at 0) × (y ≡ get_or dst at 0)) (back : Option ℕ) (back-found : unwrap_or back n ≡ slot n src dst y x) where
       back_is : unwrap_or back n ≡ reverse_of n src dst at
       back_is = back-found ∙ ap₂ (slot n src dst) along.1 along.0
@@ -179,20 +171,19 @@ module _ {n top : ℕ} {src dst marks₀ heap₀ nodes₀ ends₀ : List ℕ} (r
         pub fewer : unmarked n marks ≡ 1 + unmarked n (set marks at 1)
         fewer = unmarked_mark n marks at w.inv.shape.0 (omega (arith, room.marked, w.inv.same_marks, w.inv.shape.0)) w.inv.shape.1
 
-        pub push_fits : sp < length heap
-        push_fits = omega (arith, w.inv.fits, fewer, room.heaps, w.inv.same_heap)
+        pub push_fits : (length heap < 2048) × (q ≤ 1024)
+        push_fits = (omega (arith, w.inv.fits, fewer, room.heaps), omega (arith, back<, q_is, room.small))
 
         pub stop_fits : k < length ends
         stop_fits = omega (arith, w.inv.shape.4, w.inv.shape.3, fewer, room.stopped, w.inv.same_ends)
 
-        pub turn_close : y ≡ start → Inv n top src dst r marks₀ heap₀ nodes₀ ends₀ (set marks at 1) (set heap sp q) nodes (set ends k m) (sp + 1) m (k + 1) resting
+        pub turn_close : y ≡ start → Inv n src dst r marks₀ heap₀ nodes₀ ends₀ (set marks at 1) (q ∷ heap) nodes (set ends k m) m (k + 1) resting
         turn_close round =
             let v = w.inv in
             let len : length (flat v.done ++ start ∷ w.mid) ≡ m = sym (ap length v.shape.2) ∙ length-take-le m nodes
             (omega (arith, v.shape.3, fewer, room.corners, v.same_nodes)) in
             record {
               same_marks = length-set marks at 1 ∙ v.same_marks;
-              same_heap = length-set heap sp q ∙ v.same_heap;
               same_nodes = v.same_nodes;
               same_ends = length-set ends k m ∙ v.same_ends;
               rest_nodes = v.rest_nodes;
@@ -204,7 +195,7 @@ module _ {n top : ℕ} {src dst marks₀ heap₀ nodes₀ ends₀ : List ℕ} (r
               counted = omega (arith, length-append v.done ((start ∷ w.mid) ∷ []), v.counted);
               ended = take_push ends k m stop_fits ∙ ap₂ (λ (l : List ℕ) (x : ℕ). l ++ x ∷ []) v.ended (omega (arith, len)) ∙ sym (stops_snoc 0 v.done (start ∷ w.mid));
               shape = (v.shape.2 ∙ sym (flat_snoc v.done (start ∷ w.mid)), omega (arith, v.shape.3, fewer), omega (arith, v.shape.4));
-              still = rw (stacked_push heap sp q push_fits, q_is) (run_more true n src dst r v.fuel _ (omega (arith, v.enough))
+              still = rw q_is (run_more true n src dst r v.fuel _ (omega (arith, v.enough))
                   v.still _ (way.closes back< (sym along.1 ∙ round)));
             }
 
@@ -233,14 +224,13 @@ module _ {n top : ℕ} {src dst marks₀ heap₀ nodes₀ ends₀ : List ℕ} (r
             pub next_fits : m < length nodes
             next_fits = omega (arith, w.inv.shape.3, fewer, some_unmarked n (set marks at 1) j j< open_there, room.corners, w.inv.same_nodes)
 
-            pub turn_onward : Inside n top src dst r marks₀ heap₀ nodes₀ ends₀ (set marks at 1) (set heap sp q) (set nodes m y) ends (sp + 1) (m + 1) k start j
+            pub turn_onward : Inside n src dst r marks₀ heap₀ nodes₀ ends₀ (set marks at 1) (q ∷ heap) (set nodes m y) ends (m + 1) k start j
             turn_onward =
                 let v = w.inv in
                 record {
                   mid = w.mid ++ y ∷ [];
                   inv = record {
                     same_marks = length-set marks at 1 ∙ v.same_marks;
-                    same_heap = length-set heap sp q ∙ v.same_heap;
                     same_nodes = length-set nodes m y ∙ v.same_nodes;
                     same_ends = v.same_ends;
                     rest_nodes = drop_push nodes nodes₀ m y v.rest_nodes;
@@ -258,7 +248,7 @@ module _ {n top : ℕ} {src dst marks₀ heap₀ nodes₀ ends₀ : List ℕ} (r
                       omega (arith, v.shape.3, fewer),
                       omega (arith, v.shape.4),
                     );
-                    still = rw (stacked_push heap sp q push_fits, q_is, along.1) (run_more true n src dst r v.fuel _ (omega (arith, v.enough))
+                    still = rw (q_is, along.1) (run_more true n src dst r v.fuel _ (omega (arith, v.enough))
                         v.still _ (way.goes back< off_start (j_is ∙ next_is) j<));
                   };
                 }

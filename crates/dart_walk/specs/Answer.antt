@@ -30,12 +30,11 @@ pieces_in from (suc k) nodes (e ∷ stops₀) = take (e - from) nodes ∷ pieces
 
 -- ---- what only inner functions' contracts and laws cite
 
-pub record Room (n top : ℕ) (src dst marks heap nodes stops : List ℕ) : Type 0 where
+-- there is room for the walk of n slots
+pub record Room (n : ℕ) (heap marks nodes stops : List ℕ) : Type 0 where
   pub small : n ≤ 1024
-  pub srcs : n ≤ length src
-  pub dsts : n ≤ length dst
+  pub heaps : n + length heap ≤ 2048
   pub marked : n ≤ length marks
-  pub heaps : n + top ≤ length heap
   pub corners : n ≤ length nodes
   pub stopped : n ≤ length stops
 

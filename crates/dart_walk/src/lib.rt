@@ -1,7 +1,7 @@
 // The walk of a cell's table, which is seen as the list of its slots.
 #![tactic(auto)]
 
-ghost use Rattle.std.specs.Prelude.{◌≡◌, true, [], ◌*◌, ◌≤◌, ◌<◌, length, take, slice_index, unwrap_or, IfSome};
+ghost use Rattle.std.specs.Prelude.{◌≡◌, true, [], ◌∷◌, List, ℕ, ◌+◌, ◌*◌, ◌≤◌, ◌<◌, length, take, slice_index, unwrap_or, IfSome, MatchOption};
 ghost use Rattle.lists.specs.Search.{first};
 ghost use Rattle.cutting.specs.declared.Slot.{Slot};
 ghost use Rattle.cutting.specs.Walk.{open_at, next_open, starts, walk_from, walk, slot, srcs, dsts, marks_of};
@@ -13,6 +13,7 @@ ghost use Rattle.dart_walk.specs.Answer.{Room, Written, answer, corners_in, ends
 use cutting::Slot;
 use dart_table::find_slot;
 use refusals::Refusal;
+use std::marker::Model;
 
 // How many pieces a cell comes to, and corners in them.
 #[derive(Clone, Copy, Debug, PartialEq, Eq)]
@@ -68,19 +69,59 @@ fn next_open(slots: &[Slot], marks: &[u32], a: u32, r: usize) -> Option<usize>
     if marks[r] == 0 { Some(r) } else { None }
 }
 
-// Fills the heap with the first slots of the outline's darts; the number of the slots stands for none. Answers how many there are.
-fn fill_heap(slots: &[Slot], outline: &[u32], heap: &mut [u32]) -> usize
-    requires { (length slots.now ≤ 1024) × (length outline.now ≤ 2 * length heap.old) }
-    ensures { (2 * result ≤ length outline.now)
-        × (stacked heap.new result ≡ starts (length slots.now) (srcs slots.now) (dsts slots.now) (pairs outline.now) []) }
-{
-    let mut k: usize = 0;
-    for dart in outline.chunks_exact(2) {
-        let s = find(slots, dart[0], dart[1]).unwrap_or(slots.len());
-        heap[k] = s as u32;
-        k += 1;
+// The slots that pieces may begin at, the one put on last first. At most 2,048.
+#[derive(Drop)]
+struct Heap {
+    slots: [u32; 2048],
+    count: usize,
+}
+
+impl Model for Heap {
+    ghost Value = { List ℕ };
+
+    ghost view = { λ h. stacked h.slots h.count };
+
+    ghost invariant = { λ h. h.count ≤ 2048 };
+}
+
+impl Heap {
+    fn new() -> Self
+        ensures { result ≡ [] }
+    {
+        Heap {
+            slots: [0; 2048],
+            count: 0,
+        }
     }
-    k
+
+    fn push(&mut self, slot: usize)
+        requires { (length self.old < 2048) × (slot ≤ 1024) }
+        ensures { self.new ≡ slot ∷ self.old }
+    {
+        self.slots[self.count] = slot as u32;
+        self.count += 1;
+    }
+
+    fn pop(&mut self) -> Option<usize>
+        ensures { MatchOption result (self.old ≡ []) (λ i. self.old ≡ i ∷ self.new) }
+    {
+        if self.count == 0 {
+            return None;
+        }
+        self.count -= 1;
+        Some(self.slots[self.count] as usize)
+    }
+
+    // Puts on the first slots of the outline's darts; the number of the slots stands for none.
+    fn fill(&mut self, slots: &[Slot], outline: &[u32])
+        requires { (length slots.now ≤ 1024) × (2 * length self.old + length outline.now ≤ 4096) }
+        ensures { self.new ≡ starts (length slots.now) (srcs slots.now) (dsts slots.now) (pairs outline.now) self.old }
+    {
+        for dart in outline.as_chunks::<2>().0 {
+            let [a, b] = *dart;
+            self.push(find(slots, a, b).unwrap_or(slots.len()));
+        }
+    }
 }
 
 // Copies the slots' marks. By index, since what a loop over `iter_mut` writes isn't known behind it.
@@ -93,27 +134,23 @@ fn copy_marks(slots: &[Slot], marks: &mut [u32])
     }
 }
 
-// Walks the slots from those on the heap, of which there are `top`: each that is unmarked begins a piece, which goes on until it is back at its first
-// node. A turn of a loop is a step of the definition.
+// Walks the slots from those on the heap: each that is unmarked begins a piece, which goes on until it is back at its first node. A turn of a loop is a
+// step of the definition.
 fn walk_on(
     slots: &[Slot],
-    top: usize,
+    heap: &mut Heap,
     marks: &mut [u32],
-    heap: &mut [u32],
     nodes: &mut [u32],
     stops: &mut [u32],
 ) -> Result<Counts, Refusal>
-    requires { Room (length slots.now) top (srcs slots.now) (dsts slots.now) marks.old heap.old nodes.old stops.old }
-    ensures { (by_number result ≡ answer (of_walk (walk_from true (length slots.now) (srcs slots.now) (dsts slots.now) marks.old (stacked heap.old top))))
-        × Written (of_walk (walk_from true (length slots.now) (srcs slots.now) (dsts slots.now) marks.old (stacked heap.old top))) nodes.old
-        stops.old nodes.new stops.new }
+    requires { Room (length slots.now) heap.old marks.old nodes.old stops.old }
+    ensures { (by_number result ≡ answer (of_walk (walk_from true (length slots.now) (srcs slots.now) (dsts slots.now) marks.old heap.old)))
+        × Written (of_walk (walk_from true (length slots.now) (srcs slots.now) (dsts slots.now) marks.old heap.old)) nodes.old stops.old nodes.new
+        stops.new }
 {
-    let mut sp = top;
     let mut m: usize = 0;
     let mut k: usize = 0;
-    while 0 < sp {
-        sp -= 1;
-        let first = heap[sp] as usize;
+    while let Some(first) = heap.pop() {
         if slots.len() <= first {
             return Err(Refusal::OpenWalk);
         }
@@ -126,8 +163,7 @@ fn walk_on(
                 marks[at] = 1;
                 let (x, y) = ends(slots, at);
                 let back = find(slots, y, x).ok_or(Refusal::OpenWalk)?;
-                heap[sp] = back as u32;
-                sp += 1;
+                heap.push(back);
                 if y == start {
                     break;
                 }
@@ -145,7 +181,7 @@ fn walk_on(
     })
 }
 
-// Walks the slots with lists of its own for the marks and the heap.
+// Walks the slots with marks and a heap of its own.
 fn walk_table(
     slots: &[Slot],
     outline: &[u32],
@@ -157,17 +193,10 @@ fn walk_table(
         × Written (of_walk (walk (pairs outline.now) slots.now)) nodes.old stops.old nodes.new stops.new }
 {
     let mut marks = [0u32; 1024];
-    let mut heap = [0u32; 2048];
+    let mut heap = Heap::new();
     copy_marks(slots, &mut marks);
-    let top = fill_heap(slots, outline, &mut heap);
-    walk_on(
-        slots,
-        top,
-        &mut marks[..slots.len()],
-        &mut heap,
-        nodes,
-        stops,
-    )
+    heap.fill(slots, outline);
+    walk_on(slots, &mut heap, &mut marks[..slots.len()], nodes, stops)
 }
 
 // Walks the slots of a table from the outline's darts, a flat list of pairs. The corners of the pieces go to the front of `nodes`, one piece after the

@@ -4,26 +4,23 @@ use mathlib.Core.Bool.{true}
 use Prim.Native.Nat.{◌+◌, ◌*◌, ◌≤◌}
 use lib.ListN.{length}
 use Rattle.cutting.specs.Walk.{resting, walk_from, srcs, dsts}
-use Rattle.cutting.specs.Lent.{stacked}
 use Rattle.cutting.proofs.Rounds.{unmarked}
 use Rattle.dart_walk.proofs.Turns.{Inv, Inside}
 use Rattle.dart_walk.proofs.walk_on.Given as goal
 
-abbrev pub invariant-loop-sp : goal.invariant-loop-sp
-invariant-loop-sp l =
-    Inv (length l.slots) l.top (srcs l.slots) (dsts l.slots)
-    (walk_from true (length l.slots) (srcs l.slots) (dsts l.slots) l.fn.marks (stacked l.fn.heap l.top))
-    l.fn.marks l.fn.heap l.fn.nodes l.fn.stops l.marks l.heap l.nodes l.stops l.sp l.m l.k resting
+abbrev pub invariant-loop-first : goal.invariant-loop-first
+invariant-loop-first l =
+    Inv (length l.slots) (srcs l.slots) (dsts l.slots) (walk_from true (length l.slots) (srcs l.slots) (dsts l.slots) l.fn.marks l.fn.heap)
+    l.fn.marks l.fn.heap l.fn.nodes l.fn.stops l.marks l.heap l.nodes l.stops l.m l.k resting
 
-abbrev pub decreases-loop-sp : goal.decreases-loop-sp
-decreases-loop-sp l = 2 * unmarked (length l.slots) l.marks + l.sp
+abbrev pub decreases-loop-first : goal.decreases-loop-first
+decreases-loop-first l = 2 * unmarked (length l.slots) l.marks + length l.heap
 
 abbrev pub invariant-loop-back : goal.invariant-loop-back
 invariant-loop-back l =
-    Inside (length l.slots) l.top (srcs l.slots) (dsts l.slots)
-    (walk_from true (length l.slots) (srcs l.slots) (dsts l.slots) l.fn.marks (stacked l.fn.heap l.top))
-    l.fn.marks l.fn.heap l.fn.nodes l.fn.stops l.marks l.heap l.nodes l.stops l.sp l.m l.k l.start l.at
-    × (2 * unmarked (length l.slots) l.marks + l.sp ≤ 2 * unmarked (length l.slots) l.initial.marks + l.initial.sp)
+    Inside (length l.slots) (srcs l.slots) (dsts l.slots) (walk_from true (length l.slots) (srcs l.slots) (dsts l.slots) l.fn.marks l.fn.heap)
+    l.fn.marks l.fn.heap l.fn.nodes l.fn.stops l.marks l.heap l.nodes l.stops l.m l.k l.start l.at
+    × (2 * unmarked (length l.slots) l.marks + length l.heap ≤ 2 * unmarked (length l.slots) l.initial.marks + length l.initial.heap)
 
 abbrev pub decreases-loop-back : goal.decreases-loop-back
-decreases-loop-back l = 2 * unmarked (length l.slots) l.marks + l.sp
+decreases-loop-back l = 2 * unmarked (length l.slots) l.marks + length l.heap

@@ -1,31 +1,31 @@
--- `dart_walk::walk_table` meets its contract. Assumes nothing.
-use mathlib.Core.Path.{sym, ap₂}
+use mathlib.Core.Path.{ap, ap₂, ◌∙◌}
 use mathlib.Core.Bool.{true}
 use mathlib.Core.List.{List}
 use Prim.Native.Nat.{ℕ}
 use native.Mathlib.Omega.{arith}
-use lib.ListN.{length, length-map}
+use lib.ListN.{length}
 use lib.Seq.{length-take-le}
-use Rattle.cutting.specs.Walk.{walk_from, walk_with, srcs, dsts}
+use Rattle.cutting.specs.Walk.{walk_from, walk_with, starts, srcs, dsts}
+use Rattle.cutting.specs.Lent.{pairs}
+use Rattle.cutting.proofs.Pairs.{pairs_length}
 use Rattle.dart_walk.proofs.Answers.{walked_as}
+use Rattle.dart_walk.proofs.Heaps.{length_starts}
 use Rattle.dart_walk.proofs.walk_table.Goals as goal
 
-pub slice_bounds-walk_on-end : goal.slice_bounds-walk_on-end
-slice_bounds-walk_on-end c =
-    sym (length-take-le _ _ (omega (arith, c.copy_marks.auto.marks, c.requires)))
+pub fill-requires : goal.fill-requires
+fill-requires c = (c.requires.0, omega (arith, ap length c.new-heap.ensures, c.requires.1))
 
 pub walk_on-requires : goal.walk_on-requires
 walk_on-requires c =
     let t = c.args.slots.now in
-    let f = c.fill_heap-top in
     let o = c.copy_marks in
     let own = length-take-le (length t) o.new.marks (omega (arith, o.auto.marks, c.requires)) in
+    let es = pairs c.args.outline.now in
+    let many = ap length (c.fill.ensures) ∙ length_starts (length t) (srcs t) (dsts t) es c.new-heap.result in
     record {
       small = c.requires.0;
-      srcs = omega (arith, length-map t (λ s. s.src));
-      dsts = omega (arith, length-map t (λ s. s.dst));
+      heaps = omega (arith, many, pairs_length c.args.outline.now, ap length c.new-heap.ensures, c.requires);
       marked = omega (arith, own);
-      heaps = omega (arith, f.auto.heap, f.ensures.0, c.requires);
       corners = c.requires.2;
       stopped = c.requires.3;
     }
@@ -35,4 +35,5 @@ unfolding walk_with
 returns c =
     let t = c.args.slots.now in
     walked_as _ _ _ _ _ _ _
-    (ap₂ (λ (m h : List ℕ). walk_from true (length t) (srcs t) (dsts t) m h) c.copy_marks.ensures c.fill_heap-top.ensures.1) c.walk_on.ensures
+    (ap₂ (λ (m h : List ℕ). walk_from true (length t) (srcs t) (dsts t) m h) c.copy_marks.ensures
+    (c.fill.ensures ∙ ap (starts (length t) (srcs t) (dsts t) (pairs c.args.outline.now)) c.new-heap.ensures)) c.walk_on.ensures
