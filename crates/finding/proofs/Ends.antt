@@ -5,10 +5,11 @@ use mathlib.Core.List.{List, [], ◌++◌, append-nil}
 use Prim.Native.Nat.{ℕ, ◌+◌, ◌*◌, ◌-◌, ◌/◌, ◌≤◌}
 use native.Mathlib.Omega.{arith}
 use lib.Dec.{eqb, leb}
-use lib.ListN.{length, take, length-append}
+use lib.ListN.{length, take, drop, length-append}
+use lib.Seq.{length-take-le}
 use lib.Ieee.{Float}
 use borrow.Author.Tests.{leb-true, leb-false, not-true, not-false}
-use Rattle.std.specs.Prelude.{Result, Ok, Err}
+use Rattle.std.specs.Prelude.{Result, Ok, Err, IfOk}
 use Rattle.lists.specs.Search.{has}
 use Rattle.lists.specs.Gather.{joined}
 use Rattle.lists.specs.Regions.{run, front, put, copied, zeros, fzeros}
@@ -18,7 +19,7 @@ use Rattle.cutting.specs.Lent.{flat_edges, pairs}
 use Rattle.cutting.proofs.Pairs.{pairs_ends}
 use Rattle.entry.specs.Mesh.{Mesh, mesh}
 use Rattle.refusals.specs.declared.Refusal.{Refusal}
-use Rattle.refusals.specs.Numbers.{number, by_number, refused_with}
+use Rattle.refusals.specs.Numbers.{number, refused_with}
 use Rattle.refusals.proofs.Numbers.{some_not_zero}
 use Rattle.rules.specs.Neighbours.{subject_net, cutter_net}
 use Rattle.rules.specs.Meetings.{Met, added_by, meetings, Scene, scene_of}
@@ -29,11 +30,9 @@ use Rattle.snap.proofs.Places.{put_front}
 use Rattle.regions.specs.declared.Regions.{Regions}
 use Rattle.regions.specs.Runs.{run_in}
 use Rattle.meetings.specs.declared.Found.{Found as MeetFound}
-use Rattle.meetings.specs.Booked.{booked, net_on, meetings_at}
-use Rattle.meetings.specs.MeetingsFound.{MeetingsRoom, MeetingsFound, meetings_found}
+use Rattle.meetings.specs.Booked.{booked, net_on}
 use Rattle.meetings.proofs.Early.{early_met}
 use Rattle.meetings.proofs.Reading.{length_booked, booked_at, meetings_fit, by_edges}
-use Rattle.meetings.proofs.Settled.{code_of, found_in, leaves as meet-leaves, all_left as met-all-left, zeros_left as met-zeros-left, code_left as met-code-left}
 use Rattle.edge_nodes.specs.Links.{links_of, Linked}
 use Rattle.edge_nodes.specs.Lent.{crowded_at}
 use Rattle.edge_nodes.specs.Stored.{no_met, Stored}
@@ -52,6 +51,10 @@ use Rattle.finding.specs.Found.{
   found_of,
   both_full,
   LinkedIn,
+  MeetingsRoom,
+  CutterIndexed,
+  met_in,
+  MetWritten,
   LinkRoom,
   linked_by,
 }
@@ -61,11 +64,6 @@ use Rattle.finding.proofs.Netted.{length_held, subjects_held, cutters_held, inde
 use Rattle.finding.proofs.Held.{Holds, holds_linked, with, subjects_found, cutters_found, met_found, length_worked, worked_holds}
 use Rattle.finding.proofs.Events.{few_met, no_place, met_refused, met_all}
 use Rattle.finding.proofs.Settled.{leaves, all_left, zeros_left}
-
--- the number of the meetings' refusal is that of their answer by numbers
-met_number : (a : Result MeetFound Refusal) → refused_with a ≡ code_of (by_number a)
-met_number (Ok f) = refl
-met_number (Err e) = refl
 
 -- ---- `place_coords`
 
@@ -213,8 +211,7 @@ module _ (op m : ℕ) (sc cc : List Float) (sn se cn ce : List ℕ) (w₀ : List
     length_work : length w₁ ≡ length w₀
     length_work = ap length we ∙ length_held lines sc cc sn se cn ce fs fc w₀ room₀
 
-    asked_of : MeetingsRoom (length oc₁) (length w₁) placed (nets_of lines s c).from (nets_of lines s c).subject (nets_of lines s c).at (nets_of lines s c).cutter
-        (nets_of lines s c).base m
+    asked_of : MeetingsRoom (nets_of lines s c) (length oc₁) (length w₁) placed m
     unfolding nets_of
     asked_of =
         let a = subjects_before lines sc cc sn se cn ce fs fc w₀ room₀ in
@@ -232,7 +229,7 @@ module _ (op m : ℕ) (sc cc : List Float) (sn se cn ce : List ℕ) (w₀ : List
         }
 
     -- what `compute_intersections` asks
-    pub asked : MeetingsRoom (length oc₁) (length w₁) placed r.from r.subject r.at r.cutter r.base m
+    pub asked : MeetingsRoom r (length oc₁) (length w₁) placed m
     asked = rw re asked_of
 
     -- the index of the cutter's edges
@@ -247,12 +244,11 @@ module _ (op m : ℕ) (sc cc : List Float) (sn se cn ce : List ℕ) (w₀ : List
           (sym we) (cutters_indexed lines sc cc sn se cn ce fs fc w₀ room₀)),
     )
 
-    pub indexed : (r.index + index_size r.cutter ≤ r.base)
-        × Indexed (take placed oc₁) (run w₁ r.at (2 * r.cutter)) [] (run w₁ r.index (index_size r.cutter))
-    indexed = rw re indexed_of
+    pub indexed : CutterIndexed r (take placed oc₁) w₁
+    indexed = rw re (record { index_fits = indexed_of.0; indexed = indexed_of.1 })
 
     abbrev found : List Met
-    found = meetings_at oc₁ w₁ placed r.from r.subject r.at r.cutter
+    found = met_in r placed oc₁ w₁
 
     subjects_read : pairs (run w₁ (subject_at s c) (2 * length subjects)) ≡ subjects
     subjects_read =
@@ -266,7 +262,7 @@ module _ (op m : ℕ) (sc cc : List Float) (sn se cn ce : List ℕ) (w₀ : List
     met_are : found ≡ scene.met
     unfolding nets_of scene_of
     met_are =
-        ap (λ (x : NetPlaces). meetings_at oc₁ w₁ placed x.from x.subject x.at x.cutter) re
+        ap (λ (x : NetPlaces). met_in x placed oc₁ w₁) re
         ∙ ap (λ (l : List Float). meetings l (net_on (pairs (run w₁ (subject_at s c) (2 * length subjects))))
         (net_on (pairs (run w₁ (cond lines (length cc / 2) (cutter_at s c)) (2 * length cutters)))))
         (ap (take placed) oe ∙ take_front_of oc (sc ++ cc) placed len)
@@ -277,12 +273,8 @@ module _ (op m : ℕ) (sc cc : List Float) (sn se cn ce : List ℕ) (w₀ : List
     points_fit = omega (arith, fits, len)
 
     -- the meetings are found
-    module _ (a : Result MeetFound Refusal) (oc₂ : List Float) (w₂ : List ℕ)
-        (told : meet-leaves (by_number a) oc₂ w₂ ≡ meetings_found m placed r.from r.subject r.at r.cutter r.base oc₁ w₁) (lo : length oc₂ ≡ length oc₁)
-        (lw : length w₂ ≡ length w₁) where
-      code_met : refused_with a ≡ first_refusal m (length oc₁ / 2 - placed / 2) 0 0 (joined of_meeting found)
-      code_met = met_number a ∙ ap (λ (x : MeetingsFound). code_of x.answer) told ∙ met-code-left m placed r.from r.subject r.at r.cutter r.base oc₁ w₁
-
+    module _ (a : Result MeetFound Refusal) (oc₂ : List Float) (w₂ : List ℕ) (code_met : refused_with a ≡ first_refusal m (length oc₁ / 2 - placed / 2) 0 0 (joined of_meeting found))
+        (written : IfOk a (MetWritten r placed oc₁ w₁ oc₂ w₂)) (lo : length oc₂ ≡ length oc₁) (lw : length w₂ ≡ length w₁) where
       code_is : refused_with a ≡ first_refusal m (length oc / 2 - points) 0 0 (joined of_meeting scene.met)
       code_is =
           code_met ∙ ap₂ (λ (k : ℕ) (ms : List Met). first_refusal m k 0 0 (joined of_meeting ms)) (ap₂ (λ (i j : ℕ). i / 2 - j / 2) length_placed (sym len)) met_are
@@ -290,30 +282,40 @@ module _ (op m : ℕ) (sc cc : List Float) (sn se cn ce : List ℕ) (w₀ : List
       length_coords : length oc₂ ≡ length oc
       length_coords = lo ∙ length_placed
 
-      -- 8, and 12 for a new point: both lists are zeros already
-      pub met_stop : (e : Refusal) → a ≡ Err e → leaves (Err (number e)) oc₂ w₂ ≡ found_of op m s c oc w₀
+      -- 8, and 12 for a new point
+      pub met_stop : (e : Refusal) → a ≡ Err e → (x : FoundLists) → x ≡ refused_lists (number e) oc₂ w₂ → x ≡ found_of op m s c oc w₀
       unfolding found_events
-      met_stop e i =
-          let is : number e ≡ refused_with a = sym (ap refused_with i) in
-          let cleared : meet-leaves (by_number a) oc₂ w₂ ≡ meet-leaves (Err _) (fzeros (length oc₁)) (zeros (length w₁)) =
-          told ∙ met-zeros-left m placed r.from r.subject r.at r.cutter r.base oc₁ w₁ (λ y. some_not_zero e (is ∙ code_met ∙ y)) in
+      met_stop e i x is =
           refused_end (number e) (some_not_zero e)
-          (met_refused points m (length oc / 2) (joined of_meeting scene.met) (crowded scene) points_fit (number e) (some_not_zero e) 0 0 (is ∙ code_is)) oc₁ w₁ length_placed
-          length_work _ (ap₂ (leaves (Err (number e))) (ap (λ (x : MeetingsFound). x.coords) cleared) (ap (λ (x : MeetingsFound). x.work) cleared))
+          (met_refused points m (length oc / 2) (joined of_meeting scene.met) (crowded scene) points_fit (number e) (some_not_zero e) 0 0 (sym (ap refused_with i) ∙ code_is)) oc₂ w₂
+          length_coords (lw ∙ length_work) x is
 
       module _ (f : MeetFound) (i : a ≡ Ok f) where
         z : refused_with a ≡ 0
         z = ap refused_with i
 
-        all : meet-leaves (by_number a) oc₂ w₂ ≡ meet-leaves (Ok (record { met = length found; next = (placed + length (added_by found)) / 2 })) (put oc₁ placed (added_by found))
-            (put w₁ r.base (booked found))
-        all = told ∙ met-all-left m placed r.from r.subject r.at r.cutter r.base oc₁ w₁ (sym code_met ∙ z)
-
-        answer : f ≡ record { met = length found; next = (placed + length (added_by found)) / 2 }
-        answer = ap (found_in f) (sym (ap by_number i) ∙ ap (λ (x : MeetingsFound). x.answer) all)
+        all : MetWritten r placed oc₁ w₁ oc₂ w₂ f
+        all = rw i at written
 
         count : f.met ≡ length scene.met
-        count = ap (λ (x : MeetFound). x.met) answer ∙ ap length met_are
+        count = ap (λ (x : MeetFound). x.met) all.found ∙ ap length met_are
+
+        -- so have the new points
+        pub points_in : 2 * (placed / 2 + f.points) ≤ length oc₂
+        unfolding put front
+        points_in =
+            let xs : List Float = added_by found in
+            let behind : List Float = xs ++ drop (length xs) (drop placed oc₁) in
+            omega (
+              arith,
+              ap length all.coords,
+              length-append (take placed oc₁) behind,
+              length-append xs (drop (length xs) (drop placed oc₁)),
+              length-take-le placed oc₁ (omega (arith, fits, length_placed)),
+              ap (λ (x : MeetFound). x.points) all.found,
+              fs.even,
+              fc.even,
+            )
 
         -- the meetings have their places
         few : length scene.met ≤ m
@@ -338,7 +340,7 @@ module _ (op m : ℕ) (sc cc : List Float) (sn se cn ce : List ℕ) (w₀ : List
         work_then : w₂ ≡ with op sc cc sn se cn ce fs fc w₀ room₀ []
         unfolding nets_of
         work_then =
-            ap (λ (x : MeetingsFound). x.work) all ∙ ap₂ (λ (w : List ℕ) (ms : List Met). put w r.base (booked ms)) we met_are
+            all.work ∙ ap₂ (λ (w : List ℕ) (ms : List Met). put w r.base (booked ms)) we met_are
             ∙ ap (λ (x : NetPlaces). put (netted lines s c w₀) x.base (booked scene.met)) re
             ∙ ap (put (netted lines s c w₀) (met_at s c)) (sym (append-nil (booked scene.met)))
 
@@ -400,15 +402,13 @@ module _ (op m : ℕ) (sc cc : List Float) (sn se cn ce : List ℕ) (w₀ : List
                 (ap length work_is ∙ length_worked op sc cc sn se cn ce fs fc w₀ room₀ m ok.room few) x is
 
             -- none
-            pub all_found : b ≡ false → leaves (Ok (record { regions = g; next = f.next })) oc₂ w₃ ≡ found_of op m s c oc w₀
+            pub all_found : b ≡ false → leaves (Ok (record { regions = g; next = placed / 2 + f.points })) oc₂ w₃ ≡ found_of op m s c oc w₀
             unfolding found_as scene_of
             all_found e =
-                let half : f.next ≡ length (sc ++ cc ++ added_by scene.met) / 2 =
-                ap (λ (x : MeetFound). x.next) answer
-                ∙ ap₂ (λ (i : ℕ) (ms : List Met). (i + length (added_by ms)) / 2) (sym len) met_are ∙ ap (λ (i : ℕ). i / 2)
-                (sym (length-append (sc ++ cc) (added_by scene.met))) in
+                let half : placed / 2 + f.points ≡ length (sc ++ cc ++ added_by scene.met) / 2 =
+                omega (arith, ap (λ (x : MeetFound). x.points) all.found, ap (λ (ms : List Met). length (added_by ms)) met_are, len, length-append (sc ++ cc) (added_by scene.met), fs.even, fc.even) in
                 let coords : oc₂ ≡ front oc scene.coords =
-                ap (λ (x : MeetingsFound). x.coords) all ∙ ap₂ (λ (l : List Float) (ms : List Met). put l placed (added_by ms)) oe met_are
+                all.coords ∙ ap₂ (λ (l : List Float) (ms : List Met). put l placed (added_by ms)) oe met_are
                 ∙ put_front placed oc (sc ++ cc) (added_by scene.met) len fits in
                 ap₂ (λ (x : Regions) (i : ℕ). leaves (Ok (record { regions = x; next = i })) oc₂ w₃) regions_are half
                 ∙ ap₂ (leaves (Ok (found_as op s c))) coords work_is

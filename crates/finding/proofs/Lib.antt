@@ -8,6 +8,7 @@ pub mod Held
 pub mod Events
 pub mod Scenes
 pub mod Settled
+pub mod Links
+pub mod Lent
 pub mod Ends
 pub mod Result
-pub mod Links

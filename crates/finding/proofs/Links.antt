@@ -12,7 +12,7 @@ use Rattle.edge_nodes.specs.Links.{links_of}
 use Rattle.finding.specs.declared.numbering.NetPlaces.{NetPlaces}
 use Rattle.finding.specs.Found.{LinkRoom, linked_by}
 
-part_of : (w nets : List ℕ) (end c k n : ℕ) → nets ≡ take end w → end ≤ length w → c + n ≤ end → k ≡ n → take k (drop c nets) ≡ run w c n
+pub part_of : (w nets : List ℕ) (end c k n : ℕ) → nets ≡ take end w → end ≤ length w → c + n ≤ end → k ≡ n → take k (drop c nets) ≡ run w c n
 unfolding run
 part_of w nets end c k n e h fits z =
     let zero_on : 0 + c ≡ c = omega arith in

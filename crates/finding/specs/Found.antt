@@ -1,17 +1,20 @@
 -- What is found before any cell is cut. Assumes nothing.
-use Rattle.std.specs.Prelude.{Result, Ok, Err, Bool, cond, ◌||◌, List, [], ◌∷◌, ◌++◌, ℕ, ◌+◌, ◌*◌, ◌/◌, ◌≤◌, ◌<◌, eqb, length, replicate, Float}
+use Rattle.std.specs.Prelude.{Result, Ok, Err, Bool, cond, ◌||◌, List, [], ◌∷◌, ◌++◌, ℕ, ◌+◌, ◌*◌, ◌/◌, ◌≡◌, ◌≤◌, ◌<◌, eqb, length, take, replicate, Float}
 use Rattle.lists.specs.Search.{has}
 use Rattle.lists.specs.Gather.{joined}
 use Rattle.lists.specs.Regions.{run, front, put, zeros, fzeros}
 use Rattle.cutting.specs.Lent.{pairs}
 use Rattle.entry.specs.Mesh.{Mesh, node_count}
+use Rattle.rules.specs.Meetings.{Met, added_by}
 use Rattle.rules.specs.Nodes.{crowded}
 use Rattle.rules.specs.Operations.{scene_for}
 use Rattle.rules.specs.Refusals.{Event, point, stop, of_meeting, first_refusal}
 use Rattle.regions.specs.declared.Run.{Run}
 use Rattle.regions.specs.declared.Regions.{Regions}
 use Rattle.regions.specs.Runs.{run_in, Lies, mesh_edges}
-use Rattle.meetings.specs.Booked.{booked}
+use Rattle.strips.specs.Index.{index_size, Indexed}
+use Rattle.meetings.specs.declared.Found.{Found as MeetFound}
+use Rattle.meetings.specs.Booked.{booked, meetings_of}
 use Rattle.edge_nodes.specs.Links.{links_of, Linked}
 use Rattle.edge_nodes.specs.Lent.{crowded_at}
 use Rattle.finding.specs.declared.numbering.NetPlaces.{NetPlaces}
@@ -84,6 +87,33 @@ pub record LinkedIn (w : List ℕ) (g : Regions) : Type 0 where
   pub lies : Lies g (length w)
   pub linked : Linked (mesh_edges w g.subject) (mesh_edges w g.cutter) (run_in w g.met) (run_in w g.links)
   pub few : length (run_in w g.met) ≤ 327680
+
+-- lists of `coords` and `work` numbers: whole points are placed, the edges stand before the meetings, and there is room for m of these
+pub record MeetingsRoom (n : NetPlaces) (coords work placed m : ℕ) : Type 0 where
+  pub placed_fits : placed ≤ coords
+  pub placed_even : 2 * (placed / 2) ≡ placed
+  pub placed_most : placed ≤ 65536
+  pub subject_fits : n.from + 2 * n.subject ≤ n.base
+  pub subject_most : n.subject ≤ 65536
+  pub cutter_fits : n.at + 2 * n.cutter ≤ n.base
+  pub cutter_most : n.cutter ≤ 65536
+  pub met_fits : n.base + 5 * m ≤ work
+  pub met_most : m ≤ 65536
+
+-- the index of the cutter's edges stands before the meetings
+pub record CutterIndexed (n : NetPlaces) (coords : List Float) (work : List ℕ) : Type 0 where
+  pub index_fits : n.index + index_size n.cutter ≤ n.base
+  pub indexed : Indexed coords (run work n.at (2 * n.cutter)) [] (run work n.index (index_size n.cutter))
+
+-- the meetings of the edges that n names, over the first `placed` coordinates
+abbrev pub met_in : NetPlaces → ℕ → List Float → List ℕ → List Met
+met_in n placed oc w = meetings_of (take placed oc) (run w n.from (2 * n.subject)) (run w n.at (2 * n.cutter))
+
+-- they are written: new points behind these coordinates, their numbers behind the nets
+pub record MetWritten (n : NetPlaces) (placed : ℕ) (oc : List Float) (w : List ℕ) (oc' : List Float) (w' : List ℕ) (f : MeetFound) : Type 0 where
+  pub found : f ≡ record { met = length (met_in n placed oc w); points = length (added_by (met_in n placed oc w)) / 2 }
+  pub coords : oc' ≡ put oc placed (added_by (met_in n placed oc w))
+  pub work : w' ≡ put w n.base (booked (met_in n placed oc w))
 
 -- room for the links in a working list of `work` numbers
 pub record LinkRoom (n : NetPlaces) (met h work : ℕ) : Type 0 where

@@ -1,19 +1,34 @@
 // The stages before the cells, one after the other.
-ghost use Rattle.std.specs.Prelude.{◌≡◌, true, ◌++◌, ◌+◌, ◌≤◌, leb, length};
+ghost use Rattle.std.specs.Prelude.{◌≡◌, IfOk, true, ◌++◌, ◌+◌, ◌-◌, ◌/◌, ◌≤◌, leb, length, take};
+ghost use Rattle.lists.specs.Gather.{joined};
 ghost use Rattle.lists.specs.Regions.{front};
-ghost use Rattle.refusals.specs.Numbers.{number, by_number};
+ghost use Rattle.refusals.specs.Numbers.{number, by_number, refused_with};
+ghost use Rattle.rules.specs.Refusals.{of_meeting, first_refusal};
 ghost use Rattle.regions.specs.Runs.{run_in};
 ghost use Rattle.entry.specs.Named.{op_number};
 ghost use Rattle.finding.specs.Nets.{plain_of, FindAsks};
-ghost use Rattle.finding.specs.Found.{regions_by, refused_lists, found_of, both_full, LinkedIn, LinkRoom, linked_by};
+ghost use Rattle.finding.specs.Found.{
+  regions_by,
+  refused_lists,
+  found_of,
+  both_full,
+  LinkedIn,
+  MeetingsRoom,
+  CutterIndexed,
+  met_in,
+  MetWritten,
+  LinkRoom,
+  linked_by,
+};
 
 use crate::numbering::{NetPlaces, nets};
 use edge_nodes::{LinkedMeetings, link_meetings};
 use entry::Operation;
 use lists::copy_at;
-use meetings::{Places, compute_intersections};
+use meetings::Edges;
 use refusals::Refusal;
 use regions::{MeshRuns, Regions, Run, part};
+use strips::{Index, Things, index_size};
 use views::MeshView;
 
 // Where both meshes, the meetings and their links stand in the working list; how many nodes there are.
@@ -38,6 +53,38 @@ fn place_coords(sc: &[f64], cc: &[f64], oc: &mut [f64]) -> bool
         × (result ≡ true → oc.new ≡ front oc.old (sc.now ++ cc.now)) }
 {
     copy_at(oc, 0, sc) && copy_at(oc, sc.len(), cc)
+}
+
+// The meetings of the edges that n names: new points behind the first `placed` coordinates, the meetings behind the nets.
+fn meet(
+    n: NetPlaces,
+    placed: usize,
+    limit: usize,
+    coords: &mut [f64],
+    work: &mut [u32],
+) -> Result<meetings::Found, Refusal>
+    requires { MeetingsRoom n (length coords.old) (length work.old) placed limit × CutterIndexed n (take placed coords.old) work.old }
+    ensures code { refused_with result ≡ first_refusal limit (length coords.old / 2 - placed / 2) 0 0 (joined of_meeting (met_in n placed coords.old work.old)) }
+    ensures written { IfOk result (MetWritten n placed coords.old work.old coords.new work.new) }
+{
+    let (coords, points) = coords.split_at_mut(placed);
+    let (nets, rest) = work.split_at_mut(n.base);
+    let (met, _) = rest.split_at_mut(5 * limit);
+    let nets: &[u32] = nets;
+    let things = Things {
+        coords,
+        nodes: &nets[n.at..n.at + 2 * n.cutter],
+        ends: &nets[..0],
+    };
+    let cutter = Index {
+        things,
+        numbers: &nets[n.index..n.index + index_size(n.cutter)],
+    };
+    let edges = Edges {
+        subject: &nets[n.from..n.from + 2 * n.subject],
+        cutter,
+    };
+    edges.compute_intersections(points, met)
 }
 
 // Whether over 256 nodes are collected under the key of an edge of either mesh.
@@ -126,23 +173,16 @@ pub fn find(
     }
     let placed = subject.coords.len() + cutter.coords.len();
     let n = nets(op.takes_lines(), &coords[..placed], subject, cutter, work);
-    let at = Places {
-        placed,
-        subject: n.from,
-        subjects: n.subject,
-        cutter: n.at,
-        cutters: n.cutter,
-        index: n.index,
-        base: n.base,
-        limit: limit as usize,
+    let f = match meet(n, placed, limit as usize, coords, work) {
+        Ok(f) => f,
+        Err(refusal) => return refused(coords, work, refusal),
     };
-    let f = compute_intersections(coords, work, at)?;
     let g = link(work, n, f.met, placed / 2 + 1);
     if crowded(work, g) {
         return refused(coords, work, Refusal::CrowdedEdge);
     }
     Ok(Found {
         regions: g,
-        next: f.next,
+        next: placed / 2 + f.points,
     })
 }

@@ -1,46 +1,35 @@
--- The candidates of an edge, as `gather` of crate `strips` finds them. Assumes nothing.
-use mathlib.Core.Path.{◌≡◌, ap, ◌∙◌}
+-- An edge as it is read, and its candidates, as `gather` of crate `strips` finds them. Assumes nothing.
+use mathlib.Core.Path.{◌≡◌, sym, ap, ◌∙◌}
 use mathlib.Core.List.{List, []}
-use Prim.Native.Nat.{ℕ, ◌+◌, ◌*◌, ◌-◌, ◌<◌}
+use Prim.Native.Nat.{ℕ, ◌+◌, ◌*◌, ◌/◌, ◌≤◌, ◌<◌}
 use native.Mathlib.Omega.{arith}
-use lib.ListN.{length, get_or, take, drop}
+use lib.ListN.{length, get_or, take}
 use lib.Ieee.{Float}
-use Rattle.lists.specs.Regions.{run}
-use Rattle.lists.proofs.Gather.{places_at}
-use Rattle.cutting.specs.Edges.{Edge}
+use Rattle.cutting.specs.Edges.{Edge, edge_at}
+use Rattle.cutting.specs.Lent.{pairs}
+use Rattle.cutting.proofs.Pairs.{pairs_length, pairs_at}
 use Rattle.rules.specs.declared.Bounds.{Bounds}
-use Rattle.rules.specs.SpatialIndex.{candidates}
 use Rattle.spatial_index.specs.Candidates.{places_from, meets}
-use Rattle.strips.specs.Index.{Indexed}
+use Rattle.strips.specs.Things.{thing_count}
 use Rattle.strips.specs.Meeting.{things_meeting, FrontIs}
 use Rattle.strips.proofs.Uses.{pairs_meeting}
-use Rattle.meetings.specs.Booked.{edges_in}
 
-module _ (coords : List Float) (es : List Edge) (b : Bounds) where
-  pub candidate_below : (k : ℕ) → k < length (candidates coords es b) → get_or (candidates coords es b) k 0 < length es
-  unfolding candidates
-  candidate_below k h = (places_at (meets coords es b) (length es) k h).0
+-- the numbers of edge i are a pair
+pub edge_read : (es : List ℕ) (i : ℕ) → i < length es / 2 → (get_or es (2 * i) 0, get_or es (2 * i + 1) 0) ≡ edge_at (pairs es) i
+edge_read es i h = sym (pairs_at es i (omega (arith, pairs_length es, h)))
 
-module _ (coords : List Float) (w : List ℕ) (ce cn : ℕ) where
-  as_lent : take (ce + 2 * cn - ce) (drop ce w) ≡ run w ce (2 * cn)
-  unfolding run
-  as_lent =
-      let n : ce + 2 * cn - ce ≡ 2 * cn = omega arith in
-      ap (λ (x : ℕ). take x (drop ce w)) n
+-- how many things there are without ends
+pub pairs_few : (fs ends : List ℕ) → ends ≡ [] → thing_count fs ends ≤ 65536 → length fs / 2 ≤ 65536
+unfolding thing_count
+pairs_few fs ends e few = omega (arith, few, ap (λ (xs : List ℕ). thing_count fs xs) e)
 
-  -- the index is that of the edges as they are lent
-  pub indexed_lent : (ix end : ℕ) → Indexed coords (run w ce (2 * cn)) [] (run w ix (end - ix))
-      → Indexed coords (take (ce + 2 * cn - ce) (drop ce w)) [] (take (end - ix) (drop ix w))
-  unfolding run
-  indexed_lent ix end i = rw as_lent i
-
-  -- those that are gathered
-  pub near_found : (b b₀ : Bounds) (from : ℕ) (out : List ℕ) (r : ℕ) (out' : List ℕ) → b ≡ b₀
-      → FrontIs (take (length out) (things_meeting coords (take (ce + 2 * cn - ce) (drop ce w)) [] b from)) out r out'
-      → FrontIs (take (length out) (places_from (meets coords (edges_in w ce cn) b₀) from (length (edges_in w ce cn)))) out r out'
-  near_found b b₀ from out r out' e f =
-      let es : List Edge = edges_in w ce cn in
-      let all : things_meeting coords (take (ce + 2 * cn - ce) (drop ce w)) [] b from ≡ places_from (meets coords es b₀) from (length es) =
-      ap (λ (xs : List ℕ). things_meeting coords xs [] b from) as_lent ∙ pairs_meeting coords (run w ce (2 * cn)) b from
-      ∙ ap (λ (x : Bounds). places_from (meets coords es x) from (length es)) e in
-      rw (← all) f
+-- those that are gathered of things without ends
+pub near_found : (coords : List Float) (fs ends : List ℕ) (b b₀ : Bounds) (from : ℕ) (out : List ℕ) (r : ℕ) (out' : List ℕ) → ends ≡ [] → b ≡ b₀
+    → FrontIs (take (length out) (things_meeting coords fs ends b from)) out r out'
+    → FrontIs (take (length out) (places_from (meets coords (pairs fs) b₀) from (length (pairs fs)))) out r out'
+near_found coords fs ends b b₀ from out r out' none e f =
+    let es : List Edge = pairs fs in
+    let all : things_meeting coords fs ends b from ≡ places_from (meets coords es b₀) from (length es) =
+    ap (λ (xs : List ℕ). things_meeting coords fs xs b from) none ∙ pairs_meeting coords fs b from
+    ∙ ap (λ (x : Bounds). places_from (meets coords es x) from (length es)) e in
+    rw (← all) f

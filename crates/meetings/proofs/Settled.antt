@@ -2,22 +2,22 @@
 use mathlib.Core.Path.{◌≡◌, ap, ◌∙◌, sym}
 use mathlib.Core.Bool.{Bool, cond}
 use mathlib.Core.List.{List}
-use Prim.Native.Nat.{ℕ, ◌+◌, ◌-◌, ◌/◌}
+use Prim.Native.Nat.{ℕ, ◌/◌}
 use native.Mathlib.Decide.{ℕ_discrete}
 use lib.ListN.{length}
 use lib.Ieee.{Float}
 use borrow.Author.Tests.{eq-eqb, ne_eqb}
 use Rattle.std.specs.Prelude.{Result, Ok, Err}
 use Rattle.lists.specs.Gather.{joined}
-use Rattle.lists.specs.Regions.{put, zeros, fzeros}
+use Rattle.lists.specs.Regions.{front, zeros, fzeros}
 use Rattle.rules.specs.Meetings.{Met, added_by}
 use Rattle.rules.specs.Refusals.{of_meeting, first_refusal}
 use Rattle.meetings.specs.declared.Found.{Found}
-use Rattle.meetings.specs.Booked.{booked, meetings_at}
+use Rattle.meetings.specs.Booked.{booked}
 use Rattle.meetings.specs.MeetingsFound.{MeetingsFound, meetings_found}
 
 abbrev pub leaves : Result Found ℕ → List Float → List ℕ → MeetingsFound
-leaves r oc w = record { answer = r; coords = oc; work = w }
+leaves r ps w = record { answer = r; points = ps; met = w }
 
 -- the refusal's number, or 0
 abbrev pub code_of : {A : Type 0} → Result A ℕ → ℕ
@@ -29,30 +29,27 @@ abbrev pub found_in : {A : Type 0} → A → Result A ℕ → A
 found_in x (Ok y) = y
 found_in x (Err k) = x
 
-module _ (m placed se sn ce cn base : ℕ) (oc : List Float) (w : List ℕ) where
-  abbrev met : List Met
-  met = meetings_at oc w placed se sn ce cn
-
+module _ (met : List Met) (ps : List Float) (w : List ℕ) where
   abbrev code : ℕ
-  code = first_refusal m (length oc / 2 - placed / 2) 0 0 (joined of_meeting met)
+  code = first_refusal (length w / 5) (length ps / 2) 0 0 (joined of_meeting met)
 
   abbrev all : MeetingsFound
-  all = leaves (Ok (record { met = length met; next = (placed + length (added_by met)) / 2 })) (put oc placed (added_by met)) (put w base (booked met))
+  all = leaves (Ok (record { met = length met; points = length (added_by met) / 2 })) (front ps (added_by met)) (front w (booked met))
 
   abbrev cleared : MeetingsFound
-  cleared = leaves (Err code) (fzeros (length oc)) (zeros (length w))
+  cleared = leaves (Err code) (fzeros (length ps)) (zeros (length w))
 
-  pub all_left : code ≡ 0 → meetings_found m placed se sn ce cn base oc w ≡ all
+  pub all_left : code ≡ 0 → meetings_found met ps w ≡ all
   unfolding meetings_found
   all_left z = ap (λ (t : Bool). cond t all cleared) (eq-eqb code 0 z)
 
-  pub zeros_left : (code ≡ 0 → ⊥) → meetings_found m placed se sn ce cn base oc w ≡ cleared
+  pub zeros_left : (code ≡ 0 → ⊥) → meetings_found met ps w ≡ cleared
   unfolding meetings_found
   zeros_left z = ap (λ (t : Bool). cond t all cleared) (ne_eqb code 0 z)
 
-  pub code_left : code_of (meetings_found m placed se sn ce cn base oc w).answer ≡ code
+  pub code_left : code_of (meetings_found met ps w).answer ≡ code
   code_left = go (ℕ_discrete code 0)
     where
-      go : Dec (code ≡ 0) → code_of (meetings_found m placed se sn ce cn base oc w).answer ≡ code
+      go : Dec (code ≡ 0) → code_of (meetings_found met ps w).answer ≡ code
       go (yes z) = ap (λ (x : MeetingsFound). code_of x.answer) (all_left z) ∙ sym z
       go (no z) = ap (λ (x : MeetingsFound). code_of x.answer) (zeros_left z)

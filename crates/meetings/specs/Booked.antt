@@ -1,7 +1,6 @@
 -- Meetings as numbers of the working list, and a net that has only edges. Assumes nothing.
-use Rattle.std.specs.Prelude.{List, [], ◌∷◌, ℕ, ◌*◌, length, get_or, take, Float}
+use Rattle.std.specs.Prelude.{List, [], ◌∷◌, ℕ, length, get_or, Float}
 use Rattle.lists.specs.Gather.{joined}
-use Rattle.lists.specs.Regions.{run}
 use Rattle.cutting.specs.Edges.{Edge}
 use Rattle.cutting.specs.Lent.{pairs}
 use Rattle.rules.specs.Neighbours.{Net}
@@ -18,10 +17,6 @@ booked ms = joined book_of ms
 abbrev pub net_on : List Edge → Net
 net_on es = record { cells = []; kinds = []; families = []; edges = es }
 
--- n edges as pairs of numbers from `at` on
-abbrev pub edges_in : List ℕ → ℕ → ℕ → List Edge
-edges_in w at n = pairs (run w at (2 * n))
-
--- The meetings over the first `placed` coordinates: sn subject edges stand at se, cn cutter edges at ce.
-abbrev pub meetings_at : List Float → List ℕ → (placed se sn ce cn : ℕ) → List Met
-meetings_at oc w placed se sn ce cn = meetings (take placed oc) (net_on (edges_in w se sn)) (net_on (edges_in w ce cn))
+-- The meetings of edges that stand as pairs of numbers, over these coordinates.
+abbrev pub meetings_of : List Float → (es fs : List ℕ) → List Met
+meetings_of coords es fs = meetings coords (net_on (pairs es)) (net_on (pairs fs))

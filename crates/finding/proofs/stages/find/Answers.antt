@@ -6,8 +6,7 @@ use Prim.Native.Nat.{◌+◌, ◌≤◌}
 use native.Mathlib.Omega.{arith}
 use lib.ListN.{length, take}
 use lib.Seq.{length-take-le}
-use Rattle.std.proofs.lemmas.Result.{err_from_is_err_and}
-use Rattle.finding.proofs.Ends.{twelve, coords_lent, asked, indexed, met_stop, link_asked, crowded_asks, nine_stop, all_found}
+use Rattle.finding.proofs.Ends.{twelve, coords_lent, asked, indexed, met_stop, link_asked, crowded_asks, points_in, nine_stop, all_found}
 use Rattle.finding.proofs.stages.find.Goals as goal
 
 pub returns-then-not-place_coords : goal.returns-then-not-place_coords
@@ -50,30 +49,27 @@ nets-n-requires c =
     let ok = c.requires in
     (ok.subject, rw c.takes_lines.ensures ok.cutter, omega (arith, ok.room), lent.1)
 
-pub compute_intersections-requires : goal.compute_intersections-requires
-compute_intersections-requires c =
+pub meet-requires : goal.meet-requires
+meet-requires c =
     let oc-last = c.place_coords.new.oc in
-    let w-last = c.nets-n.new.w in
-    let ix = indexed _ _ _ _ _ _ _ _ c.args.work.now c.requires c.args.coords.now
-    c.place_coords.result oc-last c.place_coords.ensures (ap not c.if-not-place_coords.false)
-    c.nets-n.result w-last (rw c.takes_lines.ensures at c.nets-n.ensures) in (
+    let w-last = c.nets-n.new.w in (
       asked _ _ _ _ _ _ _ _ c.args.work.now c.requires c.args.coords.now
           c.place_coords.result oc-last c.place_coords.ensures (ap not c.if-not-place_coords.false)
           c.nets-n.result w-last (rw c.takes_lines.ensures at c.nets-n.ensures),
-      record { index_fits = ix.0; indexed = ix.1 },
+      indexed _ _ _ _ _ _ _ _ c.args.work.now c.requires c.args.coords.now
+          c.place_coords.result oc-last c.place_coords.ensures (ap not c.if-not-place_coords.false)
+          c.nets-n.result w-last (rw c.takes_lines.ensures at c.nets-n.ensures),
     )
 
-pub returns-in_err-f : goal.returns-in_err-f
-returns-in_err-f c =
+pub returns-in-Err : goal.returns-in-Err
+returns-in-Err c =
     let oc-last = c.place_coords.new.oc in
     let w-last = c.nets-n.new.w in
-    let met = c.compute_intersections in
-    let p = err_from_is_err_and c.from_residual.result c.from_residual.ensures.1 in
-    rw (p.1, p.2)
-    (met_stop _ _ _ _ _ _ _ _ c.args.work.now c.requires c.args.coords.now
+    let met = c.meet in
+    met_stop _ _ _ _ _ _ _ _ c.args.work.now c.requires c.args.coords.now
     c.place_coords.result oc-last c.place_coords.ensures (ap not c.if-not-place_coords.false)
     c.nets-n.result w-last (rw c.takes_lines.ensures at c.nets-n.ensures)
-    met.result met.new.oc met.new.w met.ensures met.auto.oc met.auto.w _ c.in_err-f.was)
+    met.result met.new.coords met.new.work met.ensures.code met.ensures.written met.auto.coords met.auto.work _ c.in-Err.is _ c.refused-in-Err.ensures
 
 pub overflow_add-placed-2 : goal.overflow_add-placed-2
 overflow_add-placed-2 c =
@@ -83,36 +79,47 @@ pub link-g-requires : goal.link-g-requires
 link-g-requires c =
     let oc-last = c.place_coords.new.oc in
     let w-last = c.nets-n.new.w in
-    let met = c.compute_intersections in
+    let met = c.meet in
     link_asked _ _ _ _ _ _ _ _ c.args.work.now c.requires c.args.coords.now
     c.place_coords.result oc-last c.place_coords.ensures (ap not c.if-not-place_coords.false)
     c.nets-n.result w-last (rw c.takes_lines.ensures at c.nets-n.ensures)
-    met.result met.new.oc met.new.w met.ensures met.auto.oc met.auto.w
-    _ c.in_ok-f.was _ refl
+    met.result met.new.coords met.new.work met.ensures.code met.ensures.written met.auto.coords met.auto.work
+    _ c.in-Ok.is _ refl
 
 pub crowded-requires : goal.crowded-requires
 crowded-requires c =
     let oc-last = c.place_coords.new.oc in
     let w-last-by-nets = c.nets-n.new.w in
     let w-last-by-link = c.link-g.new.w in
-    let met = c.compute_intersections in
+    let met = c.meet in
     crowded_asks _ _ _ _ _ _ _ _ c.args.work.now c.requires c.args.coords.now
     c.place_coords.result oc-last c.place_coords.ensures (ap not c.if-not-place_coords.false)
     c.nets-n.result w-last-by-nets (rw c.takes_lines.ensures at c.nets-n.ensures)
-    met.result met.new.oc met.new.w met.ensures met.auto.oc met.auto.w
-    _ c.in_ok-f.was _ refl c.link-g.result w-last-by-link c.link-g.ensures
+    met.result met.new.coords met.new.work met.ensures.code met.ensures.written met.auto.coords met.auto.work
+    _ c.in-Ok.is _ refl c.link-g.result w-last-by-link c.link-g.ensures
+
+pub overflow_add-result : goal.overflow_add-result
+overflow_add-result c =
+    let oc-last = c.place_coords.new.oc in
+    let w-last = c.nets-n.new.w in
+    let met = c.meet in
+    let low = points_in _ _ _ _ _ _ _ _ c.args.work.now c.requires c.args.coords.now
+    c.place_coords.result oc-last c.place_coords.ensures (ap not c.if-not-place_coords.false)
+    c.nets-n.result w-last (rw c.takes_lines.ensures at c.nets-n.ensures)
+    met.result met.new.coords met.new.work met.ensures.code met.ensures.written met.auto.coords met.auto.work _ c.in-Ok.is in
+    omega (arith, c.well_formed, low, met.auto.coords, c.place_coords.auto.oc)
 
 pub returns-then-crowded : goal.returns-then-crowded
 returns-then-crowded c =
     let oc-last = c.place_coords.new.oc in
     let w-last-by-nets = c.nets-n.new.w in
     let w-last-by-link = c.link-g.new.w in
-    let met = c.compute_intersections in
+    let met = c.meet in
     nine_stop _ _ _ _ _ _ _ _ c.args.work.now c.requires c.args.coords.now
     c.place_coords.result oc-last c.place_coords.ensures (ap not c.if-not-place_coords.false)
     c.nets-n.result w-last-by-nets (rw c.takes_lines.ensures at c.nets-n.ensures)
-    met.result met.new.oc met.new.w met.ensures met.auto.oc met.auto.w
-    _ c.in_ok-f.was _ refl c.link-g.result w-last-by-link c.link-g.ensures
+    met.result met.new.coords met.new.work met.ensures.code met.ensures.written met.auto.coords met.auto.work
+    _ c.in-Ok.is _ refl c.link-g.result w-last-by-link c.link-g.ensures
     c.crowded.result c.crowded.ensures c.if-crowded.true _ c.refused-then-crowded.ensures
 
 pub returns : goal.returns
@@ -120,10 +127,10 @@ returns c =
     let oc-last = c.place_coords.new.oc in
     let w-last-by-nets = c.nets-n.new.w in
     let w-last-by-link = c.link-g.new.w in
-    let met = c.compute_intersections in
+    let met = c.meet in
     all_found _ _ _ _ _ _ _ _ c.args.work.now c.requires c.args.coords.now
     c.place_coords.result oc-last c.place_coords.ensures (ap not c.if-not-place_coords.false)
     c.nets-n.result w-last-by-nets (rw c.takes_lines.ensures at c.nets-n.ensures)
-    met.result met.new.oc met.new.w met.ensures met.auto.oc met.auto.w
-    _ c.in_ok-f.was _ refl c.link-g.result w-last-by-link c.link-g.ensures
+    met.result met.new.coords met.new.work met.ensures.code met.ensures.written met.auto.coords met.auto.work
+    _ c.in-Ok.is _ refl c.link-g.result w-last-by-link c.link-g.ensures
     c.crowded.result c.crowded.ensures c.if-crowded.false
