@@ -12,6 +12,10 @@ use Rattle.lists.proofs.Regions.{length_put, put_none, put_append}
 use Rattle.cutting.specs.Outcome.{flat, stops}
 use Rattle.cutting.proofs.Runs.{stops_length}
 use Rattle.rules.specs.Refusals.{Event, piece, first_refusal}
+use Rattle.std.specs.Prelude.{Result, Ok, Err}
+use Rattle.refusals.specs.declared.Refusal.{Refusal}
+use Rattle.refusals.specs.Numbers.{number, refused_with}
+use Rattle.refusals.proofs.Numbers.{some_not_zero}
 use Rattle.pieces.specs.declared.Listed.{Listed}
 use Rattle.pieces.specs.Pieces.{events, Yield, tagged, nothing, both, all_of, Placing, placing, refused_by, placed_behind}
 use Rattle.pieces.proofs.Room.{flat_append, stops_append, fits, behind, refused}
@@ -98,13 +102,21 @@ pub record AllPlaced (p : Listed) (y : Yield) (on oe ot : List ℕ) (r : Listed)
   pub ends : oe' ≡ put oe p.count (stops p.entries y.pieces)
   pub tags : ot' ≡ put ot p.count y.tags
 
+-- the number of the refusal that an answer is, or 0
+abbrev pub code_of : Result Listed ℕ → ℕ
+code_of (Ok x) = 0
+code_of (Err k) = k
+
 module _ (p : Listed) (y : Yield) (on oe ot : List ℕ) where
   abbrev met : ℕ
   met = first_refusal 0 0 (length oe - p.count) (length on - p.entries) y.events
 
+  abbrev counted : Listed
+  counted = record { count = p.count + length y.pieces; entries = p.entries + length (flat y.pieces) }
+
   pub placed_all : first_refusal 0 0 (length oe - p.count) (length on - p.entries) y.events ≡ 0
       → placed_behind p y on oe ot
-      ≡ placing (record { code = 0; count = p.count + length y.pieces; entries = p.entries + length (flat y.pieces) })
+      ≡ placing (Ok (record { count = p.count + length y.pieces; entries = p.entries + length (flat y.pieces) }))
       (put on p.entries (flat y.pieces)) (put oe p.count (stops p.entries y.pieces)) (put ot p.count y.tags)
   unfolding placed_behind
   placed_all z = rw (eq-eqb met 0 z)
@@ -114,59 +126,61 @@ module _ (p : Listed) (y : Yield) (on oe ot : List ℕ) where
   unfolding placed_behind
   placed_not h = rw (ne_eqb met 0 h)
 
-  -- the answer's code is the first refusal met
-  pub code_is : (placed_behind p y on oe ot).answer.code ≡ first_refusal 0 0 (length oe - p.count) (length on - p.entries) y.events
+  -- the answer's number is that of the first refusal met
+  pub code_is : code_of (placed_behind p y on oe ot).answer ≡ first_refusal 0 0 (length oe - p.count) (length on - p.entries) y.events
   code_is = go met refl
     where
-      go : (x : ℕ) → met ≡ x → (placed_behind p y on oe ot).answer.code ≡ met
-      go zero e = ap (λ (g : Placing). g.answer.code) (placed_all e) ∙ sym e
-      go (suc x) e = ap (λ (g : Placing). g.answer.code) (placed_not (λ z. absurd (omega (arith, e, z))))
+      go : (x : ℕ) → met ≡ x → code_of (placed_behind p y on oe ot).answer ≡ met
+      go zero e = ap (λ (g : Placing). code_of g.answer) (placed_all e) ∙ sym e
+      go (suc x) e = ap (λ (g : Placing). code_of g.answer) (placed_not (λ z. absurd (omega (arith, e, z))))
 
-  -- a refusal's answer, and lists of the same length zeroed
-  pub zeroed : (r r' : Listed) (on₁ oe₁ ot₁ on' oe' ot' : List ℕ) → r ≡ (placed_behind p y on oe ot).answer → (r.code ≡ 0 → ⊥)
-      → length on₁ ≡ length on → length oe₁ ≡ length oe → length ot₁ ≡ length ot
-      → placing r' on' oe' ot' ≡ refused_by r.code on₁ oe₁ ot₁ → placing r' on' oe' ot' ≡ placed_behind p y on oe ot
-  zeroed r r' on₁ oe₁ ot₁ on' oe' ot' e h ln le lt got =
-      let code : r.code ≡ met = ap (λ (q : Listed). q.code) e ∙ code_is in
-      got ∙ rw (ln, le, lt, code, placed_not (λ z. h (code ∙ z)))
+  module _ (e : Refusal) (told : Err (number e) ≡ (placed_behind p y on oe ot).answer) where
+    pub refusal_met : number e ≡ first_refusal 0 0 (length oe - p.count) (length on - p.entries) y.events
+    refusal_met = ap code_of told ∙ code_is
 
-  module _ (r : Listed) (on' oe' ot' : List ℕ) (placed : placing r on' oe' ot' ≡ placed_behind p y on oe ot) where
-    pub code_met : r.code ≡ first_refusal 0 0 (length oe - p.count) (length on - p.entries) y.events
-    code_met = ap (λ (g : Placing). g.answer.code) placed ∙ code_is
+    pub refuses : placed_behind p y on oe ot ≡ refused_by (number e) on oe ot
+    refuses = placed_not (λ z. some_not_zero e (refusal_met ∙ z)) ∙ ap (λ (k : ℕ). refused_by k on oe ot) (sym refusal_met)
 
-    pub all_placed : r.code ≡ 0 → AllPlaced p y on oe ot r on' oe' ot'
-    all_placed z =
-        let e = placed ∙ placed_all (sym code_met ∙ z) in
+    -- lists of the same length zeroed
+    pub zeroed : (on₁ oe₁ ot₁ : List ℕ) → length on₁ ≡ length on → length oe₁ ≡ length oe → length ot₁ ≡ length ot
+        → refused_by (number e) on₁ oe₁ ot₁ ≡ placed_behind p y on oe ot
+    zeroed on₁ oe₁ ot₁ ln le lt = rw (ln, le, lt) (sym refuses)
+
+  pub code_met : (r : Result Listed Refusal) (on' oe' ot' : List ℕ) → placing r on' oe' ot' ≡ placed_behind p y on oe ot
+      → refused_with r ≡ first_refusal 0 0 (length oe - p.count) (length on - p.entries) y.events
+  code_met (Ok r) on' oe' ot' placed = ap (λ (g : Placing). code_of g.answer) placed ∙ code_is
+  code_met (Err e) on' oe' ot' placed = ap (λ (g : Placing). code_of g.answer) placed ∙ code_is
+
+  module _ (r : Listed) (on' oe' ot' : List ℕ) (placed : placing (Ok r) on' oe' ot' ≡ placed_behind p y on oe ot) where
+    pub none_met : first_refusal 0 0 (length oe - p.count) (length on - p.entries) y.events ≡ 0
+    none_met = sym (code_met (Ok r) on' oe' ot' placed)
+
+    pub all_placed : AllPlaced p y on oe ot r on' oe' ot'
+    all_placed =
+        let e = placed ∙ placed_all none_met in
+        let answer : r ≡ counted = ap (λ (g : Placing). listed_in g.answer) e in
         record {
-          counted = ap (λ (g : Placing). g.answer.count) e;
-          entered = ap (λ (g : Placing). g.answer.entries) e;
+          counted = ap (λ (l : Listed). l.count) answer;
+          entered = ap (λ (l : Listed). l.entries) answer;
           corners = ap (λ (g : Placing). g.corners) e;
           ends = ap (λ (g : Placing). g.ends) e;
           tags = ap (λ (g : Placing). g.tags) e;
         }
-
-    -- no more is counted than is yielded
-    pub counted_most : (r.count ≤ p.count + length y.pieces) × (r.entries ≤ p.entries + length (flat y.pieces))
-    counted_most = go r.code refl
       where
-        go : (x : ℕ) → r.code ≡ x → (r.count ≤ p.count + length y.pieces) × (r.entries ≤ p.entries + length (flat y.pieces))
-        go zero e = let a = all_placed e in (omega (arith, a.counted), omega (arith, a.entered))
-        go (suc x) e =
-            let none = placed ∙ placed_not (λ z. absurd (omega (arith, e, code_met, z))) in
-            (omega (arith, ap (λ (g : Placing). g.answer.count) none), omega (arith, ap (λ (g : Placing). g.answer.entries) none))
+        listed_in : Result Listed ℕ → Listed
+        listed_in (Ok l) = l
+        listed_in (Err k) = counted
 
     -- what is counted has its place
-    pub fit : Steady y → p.count ≤ length oe → p.entries ≤ length on → r.code ≡ 0 → (r.count ≤ length oe) × (r.entries ≤ length on)
-    fit s hc he z =
-        let none = sym code_met ∙ z in
+    pub fit : Steady y → p.count ≤ length oe → p.entries ≤ length on → (r.count ≤ length oe) × (r.entries ≤ length on)
+    fit s hc he =
         let f = fits y.pieces 0 0 (length oe - p.count) (length on - p.entries)
-        (ap (first_refusal 0 0 (length oe - p.count) (length on - p.entries)) (sym (s.placing (length oe - p.count) (length on - p.entries) none)) ∙ none) in
-        let a = all_placed z in
-        (omega (arith, hc, f.0, a.counted), omega (arith, he, f.1, a.entered))
+        (ap (first_refusal 0 0 (length oe - p.count) (length on - p.entries)) (sym (s.placing (length oe - p.count) (length on - p.entries) none_met)) ∙ none_met) in
+        (omega (arith, hc, f.0, all_placed.counted), omega (arith, he, f.1, all_placed.entered))
 
 -- ---- yields behind yields
 
-pub placed_nothing : (p : Listed) (on oe ot : List ℕ) → placed_behind p nothing on oe ot ≡ placing (record { code = 0; count = p.count; entries = p.entries }) on oe ot
+pub placed_nothing : (p : Listed) (on oe ot : List ℕ) → placed_behind p nothing on oe ot ≡ placing (Ok p) on oe ot
 unfolding placed_behind first_refusal flat stops
 placed_nothing p on oe ot = rw (add-zero p.count, add-zero p.entries, put_none on p.entries, put_none oe p.count, put_none ot p.count)
 
@@ -186,16 +200,16 @@ module _ (p : Listed) (y z : Yield) (on oe ot : List ℕ) where
   met_all = first_refusal 0 0 (length oe - p.count) (length on - p.entries) (y.events ++ z.events)
 
   -- a refusal of the first is that of both
-  pub refused_first : ((placed_behind p y on oe ot).answer.code ≡ 0 → ⊥) → placed_behind p (both y z) on oe ot ≡ placed_behind p y on oe ot
-  refused_first h =
-      let none : met p y on oe ot ≡ 0 → ⊥ = λ n. h (code_is p y on oe ot ∙ n) in
+  pub refused_first : (e : Refusal) → Err (number e) ≡ (placed_behind p y on oe ot).answer → placed_behind p (both y z) on oe ot ≡ placed_behind p y on oe ot
+  refused_first e told =
+      let none : met p y on oe ot ≡ 0 → ⊥ = λ n. some_not_zero e (refusal_met p y on oe ot e told ∙ n) in
       let same : met p y on oe ot ≡ met_all =
       refused (met p y on oe ot) y.events z.events 0 0 (length oe - p.count) (length on - p.entries) none refl in
       placed_not p (both y z) on oe ot (λ n. none (same ∙ n)) ∙ ap (λ (x : ℕ). refused_by x on oe ot) (sym same) ∙ sym (placed_not p y on oe ot none)
 
   -- where the first is placed the other goes behind it
   module _ (s : Steady y) (hc : p.count ≤ length oe) (ht : length oe ≤ length ot) (he : p.entries ≤ length on)
-      (r : Listed) (on' oe' ot' : List ℕ) (placed : placing r on' oe' ot' ≡ placed_behind p y on oe ot) (c : r.code ≡ 0) where
+      (r : Listed) (on' oe' ot' : List ℕ) (placed : placing (Ok r) on' oe' ot' ≡ placed_behind p y on oe ot) where
     abbrev ks : List (List ℕ)
     ks = y.pieces
 
@@ -203,16 +217,16 @@ module _ (p : Listed) (y z : Yield) (on oe ot : List ℕ) where
     ls = z.pieces
 
     a : AllPlaced p y on oe ot r on' oe' ot'
-    a = all_placed p y on oe ot r on' oe' ot' placed c
+    a = all_placed p y on oe ot r on' oe' ot' placed
 
     ends_long : length (stops p.entries ks) ≡ length ks
     ends_long = stops_length p.entries ks
 
     in_oe : p.count + length ks ≤ length oe
-    in_oe = let f = fit p y on oe ot r on' oe' ot' placed s hc he c in omega (arith, f.0, a.counted)
+    in_oe = let f = fit p y on oe ot r on' oe' ot' placed s hc he in omega (arith, f.0, a.counted)
 
     in_on : p.entries + length (flat ks) ≤ length on
-    in_on = let f = fit p y on oe ot r on' oe' ot' placed s hc he c in omega (arith, f.1, a.entered)
+    in_on = let f = fit p y on oe ot r on' oe' ot' placed s hc he in omega (arith, f.1, a.entered)
 
     pub same_on_lem : length on' ≡ length on
     same_on_lem = ap length a.corners ∙ length_put on p.entries he (flat ks) in_on
@@ -226,7 +240,7 @@ module _ (p : Listed) (y z : Yield) (on oe ot : List ℕ) where
     pub placed_behind_lem : placed_behind p (both y z) on oe ot ≡ placed_behind r z on' oe' ot'
     unfolding placed_behind
     placed_behind_lem =
-        let none : met p y on oe ot ≡ 0 = sym (code_met p y on oe ot r on' oe' ot' placed) ∙ c in
+        let none : met p y on oe ot ≡ 0 = none_met p y on oe ot r on' oe' ot' placed in
         let code : met_all ≡ first_refusal 0 0 (length oe' - r.count) (length on' - r.entries) z.events =
         ap (λ (es : List Event). first_refusal 0 0 (length oe - p.count) (length on - p.entries) (es ++ z.events))
         (s.placing (length oe - p.count) (length on - p.entries) none)

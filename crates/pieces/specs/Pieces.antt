@@ -1,18 +1,21 @@
 -- Which pieces are kept, and where they are placed. Assumes nothing.
-use Rattle.std.specs.Prelude.{◌≡◌, Bool, true, false, cond, List, [], ◌++◌, map, ℕ, zero, suc, ◌+◌, ◌-◌, ◌^◌, ◌≤◌, ◌<◌, eqb, length, get_or, replicate, Float}
-use Rattle.lists.specs.Search.{has}
+use Rattle.std.specs.Prelude.{◌≡◌, Bool, true, false, cond, Result, Ok, Err, List, [], ◌++◌, map, ℕ, zero, suc, ◌+◌, ◌-◌, ◌^◌, ◌≤◌, ◌<◌, eqb, length, get_or, replicate, Float, MatchResult}
+use denote.Ref.{MutBor}
 use Rattle.lists.specs.Regions.{put, zeros}
 use Rattle.plane.specs.declared.Point.{Point}
 use Rattle.insides.specs.Inside.{inside}
 use Rattle.cutting.specs.Outcome.{flat, stops}
-use Rattle.entry.specs.Mesh.{mesh, Rising}
+use Rattle.entry.specs.Mesh.{mesh}
 use Rattle.rules.specs.Mesh.{cells_of, Side, the_subject, the_cutter}
 use Rattle.rules.specs.Inside.{point_inside}
 use Rattle.rules.specs.Operations.{keeps}
 use Rattle.rules.specs.Refusals.{Event, piece, first_refusal}
-use Rattle.strips.specs.Index.{Indexed}
+use Rattle.refusals.specs.declared.Refusal.{Refusal}
+use Rattle.refusals.specs.Numbers.{number, by_number}
+use Rattle.strips.specs.declared.things.Things.{Things}
 use Rattle.pieces.specs.declared.Keep.{Keep}
 use Rattle.pieces.specs.declared.Listed.{Listed}
+use Rattle.pieces.specs.declared.PieceLists.{PieceLists}
 
 -- ---- runs of node numbers in a flat list, by their ends
 
@@ -61,32 +64,26 @@ unfoldable pub all_of : ℕ → (ℕ → Yield) → Yield
 all_of zero f = nothing
 all_of (suc n) f = both (all_of n f) (f n)
 
--- What p counts stands in the lists of corners, ends and tags; a piece has a place in both of ends and tags; n more corners can be counted.
-pub record Space (p : Listed) (n : ℕ) (on oe ot : List ℕ) : Type 0 where
-  pub counted : p.count ≤ length oe
-  pub tags : length oe ≤ length ot
-  pub corners : p.entries ≤ length on
+-- What p counts stands in the lists; a piece has a place in both of ends and tags; n more corners can be counted.
+pub record Space (p : Listed) (n : ℕ) (l : PieceLists) : Type 0 where
+  pub counted : p.count ≤ length l.ends.now
+  pub tags : length l.ends.now ≤ length l.tags.now
+  pub corners : p.entries ≤ length l.corners.now
   pub short : p.entries + n < 2 ^ 32
 
--- The list `ix` is the index of the other mesh's cells, the pieces are runs by their ends, and there is space behind p.
-pub record Placeable (p : Listed) (coords : List Float) (nodes ends ix runs stops on oe ot : List ℕ) : Type 0 where
-  pub cells : Indexed coords nodes ends ix
-  pub pieces : Rising stops (length runs)
-  pub space : Space p (length runs) on oe ot
-
--- what placing leaves: the answer, and the lists of corners, ends and tags
+-- what placing leaves: the answer or the refusal's number, and the lists of corners, ends and tags
 pub record Placing : Type 0 where
-  pub answer : Listed
+  pub answer : Result Listed ℕ
   pub corners : List ℕ
   pub ends : List ℕ
   pub tags : List ℕ
 
-abbrev pub placing : Listed → List ℕ → List ℕ → List ℕ → Placing
-placing r on oe ot = record { answer = r; corners = on; ends = oe; tags = ot }
+abbrev pub placing : Result Listed Refusal → List ℕ → List ℕ → List ℕ → Placing
+placing r on oe ot = record { answer = by_number r; corners = on; ends = oe; tags = ot }
 
 -- a refusal: nothing is counted, and the lists are zero
 abbrev pub refused_by : ℕ → List ℕ → List ℕ → List ℕ → Placing
-refused_by code on oe ot = placing (record { code = code; count = 0; entries = 0 }) (zeros (length on)) (zeros (length oe)) (zeros (length ot))
+refused_by code on oe ot = record { answer = Err code; corners = zeros (length on); ends = zeros (length oe); tags = zeros (length ot) }
 
 -- What is yielded goes behind the pieces that p counts; as many pieces have a place as the list of ends is long. At the first that has none, or where
 -- a cell refuses, that is the answer.
@@ -95,25 +92,48 @@ placed_behind p y on oe ot =
     let code = first_refusal 0 0 (length oe - p.count) (length on - p.entries) y.events in
     let ks = y.pieces in
     cond (eqb code 0)
-    (placing (record { code = 0; count = p.count + length ks; entries = p.entries + length (flat ks) })
-    (put on p.entries (flat ks)) (put oe p.count (stops p.entries ks)) (put ot p.count y.tags))
+    (record {
+      answer = Ok (record { count = p.count + length ks; entries = p.entries + length (flat ks) });
+      corners = put on p.entries (flat ks);
+      ends = put oe p.count (stops p.entries ks);
+      tags = put ot p.count y.tags;
+    })
     (refused_by code on oe ot)
 
--- before a refusal zeroes the lists: g's answer, and where it is 0 its lists
-pub record BeforeZeroing (g : Placing) (r : Listed) (on oe ot : List ℕ) : Type 0 where
-  pub answer : r ≡ g.answer
-  pub lists : r.code ≡ 0 → placing r on oe ot ≡ g
+-- ---- the same of lists that are lent
 
--- ---- cells of the other mesh by their places: what only inner functions' contracts cite
+abbrev pub left : Result Listed Refusal → PieceLists → Placing
+left r l = placing r l.corners.now l.ends.now l.tags.now
+
+abbrev pub refused_in : ℕ → PieceLists → Placing
+refused_in code l = refused_by code l.corners.now l.ends.now l.tags.now
+
+abbrev pub placed_in : Listed → Yield → PieceLists → Placing
+placed_in p y l = placed_behind p y l.corners.now l.ends.now l.tags.now
+
+-- the same list, as long as it was, written or not
+pub record Kept (l m : MutBor (List ℕ)) : Type 0 where
+  pub name : l.ghost_name ≡ m.ghost_name
+  pub long : length l.now ≡ length m.now
+
+pub record SameLists (l m : PieceLists) : Type 0 where
+  pub corners : Kept l.corners m.corners
+  pub ends : Kept l.ends m.ends
+  pub tags : Kept l.tags m.tags
+
+-- ---- what only inner functions' contracts cite
+
+-- before a refusal zeroes the lists: what g leaves, or its refusal
+abbrev pub BeforeZeroing : Placing → Result Listed Refusal → PieceLists → Type 0
+BeforeZeroing g r l = MatchResult r (λ x. left (Ok x) l ≡ g) (λ e. Err (number e) ≡ g.answer)
+
+-- the cells of the other mesh
+abbrev pub cells_in : Things → List (List ℕ)
+cells_in t = runs_of t.nodes.now t.ends.now
+
+abbrev pub cell_at : Things → ℕ → List ℕ
+cell_at t j = get_or (cells_in t) j []
 
 -- cell j contains p
-abbrev pub cell_contains : List Float → List (List ℕ) → Point → ℕ → Bool
-cell_contains coords cells p j = inside coords (get_or cells j []) p
-
--- these are places of cells
-abbrev pub CellPlaces : List ℕ → List ℕ → Type 0
-CellPlaces js ends = (k : ℕ) → k < length js → get_or js k 0 < length ends
-
--- one of the cells at these places contains p
-abbrev pub one_contains : List Float → List (List ℕ) → Point → List ℕ → Bool
-one_contains coords cells p js = has (λ k. cell_contains coords cells p (get_or js k 0)) (length js)
+abbrev pub cell_contains : Things → Point → ℕ → Bool
+cell_contains t p j = inside t.coords.now (cell_at t j) p
