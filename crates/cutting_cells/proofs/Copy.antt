@@ -1,6 +1,6 @@
 -- A copied cell: its edges in a flat list, and the cell as its one piece. Assumes nothing.
 use mathlib.Core.Path.{◌≡◌, refl, sym, ap, ap₂, ◌∙◌}
-use mathlib.Core.Bool.{Bool, true, false, cond}
+use mathlib.Core.Bool.{Bool, false, cond}
 use mathlib.Core.List.{List, [], ◌∷◌, ◌++◌, append-nil, append_assoc}
 use Prim.Native.Nat.{ℕ, ◌+◌, ◌*◌, ◌≤◌, ◌<◌}
 use native.Mathlib.Nat.{zero-add, le_antisymm}
@@ -88,9 +88,6 @@ module _ (cell on os : List ℕ) (t : Bool) (et : t ≡ repeats (ring cell)) whe
   pub copied_as : (on' : List ℕ) → t ≡ false → length cell ≤ 256 → 1024 ≤ length on → 1024 ≤ length os → on' ≡ copied on 0 cell
       → cut_to (record { code = 0; pieces = 1; entries = length cell }) on' (set os 0 (length cell)) ≡ cut_as (copied_outcome cell) on os
   copied_as on' f small long many e = whole_as cell on os on' small long many e ∙ ap (λ (o : Outcome). cut_as o on os) (outcome_is false f)
-
-  pub copied_refused : t ≡ true → cut_as (refusal 19) on os ≡ cut_as (copied_outcome cell) on os
-  copied_refused f = ap (λ (o : Outcome). cut_as o on os) (outcome_is true f)
 
 -- ---- cut or copied
 

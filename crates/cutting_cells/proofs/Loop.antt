@@ -1,112 +1,125 @@
 -- `cut_cells`: the cells one after the other. Assumes nothing.
 use mathlib.Core.Path.{◌≡◌, refl, sym, ap, ◌∙◌, subst}
 use mathlib.Core.List.{List, []}
-use Prim.Native.Nat.{ℕ, ◌+◌, ◌*◌, ◌-◌, ◌≤◌, ◌<◌}
+use Prim.Native.Nat.{ℕ, ◌+◌, ◌-◌, ◌≤◌, ◌<◌}
 use native.Mathlib.Nat.{le_antisymm}
 use native.Mathlib.Omega.{arith}
 use lib.ListN.{length, get_or, take, drop}
-use Rattle.entry.specs.Mesh.{prior, cell_size, Rising}
+use Rattle.std.specs.Prelude.{Ok, Err}
+use Rattle.cutting.specs.Edges.{ring}
+use Rattle.entry.specs.Mesh.{prior}
 use Rattle.entry.proofs.Ends.{prior_more}
+use Rattle.refusals.specs.declared.Refusal.{Refusal}
+use Rattle.cells.specs.Cells.{AllFew}
 use Rattle.pieces.specs.declared.Listed.{Listed}
-use Rattle.pieces.specs.Pieces.{runs_of, Yield, both, all_of, Space, Placing, placing, placed_behind}
+use Rattle.pieces.specs.declared.PieceLists.{PieceLists}
+use Rattle.pieces.specs.Pieces.{runs_of, Yield, both, all_of, Space, Placing, left, placed_in, SameLists}
 use Rattle.pieces.proofs.Runs.{run_at, part_is, length_cell}
+use Rattle.pieces.proofs.Loops.{same_none, same_both}
 use Rattle.pieces.proofs.Placing.{Steady, steady_all, all_of_more, all_of_behind, fit, placed_nothing, refused_first, placed_behind_lem}
+use Rattle.cutting_cells.specs.declared.Treatment.{Treatment}
 use Rattle.cutting_cells.specs.Yields.{Few}
+use Rattle.cutting_cells.specs.Treated.{yield_for, all_yield, CellsAsk}
+use Rattle.cutting_cells.proofs.Cell.{yield_steady}
 
--- ---- the part that is lent is cell i
-
-module _ (own stops : List ℕ) (start i : ℕ) (at : start ≡ prior stops i) (h : i < length stops) where
-  abbrev part : List ℕ
-  part = take (get_or stops i 0 - start) (drop start own)
-
-  pub part_cell : get_or (runs_of own stops) i [] ≡ part
-  part_cell = run_at own stops i h ∙ sym (part_is own stops start i at)
-
-  pub part_long : Rising stops (length own) → length part ≡ cell_size stops i
-  part_long up = ap length (part_is own stops start i at) ∙ length_cell own stops i (up i h).0 (up i h).1
-
--- ---- the loop over n cells, where cell i yields f i
-
-pub record Going (n : ℕ) (f : ℕ → Yield) (stops : List ℕ) (p : Listed) (on oe ot on' oe' ot' : List ℕ) (q : Listed) (start i : ℕ) : Type 0 where
-  pub within : i ≤ n
+-- what the first i cells yield is placed
+pub record Going (t : Treatment) (own stops : List ℕ) (from : ℕ) (p : Listed) (l l' : PieceLists) (q : Listed) (start i : ℕ) : Type 0 where
+  pub within : i ≤ length stops
   pub starts : start ≡ prior stops i
-  pub calm : q.code ≡ 0
-  pub same_on : length on' ≡ length on
-  pub same_oe : length oe' ≡ length oe
-  pub same_ot : length ot' ≡ length ot
+  pub same : SameLists l' l
   pub few : Few i p q
-  pub placed : placing q on' oe' ot' ≡ placed_behind p (all_of i f) on oe ot
+  pub placed : left (Ok q) l' ≡ placed_in p (all_of i (λ j. yield_for t (from + j) (get_or (runs_of own stops) j []))) l
 
-module _ (n : ℕ) (f : ℕ → Yield) (steady : (i : ℕ) → Steady (f i)) (stops : List ℕ) (p : Listed) (z : p.code ≡ 0) (on oe ot : List ℕ) (space : Space p (1024 * n) on oe ot) where
-  pub start₀ : Going n f stops p on oe ot on oe ot p 0 0
+module _ (t : Treatment) (own stops : List ℕ) (from : ℕ) (p : Listed) (l : PieceLists) (asks : CellsAsk t own stops from p l) where
+  abbrev n : ℕ
+  n = length stops
+
+  -- what cell i yields
+  abbrev f : ℕ → Yield
+  f i = yield_for t (from + i) (get_or (runs_of own stops) i [])
+
+  steady : (i : ℕ) → Steady (f i)
+  steady i = yield_steady t.coords.now t.work.now t.regions t.other t.ends.now t.keep (from + i) (get_or (runs_of own stops) i [])
+
+  pub start₀ : Going t own stops from p l l p 0 0
   unfolding prior all_of
   start₀ =
       record {
         within = omega arith;
         starts = refl;
-        calm = z;
-        same_on = refl;
-        same_oe = refl;
-        same_ot = refl;
+        same = same_none l;
         few = record { pieces = omega arith; corners = omega arith };
-        placed = ap (λ (c : ℕ). placing (record { code = c; count = p.count; entries = p.entries }) on oe ot) z ∙ sym (placed_nothing p on oe ot);
+        placed = sym (placed_nothing p l.corners.now l.ends.now l.tags.now);
       }
 
-  module _ (on' oe' ot' : List ℕ) (q : Listed) (start i : ℕ) (inv : Going n f stops p on oe ot on' oe' ot' q start i) where
+  module _ (l' : PieceLists) (q : Listed) (start i : ℕ) (inv : Going t own stops from p l l' q start i) where
     so_far : Steady (all_of i f)
     so_far = steady_all f i (λ j h. steady j)
 
-    -- there is space for the pieces of one cell more
-    pub next_space : i < n → Space q 1024 on' oe' ot'
-    next_space more =
-        let k = fit p (all_of i f) on oe ot q on' oe' ot' inv.placed so_far space.counted space.corners inv.calm in
-        record {
-          counted = omega (arith, k.0, inv.same_oe);
-          tags = omega (arith, space.tags, inv.same_oe, inv.same_ot);
-          corners = omega (arith, k.1, inv.same_on);
-          short = omega (arith, space.short, inv.few.corners, more);
-        }
+    pub end_placed : length stops ≤ i → left (Ok q) l' ≡ placed_in p (all_yield t own stops from) l
+    end_placed h =
+        let e : i ≡ n = le_antisymm inv.within h in
+        inv.placed ∙ ap (λ (m : ℕ). placed_in p (all_of m f) l) e
 
-    module _ (more : i < n) (y : Yield) (this : y ≡ f i) (r : Listed) (on'' oe'' ot'' : List ℕ) (got : (placing r on'' oe'' ot'' ≡ placed_behind q y on' oe' ot') × Few 1 q r) where
-      step : placing r on'' oe'' ot'' ≡ placed_behind p (all_of (i + 1) f) on oe ot
-      step =
-          got.0 ∙ ap (λ (x : Yield). placed_behind q x on' oe' ot') this
-          ∙ sym (placed_behind_lem p (all_of i f) (f i) on oe ot so_far space.counted space.tags space.corners q on' oe' ot' inv.placed inv.calm)
-          ∙ ap (λ (x : Yield). placed_behind p x on oe ot) (sym (all_of_more f i))
+    pub end_few : length stops ≤ i → Few (length stops) p q
+    end_few h = subst (λ (m : ℕ). Few m p q) (le_antisymm inv.within h) inv.few
 
-      few_more : Few (i + 1) p r
-      few_more =
+    module _ (more : i < length stops) where
+      -- the cell that comes next lies there
+      pub next_within : (start ≤ get_or stops i 0) × (get_or stops i 0 ≤ length own)
+      next_within = let b = asks.rise i more in (omega (arith, b.0, inv.starts), b.1)
+
+      abbrev cell : List ℕ
+      cell = take (get_or stops i 0 - start) (drop start own)
+
+      cell_is : get_or (runs_of own stops) i [] ≡ cell
+      cell_is = run_at own stops i more ∙ sym (part_is own stops start i inv.starts)
+
+      pub next_few : AllFew t.work.now t.regions (ring (take (get_or stops i 0 - start) (drop start own)))
+      next_few = subst (λ (c : List ℕ). AllFew t.work.now t.regions (ring c)) cell_is (asks.cells i more).0
+
+      pub next_short : length (take (get_or stops i 0 - start) (drop start own)) ≤ 256
+      next_short =
+          let b = asks.rise i more in
+          omega (arith, ap length (part_is own stops start i inv.starts), length_cell own stops i b.0 b.1, (asks.cells i more).1)
+
+      -- there is space for the pieces of one cell more
+      pub next_space : Space q 1024 l'
+      next_space =
+          let space = asks.space in
+          let k = fit p (all_of i f) l.corners.now l.ends.now l.tags.now q l'.corners.now l'.ends.now l'.tags.now inv.placed so_far space.counted space.corners in
           record {
-            pieces = omega (arith, got.1.pieces, inv.few.pieces);
-            corners = omega (arith, got.1.corners, inv.few.corners);
+            counted = omega (arith, k.0, inv.same.ends.long);
+            tags = omega (arith, space.tags, inv.same.ends.long, inv.same.tags.long);
+            corners = omega (arith, k.1, inv.same.corners.long);
+            short = omega (arith, space.short, inv.few.corners, more);
           }
 
-      pub turn : length on'' ≡ length on' → length oe'' ≡ length oe' → length ot'' ≡ length ot' → r.code ≡ 0
-          → Going n f stops p on oe ot on'' oe'' ot'' r (get_or stops i 0) (i + 1)
-      turn hn he ht c =
+      step : placed_in p (all_of (i + 1) f) l ≡ placed_in q (yield_for t (from + i) cell) l'
+      step =
+          ap (λ (y : Yield). placed_in p y l) (all_of_more f i)
+          ∙ placed_behind_lem p (all_of i f) (f i) l.corners.now l.ends.now l.tags.now so_far asks.space.counted asks.space.tags asks.space.corners
+          q l'.corners.now l'.ends.now l'.tags.now inv.placed
+          ∙ ap (λ (c : List ℕ). placed_in q (yield_for t (from + i) c) l') cell_is
+
+      pub turn : (r : Listed) (l'' : PieceLists) → left (Ok r) l'' ≡ placed_in q (yield_for t (from + i) (take (get_or stops i 0 - start) (drop start own))) l'
+          → Few 1 q r → SameLists l'' l' → Going t own stops from p l l'' r (get_or stops i 0) (i + 1)
+      turn r l'' got few s =
           record {
             within = omega (arith, more);
             starts = sym (prior_more stops i);
-            calm = c;
-            same_on = hn ∙ inv.same_on;
-            same_oe = he ∙ inv.same_oe;
-            same_ot = ht ∙ inv.same_ot;
-            few = few_more;
-            placed = step;
+            same = same_both l l' l'' s inv.same;
+            few = record { pieces = omega (arith, few.pieces, inv.few.pieces); corners = omega (arith, few.corners, inv.few.corners) };
+            placed = got ∙ sym step;
           }
 
-      pub stopped : (r.code ≡ 0 → ⊥) → (placing r on'' oe'' ot'' ≡ placed_behind p (all_of n f) on oe ot) × Few n p r
-      stopped h =
+      pub stopped : (e : Refusal) (l'' : PieceLists) → left (Err e) l'' ≡ placed_in q (yield_for t (from + i) (take (get_or stops i 0 - start) (drop start own))) l'
+          → left (Err e) l'' ≡ placed_in p (all_yield t own stops from) l
+      stopped e l'' got =
           let j : ℕ = n - (i + 1) in
           let all : j + (i + 1) ≡ n = omega (arith, more) in
           let b = all_of_behind f (i + 1) j in
-          let same : all_of n f ≡ both (all_of (i + 1) f) b.0 = ap (λ (m : ℕ). all_of m f) (sym all) ∙ b.1 in (
-            step ∙ sym (refused_first p (all_of (i + 1) f) b.0 on oe ot (λ c. h (ap (λ (g : Placing). g.answer.code) step ∙ c)))
-                ∙ ap (λ (x : Yield). placed_behind p x on oe ot) (sym same),
-            record { pieces = omega (arith, few_more.pieces, more); corners = omega (arith, few_more.corners, more) },
-          )
-
-    pub end : n ≤ i → (placing q on' oe' ot' ≡ placed_behind p (all_of n f) on oe ot) × Few n p q
-    end h =
-        let e : i ≡ n = le_antisymm inv.within h in
-        (inv.placed ∙ ap (λ (m : ℕ). placed_behind p (all_of m f) on oe ot) e, subst (λ (m : ℕ). Few m p q) e inv.few)
+          let same : all_of n f ≡ both (all_of (i + 1) f) b.0 = ap (λ (m : ℕ). all_of m f) (sym all) ∙ b.1 in
+          let one : left (Err e) l'' ≡ placed_in p (all_of (i + 1) f) l = got ∙ sym step in
+          one ∙ sym (refused_first p (all_of (i + 1) f) b.0 l.corners.now l.ends.now l.tags.now e (ap (λ (g : Placing). g.answer) one))
+          ∙ ap (λ (y : Yield). placed_in p y l) (sym same)

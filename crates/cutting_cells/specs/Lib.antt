@@ -1,1 +1,2 @@
 pub mod Yields
+pub mod Treated

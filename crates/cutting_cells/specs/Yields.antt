@@ -5,7 +5,7 @@ use Rattle.lists.specs.Search.{bit}
 use Rattle.lists.specs.Gather.{passing}
 use Rattle.cutting.specs.Edges.{ring}
 use Rattle.cutting.specs.Outcome.{Outcome, refusal, pieces, cut_outcome, copied_outcome}
-use Rattle.entry.specs.Mesh.{cell_size, Rising}
+use Rattle.entry.specs.Mesh.{cell_size}
 use Rattle.rules.specs.Mesh.{Side, the_subject, the_cutter, other}
 use Rattle.rules.specs.SpatialIndex.{box_of, candidates}
 use Rattle.rules.specs.Operations.{cuts}
@@ -18,10 +18,9 @@ use Rattle.regions.specs.declared.Indexes.{Indexes}
 use Rattle.regions.specs.Runs.{Within, run_in, mesh_edges}
 use Rattle.indexing.specs.Indexes.{MeshIndexed}
 use Rattle.cells.specs.Cells.{outline_in, table_in, edges_in, AllFew}
-use Rattle.cutting_cells.specs.declared.Treatment.{Treatment}
 use Rattle.pieces.specs.declared.Keep.{Keep}
 use Rattle.pieces.specs.declared.Listed.{Listed}
-use Rattle.pieces.specs.Pieces.{runs_of, keep_of, is_kept, Yield, tagged, nothing, both, all_of, Space}
+use Rattle.pieces.specs.Pieces.{runs_of, keep_of, is_kept, Yield, tagged, nothing, both, all_of}
 
 -- ---- one cell
 
@@ -55,14 +54,6 @@ abbrev pub runs_on : Regions → Side → MeshRuns
 runs_on g the_subject = g.subject
 runs_on g the_cutter = g.cutter
 
-abbrev pub index_on : Indexes → Side → MeshIndex
-index_on x the_subject = x.subject
-index_on x the_cutter = x.cutter
-
--- how the cells of the mesh w are treated
-abbrev pub treatment_of : ℕ → Regions → Indexes → Side → Treatment
-treatment_of op g x w = record { keep = keep_of op w; other = runs_on g (other w); index = index_on x (other w) }
-
 -- the subject's cells are numbered first; n is the number of the other mesh's
 abbrev pub numbered_from : Side → ℕ → ℕ
 numbered_from the_subject n = 0
@@ -81,7 +72,7 @@ meshes_yield op coords work g se ce =
 
 -- before the first cell
 abbrev pub none_yet : Listed
-none_yet = record { code = 0; count = 0; entries = 0 }
+none_yet = record { count = 0; entries = 0 }
 
 -- at most 1,024 pieces and corners are counted for each of n cells
 pub record Few (n : ℕ) (p r : Listed) : Type 0 where
@@ -100,16 +91,6 @@ pub record OtherReady (coords : List Float) (work : List ℕ) (g : Regions) (o :
 -- no key of the edges of a mesh's cells has too many nodes, and no cell too many corners
 abbrev pub CellsReady : List ℕ → Regions → List ℕ → List ℕ → Type 0
 CellsReady work g own stops = (i : ℕ) → i < length stops → AllFew work g (ring (get_or (runs_of own stops) i [])) × (cell_size stops i ≤ 256)
-
--- for the cells of the mesh w, behind what p counts
-pub record CellsAsk (coords : List Float) (work : List ℕ) (g : Regions) (x : Indexes) (w : Side) (ends stops : List ℕ) (p : Listed) (on oe ot : List ℕ) : Type 0 where
-  pub others : OtherReady coords work g (runs_on g (other w)) ends (index_on x (other w))
-  pub within : Within (runs_on g w).entries (length work)
-  pub cells : CellsReady work g (run_in work (runs_on g w).entries) stops
-  pub rise : Rising stops (length (run_in work (runs_on g w).entries))
-  pub most : length ends + length stops ≤ 32768
-  pub calm : p.code ≡ 0
-  pub space : Space p (1024 * length stops) on oe ot
 
 -- for both
 pub record MeshesReady (op : ℕ) (coords : List Float) (work : List ℕ) (g : Regions) (x : Indexes) (se ce : List ℕ) : Type 0 where
