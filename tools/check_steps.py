@@ -27,7 +27,7 @@ def functions_of(path):
         if not found:
             continue
         indent = found.group(1)
-        opening = next(at for at in range(start, len(lines)) if lines[at] == indent + "{" or re.match(rf"{indent}\S.*\)(?: -> \S+)? {{$", lines[at]))
+        opening = next(at for at in range(start, len(lines)) if lines[at] == indent + "{" or re.match(rf"{indent}\S.*\)(?: -> .+)? {{$", lines[at]))
         closing = next(at for at in range(opening, len(lines)) if lines[at] == indent + "}")
         yield found.group(2), "\n".join(lines[opening + 1:closing])
 
