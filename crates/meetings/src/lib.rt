@@ -75,6 +75,7 @@ fn edge_at(edges: &[u32], i: usize) -> (u32, u32)
 }
 
 // A meeting at one or two nodes that there are already, if there is room for one more: its two edges, the count of its nodes, and these.
+#[tactic(auto, using(lists::proofs::Regions::copied_fits))]
 fn add_known(
     met: &mut [u32],
     f: Found,
@@ -99,6 +100,7 @@ fn add_known(
 }
 
 // A meeting at a new point, whose number is n: the limit is looked at before the point's place.
+#[tactic(auto, using(lists::proofs::Regions::copied_fits))]
 fn add_new(
     points: &mut [f64],
     met: &mut [u32],
@@ -158,6 +160,7 @@ impl<'a> Edges<'a> {
     }
 
     // Adds those of the subject's edge i with the cutter's edges js.
+    #[tactic(auto, using(crate::proofs::Loops::walk_start, crate::proofs::Loops::walk_turn))]
     fn of_places(
         &self,
         points: &mut [f64],
@@ -192,6 +195,7 @@ impl<'a> Edges<'a> {
     }
 
     // Adds those of the subject's edge i with all its candidates to those found: as many at a time as `found` has places.
+    #[tactic(auto, using(crate::proofs::Loops::gone_start, crate::proofs::Loops::round_full))]
     fn of_edge(
         &self,
         points: &mut [f64],
@@ -224,6 +228,7 @@ impl<'a> Edges<'a> {
     }
 
     // Those of all the subject's edges.
+    #[tactic(auto, using(crate::proofs::Loops::stop))]
     fn of_edges(
         &self,
         points: &mut [f64],
@@ -245,6 +250,7 @@ impl<'a> Edges<'a> {
 
     // The meetings by subject edge, then candidate in rising index, five numbers each: as many as `met` has room for; new points are numbered as found.
     // A refusal leaves zeros.
+    #[tactic(auto, using(crate::proofs::Loops::all_found))]
     pub fn compute_intersections(
         &self,
         points: &mut [f64],

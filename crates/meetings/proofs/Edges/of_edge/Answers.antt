@@ -1,13 +1,7 @@
-use mathlib.Core.Path.{refl, ◌∙◌}
 use native.Mathlib.Omega.{arith}
 use Rattle.std.proofs.lemmas.Result.{err_from_is_err_and}
-use Rattle.meetings.proofs.Loops.{gone_start, gone_all, taken_within, round_stop, round_last, last_within, round_full}
+use Rattle.meetings.proofs.Loops.{gone_all, taken_within, round_stop, round_last, last_within}
 use Rattle.meetings.proofs.Edges.of_edge.Goals as goal
-
-pub loop-from-init : goal.loop-from-init
-loop-from-init c =
-    let a = c.args in
-    (gone_start a.self.now.cutter.things.coords.now a.self.now.subject.now a.self.now.cutter.things.nodes.now a.i a.f.met a.f.points a.points.now a.met.now c.requires.0 _ refl refl, refl)
 
 pub of_places-requires : goal.of_places-requires
 of_places-requires c =
@@ -15,8 +9,13 @@ of_places-requires c =
     let a = c.args in
     let l = c.loop-from in
     let v = l.invariant.0.ready in
-    let front = rw c.edge_at-e.ensures at x.ensures in
-    (v, c.requires.1, taken_within a.self.now.cutter.things.coords.now a.self.now.subject.now a.self.now.cutter.things.nodes.now a.i a.f.met a.f.points a.points.now a.met.now c.requires.0 l.points l.met l.g l.from l.invariant.0 c.loop-from-test.true l.found x.result x.new.found front)
+    let front = rw c.edge_at-e.ensures at x.ensures in (
+      v,
+      c.requires.1,
+      taken_within a.self.now.cutter.things.coords.now a.self.now.subject.now a.self.now.cutter.things.nodes.now a.i a.f.met a.f.points a.points.now
+          a.met.now c.requires.0 l.points l.met l.g l.from l.invariant.0 c.loop-from-test.true l.found
+          x.result x.new.found front,
+    )
 
 pub returns-in_err-g : goal.returns-in_err-g
 returns-in_err-g c =
@@ -26,8 +25,10 @@ returns-in_err-g c =
     let front = rw c.edge_at-e.ensures at c.gather_near-k.ensures in
     let p = err_from_is_err_and c.from_residual.result c.from_residual.ensures.1 in
     rw (p.1, p.2)
-    (round_stop a.self.now.cutter.things.coords.now a.self.now.subject.now a.self.now.cutter.things.nodes.now a.i a.f.met a.f.points a.points.now a.met.now c.requires.0
-    l.points l.met l.g l.from l.invariant.0 c.loop-from-test.true l.found c.gather_near-k.result c.gather_near-k.new.found front
+    (round_stop a.self.now.cutter.things.coords.now a.self.now.subject.now a.self.now.cutter.things.nodes.now a.i a.f.met a.f.points a.points.now
+    a.met.now c.requires.0
+    l.points l.met l.g l.from l.invariant.0 c.loop-from-test.true l.found
+    c.gather_near-k.result c.gather_near-k.new.found front
     x.new.points x.new.met x.result x.ensures _ c.in_err-g.was)
 
 pub returns-then-k-found : goal.returns-then-k-found
@@ -36,8 +37,10 @@ returns-then-k-found c =
     let a = c.args in
     let l = c.loop-from in
     let front = rw c.edge_at-e.ensures at c.gather_near-k.ensures in
-    round_last a.self.now.cutter.things.coords.now a.self.now.subject.now a.self.now.cutter.things.nodes.now a.i a.f.met a.f.points a.points.now a.met.now c.requires.0
-    l.points l.met l.g l.from l.invariant.0 c.loop-from-test.true l.found c.gather_near-k.result c.gather_near-k.new.found front
+    round_last a.self.now.cutter.things.coords.now a.self.now.subject.now a.self.now.cutter.things.nodes.now a.i a.f.met a.f.points a.points.now
+    a.met.now c.requires.0
+    l.points l.met l.g l.from l.invariant.0 c.loop-from-test.true l.found
+    c.gather_near-k.result c.gather_near-k.new.found front
     x.new.points x.new.met x.result x.ensures (omega (arith, c.if-k-found.true, c.gather_near-k.auto.found)) _ c.in_ok-g.was
 
 pub loop-from-smaller : goal.loop-from-smaller
@@ -47,27 +50,17 @@ loop-from-smaller c =
     let front = rw c.edge_at-e.ensures at c.gather_near-k.ensures in
     omega (
       arith,
-      last_within a.self.now.cutter.things.coords.now a.self.now.subject.now a.self.now.cutter.things.nodes.now a.i a.f.met a.f.points a.points.now a.met.now c.requires.0
-          l.points l.met l.g l.from l.invariant.0 c.loop-from-test.true l.found c.gather_near-k.result (c.gather_near-k.new.found) front
+      last_within a.self.now.cutter.things.coords.now a.self.now.subject.now a.self.now.cutter.things.nodes.now a.i a.f.met a.f.points a.points.now
+          a.met.now c.requires.0
+          l.points l.met l.g l.from l.invariant.0 c.loop-from-test.true l.found
+          c.gather_near-k.result (c.gather_near-k.new.found) front
           (omega (arith, c.requires.2, l.invariant.1)) (omega (arith, c.if-k-found.false, c.gather_near-k.auto.found)),
       c.loop-from-test.true,
-    )
-
-pub loop-from-preserved : goal.loop-from-preserved
-loop-from-preserved c =
-    let x = c.of_places in
-    let a = c.args in
-    let l = c.loop-from in
-    let front = rw c.edge_at-e.ensures at c.gather_near-k.ensures in (
-      round_full a.self.now.cutter.things.coords.now a.self.now.subject.now a.self.now.cutter.things.nodes.now a.i a.f.met a.f.points a.points.now a.met.now c.requires.0
-          l.points l.met l.g l.from l.invariant.0 c.loop-from-test.true l.found c.gather_near-k.result c.gather_near-k.new.found front
-          (omega (arith, c.requires.2, l.invariant.1)) (omega (arith, c.if-k-found.false, c.gather_near-k.auto.found))
-          x.new.points x.new.met x.result x.ensures _ c.in_ok-g.was,
-      c.gather_near-k.auto.found ∙ l.invariant.1,
     )
 
 pub returns : goal.returns
 returns c =
     let a = c.args in
     let l = c.loop-from in
-    gone_all a.self.now.cutter.things.coords.now a.self.now.subject.now a.self.now.cutter.things.nodes.now a.i a.f.met a.f.points a.points.now a.met.now c.requires.0 l.points l.met l.g l.from l.invariant.0 c.loop-from-test.false
+    gone_all a.self.now.cutter.things.coords.now a.self.now.subject.now a.self.now.cutter.things.nodes.now a.i a.f.met a.f.points a.points.now
+    a.met.now c.requires.0 l.points l.met l.g l.from l.invariant.0 c.loop-from-test.false

@@ -1,12 +1,6 @@
-use mathlib.Core.Path.{refl}
 use Rattle.std.proofs.lemmas.Result.{err_from_is_err_and}
-use Rattle.meetings.proofs.Loops.{walk_start, walk_stop, walk_turn, walk_end}
+use Rattle.meetings.proofs.Loops.{walk_stop, walk_end}
 use Rattle.meetings.proofs.Edges.of_places.Goals as goal
-
-pub loop-j-init : goal.loop-j-init
-loop-j-init c =
-    let a = c.args in
-    walk_start a.self.now.cutter.things.coords.now a.self.now.subject.now a.self.now.cutter.things.nodes.now a.js.now a.i a.f.met a.f.points a.points.now a.met.now c.requires.0 _ refl refl
 
 pub returns-in_err-g : goal.returns-in_err-g
 returns-in_err-g c =
@@ -17,14 +11,6 @@ returns-in_err-g c =
     rw (p.1, p.2)
     (walk_stop a.self.now.cutter.things.coords.now a.self.now.subject.now a.self.now.cutter.things.nodes.now a.js.now a.i a.f.met a.f.points a.points.now a.met.now c.requires.0
     l.points l.met l.g l.j-index l.invariant c.loop-j-test.true x.new.points x.new.met x.result x.ensures _ c.in_err-g.was)
-
-pub loop-j-preserved : goal.loop-j-preserved
-loop-j-preserved c =
-    let x = c.add_intersection in
-    let a = c.args in
-    let l = c.loop-j in
-    walk_turn a.self.now.cutter.things.coords.now a.self.now.subject.now a.self.now.cutter.things.nodes.now a.js.now a.i a.f.met a.f.points a.points.now a.met.now c.requires.0
-    l.points l.met l.g l.j-index l.invariant c.loop-j-test.true x.new.points x.new.met x.result x.ensures _ c.in_ok-g.was
 
 pub returns : goal.returns
 returns c =
