@@ -1,6 +1,6 @@
 -- How `place_coords`, `crowded` and `find` end, over plain variables. Assumes nothing.
 use mathlib.Core.Path.{◌≡◌, refl, sym, ap, ap₂, ◌∙◌, subst}
-use mathlib.Core.Bool.{Bool, true, false, cond, not, ◌||◌}
+use mathlib.Core.Bool.{Bool, true, false, cond, not, ◌||◌, true≢false}
 use mathlib.Core.List.{List, [], ◌++◌, append-nil}
 use Prim.Native.Nat.{ℕ, ◌+◌, ◌*◌, ◌-◌, ◌/◌, ◌≤◌}
 use native.Mathlib.Omega.{arith}
@@ -9,7 +9,7 @@ use lib.ListN.{length, take, drop, length-append}
 use lib.Seq.{length-take-le}
 use lib.Ieee.{Float}
 use borrow.Author.Tests.{leb-true, leb-false, not-true, not-false}
-use Rattle.std.specs.Prelude.{Result, Ok, Err, IfOk}
+use Rattle.std.specs.Prelude.{Result, Ok, Err, IfOk, is_err}
 use Rattle.lists.specs.Search.{has}
 use Rattle.lists.specs.Gather.{joined}
 use Rattle.lists.specs.Regions.{run, front, put, copied, zeros, fzeros}
@@ -19,7 +19,7 @@ use Rattle.cutting.specs.Lent.{flat_edges, pairs}
 use Rattle.cutting.proofs.Pairs.{pairs_ends}
 use Rattle.entry.specs.Mesh.{Mesh, mesh}
 use Rattle.refusals.specs.declared.Refusal.{Refusal}
-use Rattle.refusals.specs.Numbers.{number, refused_with}
+use Rattle.refusals.specs.Numbers.{number, by_number, refused_with}
 use Rattle.refusals.proofs.Numbers.{some_not_zero}
 use Rattle.rules.specs.Neighbours.{subject_net, cutter_net}
 use Rattle.rules.specs.Meetings.{Met, added_by, meetings, Scene, scene_of}
@@ -37,31 +37,15 @@ use Rattle.edge_nodes.specs.Links.{links_of, Linked}
 use Rattle.edge_nodes.specs.Lent.{crowded_at}
 use Rattle.edge_nodes.specs.Stored.{no_met, Stored}
 use Rattle.edge_nodes.proofs.Scene.{numbers_stored, overfull_is}
+use Rattle.finding.specs.declared.stages.Found.{Found}
 use Rattle.finding.specs.declared.numbering.NetPlaces.{NetPlaces}
 use Rattle.finding.specs.Nets.{Fit, NetRoom, FindAsks, subject_at, cutter_at, index_at, met_at, nets_of, netted}
-use Rattle.finding.specs.Found.{
-  found_events,
-  found_as,
-  regions_by,
-  chains,
-  links_in,
-  worked,
-  FoundLists,
-  refused_lists,
-  found_of,
-  both_full,
-  LinkedIn,
-  MeetingsRoom,
-  CutterIndexed,
-  met_in,
-  MetWritten,
-  LinkRoom,
-  linked_by,
-}
+use Rattle.finding.specs.Found.{found_events, found_as, regions_by, chains, links_in, worked, refused_lists, found_of}
+use Rattle.finding.specs.Found.{both_full, LinkedIn, MeetingsRoom, CutterIndexed, met_in, MetWritten, LinkRoom, linked_by, StagesGive}
 use Rattle.strips.specs.Index.{index_size, Indexed}
 use Rattle.finding.proofs.Whole.{subjects_before, cutters_before}
 use Rattle.finding.proofs.Netted.{length_held, subjects_held, cutters_held, index_fits_lem, cutters_indexed}
-use Rattle.finding.proofs.Held.{Holds, holds_linked, with, subjects_found, cutters_found, met_found, length_worked, worked_holds}
+use Rattle.finding.proofs.Held.{Holds, holds_linked, with, subjects_found, cutters_found, met_found, worked_holds}
 use Rattle.finding.proofs.Events.{few_met, no_place, met_refused, met_all}
 use Rattle.finding.proofs.Settled.{leaves, all_left, zeros_left}
 
@@ -166,22 +150,12 @@ module _ (op m : ℕ) (sc cc : List Float) (sn se cn ce : List ℕ) (w₀ : List
 
   -- ---- from stage to stage
 
-  -- a refusal, where both lists are still as long
-  refused_end : (code : ℕ) → (code ≡ 0 → ⊥) → code ≡ first_refusal m (length oc / 2) 0 0 (found_events op s c) → (oc' : List Float) (w' : List ℕ) → length oc' ≡ length oc
-      → length w' ≡ length w₀ → (x : FoundLists) → x ≡ refused_lists code oc' w' → x ≡ found_of op m s c oc w₀
-  refused_end code z e oc' w' lo lw x is =
-      is ∙ ap₂ (λ (i j : ℕ). leaves (Err code) (fzeros i) (zeros j)) lo lw ∙ ap (λ (k : ℕ). refused_lists k oc w₀) e
-      ∙ sym (zeros_left op m s c oc w₀ (λ y. z (e ∙ y)))
-
   -- 12 for the lent coordinates
-  pub twelve : (b : Bool) → b ≡ leb placed (length oc) → not b ≡ true → (oc' : List Float) → length oc' ≡ length oc → (x : FoundLists) → x ≡ refused_lists 12 oc' w₀
-      → x ≡ found_of op m s c oc w₀
+  pub twelve : (b : Bool) → b ≡ leb placed (length oc) → not b ≡ true → 12 ≡ first_refusal m (length oc / 2) 0 0 (found_events op s c)
   unfolding found_events
-  twelve b e t oc' lo x is =
-      refused_end 12 (λ y. absurd (omega (arith, y)))
-      (no_place points m (length oc / 2) (joined of_meeting scene.met) (crowded scene)
-      (omega (arith, leb-false placed (length oc) (sym e ∙ not-true b t), len, fs.even, fc.even)) 0 0)
-      oc' w₀ lo refl x is
+  twelve b e t =
+      no_place points m (length oc / 2) (joined of_meeting scene.met) (crowded scene)
+      (omega (arith, leb-false placed (length oc) (sym e ∙ not-true b t), len, fs.even, fc.even)) 0 0
 
   -- the coordinates that are lent to `nets`
   pub coords_lent : (b₀ : Bool) (oc₁ : List Float) → (b₀ ≡ leb placed (length oc)) × (b₀ ≡ true → oc₁ ≡ front oc (sc ++ cc)) → not b₀ ≡ false → (length oc₁ ≡ length oc)
@@ -283,12 +257,10 @@ module _ (op m : ℕ) (sc cc : List Float) (sn se cn ce : List ℕ) (w₀ : List
       length_coords = lo ∙ length_placed
 
       -- 8, and 12 for a new point
-      pub met_stop : (e : Refusal) → a ≡ Err e → (x : FoundLists) → x ≡ refused_lists (number e) oc₂ w₂ → x ≡ found_of op m s c oc w₀
+      pub met_stop : (e : Refusal) → a ≡ Err e → number e ≡ first_refusal m (length oc / 2) 0 0 (found_events op s c)
       unfolding found_events
-      met_stop e i x is =
-          refused_end (number e) (some_not_zero e)
-          (met_refused points m (length oc / 2) (joined of_meeting scene.met) (crowded scene) points_fit (number e) (some_not_zero e) 0 0 (sym (ap refused_with i) ∙ code_is)) oc₂ w₂
-          length_coords (lw ∙ length_work) x is
+      met_stop e i =
+          met_refused points m (length oc / 2) (joined of_meeting scene.met) (crowded scene) points_fit (number e) (some_not_zero e) 0 0 (sym (ap refused_with i) ∙ code_is)
 
       module _ (f : MeetFound) (i : a ≡ Ok f) where
         z : refused_with a ≡ 0
@@ -396,10 +368,8 @@ module _ (op m : ℕ) (sc cc : List Float) (sn se cn ce : List ℕ) (w₀ : List
                 ∙ met_all points m (length oc / 2) (joined of_meeting scene.met) (crowded scene) points_fit (early_met scene.met) 0 0 (sym z ∙ code_is)
 
             -- 9
-            pub nine_stop : b ≡ true → (x : FoundLists) → x ≡ refused_lists 9 oc₂ w₃ → x ≡ found_of op m s c oc w₀
-            nine_stop t x is =
-                refused_end 9 (λ y. absurd (omega (arith, y))) (sym (ap (λ (u : Bool). cond u 9 0) t) ∙ end_code) oc₂ w₃ length_coords
-                (ap length work_is ∙ length_worked op sc cc sn se cn ce fs fc w₀ room₀ m ok.room few) x is
+            pub nine_stop : b ≡ true → 9 ≡ first_refusal m (length oc / 2) 0 0 (found_events op s c)
+            nine_stop t = sym (ap (λ (u : Bool). cond u 9 0) t) ∙ end_code
 
             -- none
             pub all_found : b ≡ false → leaves (Ok (record { regions = g; next = placed / 2 + f.points })) oc₂ w₃ ≡ found_of op m s c oc w₀
@@ -413,3 +383,23 @@ module _ (op m : ℕ) (sc cc : List Float) (sn se cn ce : List ℕ) (w₀ : List
                 ap₂ (λ (x : Regions) (i : ℕ). leaves (Ok (record { regions = x; next = i })) oc₂ w₃) regions_are half
                 ∙ ap₂ (leaves (Ok (found_as op s c))) coords work_is
                 ∙ sym (all_left op m s c oc w₀ (sym end_code ∙ ap (λ (u : Bool). cond u 9 0) e))
+
+  -- ---- the lists in the end
+
+  module _ (r : Result Found Refusal) (oc' : List Float) (w' : List ℕ) (give : StagesGive op m s c oc w₀ oc' w' r) where
+    pub kept_all : is_err r ≡ false → leaves (by_number r) oc' w' ≡ found_of op m s c oc w₀
+    kept_all = go r give
+      where
+        go : (x : Result Found Refusal) → StagesGive op m s c oc w₀ oc' w' x → is_err x ≡ false → leaves (by_number x) oc' w' ≡ found_of op m s c oc w₀
+        go (Ok f) g z = g
+        go (Err e) g z = absurd (true≢false z)
+
+    pub cleared_all : is_err r ≡ true → length oc' ≡ length oc → length w' ≡ length w₀ → (oc'' : List Float) (w'' : List ℕ) → oc'' ≡ fzeros (length oc')
+        → w'' ≡ zeros (length w') → leaves (by_number r) oc'' w'' ≡ found_of op m s c oc w₀
+    cleared_all t lo lw oc'' w'' eo ew = go r give t
+      where
+        go : (x : Result Found Refusal) → StagesGive op m s c oc w₀ oc' w' x → is_err x ≡ true → leaves (by_number x) oc'' w'' ≡ found_of op m s c oc w₀
+        go (Ok f) g z = absurd (true≢false (sym z))
+        go (Err e) g z =
+            ap₂ (leaves (Err (number e))) (eo ∙ ap fzeros lo) (ew ∙ ap zeros lw) ∙ ap (λ (k : ℕ). refused_lists k oc w₀) g
+            ∙ sym (zeros_left op m s c oc w₀ (λ y. some_not_zero e (g ∙ y)))

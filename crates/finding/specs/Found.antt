@@ -1,5 +1,5 @@
 -- What is found before any cell is cut. Assumes nothing.
-use Rattle.std.specs.Prelude.{Result, Ok, Err, Bool, cond, ◌||◌, List, [], ◌∷◌, ◌++◌, ℕ, ◌+◌, ◌*◌, ◌/◌, ◌≡◌, ◌≤◌, ◌<◌, eqb, length, take, replicate, Float}
+use Rattle.std.specs.Prelude.{Result, Ok, Err, MatchResult, Bool, cond, ◌||◌, List, [], ◌∷◌, ◌++◌, ℕ, ◌+◌, ◌*◌, ◌/◌, ◌≡◌, ◌≤◌, ◌<◌, eqb, length, take, replicate, Float}
 use Rattle.lists.specs.Search.{has}
 use Rattle.lists.specs.Gather.{joined}
 use Rattle.lists.specs.Regions.{run, front, put, zeros, fzeros}
@@ -13,6 +13,8 @@ use Rattle.regions.specs.declared.Run.{Run}
 use Rattle.regions.specs.declared.Regions.{Regions}
 use Rattle.regions.specs.Runs.{run_in, Lies, mesh_edges}
 use Rattle.strips.specs.Index.{index_size, Indexed}
+use Rattle.refusals.specs.declared.Refusal.{Refusal}
+use Rattle.refusals.specs.Numbers.{number}
 use Rattle.meetings.specs.declared.Found.{Found as MeetFound}
 use Rattle.meetings.specs.Booked.{booked, meetings_of}
 use Rattle.edge_nodes.specs.Links.{links_of, Linked}
@@ -127,3 +129,9 @@ pub record LinkRoom (n : NetPlaces) (met h work : ℕ) : Type 0 where
 unfoldable pub linked_by : NetPlaces → (met h : ℕ) → List ℕ → List ℕ
 linked_by n met h w =
     put w (n.base + 5 * met) (links_of h (pairs (run w n.from (2 * n.subject))) (pairs (run w n.at (2 * n.cutter))) (run w n.base (5 * met)))
+
+-- what the stages leave: all that is found, or a refusal that is yet to clear the lists
+abbrev pub StagesGive : (op m : ℕ) → Mesh → Mesh → List Float → List ℕ → List Float → List ℕ → Result Found Refusal → Type 0
+StagesGive op m s c oc w oc' w' r =
+    MatchResult r (λ f. record { answer = Ok f; coords = oc'; work = w' } ≡ found_of op m s c oc w)
+    (λ e. number e ≡ first_refusal m (length oc / 2) 0 0 (found_events op s c))

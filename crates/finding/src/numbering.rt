@@ -27,6 +27,7 @@ pub struct NetPlaces {
 }
 
 // The entries under the numbers that w begins with, from `at` on.
+#[tactic(auto, using(crate::proofs::Welded::start))]
 fn renumber(cn: &[u32], w: &mut [u32], at: usize)
     requires { Below at cn.now × (at + length cn.now ≤ length w.old) }
     ensures { w.new ≡ put w.old at (map (λ n. get_or w.old n 0) cn.now) }
@@ -38,6 +39,7 @@ fn renumber(cn: &[u32], w: &mut [u32], at: usize)
 }
 
 // All but the index.
+#[tactic(auto, using(crate::proofs::Whole::rising))]
 fn edges(lines: bool, s: &MeshView, c: &MeshView, w: &mut [u32]) -> NetPlaces
     requires { Fit false (plain_of s.now) × Fit lines (plain_of c.now)
         × NetRoom 0 (plain_of s.now) (plain_of c.now) (length w.old) }
@@ -79,6 +81,7 @@ fn edges(lines: bool, s: &MeshView, c: &MeshView, w: &mut [u32]) -> NetPlaces
 }
 
 // The regions of both meshes. `coords` are the coordinates of both.
+#[tactic(auto, using(crate::proofs::Netted::nets_written))]
 pub(crate) fn nets(
     lines: bool,
     coords: &[f64],

@@ -2,24 +2,12 @@
 ghost use Rattle.std.specs.Prelude.{◌≡◌, IfOk, true, ◌++◌, ◌+◌, ◌-◌, ◌/◌, ◌≤◌, leb, length, take};
 ghost use Rattle.lists.specs.Gather.{joined};
 ghost use Rattle.lists.specs.Regions.{front};
-ghost use Rattle.refusals.specs.Numbers.{number, by_number, refused_with};
+ghost use Rattle.refusals.specs.Numbers.{by_number, refused_with};
 ghost use Rattle.rules.specs.Refusals.{of_meeting, first_refusal};
 ghost use Rattle.regions.specs.Runs.{run_in};
 ghost use Rattle.entry.specs.Named.{op_number};
 ghost use Rattle.finding.specs.Nets.{plain_of, FindAsks};
-ghost use Rattle.finding.specs.Found.{
-  regions_by,
-  refused_lists,
-  found_of,
-  both_full,
-  LinkedIn,
-  MeetingsRoom,
-  CutterIndexed,
-  met_in,
-  MetWritten,
-  LinkRoom,
-  linked_by,
-};
+ghost use Rattle.finding.specs.Found.{regions_by, found_of, both_full, LinkedIn, MeetingsRoom, CutterIndexed, met_in, MetWritten, LinkRoom, linked_by, StagesGive};
 
 use crate::numbering::{NetPlaces, nets};
 use edge_nodes::{LinkedMeetings, link_meetings};
@@ -38,15 +26,6 @@ pub struct Found {
     pub next: usize,
 }
 
-// Both lists to zero, and the refusal.
-fn refused(oc: &mut [f64], w: &mut [u32], refusal: Refusal) -> Result<Found, Refusal>
-    ensures { record { answer = by_number result; coords = oc.new; work = w.new } ≡ refused_lists (number refusal) oc.old w.old }
-{
-    oc.fill(0.0);
-    w.fill(0);
-    Err(refusal)
-}
-
 // Places the coordinates of both meshes, the subject's first. Answers whether they have their place.
 fn place_coords(sc: &[f64], cc: &[f64], oc: &mut [f64]) -> bool
     ensures { (result ≡ leb (length sc.now + length cc.now) (length oc.old))
@@ -56,6 +35,7 @@ fn place_coords(sc: &[f64], cc: &[f64], oc: &mut [f64]) -> bool
 }
 
 // The meetings of the edges that n names: new points behind the first `placed` coordinates, the meetings behind the nets.
+#[tactic(auto, using(crate::proofs::Lent::met_written))]
 fn meet(
     n: NetPlaces,
     placed: usize,
@@ -88,6 +68,7 @@ fn meet(
 }
 
 // Whether over 256 nodes are collected under the key of an edge of either mesh.
+#[tactic(auto, using(crate::proofs::Ends::first_full, crate::proofs::Ends::second_full))]
 fn either_overfull(m: &LinkedMeetings) -> bool
     requires { length m.now.met.now ≤ 327680 }
     ensures { result ≡ both_full m.now.subject.now m.now.cutter.now m.now.met.now }
@@ -96,6 +77,7 @@ fn either_overfull(m: &LinkedMeetings) -> bool
 }
 
 // Refusal 9, by the working list.
+#[tactic(auto, using(crate::proofs::Ends::parts_asked, crate::proofs::Ends::parts_full))]
 fn crowded(w: &[u32], g: Regions) -> bool
     requires { LinkedIn w.now g }
     ensures { result ≡ both_full (run_in w.now g.subject.edges) (run_in w.now g.cutter.edges) (run_in w.now g.met) }
@@ -154,8 +136,38 @@ fn link(w: &mut [u32], n: NetPlaces, met: usize, h: usize) -> Regions
     }
 }
 
+// Refusals 12, 8, 12 and 9, in this order; one leaves the lists as they are then.
+#[tactic(auto, using(crate::proofs::Ends::twelve, crate::proofs::Ends::coords_lent, crate::proofs::Ends::met_stop, crate::proofs::Ends::nine_stop))]
+fn stages(
+    op: Operation,
+    limit: u32,
+    subject: &MeshView,
+    cutter: &MeshView,
+    coords: &mut [f64],
+    work: &mut [u32],
+) -> Result<Found, Refusal>
+    requires { FindAsks (op_number op) limit (plain_of subject.now) (plain_of cutter.now) (length work.old) }
+    ensures { StagesGive (op_number op) limit (plain_of subject.now) (plain_of cutter.now) coords.old work.old coords.new work.new result }
+{
+    if !place_coords(subject.coords, cutter.coords, coords) {
+        return Err(Refusal::NoPlace);
+    }
+    let placed = subject.coords.len() + cutter.coords.len();
+    let n = nets(op.takes_lines(), &coords[..placed], subject, cutter, work);
+    let f = meet(n, placed, limit as usize, coords, work)?;
+    let g = link(work, n, f.met, placed / 2 + 1);
+    if crowded(work, g) {
+        return Err(Refusal::CrowdedEdge);
+    }
+    Ok(Found {
+        regions: g,
+        next: placed / 2 + f.points,
+    })
+}
+
 // The coordinates of both meshes and the new points go to the front of `coords`, the edges, the meetings and their links to the working list. A refusal
 // leaves zeros.
+#[tactic(auto, using(crate::proofs::Ends::kept_all))]
 pub fn find(
     op: Operation,
     limit: u32,
@@ -168,21 +180,10 @@ pub fn find(
     ensures { record { answer = by_number result; coords = coords.new; work = work.new }
         ≡ found_of (op_number op) limit (plain_of subject.now) (plain_of cutter.now) coords.old work.old }
 {
-    if !place_coords(subject.coords, cutter.coords, coords) {
-        return refused(coords, work, Refusal::NoPlace);
+    let answer = stages(op, limit, subject, cutter, coords, work);
+    if answer.is_err() {
+        coords.fill(0.0);
+        work.fill(0);
     }
-    let placed = subject.coords.len() + cutter.coords.len();
-    let n = nets(op.takes_lines(), &coords[..placed], subject, cutter, work);
-    let f = match meet(n, placed, limit as usize, coords, work) {
-        Ok(f) => f,
-        Err(refusal) => return refused(coords, work, refusal),
-    };
-    let g = link(work, n, f.met, placed / 2 + 1);
-    if crowded(work, g) {
-        return refused(coords, work, Refusal::CrowdedEdge);
-    }
-    Ok(Found {
-        regions: g,
-        next: placed / 2 + f.points,
-    })
+    answer
 }

@@ -1,21 +1,6 @@
 -- `finding::numbering::edges` meets its contract. Assumes nothing.
-use native.Mathlib.Omega.{arith}
-use Rattle.finding.proofs.Whole.{rising, lines_end, cells_end_lem}
+use Rattle.finding.proofs.Whole.{lines_end, cells_end_lem}
 use Rattle.finding.proofs.numbering.edges.Goals as goal
-
-pub compute_descending-subject-requires : goal.compute_descending-subject-requires
-compute_descending-subject-requires c =
-    let w-kept-by-duplicates-from = c.duplicates_from.auto.w in
-    let w-kept-by-renumber = c.renumber.auto.w in
-    let dst-kept = c.copy_at.auto.dst in (
-      omega arith,
-      omega arith,
-      omega (arith, c.requires.2, w-kept-by-duplicates-from, w-kept-by-renumber, dst-kept),
-      omega arith,
-      c.requires.0.most_entries,
-      omega arith,
-      rising _ _ c.requires.0,
-    )
 
 pub returns-then-lines : goal.returns-then-lines
 returns-then-lines c =
@@ -28,21 +13,6 @@ returns-then-lines c =
     c.requires.2 w-last-by-duplicates-from w-last-by-renumber dst-last w-last-by-compute-descending c.compute_descending-subject.result
     c.duplicates_from.ensures c.renumber.ensures c.copy_at.ensures.after
     c.compute_descending-subject.ensures c.if-lines.true
-
-pub compute_descending-cutter-requires : goal.compute_descending-cutter-requires
-compute_descending-cutter-requires c =
-    let w-kept-by-duplicates-from = c.duplicates_from.auto.w in
-    let w-kept-by-renumber = c.renumber.auto.w in
-    let w-kept-by-compute-descending = c.compute_descending-subject.auto.w in
-    let dst-kept = c.copy_at.auto.dst in (
-      omega arith,
-      omega arith,
-      omega (arith, c.requires.2, w-kept-by-duplicates-from, w-kept-by-renumber, dst-kept, w-kept-by-compute-descending),
-      omega arith,
-      c.requires.1.most_entries,
-      omega arith,
-      rising _ _ c.requires.1,
-    )
 
 pub returns : goal.returns
 returns c =

@@ -1,7 +1,7 @@
 -- `finding::numbering::nets` meets its contract. Assumes nothing.
 use mathlib.Core.Path.{refl}
 use native.Mathlib.Omega.{arith}
-use Rattle.finding.proofs.Netted.{places_low, build_asked, few_lent, room_lent, nets_written}
+use Rattle.finding.proofs.Netted.{places_low, build_asked, few_lent, room_lent}
 use Rattle.finding.proofs.numbering.nets.Goals as goal
 
 pub overflow_mul-end : goal.overflow_mul-end
@@ -61,11 +61,3 @@ build-requires c =
     room_lent a.lines a.s.now.coords.now a.c.now.coords.now a.s.now.nodes.now a.s.now.ends.now a.c.now.nodes.now a.c.now.ends.now c.requires.0 c.requires.1
     a.w.now c.requires.2 a.coords.now c.requires.3 c.edges-n.result c.edges-n.new.w c.edges-n.ensures _ refl
     c.split_at_mut-before.result.0.now c.split_at_mut-before.result.1.now c.split_at_mut-before.ensures.front c.split_at_mut-before.ensures.back_len
-
-pub returns : goal.returns
-returns c =
-    let a = c.args in
-    nets_written a.lines a.s.now.coords.now a.c.now.coords.now a.s.now.nodes.now a.s.now.ends.now a.c.now.nodes.now a.c.now.ends.now c.requires.0 c.requires.1
-    a.w.now c.requires.2 a.coords.now c.requires.3 c.edges-n.result c.edges-n.new.w c.edges-n.ensures _ refl
-    c.split_at_mut-before.result.0.now c.split_at_mut-before.result.1.now c.split_at_mut-before.ensures.front c.split_at_mut-before.ensures.back_len
-    c.build.new.ix c.split_at_mut-before.ensures.back c.build.ensures.1

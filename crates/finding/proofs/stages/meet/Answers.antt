@@ -1,5 +1,5 @@
 -- `finding::stages::meet` meets its contract. Assumes nothing.
-use Rattle.finding.proofs.Lent.{index_lent, met_code, met_written}
+use Rattle.finding.proofs.Lent.{index_lent, met_code}
 use Rattle.finding.proofs.stages.meet.Goals as goal
 
 pub invariant_of-things : goal.invariant_of-things
@@ -23,13 +23,5 @@ returns-clause-code c =
     let a = c.args in
     let x = c.compute_intersections in
     met_code a.n a.placed a.limit a.coords.now a.work.now c.requires.0 _ _ _ _ _ _ c.split_at_mut-coords.ensures.front c.split_at_mut-coords.ensures.back
-    c.split_at_mut-nets.ensures.front c.split_at_mut-nets.ensures.back c.split_at_mut-met.ensures.front c.split_at_mut-met.ensures.back
-    x.result x.new.points x.new.met x.ensures
-
-pub returns-clause-written : goal.returns-clause-written
-returns-clause-written c =
-    let a = c.args in
-    let x = c.compute_intersections in
-    met_written a.n a.placed a.limit a.coords.now a.work.now c.requires.0 _ _ _ _ _ _ c.split_at_mut-coords.ensures.front c.split_at_mut-coords.ensures.back
     c.split_at_mut-nets.ensures.front c.split_at_mut-nets.ensures.back c.split_at_mut-met.ensures.front c.split_at_mut-met.ensures.back
     x.result x.new.points x.new.met x.ensures
