@@ -10,7 +10,8 @@ use borrow.Author.Tests.{lt-ltb, le-ltb, le-leb, lt-leb, ltb-true, ltb-false}
 use lib.Dec.{ltb, leb}
 use lib.ListN.{length, get_or, set, take, drop, length-set, drop_of_length-le, take-append-drop}
 use lib.Seq.{drop-cons, take-suc-set, drop-set-lt, take_all, append_snoc}
-use Rattle.std.specs.Prelude.{Ok}
+use Rattle.std.specs.Prelude.{Ok, Err}
+use Rattle.printing.specs.declared.Full.{Full}
 use Rattle.printing.specs.declared.writer.Writer.{Writer}
 use Rattle.printing.specs.Written.{page_of, Wrote}
 use Rattle.printing.specs.Page.{Place, full, Prints, Page, page, byte, page_with, room_for, laid_over}
@@ -40,6 +41,16 @@ module _ (o : List ℕ) (p b : ℕ) (t : List ℕ) where
   cons_full : length o ≤ p → page_with (page (Ok p) o) (b ∷ t) ≡ page full o
   unfolding page_with page byte
   cons_full h = ap (λ (x : Bool). page_with (cond x (page (Ok (p + 1)) (set o p b)) (page full o)) t) (le-ltb _ _ h) ∙ written_full o t
+
+module _ (o w : List ℕ) (p i : ℕ) where
+  pub bytes_end : length w ≤ i → page_with (page (Ok p) o) (drop i w) ≡ page (Ok p) o
+  bytes_end h = rw (drop_of_length-le w h) (written_nil (page (Ok p) o))
+
+  pub bytes_full : i < length w → length o ≤ p → page_with (page (Ok p) o) (drop i w) ≡ page full o
+  bytes_full h g = rw (drop-cons w i 0 h) (cons_full o p (get_or w i 0) (drop (suc i) w) g)
+
+  pub bytes_turn : i < length w → p < length o → page_with (page (Ok p) o) (drop i w) ≡ page_with (page (Ok (p + 1)) (set o p (get_or w i 0))) (drop (i + 1) w)
+  bytes_turn h g = rw (drop-cons w i 0 h, add-one i) (cons_fits o p (get_or w i 0) (drop (suc i) w) g)
 
 -- ---- what a list holds after a text
 -- the place after n bytes from p on, in a list of m
@@ -125,10 +136,13 @@ turn {v = v} {s = s} {rest₁ = rest₁} l e h = record { text = rw (h.text, ←
 pub ended : {u v : Writer} {rest t : List ℕ} → Left u v rest t → rest ≡ [] → Wrote u v t
 ended {v = v} l e = record { text = sym (written_nil (page_of v)) ∙ ap (page_with (page_of v)) (sym e) ∙ l.text; list = l.list }
 
--- what is left of a list of bytes
-module _ (w : List ℕ) (i : ℕ) where
-  pub bytes_end : length w ≤ i → drop i w ≡ []
-  bytes_end h = drop_of_length-le w h
+-- a full list takes nothing more
+pub refused : {v : Writer} {e : Full} (t : List ℕ) → v.place ≡ Err e → Wrote v v t
+refused {v} t h =
+    let o = v.bytes.now in
+    record { text = ap (λ p. page p o) h ∙ sym (written_full o t) ∙ ap (λ p. page_with (page p o) t) (sym h); list = refl }
 
-  pub bytes_turn : i < length w → drop i w ≡ (get_or w i 0 ∷ []) ++ drop (i + 1) w
-  bytes_turn h = rw (drop-cons w i 0 h, add-one i)
+-- a list that has taken all so far
+pub taken : {v w : Writer} {p : ℕ} (t : List ℕ) → v.place ≡ Ok p → page_of w ≡ page_with (page (Ok p) v.bytes.now) t → w.bytes.ghost_name ≡ v.bytes.ghost_name
+    → Wrote v w t
+taken {v} t h e same = record { text = e ∙ ap (λ p. page_with (page p v.bytes.now) t) (sym h); list = same }

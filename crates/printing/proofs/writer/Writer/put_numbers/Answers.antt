@@ -1,11 +1,7 @@
 -- `printing::writer::Writer::put_numbers` meets its contract. Assumes nothing.
-use mathlib.Core.Path.{refl}
-use Rattle.printing.proofs.Pages.{start, turn, ended}
+use Rattle.printing.proofs.Pages.{turn, ended}
 use Rattle.printing.proofs.Rests.{numbers_turn, numbers_end}
 use Rattle.printing.proofs.writer.Writer.put_numbers.Goals as goal
-
-pub loop-n-init : goal.loop-n-init
-loop-n-init c = start refl
 
 pub loop-n-preserved : goal.loop-n-preserved
 loop-n-preserved c = turn c.loop-n.invariant (numbers_turn c.args.numbers.now c.loop-n.n-index c.loop-n-test.true) c.put_number.ensures

@@ -1,12 +1,7 @@
 -- `printing::writer::Writer::put_pieces` meets its contract. Assumes nothing.
-use Rattle.std.proofs.Common.{rules}
-use Rattle.printing.proofs.Pages.{start, turn, ended}
+use Rattle.printing.proofs.Pages.{turn, ended}
 use Rattle.printing.proofs.Rests.{pieces_next, pieces_end}
 use Rattle.printing.proofs.writer.Writer.put_pieces.Goals as goal
-
-pub loop-end-init : goal.loop-end-init
-loop-end-init c =
-    ((tt, ((tt, tt), (tt, tt))), tt, start (search rules))
 
 pub loop-end-preserved : goal.loop-end-preserved
 loop-end-preserved c =
