@@ -5,7 +5,7 @@
 #![tactic(auto)]
 
 use corners::Ring;
-use plane::point_at;
+use plane::{Point, point_at};
 use segments::{Meeting, Segment};
 use std::alloc::Global;
 use std::cmp::Ordering;
@@ -118,10 +118,10 @@ fn inside<W: Write>(alloc: Global, out: &mut W, coords: &[f64], points: u32) -> 
 // The places of the neighbours, those after the first point, by their directions from it, equal ones as given.
 fn around<W: Write>(alloc: Global, out: &mut W, coords: &[f64], points: u32) -> io::Result<()> {
     let centre = point_at(coords, 0);
-    let mut neighbours = Vec::new(alloc);
-    for node in 1..points {
-        neighbours.push((node - 1, point_at(coords, node)))?;
-    }
+    let mut neighbours: Vec<(usize, Point)> = (1..points)
+        .enumerate()
+        .map(|(place, node)| (place, point_at(coords, node)))
+        .collect(alloc)?;
     neighbours.sort_by(|(_, p), (_, q)| exact::compare_around(centre, *p, *q))?;
     for (k, (place, _)) in neighbours.iter().enumerate() {
         if k > 0 {
