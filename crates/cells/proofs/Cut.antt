@@ -1,8 +1,9 @@
 -- What a cell comes to, from its table and its walk. Assumes nothing.
 use mathlib.Core.Path.{◌≡◌, sym, ap, ◌∙◌}
 use mathlib.Core.Bool.{true, false}
-use mathlib.Core.List.{List, []}
-use Prim.Native.Nat.{ℕ, ◌≤◌, ◌<◌}
+use mathlib.Core.List.{List, [], map}
+use Prim.Native.Nat.{ℕ, ◌/◌, ◌≤◌, ◌<◌}
+use Rattle.std.specs.Simd.{first_chunks}
 use native.Mathlib.Omega.{arith}
 use lib.ListN.{length, take, drop, length-append}
 use lib.Ieee.{Float}
@@ -14,16 +15,18 @@ use Rattle.cutting.specs.Cell.{Laid, new_to, inner_with, cell_table, repeats}
 use Rattle.cutting.specs.declared.Slot.{Slot}
 use Rattle.cutting.specs.Walk.{walk}
 use Rattle.cutting.specs.Outcome.{Outcome, pieces, refusal, of_walk}
-use Rattle.cutting.specs.Lent.{flat_edges, pairs}
+use Rattle.cutting.specs.Lent.{flat_edges, pairs, pair_of}
 use Rattle.dart_walk.specs.Answer.{answer, corners_in, ends_in}
 use Rattle.std.proofs.Common.{Result, Ok, Err}
 use Rattle.refusals.specs.declared.Refusal.{Refusal}
 use Rattle.refusals.specs.Numbers.{number, by_number}
 use Rattle.dart_walk.specs.declared.Counts.{Counts}
 use Rattle.cutting.proofs.Pairs.{pairs_ends}
+use Rattle.cutting.proofs.Chunks.{chunked}
 use Rattle.dart_table.proofs.Joins.{cell_length, cut_repeats, cut_over, cut_fits}
 use Rattle.edge_nodes.specs.Lent.{FrontIs}
 use Rattle.regions.specs.declared.Run.{Run}
+use Rattle.regions.specs.Runs.{run_in}
 use Rattle.regions.specs.declared.Regions.{Regions}
 use Rattle.cells.specs.Cells.{outline_in, near_in, table_in, edges_in, Cut, cut, cut_to, cut_as, cut_by, cut_cell}
 
@@ -102,6 +105,11 @@ answered (refusal c) (Err r) on os on' os' e en es =
     λ t. cut_to (record { code = code t; pieces = 0; entries = 0 }) (en t) (es t)
 answered (pieces ps) (Err r) on os on' os' e en es = cc
 answered (refusal c) (Ok k) on os on' os' e en es = cc
+
+-- ---- the edges of a run, as arrays of two
+
+pub as_pairs : (work : List ℕ) (r : Run) (run : List ℕ) (es : List (List ℕ)) → run ≡ run_in work r → es ≡ first_chunks 2 (length run / 2) run → map pair_of es ≡ edges_in work r
+as_pairs work r run es lent chunks = ap (map pair_of) chunks ∙ chunked run ∙ ap pairs lent
 
 -- ---- a list's front
 

@@ -1,10 +1,10 @@
 -- The edges near a cell, one after the other. Assumes nothing.
-use mathlib.Core.Path.{◌≡◌, sym, ap, ◌∙◌, subst}
-use mathlib.Core.List.{List, [], ◌∷◌, ◌++◌, append_assoc, map-append}
-use Prim.Native.Nat.{ℕ, ◌+◌, ◌*◌, ◌/◌, ◌≤◌, ◌<◌}
+use mathlib.Core.Path.{◌≡◌, refl, sym, ap, ◌∙◌, subst}
+use mathlib.Core.List.{List, [], ◌∷◌, ◌++◌, map, append_assoc, map-append}
+use Prim.Native.Nat.{ℕ, ◌+◌, ◌≤◌, ◌<◌}
 use native.Mathlib.Numerals.{add-one}
 use native.Mathlib.Omega.{arith}
-use lib.ListN.{length, get_or, take, drop, take-append-drop}
+use lib.ListN.{length, get_or, take, drop, take-append-drop, length-map}
 use lib.Seq.{take-suc, take_all}
 use lib.Ieee.{Float}
 use Rattle.cutting.specs.Edges.{Edge, edge_at}
@@ -12,10 +12,10 @@ use Rattle.cutting.specs.Cell.{Laid, near_darts, cell_table}
 use Rattle.std.proofs.Common.{true, false, Result, is_err}
 use Rattle.dart_table.specs.declared.Full.{Full}
 use Rattle.cutting.specs.declared.Slot.{Slot}
-use Rattle.cutting.specs.Lent.{pairs}
+use Rattle.cutting.specs.Lent.{pair_of}
 use Rattle.dart_table.specs.Table.{table_in, with_edges}
 use Rattle.dart_table.proofs.Joins.{near_turn, near_full}
-use Rattle.cutting.proofs.Pairs.{pairs_length, pairs_at}
+use Rattle.cutting.proofs.Chunks.{pair_in}
 use Rattle.edge_nodes.specs.Lent.{nodes_on, Few}
 use Rattle.cells.specs.declared.NearEdges.{NearEdges}
 use Rattle.cells.specs.Cells.{laid_in, near_in}
@@ -24,14 +24,14 @@ use Rattle.cells.specs.Near.{laid_near}
 -- the table holds the edges at the first k places
 pub record Nearing (n : NearEdges) (outline : List Edge) (t : List Slot) (k : ℕ) : Type 0 where
   pub within : k ≤ length n.places.now
-  pub held : t ≡ cell_table n.scene.coords.now outline (near_in n.scene.coords.now n.scene.work.now n.scene.regions (pairs n.edges.now) (take k n.places.now))
+  pub held : t ≡ cell_table n.scene.coords.now outline (near_in n.scene.coords.now n.scene.work.now n.scene.regions (map pair_of n.edges.now) (take k n.places.now))
 
 module _ (n : NearEdges) (outline : List Edge) where
   abbrev coords : List Float
   coords = n.scene.coords.now
 
-  abbrev near : List ℕ
-  near = n.edges.now
+  abbrev near : List Edge
+  near = map pair_of n.edges.now
 
   abbrev js : List ℕ
   js = n.places.now
@@ -40,7 +40,7 @@ module _ (n : NearEdges) (outline : List Edge) where
   laid = laid_in n.scene.coords.now n.scene.work.now n.scene.regions
 
   abbrev near_by : List ℕ → List Laid
-  near_by = near_in n.scene.coords.now n.scene.work.now n.scene.regions (pairs n.edges.now)
+  near_by = near_in n.scene.coords.now n.scene.work.now n.scene.regions (map pair_of n.edges.now)
 
   pub near_start : (t : List Slot) → t ≡ cell_table n.scene.coords.now outline [] → Nearing n outline t 0
   unfolding near_in
@@ -52,34 +52,34 @@ module _ (n : NearEdges) (outline : List Edge) where
       j = get_or js k 0
 
       abbrev e : Edge
-      e = (get_or near (2 * j) 0, get_or near (2 * j + 1) 0)
+      e = pair_of (get_or n.edges.now j [])
 
-      pub place_low : get_or n.places.now k 0 < length n.edges.now / 2
-      place_low = omega (arith, n.within k h, pairs_length near)
+      pub place_low : get_or n.places.now k 0 < length n.edges.now
+      place_low = omega (arith, n.within k h, length-map n.edges.now pair_of)
 
-      at_j : edge_at (pairs near) j ≡ e
-      at_j = pairs_at near j place_low
+      at_j : edge_at near j ≡ e
+      at_j = pair_in [] refl n.edges.now j
 
-      pub near_few : Few n.scene.work.now n.scene.regions (get_or n.edges.now (2 * get_or n.places.now k 0) 0, get_or n.edges.now (2 * get_or n.places.now k 0 + 1) 0)
+      pub near_few : Few n.scene.work.now n.scene.regions (pair_of (get_or n.edges.now (get_or n.places.now k 0) []))
       near_few = subst (λ (f : Edge). Few n.scene.work.now n.scene.regions f) at_j (n.few j (n.within k h))
 
       more : near_by (take k js) ++ laid e ∷ [] ≡ near_by (take (k + 1) js)
       unfolding near_in
       more =
           ap (λ (f : Edge). near_by (take k js) ++ laid f ∷ []) (sym at_j)
-          ∙ sym (ap near_by (ap (λ (n : ℕ). take n js) (add-one k) ∙ take-suc js k 0 h) ∙ map-append (λ (i : ℕ). laid (edge_at (pairs near) i)) (take k js) (j ∷ []))
+          ∙ sym (ap near_by (ap (λ (n : ℕ). take n js) (add-one k) ∙ take-suc js k 0 h) ∙ map-append (λ (i : ℕ). laid (edge_at near i)) (take k js) (j ∷ []))
 
       -- and with the others
       split : near_by (take k js) ++ laid e ∷ near_by (drop (k + 1) js) ≡ near_by js
       unfolding near_in
       split =
           sym (append_assoc (near_by (take k js)) (laid e ∷ []) (near_by (drop (k + 1) js))) ∙ ap (λ (l : List Laid). l ++ near_by (drop (k + 1) js)) more
-          ∙ sym (map-append (λ (i : ℕ). laid (edge_at (pairs near) i)) (take (k + 1) js) (drop (k + 1) js)) ∙ ap near_by (take-append-drop (k + 1) js)
+          ∙ sym (map-append (λ (i : ℕ). laid (edge_at near i)) (take (k + 1) js) (drop (k + 1) js)) ∙ ap near_by (take-append-drop (k + 1) js)
 
       module _ (ns : List ℕ) (en : ns ≡ nodes_on n.scene.coords.now n.scene.work.now n.scene.regions
-          (get_or n.edges.now (2 * get_or n.places.now k 0) 0, get_or n.edges.now (2 * get_or n.places.now k 0 + 1) 0)) (r : Result (Unit {0}) Full) (t' : List Slot)
+          (pair_of (get_or n.edges.now (get_or n.places.now k 0) []))) (r : Result (Unit {0}) Full) (t' : List Slot)
           (lent : table_in r t' ≡ with_edges n.scene.coords.now
-          (near_darts (record { edge = (get_or n.edges.now (2 * get_or n.places.now k 0) 0, get_or n.edges.now (2 * get_or n.places.now k 0 + 1) 0); nodes = ns })) t) where
+          (near_darts (record { edge = pair_of (get_or n.edges.now (get_or n.places.now k 0) []); nodes = ns })) t) where
         got : table_in r t' ≡ with_edges coords (near_darts (laid e)) t
         got = lent ∙ ap (λ (l : List ℕ). with_edges coords (near_darts (record { edge = e; nodes = l })) t) en
 

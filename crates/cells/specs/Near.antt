@@ -5,7 +5,7 @@ use Rattle.corners.specs.Corners.{next_corner}
 use Rattle.cutting.specs.Edges.{Edge, ring}
 use Rattle.cutting.specs.Cell.{Laid, own_darts, outline_darts}
 use Rattle.cutting.specs.declared.Slot.{Slot}
-use Rattle.cutting.specs.Lent.{flat_edges, pairs}
+use Rattle.cutting.specs.Lent.{flat_edges, pair_of}
 use Rattle.dart_table.specs.declared.Full.{Full}
 use Rattle.cells.specs.declared.OwnEdges.{OwnEdges}
 use Rattle.cells.specs.declared.NearEdges.{NearEdges}
@@ -25,7 +25,7 @@ outline_from o k = outline_darts (map (laid_in o.scene.coords.now o.scene.work.n
 
 -- the edges near the cell, with their sorted nodes
 abbrev pub laid_near : NearEdges → List Laid
-laid_near n = near_in n.scene.coords.now n.scene.work.now n.scene.regions (pairs n.edges.now) n.places.now
+laid_near n = near_in n.scene.coords.now n.scene.work.now n.scene.regions (map pair_of n.edges.now) n.places.now
 
 -- A list comes to hold the darts in front: r entries, at most 518.
 pub record LaidIn (darts : List Edge) (r : ℕ) (list list' : List ℕ) : Type 0 where

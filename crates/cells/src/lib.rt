@@ -2,11 +2,11 @@
 // regions of the working list.
 #![tactic(auto)]
 
-ghost use Rattle.std.specs.Prelude.{◌≡◌, false, [], ◌≤◌, ◌<◌, length, take, is_err};
+ghost use Rattle.std.specs.Prelude.{◌≡◌, false, [], map, ◌≤◌, ◌<◌, length, take, is_err};
 ghost use Rattle.cutting.specs.Edges.{ring};
 ghost use Rattle.cutting.specs.Cell.{cell_table, repeats};
 ghost use Rattle.cutting.specs.Outcome.{refusal};
-ghost use Rattle.cutting.specs.Lent.{flat_edges, pairs};
+ghost use Rattle.cutting.specs.Lent.{flat_edges, pairs, pair_of};
 ghost use Rattle.outlines.specs.Meets.{edges_meet};
 ghost use Rattle.regions.specs.Runs.{Within};
 ghost use Rattle.refusals.specs.Numbers.{number};
@@ -37,14 +37,14 @@ pub(crate) struct OwnEdges<'a> {
     ghost few: { AllFew scene.work.now scene.regions (ring cell.now) },
 }
 
-// The edges near a cell: those of `edges`, a flat list of pairs, at the places.
+// The edges near a cell: those of `edges` at the places.
 #[derive(Clone, Copy)]
 pub(crate) struct NearEdges<'a> {
     scene: SceneLists<'a>,
-    edges: &'a [u32],
+    edges: &'a [[u32; 2]],
     places: &'a [u32],
-    ghost few: { AllFew scene.work.now scene.regions (pairs edges.now) },
-    ghost within: { Places places.now (pairs edges.now) },
+    ghost few: { AllFew scene.work.now scene.regions (map pair_of edges.now) },
+    ghost within: { Places places.now (map pair_of edges.now) },
 }
 
 impl<'a> OwnEdges<'a> {
@@ -70,7 +70,6 @@ impl<'a> OwnEdges<'a> {
     }
 
     // Writes the darts of the own edge at corner i to the front of a flat list of pairs. Answers how many entries they take.
-    // By index, since an edge leads to the next corner.
     fn lay(&self, i: usize, nodes: &mut [u32; 258], darts: &mut [u32; 518]) -> usize
         requires { i < length self.now.cell.now }
         ensures { LaidIn (darts_at self.now i) result darts.old darts.new }
@@ -87,6 +86,7 @@ impl<'a> OwnEdges<'a> {
     {
         let mut others = [0u32; 518];
         // by index, since a corner's edge leads to the next one
+        // by index, as an edge leads from corner j to the next one
         for j in k..self.cell.len() {
             let n = self.lay(j, nodes, &mut others);
             if edges_meet(darts, &others[..n]) {
@@ -102,6 +102,7 @@ impl<'a> OwnEdges<'a> {
         ensures { result ≡ repeats (outline_of self.now) }
     {
         let mut darts = [0u32; 518];
+        // by index, as above
         for i in 0..self.cell.len() {
             let n = self.lay(i, nodes, &mut darts);
             if edges_repeat(&darts[..n]) {
@@ -129,17 +130,16 @@ impl<'a> NearEdges<'a> {
         ensures { Held (cell_table self.now.scene.coords.now (pairs outline.now) (laid_near self.now)) result table.new }
     {
         for place in self.places {
-            let j = *place as usize;
-            let p = self.edges[2 * j];
-            let q = self.edges[2 * j + 1];
-            let count = self.scene.nodes_on(p, q, nodes);
-            table.add_near_edge(self.scene.coords, p, q, &nodes[..count])?;
+            let [a, b] = self.edges[*place as usize];
+            let count = self.scene.nodes_on(a, b, nodes);
+            table.add_near_edge(self.scene.coords, a, b, &nodes[..count])?;
         }
         Ok(())
     }
 
     // Cuts a cell with a finished outline, whose own edges have the slots, one for each of its entries: adds the edges near it and walks. The part of
     // refusal 11 that is looked at after a walk never fires (cutting's `without_test`), so it is left out.
+    // `runs` and `stops` stay lists: C lends them, and they are filled in part, which no ghost field beside a `&mut` can say.
     fn cut(
         &self,
         outline: &[u32],
@@ -164,7 +164,7 @@ impl<'a> NearEdges<'a> {
 }
 
 // Cuts the cell by those of the edges near it that stand at the places js. The corners of the pieces go to the front of
-// `runs`, where each ends among them to that of `stops`.
+// `runs`, where each ends among them to that of `stops`, both lists that C lends. Coordinates, w and g are apart as the next stage has them.
 pub fn cut_cell(
     coords: &[f64],
     w: &[u32],
@@ -188,7 +188,7 @@ pub fn cut_cell(
     let own = OwnEdges { scene, cell };
     let near = NearEdges {
         scene,
-        edges: part(w, edges),
+        edges: part(w, edges).as_chunks::<2>().0,
         places: js,
     };
     let mut nodes = [0u32; 258];

@@ -17,10 +17,10 @@ chunked (a ∷ b ∷ xs) =
     ap (λ (k : ℕ). map pair_of (first_chunks 2 k (a ∷ b ∷ xs))) n ∙ ap (λ (es : List Edge). (a, b) ∷ es) (chunked xs)
 
 -- one of them, and an edge from 0 to 0 beyond them
-pair_in : (es : List (List ℕ)) (i : ℕ) → get_or (map pair_of es) i (0, 0) ≡ pair_of (get_or es i (0 ∷ 0 ∷ []))
-pair_in [] i = refl
-pair_in (e ∷ es) zero = refl
-pair_in (e ∷ es) (suc i) = pair_in es i
+pub pair_in : (d : List ℕ) → pair_of d ≡ (0, 0) → (es : List (List ℕ)) (i : ℕ) → edge_at (map pair_of es) i ≡ pair_of (get_or es i d)
+pair_in d none [] i = sym none
+pair_in d none (e ∷ es) zero = refl
+pair_in d none (e ∷ es) (suc i) = pair_in d none es i
 
 pub chunk_at : (xs : List ℕ) (es : List (List ℕ)) (i : ℕ) (e : List ℕ) → es ≡ first_chunks 2 (length xs / 2) xs → e ≡ get_or es i (0 ∷ 0 ∷ []) → pair_of e ≡ edge_at (pairs xs) i
-chunk_at xs es i e chunks at = ap pair_of at ∙ sym (pair_in es i) ∙ ap (λ (l : List Edge). get_or l i (0, 0)) (ap (map pair_of) chunks ∙ chunked xs)
+chunk_at xs es i e chunks at = ap pair_of at ∙ sym (pair_in (0 ∷ 0 ∷ []) refl es i) ∙ ap (λ (l : List Edge). get_or l i (0, 0)) (ap (map pair_of) chunks ∙ chunked xs)

@@ -135,6 +135,7 @@ impl DartTable {
     }
 
     // Adds the darts along the nodes, each the other way where `inv` is true, also to the outline, which has an entry for each slot.
+    // The outline is a lent list: as an array it would have to have 1,024 entries and no more, which asks callers for more.
     fn add_along(&mut self, coords: &[f64], inv: bool, nodes: &[u32], outline: &mut [u32])
         requires { (length self.old + 2 * length nodes.now ≤ 1026) × (1024 ≤ length outline.old) }
         ensures outline_after { outline.new ≡ put outline.old (length self.old) (flat_edges (map (reversed_if inv) (windows nodes.now))) }
@@ -149,7 +150,7 @@ impl DartTable {
         }
     }
 
-    // Adds the darts along the nodes of an own edge whose second node is given, also to the outline.
+    // Adds the darts along the nodes of an own edge whose second node is given, also to the outline, a lent list as above.
     fn add_darts(
         &mut self,
         coords: &[f64],
@@ -170,7 +171,7 @@ impl DartTable {
     }
 
     // Adds the darts of the cell's own edge from a to b, by its sorted nodes (none: the edge itself), also to the outline, which has an entry for
-    // each slot.
+    // each slot and is a lent list as above.
     pub fn add_own_edge(
         &mut self,
         coords: &[f64],

@@ -135,7 +135,7 @@ fn copy_marks(slots: &[Slot], marks: &mut [u32])
 }
 
 // Walks the slots from those on the heap: each that is unmarked begins a piece, which goes on until it is back at its first node. A turn of a loop is a
-// step of the definition.
+// step of the definition. The marks stand beside the slots as in its state; `nodes` and `stops`, which C lends, are filled in part.
 fn walk_on(
     slots: &[Slot],
     heap: &mut Heap,
@@ -181,7 +181,7 @@ fn walk_on(
     })
 }
 
-// Walks the slots with marks and a heap of its own.
+// Walks the slots with marks and a heap of its own. Slots, outline, nodes and stops are four lists, each with its own length.
 fn walk_table(
     slots: &[Slot],
     outline: &[u32],
@@ -200,7 +200,7 @@ fn walk_table(
 }
 
 // Walks the slots of a table from the outline's darts, a flat list of pairs. The corners of the pieces go to the front of `nodes`, one piece after the
-// other, and where each piece ends among them to the front of `stops`; both are zero on a refusal.
+// other, and where each piece ends among them to the front of `stops`; both are zero on a refusal, and lists that C lends.
 pub fn walk_dart_map(
     slots: &[Slot],
     outline: &[u32],

@@ -29,13 +29,14 @@ impl<'a> Chains<'a> {
     {
         let nexts = self.nexts;
         let mut q = self.heads[key.chain(self.heads.len())] as usize;
+        // along a chain of lent numbers: no index is counted
         while q < nexts.len() {
             nodes.insert_all(coords, key, self.meetings.under(key, q));
             q = nexts[q] as usize;
         }
     }
 
-    // How many they are.
+    // How many they are. The limit of meetings is asked where they are counted: as a ghost field it would be asked of `nodes_on` too.
     fn count(&self, key: SortedKey) -> usize
         requires { length self.now.meetings.met.now ≤ 327680 }
         ensures { (result ≡ length (under_in self.now.meetings (edge_of key))) × (result ≤ 131072) }
@@ -43,6 +44,7 @@ impl<'a> Chains<'a> {
         let nexts = self.nexts;
         let mut n: usize = 0;
         let mut q = self.heads[key.chain(self.heads.len())] as usize;
+        // along a chain of lent numbers: no index is counted
         while q < nexts.len() {
             n += self.meetings.under(key, q).len();
             q = nexts[q] as usize;

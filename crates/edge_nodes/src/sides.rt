@@ -31,7 +31,7 @@ fn key_at(edges: &[u32], e: usize) -> SortedKey
 }
 
 impl<'a> Meetings<'a> {
-    // The key of meeting q's edge.
+    // The key of meeting q's edge. That q is a meeting each asks for itself: a type of such numbers would carry the list beside each.
     fn key(&self, q: usize) -> SortedKey
         requires { q < length self.now.met.now / 5 }
         ensures { edge_of result ≡ key (edge_at (pairs self.now.edges.now) (get_or self.now.met.now (5 * q + number self.now.side) 0)) }
@@ -75,6 +75,7 @@ impl<'a> Meetings<'a> {
     {
         let n = nexts.len();
         heads.fill(n as u32);
+        // by index, as the chains hold the meetings' numbers
         for q in (0..n).rev() {
             let c = self.key(q).chain(heads.len());
             nexts[q] = heads[c];

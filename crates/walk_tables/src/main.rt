@@ -25,7 +25,7 @@ fn whole<'a>(from: u32, to: u32) -> Edge<'a> {
     along(from, to, &[])
 }
 
-// Walks the table of the cell's own edges and the edges near it.
+// Walks the table of the cell's own edges and the edges near it: two lists that don't run side by side.
 fn walk(
     coords: &[f64],
     own: &[Edge<'_>],
@@ -65,6 +65,7 @@ fn show_pieces<W: Write>(out: &mut W, nodes: &[u32], stops: &[u32]) -> io::Resul
     Ok(())
 }
 
+// Shows the pieces of such a cell, or its refusal.
 fn show<W: Write>(
     out: &mut W,
     coords: &[f64],

@@ -1,15 +1,25 @@
-use mathlib.Core.Path.{◌≡◌, sym, ap, ◌∙◌}
+use mathlib.Core.Path.{◌≡◌, sym, ap, ◌∙◌, subst}
+use mathlib.Core.List.{List}
 use Prim.Native.Nat.{ℕ}
 use native.Mathlib.Omega.{arith}
 use lib.ListN.{length, take, length-take}
+use Rattle.cutting.specs.Edges.{Edge}
+use Rattle.cutting.specs.Cell.{cell_table}
+use Rattle.cutting.specs.Lent.{pairs}
 use Rattle.cutting.specs.Outcome.{refusal}
 use Rattle.refusals.specs.declared.Refusal.{Refusal}
 use Rattle.refusals.specs.declared.Refusal.TheVariants.{FullTable, RepeatedEdge}
 use Rattle.refusals.specs.Numbers.{number}
-use Rattle.cells.specs.Cells.{outline_in, cut, cut_as}
-use Rattle.cells.proofs.Cut.{own_table, cut_as_lent, too_many_own, repeated_own}
+use Rattle.cells.specs.Cells.{outline_in, near_in, Places, AllFew, cut, cut_as, cut_by}
+use Rattle.cells.proofs.Cut.{as_pairs, own_table, cut_as_lent, too_many_own, repeated_own}
 use Rattle.cells.proofs.cut_cell.Goals as goal
 use Rattle.cells.proofs.cut_cell.Goals.{then-outline_repeats, else-outline_repeats}
+
+pub invariant_of-near : goal.invariant_of-near
+invariant_of-near c =
+    let a = c.args in
+    let lent = sym (as_pairs a.w.now a.edges _ _ c.part.ensures c.as_chunks.ensures.front) in
+    record { few = subst (λ (es : List Edge). AllFew a.w.now a.g es) lent c.requires.2; within = subst (λ (es : List Edge). Places a.js.now es) lent c.requires.3 }
 
 pub returns-then-is_err : goal.returns-then-is_err
 returns-then-is_err c =
@@ -44,4 +54,6 @@ returns c =
     let same = ap length c.slots-entries.ensures.slots in
     let lent = ap (λ (n : ℕ). take n own.new.outline) same ∙ own.ensures.outlined fits in
     cut_as_lent a.coords.now a.w.now a.g a.edges a.js.now a.cell.now a.runs.now a.stops.now own.new.outline (length c.slots-entries.result.now) _
-    lent (rw (← c.part.ensures) c.cut.ensures)
+    lent (c.cut.ensures ∙ ap (λ (es : List Edge). cut_by (pairs (take (length c.slots-entries.result.now) own.new.outline))
+    (cell_table a.coords.now (pairs (take (length c.slots-entries.result.now) own.new.outline)) (near_in a.coords.now a.w.now a.g es a.js.now)) a.runs.now a.stops.now)
+    (as_pairs a.w.now a.edges _ _ c.part.ensures c.as_chunks.ensures.front))

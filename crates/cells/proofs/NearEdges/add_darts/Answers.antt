@@ -10,11 +10,11 @@ use Rattle.cells.proofs.NearEdges.add_darts.Goals as goal
 pub loop-place-init : goal.loop-place-init
 loop-place-init c = near_start c.args.self.now (pairs c.args.outline.now) c.args.table.now c.requires
 
-pub bounds-self-j : goal.bounds-self-j
-bounds-self-j c = omega (arith, place_low c.args.self.now (pairs c.args.outline.now) c.loop-place.invariant c.loop-place-test.true)
+pub bounds-self-place : goal.bounds-self-place
+bounds-self-place c = omega (arith, place_low c.args.self.now (pairs c.args.outline.now) c.loop-place.invariant c.loop-place-test.true)
 
-pub bounds-self-j-in-loop-place : goal.bounds-self-j-in-loop-place
-bounds-self-j-in-loop-place c = omega (arith, place_low c.args.self.now (pairs c.args.outline.now) c.loop-place.invariant c.loop-place-test.true)
+pub bounds-self-place-in-loop-place : goal.bounds-self-place-in-loop-place
+bounds-self-place-in-loop-place c = omega (arith, place_low c.args.self.now (pairs c.args.outline.now) c.loop-place.invariant c.loop-place-test.true)
 
 pub nodes_on-count-requires : goal.nodes_on-count-requires
 nodes_on-count-requires c = (near_few c.args.self.now (pairs c.args.outline.now) c.loop-place.invariant c.loop-place-test.true, search rules)
