@@ -1,8 +1,12 @@
 // Both meshes under one numbering, in the working list (document 01, modules 4 and 5). Regions, one behind the other: the numbers of the cutter's
 // nodes; the cutter's node entries under those numbers; the subject's node entries; the subject's edges, with room for two numbers an entry; the
 // cutter's edges, likewise; their index; zeros, where the edges had their chains. Lines are edges as they are: theirs are the cutter's entries.
-ghost use Rattle.std.specs.Prelude.{◌≡◌, false, ◌++◌, map, ◌+◌, ◌≤◌, length, get_or};
-ghost use Rattle.lists.specs.Regions.{put};
+ghost use Rattle.std.specs.Prelude.{◌≡◌, false, [], ◌++◌, map, ◌+◌, ◌*◌, ◌≤◌, ◌<◌, length, get_or};
+ghost use Rattle.lists.specs.Regions.{run, put, zeros};
+ghost use Rattle.cutting.specs.Lent.{flat_edges};
+ghost use Rattle.entry.specs.Mesh.{mesh, Rising};
+ghost use Rattle.rules.specs.Mesh.{cells_of};
+ghost use Rattle.rules.specs.Neighbours.{compute_descending};
 ghost use Rattle.snap.specs.Steps.{Below};
 ghost use Rattle.finding.specs.Nets.{plain_of, Fit, NetRoom, nets_of, edged, netted};
 
@@ -38,6 +42,34 @@ fn renumber(cn: &[u32], w: &mut [u32], at: usize)
     }
 }
 
+// Writes the edges of a mesh from `base` on: its cells' node numbers are the `total` numbers at `at`. Answers how many there are. The h + n numbers at
+// `scratch` are zero then. By places in the working list: cut once for all that `edges` writes, it is seven lists, which is no plainer.
+fn mesh_edges(
+    w: &mut [u32],
+    cells: &[u32],
+    at: usize,
+    total: usize,
+    base: usize,
+    scratch: usize,
+    h: usize,
+    n: usize,
+) -> usize
+    requires { (at + total ≤ base) × (base + 2 * total ≤ scratch) × (scratch + (h + n) ≤ length w.old) × (total ≤ n) × (total ≤ 65536) × (0 < h) × (Rising cells.now total) }
+    ensures { (result ≡ length (compute_descending (cells_of (mesh [] (run w.old at total) cells.now [] []))))
+        × (w.new ≡ put (put w.old base (flat_edges (compute_descending (cells_of (mesh [] (run w.old at total) cells.now [] [])))))
+        scratch (zeros (h + n))) }
+{
+    let (front, behind) = w.split_at_mut(scratch);
+    let (before, edges) = front.split_at_mut(base);
+    compute_descending(
+        &before[at..at + total],
+        cells,
+        edges,
+        &mut behind[..h + n],
+        h,
+    )
+}
+
 // All but the index.
 #[tactic(auto, using(crate::proofs::Whole::rising))]
 fn edges(lines: bool, s: &MeshView, c: &MeshView, w: &mut [u32]) -> NetPlaces
@@ -58,7 +90,7 @@ fn edges(lines: bool, s: &MeshView, c: &MeshView, w: &mut [u32]) -> NetPlaces
     duplicates_from(s.coords, s.nodes, c.coords, c.nodes, w);
     renumber(c.nodes, w, entries);
     copy_at(w, copied, s.nodes);
-    let subject = compute_descending(w, s.ends, copied, s.nodes.len(), from, base, h, n);
+    let subject = mesh_edges(w, s.ends, copied, s.nodes.len(), from, base, h, n);
     let places = NetPlaces {
         entries,
         copied,
@@ -72,7 +104,7 @@ fn edges(lines: bool, s: &MeshView, c: &MeshView, w: &mut [u32]) -> NetPlaces
     if lines {
         return places;
     }
-    let cutter = compute_descending(w, c.ends, entries, c.nodes.len(), at, base, h, n);
+    let cutter = mesh_edges(w, c.ends, entries, c.nodes.len(), at, base, h, n);
     NetPlaces {
         at,
         cutter,

@@ -1,10 +1,10 @@
-// The edges of cells (document 01, module 5), in a region of the working list. An edge takes two numbers there. While they are written, they are on
-// chains in a second region, so that one with the same key is found without a scan of all.
+// The edges of cells (document 01, module 5), two numbers each. While they are written, they are on chains in a second list, so that one with the same key
+// is found without a scan of all. List and count are no struct: what holds of both can be no ghost field beside a `&mut`.
 #![tactic(auto)]
 
 ghost use Rattle.std.specs.Prelude.{◌≡◌, [], ◌+◌, ◌*◌, ◌/◌, ◌≤◌, ◌<◌, length, take};
 ghost use Rattle.lists.specs.Search.{has};
-ghost use Rattle.lists.specs.Regions.{run, put, zeros};
+ghost use Rattle.lists.specs.Regions.{front, zeros};
 ghost use Rattle.cutting.specs.Edges.{edge_at, same_key, ring};
 ghost use Rattle.cutting.specs.Lent.{pairs, flat_edges};
 ghost use Rattle.entry.specs.Mesh.{mesh, Rising};
@@ -23,6 +23,7 @@ fn has_key(edges: &[u32], links: &[u32], h: usize, a: u32, b: u32) -> bool
 {
     let key = SortedKey::new(a, b);
     let mut e = links[key.chain(h)] as usize;
+    // A walk along a chain, whose links are numbers: fixed memory, no heap.
     while 0 < e {
         let i = e - 1;
         if SortedKey::new(edges[2 * i], edges[2 * i + 1]) == key {
@@ -92,28 +93,23 @@ fn all_edges(nodes: &[u32], cells: &[u32], edges: &mut [u32], links: &mut [u32],
     k
 }
 
-// Writes the edges of all cells from `base` on: the cells' node numbers are the `total` numbers at `at`. Answers how many edges there are. The h + n numbers
-// at `scratch` are zero then: h chains, one for each node and one, keep the search for a key short, and any other h gives the same edges.
+// Writes the edges of all cells, whose node numbers are `nodes`, to the front of `edges`. Answers how many there are. `links` is zero then: h chains, one for
+// each node and one, keep the search for a key short, and any other h gives the same edges.
 pub fn compute_descending(
-    w: &mut [u32],
+    nodes: &[u32],
     cells: &[u32],
-    at: usize,
-    total: usize,
-    base: usize,
-    scratch: usize,
+    edges: &mut [u32],
+    links: &mut [u32],
     h: usize,
-    n: usize,
 ) -> usize
-    requires { (at + total ≤ base) × (base + 2 * total ≤ scratch) × (scratch + (h + n) ≤ length w.old) × (total ≤ n) × (total ≤ 65536) × (0 < h) × (Rising cells.now total) }
-    ensures { (result ≡ length (compute_descending (cells_of (mesh [] (run w.old at total) cells.now [] []))))
-        × (w.new ≡ put (put w.old base (flat_edges (compute_descending (cells_of (mesh [] (run w.old at total) cells.now [] [])))))
-        scratch (zeros (h + n))) }
+    requires { (2 * length nodes.now ≤ length edges.old) × (h + length nodes.now ≤ length links.old) × (length nodes.now ≤ 65536) × (0 < h)
+        × (Rising cells.now (length nodes.now)) }
+    ensures { (result ≡ length (compute_descending (cells_of (mesh [] nodes.now cells.now [] []))))
+        × (edges.new ≡ front edges.old (flat_edges (compute_descending (cells_of (mesh [] nodes.now cells.now [] [])))))
+        × (links.new ≡ zeros (length links.old)) × (result ≤ length nodes.now) }
 {
-    let (front, behind) = w.split_at_mut(scratch);
-    let (links, _) = behind.split_at_mut(h + n);
-    let (before, edges) = front.split_at_mut(base);
     links.fill(0);
-    let k = all_edges(&before[at..at + total], cells, edges, links, h);
+    let k = all_edges(nodes, cells, edges, links, h);
     links.fill(0);
     k
 }

@@ -1,39 +1,10 @@
 -- `neighbours::compute_descending` meets its contract. Assumes nothing.
-use mathlib.Core.Path.{ap, ap₂, ◌∙◌}
-use mathlib.Core.List.{List, ◌++◌}
-use Prim.Native.Nat.{ℕ, ◌+◌, ◌-◌}
-use native.Mathlib.Omega.{arith}
-use lib.ListN.{length, take, drop}
-use Rattle.lists.specs.Regions.{front, put, zeros}
-use Rattle.lists.proofs.Regions.{length_run}
-use Rattle.cutting.specs.Edges.{Edge}
-use Rattle.cutting.specs.Lent.{flat_edges}
-use Rattle.cutting.proofs.Pairs.{ends_length}
-use Rattle.rules.specs.Neighbours.{compute_descending}
-use Rattle.neighbours.proofs.Threads.{nodes_are, whole}
-use Rattle.neighbours.proofs.Loops.{cells_in}
+use mathlib.Core.Path.{ap, ◌∙◌}
+use Rattle.lists.specs.Regions.{zeros}
 use Rattle.neighbours.proofs.compute_descending.Goals as goal
 
 pub returns : goal.returns
 returns c =
-    let a = c.args in
-    let w = a.w.now in
-    let f = c.split_at_mut-front in
-    let l = c.split_at_mut-links in
-    let b = c.split_at_mut-before in
     let e = c.all_edges-k in
     let z = c.fill-2 in
-    let u = f.result.0.now in
-    let v = f.result.1.now in
-    let ns = nodes_are w b.result.0.now a.at a.total a.base a.scratch (b.ensures.front ∙ ap (take a.base) f.ensures.front) c.requires.0 (omega (arith, c.requires.1)) (omega (arith, c.requires.2)) in
-    let es = compute_descending (cells_in (take (a.at + a.total - a.at) (drop a.at b.result.0.now)) a.cells.now) in
-    let same = ap (λ (s : List ℕ). compute_descending (cells_in s a.cells.now)) ns in
-    let few = ap length ns ∙ length_run w a.at a.total (omega (arith, c.requires.0, c.requires.1, c.requires.2)) in (
-      e.ensures.0 ∙ ap length same,
-      ap₂ (λ (s t : List ℕ). s ++ t) (ap₂ (λ (s t : List ℕ). s ++ t) b.ensures.front (e.ensures.1.whole ∙ ap (λ (s : List ℕ). front s (flat_edges es)) b.ensures.back))
-          (ap (λ (s : List ℕ). z.new.self ++ s) l.ensures.back)
-          ∙ whole w u v a.base a.scratch (a.h + a.n) (flat_edges es) z.new.self f.ensures.front f.ensures.back f.ensures.front_len
-          (omega (arith, ends_length es, e.ensures.0, e.ensures.2, few, c.requires.1))
-          (z.ensures.after (λ _ h. h) ∙ ap zeros (e.auto.links ∙ c.fill.auto.self ∙ l.ensures.front_len))
-          ∙ ap (λ (s : List Edge). put (put w a.base (flat_edges s)) a.scratch (zeros (a.h + a.n))) same,
-    )
+    (e.ensures.0, e.ensures.1.whole, z.ensures.after (λ _ h. h) ∙ ap zeros (e.auto.links ∙ c.fill.auto.self), e.ensures.2)
