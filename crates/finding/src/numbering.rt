@@ -87,7 +87,7 @@ fn edges(lines: bool, s: &MeshView, c: &MeshView, w: &mut [u32]) -> NetPlaces
     // The edges are on h chains while they are written, where the meetings will stand.
     let h = s.coords.len() / 2 + entries + 1;
     let n = s.nodes.len() + c.nodes.len();
-    duplicates_from(s.coords, s.nodes, c.coords, c.nodes, w);
+    duplicates_from(s, c, w);
     renumber(c.nodes, w, entries);
     copy_at(w, copied, s.nodes);
     let subject = mesh_edges(w, s.ends, copied, s.nodes.len(), from, base, h, n);

@@ -149,12 +149,12 @@ module _ (coords : List Float) (s₀ : List ℕ) (k : ℕ) (order : List ℕ) (f
       length_s₁ = ap length se ∙ length_put s (p + j) (omega (arith, room)) moved room
 
       -- what `merge` stores next to
-      pub merge_room : p + j - 1 < length s₁
+      pub merge_room : p + (j - 1) < length s₁
       merge_room = omega (arith, length_s₁, room)
 
-      first_same : take p (set s₁ (p + j - 1) (get_or order (j - 1) 0)) ≡ take p s₀
+      first_same : take p (set s₁ (p + (j - 1)) (get_or order (j - 1) 0)) ≡ take p s₀
       first_same =
-          take-set-le p s₁ (p + j - 1) (get_or order (j - 1) 0) (omega arith)
+          take-set-le p s₁ (p + (j - 1)) (get_or order (j - 1) 0) (omega arith)
           ∙ sym (take-take p (p + j) s₁ (omega arith)) ∙ ap (λ (l : List ℕ). take p (take (p + j) l)) se ∙ ap (take p) (take_put s (p + j) (omega (arith, room)) moved)
           ∙ take-take p (p + j) s (omega arith) ∙ sym (take-take p end s p_le) ∙ ap (take p) h.same ∙ take-take p end s₀ p_le
 
@@ -165,11 +165,11 @@ module _ (coords : List Float) (s₀ : List ℕ) (k : ℕ) (order : List ℕ) (f
           ∙ ap₂ (λ (l m : List ℕ). l ++ m) moved_is
           (drop-drop (length moved) (p + j) s ∙ ap (λ (n : ℕ). drop n s) (let e : p + j + length moved ≡ end + j = omega (arith, length_moved, p_le) in e) ∙ h.stand)
 
-      behind_stored : drop (p + (j - 1)) (set s₁ (p + j - 1) (get_or order (j - 1) 0))
+      behind_stored : drop (p + (j - 1)) (set s₁ (p + (j - 1)) (get_or order (j - 1) 0))
           ≡ (get_or order (j - 1) 0 ∷ (drop p (take end s₀) ++ h.behind)) ++ drop (k + length order) s₀
       behind_stored =
           let v : ℕ = get_or order (j - 1) 0 in
-          let b : ℕ = p + j - 1 in
+          let b : ℕ = p + (j - 1) in
           ap₂ (λ (n : ℕ) (l : List ℕ). drop n l) (let e : p + (j - 1) ≡ b = omega arith in e) (set_split s₁ b v merge_room)
           ∙ drop_at (take b s₁) (v ∷ drop (suc b) s₁) b (length-take-le b s₁ (omega (arith, merge_room)))
           ∙ ap (λ (n : ℕ). v ∷ drop n s₁) (let e : suc b ≡ p + j = omega arith in e)
@@ -189,12 +189,12 @@ module _ (coords : List Float) (s₀ : List ℕ) (k : ℕ) (order : List ℕ) (f
           ∙ ap (λ (l : List ℕ). sort_onto (before coords) l (take (j - 1) order) ++ v ∷ drop p xs) (take-take p end s₀ p_le))
           ∙ append_assoc (sort_onto (before coords) (take p s₀) (take (j - 1) order)) (v ∷ drop p xs) h.behind
 
-      pub merge_turn : Half coords s₀ k order (set s₁ (p + j - 1) (get_or order (j - 1) 0)) p (j - 1)
+      pub merge_turn : Half coords s₀ k order (set s₁ (p + (j - 1)) (get_or order (j - 1) 0)) p (j - 1)
       merge_turn =
           record {
             under = omega (arith, p_le, h.under);
             left = omega (arith, h.left);
-            size = length-set s₁ (p + j - 1) (get_or order (j - 1) 0) ∙ length_s₁ ∙ h.size;
+            size = length-set s₁ (p + (j - 1)) (get_or order (j - 1) 0) ∙ length_s₁ ∙ h.size;
             same = first_same;
             behind = get_or order (j - 1) 0 ∷ (drop p (take end s₀) ++ h.behind);
             stand = behind_stored;

@@ -1,9 +1,9 @@
 // Near nodes of the two meshes share a number (document 01, module 4).
 #![tactic(auto)]
 
-ghost use Rattle.std.specs.Prelude.{◌≡◌, [], ◌++◌, ◌+◌, ◌-◌, ◌/◌, ◌≤◌, ◌<◌, length, get_or, take};
+ghost use Rattle.std.specs.Prelude.{◌≡◌, [], ◌++◌, ◌+◌, ◌/◌, ◌≤◌, ◌<◌, length, get_or, take};
 ghost use Rattle.lists.specs.Gather.{each};
-ghost use Rattle.lists.specs.Regions.{run, front, put, zeros};
+ghost use Rattle.lists.specs.Regions.{front, zeros};
 ghost use Rattle.entry.specs.Mesh.{mesh};
 ghost use Rattle.rules.specs.Snap.{precedes, distance2, nearer, closest_within, weld};
 ghost use Rattle.snap.specs.Steps.{Below, AllPlaced, InOrder, used, place_of, indices_in_order, with_node, counted, merged, merged_full, counted_full, window_start, number_by};
@@ -11,6 +11,7 @@ ghost use Rattle.snap.specs.Steps.{Below, AllPlaced, InOrder, used, place_of, in
 use lists::insert_at;
 use plane::{Point, point_at};
 use rules::Nearest;
+use views::MeshView;
 
 // ---- Used nodes, in order
 
@@ -31,13 +32,25 @@ fn precedes(p: Point, q: Point) -> bool
     (p.x < q.x) | ((p.x == q.x) & (p.y < q.y))
 }
 
-// Where the node v goes among those in order: before the first that it precedes.
-fn place(coords: &[f64], order: &[u32], v: u32) -> usize
-    requires { InOrder coords.now order.now }
-    ensures { (result ≡ place_of coords.now order.now v) × (result ≤ length order.now) }
-{
-    let p = point_at(coords, v);
-    order.partition_point(|u| !precedes(p, point_at(coords, *u)))
+// Some nodes over a list of coordinates. That they are in order is asked by the methods: `InOrder` says what each coordinate is, and a ghost field takes only
+// what has one proof.
+#[derive(Clone, Copy)]
+struct Nodes<'a> {
+    coords: &'a [f64],
+    order: &'a [u32],
+}
+
+impl<'a> Nodes<'a> {
+    // Where the node v goes among them: before the first that it precedes.
+    fn place(&self, v: u32) -> usize
+        requires { InOrder self.now.coords.now self.now.order.now }
+        ensures { (result ≡ place_of self.now.coords.now self.now.order.now v) × (result ≤ length self.now.order.now) }
+    {
+        let coords = self.coords;
+        let p = point_at(coords, v);
+        self.order
+            .partition_point(|u| !precedes(p, point_at(coords, *u)))
+    }
 }
 
 // Node i is put in among the first k entries of the block, which are in order, if its mark isn't 0. Answers how many they are then.
@@ -49,26 +62,33 @@ fn put_in_order(coords: &[f64], marks: &[u32], block: &mut [u32], k: usize, i: u
         return k;
     }
     let v = i as u32;
-    let p = place(coords, &block[..k], v);
+    let nodes = Nodes {
+        coords,
+        order: &block[..k],
+    };
+    let p = nodes.place(v);
     insert_at(block, k, p, v);
     k + 1
 }
 
-// The nodes of `order` are put in among the first k of s, from the last down: each goes to its place, and what stands behind that moves up by as many places
-// as nodes are left. All are in order.
-fn merge(coords: &[f64], s: &mut [u32], k: usize, order: &[u32])
-    requires { (k + length order.now ≤ length s.old) × InOrder coords.now (take k s.old) × InOrder coords.now order.now }
-    ensures { s.new ≡ merged coords.now s.old k order.now }
+// More nodes are put in among the first k of s, from the last down: each goes to its place, and what stands behind that moves up by as many places as nodes
+// are left. All are in order.
+fn merge(more: &Nodes, s: &mut [u32], k: usize)
+    requires { (k + length more.now.order.now ≤ length s.old) × InOrder more.now.coords.now (take k s.old) × InOrder more.now.coords.now more.now.order.now }
+    ensures { s.new ≡ merged more.now.coords.now s.old k more.now.order.now }
 {
     let mut end = k;
-    let mut j = order.len();
-    while 0 < j {
-        let v = order[j - 1];
-        let p = place(coords, &s[..end], v);
-        s.copy_within(p..end, p + j);
-        s[p + j - 1] = v;
+    // By index: it is how many places the others move up.
+    for j in (0..more.order.len()).rev() {
+        let v = more.order[j];
+        let nodes = Nodes {
+            coords: more.coords,
+            order: &s[..end],
+        };
+        let p = nodes.place(v);
+        s.copy_within(p..end, p + j + 1);
+        s[p + j] = v;
         end = p;
-        j -= 1;
     }
 }
 
@@ -80,7 +100,11 @@ fn merge_full(coords: &[f64], s: &mut [u32], k: usize, block: &[u32], b: usize) 
     if b < block.len() {
         return 0;
     }
-    merge(coords, s, k, block);
+    let more = Nodes {
+        coords,
+        order: block,
+    };
+    merge(&more, s, k);
     block.len()
 }
 
@@ -100,7 +124,11 @@ fn sorted_indices_for(coords: &[f64], s: &mut [u32]) -> usize
         k += full;
         b -= full;
     }
-    merge(coords, s, k, &block[..b]);
+    let rest = Nodes {
+        coords,
+        order: &block[..b],
+    };
+    merge(&rest, s, k);
     k + b
 }
 
@@ -126,81 +154,93 @@ fn nearer(d: f64, v: u32, best: Nearest) -> Nearest
     best
 }
 
-// The first of the nodes in order that isn't 1e-12 or more to the left of p.
-fn window_start(coords: &[f64], order: &[u32], p: Point) -> usize
-    requires { InOrder coords.now order.now }
-    ensures { (result ≡ window_start coords.now order.now p) × (result ≤ length order.now) }
-{
-    order.partition_point(|v| !(p.x - point_at(coords, *v).x < 1e-12))
-}
+impl<'a> Nodes<'a> {
+    // The first of them that isn't 1e-12 or more to the left of p.
+    fn window_start(&self, p: Point) -> usize
+        requires { InOrder self.now.coords.now self.now.order.now }
+        ensures { (result ≡ window_start self.now.coords.now self.now.order.now p) × (result ≤ length self.now.order.now) }
+    {
+        let coords = self.coords;
+        self.order
+            .partition_point(|v| !(p.x - point_at(coords, *v).x < 1e-12))
+    }
 
-// The nearest of the nodes in order at a squared distance strictly below 1e-12 × 1e-12, the first of equally near ones.
-// From the first on that lies 1e-12 or more to the right of p, all are too far.
-fn nearest_from(coords: &[f64], order: &[u32], p: Point) -> Option<u32>
-    requires { InOrder coords.now order.now }
-    ensures { result ≡ closest_within coords.now order.now p }
-{
-    let mut best = Nearest {
-        dist2: 1e-12 * 1e-12,
-        node: None,
-    };
-    for v in order {
-        let q = point_at(coords, *v);
-        if p.x - q.x <= -1e-12 {
-            return best.node;
+    // The nearest of them at a squared distance strictly below 1e-12 × 1e-12, the first of equally near ones.
+    // From the first on that lies 1e-12 or more to the right of p, all are too far.
+    fn nearest(&self, p: Point) -> Option<u32>
+        requires { InOrder self.now.coords.now self.now.order.now }
+        ensures { result ≡ closest_within self.now.coords.now self.now.order.now p }
+    {
+        let coords = self.coords;
+        let mut best = Nearest {
+            dist2: 1e-12 * 1e-12,
+            node: None,
+        };
+        for v in self.order {
+            let q = point_at(coords, *v);
+            if p.x - q.x <= -1e-12 {
+                return best.node;
+            }
+            best = nearer(distance2(p, q), *v, best);
         }
-        best = nearer(distance2(p, q), *v, best);
+        best.node
     }
-    best.node
-}
 
-// The same, of nodes of which many may lie to the left of p. Nodes on one vertical line are all looked at: to weld such meshes stays quadratic.
-fn closest_within(coords: &[f64], order: &[u32], p: Point) -> Option<u32>
-    requires { InOrder coords.now order.now }
-    ensures { result ≡ closest_within coords.now order.now p }
-{
-    let from = window_start(coords, order, p);
-    nearest_from(coords, &order[from..], p)
-}
-
-// ---- The cutter's numbers
-
-// The number of the cutter's node j, by its mark and the used subject nodes in order.
-fn number_of(sc: &[f64], order: &[u32], cc: &[f64], mark: u32, j: usize) -> u32
-    requires { (length sc.now / 2 ≤ 16384) × (j < 16384) × InOrder sc.now order.now }
-    ensures { result ≡ number_by sc.now order.now cc.now mark j }
-{
-    let shifted = (j + sc.len() / 2) as u32;
-    if mark == 0 {
-        return shifted;
+    // The same, of nodes of which many may lie to the left of p. Nodes on one vertical line are all looked at: to weld such meshes stays quadratic.
+    fn closest_within(&self, p: Point) -> Option<u32>
+        requires { InOrder self.now.coords.now self.now.order.now }
+        ensures { result ≡ closest_within self.now.coords.now self.now.order.now p }
+    {
+        let from = self.window_start(p);
+        let window = Nodes {
+            coords: self.coords,
+            order: &self.order[from..],
+        };
+        window.nearest(p)
     }
-    let p = point_at(cc, j as u32);
-    closest_within(sc, order, p).unwrap_or(shifted)
+
+    // The number of the cutter's node j, by its mark, where these are the used subject nodes.
+    fn number_of(&self, cc: &[f64], mark: u32, j: usize) -> u32
+        requires { (length self.now.coords.now / 2 ≤ 16384) × (j < 16384) × InOrder self.now.coords.now self.now.order.now }
+        ensures { result ≡ number_by self.now.coords.now self.now.order.now cc.now mark j }
+    {
+        let shifted = (j + self.coords.len() / 2) as u32;
+        if mark == 0 {
+            return shifted;
+        }
+        let p = point_at(cc, j as u32);
+        self.closest_within(p).unwrap_or(shifted)
+    }
 }
 
-// Each of the cutter's nodes has a mark in `numbers`, whose place its number takes. `order` has the used subject nodes in order.
-fn number_nodes(sc: &[f64], cc: &[f64], numbers: &mut [u32], order: &[u32])
-    requires { (length sc.now / 2 ≤ 16384) × (length numbers.old ≤ 16384) × InOrder sc.now order.now }
-    ensures { numbers.new ≡ each (length numbers.old) (λ j. number_by sc.now order.now cc.now (get_or numbers.old j 0) j) }
+// Each of the cutter's nodes has a mark in `numbers`, whose place its number takes. `order` has the used subject nodes in order. A part of a list that is
+// written later is lent as it is, not in a struct, or a proof doesn't know the whole list in the end.
+fn number_nodes(coords: &[f64], order: &[u32], cc: &[f64], numbers: &mut [u32])
+    requires { (length coords.now / 2 ≤ 16384) × (length numbers.old ≤ 16384) × InOrder coords.now order.now }
+    ensures { numbers.new ≡ each (length numbers.old) (λ j. number_by coords.now order.now cc.now (get_or numbers.old j 0) j) }
 {
+    let nodes = Nodes { coords, order };
     // By index: after a loop over `iter_mut` a proof knows no element.
     for j in 0..numbers.len() {
-        numbers[j] = number_of(sc, order, cc, numbers[j], j);
+        numbers[j] = nodes.number_of(cc, numbers[j], j);
     }
 }
 
 // The numbers of the cutter's nodes, at the front of w; as many places behind them as the subject has nodes are used, and zero at the end.
-pub fn duplicates_from(sc: &[f64], sn: &[u32], cc: &[f64], cn: &[u32], w: &mut [u32])
-    requires { (length sc.now / 2 ≤ 16384) × (length cc.now / 2 ≤ 16384) × (length cc.now / 2 + length sc.now / 2 ≤ length w.old)
-        × Below (length sc.now / 2) sn.now × Below (length cc.now / 2) cn.now × AllPlaced sc.now }
-    ensures { w.new ≡ front w.old (weld (mesh sc.now sn.now [] [] []) (mesh cc.now cn.now [] [] [])
-        ++ zeros (length sc.now / 2)) }
+pub fn duplicates_from(subject: &MeshView, cutter: &MeshView, w: &mut [u32])
+    requires { (length subject.now.coords.now / 2 ≤ 16384) × (length cutter.now.coords.now / 2 ≤ 16384)
+        × (length cutter.now.coords.now / 2 + length subject.now.coords.now / 2 ≤ length w.old)
+        × Below (length subject.now.coords.now / 2) subject.now.nodes.now × Below (length cutter.now.coords.now / 2) cutter.now.nodes.now
+        × AllPlaced subject.now.coords.now }
+    ensures { w.new ≡ front w.old (weld (mesh subject.now.coords.now subject.now.nodes.now [] [] []) (mesh cutter.now.coords.now cutter.now.nodes.now [] [] [])
+        ++ zeros (length subject.now.coords.now / 2)) }
 {
-    let (numbers, rest) = w.split_at_mut(cc.len() / 2);
-    let (marks, _) = rest.split_at_mut(sc.len() / 2);
-    mark_used(cn, numbers);
-    mark_used(sn, marks);
-    let count = sorted_indices_for(sc, marks);
-    number_nodes(sc, cc, numbers, &marks[..count]);
+    let coords = subject.coords;
+    let (numbers, rest) = w.split_at_mut(cutter.coords.len() / 2);
+    let (marks, _) = rest.split_at_mut(coords.len() / 2);
+    mark_used(cutter.nodes, numbers);
+    mark_used(subject.nodes, marks);
+    let count = sorted_indices_for(coords, marks);
+    number_nodes(coords, &marks[..count], cutter.coords, numbers);
     marks.fill(0);
 }

@@ -3,7 +3,4 @@ use Rattle.snap.proofs.Moves.{Half}
 use Rattle.snap.proofs.merge.Given as goal
 
 abbrev pub invariant-loop-j : goal.invariant-loop-j
-invariant-loop-j l = Half l.coords l.initial.s l.k l.order l.s l.end l.j
-
-abbrev pub decreases-loop-j : goal.decreases-loop-j
-decreases-loop-j l = l.j
+invariant-loop-j l = Half l.more.coords.now l.initial.s l.k l.more.order.now l.s l.end l.j

@@ -12,11 +12,11 @@ loop-j-preserved c =
     let l = c.loop-j in
     let a = c.args in (
       simp length-set l.invariant.0,
-      number_turn a.sc.now a.cc.now a.order.now a.numbers.now l.numbers c.number_of.result l.j (omega arith) l.invariant.1 c.number_of.ensures,
+      number_turn a.coords.now a.cc.now a.order.now a.numbers.now l.numbers c.number_of.result l.j (omega arith) l.invariant.1 c.number_of.ensures,
     )
 
 pub returns : goal.returns
 returns c =
     let l = c.loop-j in
     let a = c.args in
-    number_end a.sc.now a.cc.now a.order.now a.numbers.now l.numbers l.j (omega arith) (omega arith) l.invariant.1
+    number_end a.coords.now a.cc.now a.order.now a.numbers.now l.numbers l.j (omega arith) (omega arith) l.invariant.1

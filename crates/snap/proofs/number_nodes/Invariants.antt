@@ -7,4 +7,4 @@ use Rattle.snap.proofs.Numbers.{number_in}
 use Rattle.snap.proofs.number_nodes.Given as goal
 
 abbrev pub invariant-loop-j : goal.invariant-loop-j
-invariant-loop-j l = (length l.numbers ≡ length l.initial.numbers) × (l.numbers ≡ front l.initial.numbers (each l.j (number_in l.sc l.cc l.order l.initial.numbers)))
+invariant-loop-j l = (length l.numbers ≡ length l.initial.numbers) × (l.numbers ≡ front l.initial.numbers (each l.j (number_in l.coords l.cc l.order l.initial.numbers)))

@@ -8,8 +8,8 @@ use Rattle.snap.proofs.put_in_order.Goals as goal
 pub returns-then-marks-i-eq0 : goal.returns-then-marks-i-eq0
 returns-then-marks-i-eq0 c = left_out _ _ _ _ _ c.if-marks-i-eq0.true
 
-pub slice_bounds-place-end-2 : goal.slice_bounds-place-end-2
-slice_bounds-place-end-2 c = sym (length-take-le _ _ (omega arith))
+pub slice_bounds-nodes-end-2 : goal.slice_bounds-nodes-end-2
+slice_bounds-nodes-end-2 c = sym (length-take-le _ _ (omega arith))
 
 pub returns : goal.returns
 returns c =

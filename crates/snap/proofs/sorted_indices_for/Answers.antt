@@ -64,8 +64,8 @@ pub slice_bounds-block-end : goal.slice_bounds-block-end
 slice_bounds-block-end c =
     omega (arith, c.loop-i.invariant.2)
 
-pub slice_bounds-merge-end : goal.slice_bounds-merge-end
-slice_bounds-merge-end c =
+pub slice_bounds-rest-end : goal.slice_bounds-rest-end
+slice_bounds-rest-end c =
     let l = c.loop-i in
     sym (length-take-le l.b l.block (omega (arith, l.invariant.2)))
 
