@@ -16,6 +16,7 @@ use views::MeshView;
 // ---- Used nodes, in order
 
 // 1 for each node that some element names, 0 for the others.
+#[tactic(auto, using(crate::proofs::Marks::mark_zero))]
 fn mark_used(nodes: &[u32], marks: &mut [u32])
     requires { Below (length marks.old) nodes.now }
     ensures { marks.new ≡ used nodes.now (length marks.old) }
@@ -73,6 +74,7 @@ fn put_in_order(coords: &[f64], marks: &[u32], block: &mut [u32], k: usize, i: u
 
 // More nodes are put in among the first k of s, from the last down: each goes to its place, and what stands behind that moves up by as many places as nodes
 // are left. All are in order.
+#[tactic(auto, using(crate::proofs::Moves::copied_within, crate::proofs::Moves::merge_start, crate::proofs::Moves::merge_room))]
 fn merge(more: &Nodes, s: &mut [u32], k: usize)
     requires { (k + length more.now.order.now ≤ length s.old) × InOrder more.now.coords.now (take k s.old) × InOrder more.now.coords.now more.now.order.now }
     ensures { s.new ≡ merged more.now.coords.now s.old k more.now.order.now }
@@ -93,6 +95,7 @@ fn merge(more: &Nodes, s: &mut [u32], k: usize)
 }
 
 // A block of b nodes in order is put in among the first k of s if it is full. Answers how many nodes were put in.
+#[tactic(auto, using(crate::proofs::Blocks::full_in_order))]
 fn merge_full(coords: &[f64], s: &mut [u32], k: usize, block: &[u32], b: usize) -> usize
     requires { (k + b ≤ length s.old) × (b ≤ length block.now) × InOrder coords.now (take k s.old) × InOrder coords.now (take b block.now) }
     ensures { (result ≡ counted_full block.now b) × (s.new ≡ merged_full coords.now s.old k block.now b) }
@@ -110,6 +113,7 @@ fn merge_full(coords: &[f64], s: &mut [u32], k: usize, block: &[u32], b: usize) 
 
 // s has a mark for each node. The marked ones are put at its front, by x, then y; equal ones stay rising. Answers how many they are. They are sorted in blocks
 // of 128, each put in among those before it, so that a node is moved some √n times, not n.
+#[tactic(auto, using(crate::proofs::Blocks::next_fits))]
 fn sorted_indices_for(coords: &[f64], s: &mut [u32]) -> usize
     requires { (length s.old ≤ 16384) × (length s.old ≤ length coords.now / 2) × AllPlaced coords.now }
     ensures { (result ≡ length (indices_in_order coords.now s.old)) × (s.new ≡ front s.old (indices_in_order coords.now s.old)) }
@@ -134,6 +138,7 @@ fn sorted_indices_for(coords: &[f64], s: &mut [u32]) -> usize
 
 // ---- The nearest of them
 
+#[tactic(auto, unfolding(plane::specs::Plane::between))]
 fn distance2(p: Point, q: Point) -> f64
     ensures { result ≡ distance2 p q }
 {
@@ -167,6 +172,7 @@ impl<'a> Nodes<'a> {
 
     // The nearest of them at a squared distance strictly below 1e-12 × 1e-12, the first of equally near ones.
     // From the first on that lies 1e-12 or more to the right of p, all are too far.
+    #[tactic(auto, unfolding(rules::specs::Snap::nearest_to), using(crate::proofs::Near::near_turn, crate::proofs::Near::near_end))]
     fn nearest(&self, p: Point) -> Option<u32>
         requires { InOrder self.now.coords.now self.now.order.now }
         ensures { result ≡ closest_within self.now.coords.now self.now.order.now p }
@@ -187,6 +193,7 @@ impl<'a> Nodes<'a> {
     }
 
     // The same, of nodes of which many may lie to the left of p. Nodes on one vertical line are all looked at: to weld such meshes stays quadratic.
+    #[tactic(auto, using(crate::proofs::Near::window_whole, crate::proofs::Near::window_order))]
     fn closest_within(&self, p: Point) -> Option<u32>
         requires { InOrder self.now.coords.now self.now.order.now }
         ensures { result ≡ closest_within self.now.coords.now self.now.order.now p }
@@ -200,6 +207,7 @@ impl<'a> Nodes<'a> {
     }
 
     // The number of the cutter's node j, by its mark, where these are the used subject nodes.
+    #[tactic(auto, unfolding(crate::specs::Steps::number_by), using(crate::proofs::Numbers::unwrap_shifted))]
     fn number_of(&self, cc: &[f64], mark: u32, j: usize) -> u32
         requires { (length self.now.coords.now / 2 ≤ 16384) × (j < 16384) × InOrder self.now.coords.now self.now.order.now }
         ensures { result ≡ number_by self.now.coords.now self.now.order.now cc.now mark j }
@@ -215,6 +223,7 @@ impl<'a> Nodes<'a> {
 
 // Each of the cutter's nodes has a mark in `numbers`, whose place its number takes. `order` has the used subject nodes in order. A part of a list that is
 // written later is lent as it is, not in a struct, or a proof doesn't know the whole list in the end.
+#[tactic(auto, using(crate::proofs::Numbers::number_start))]
 fn number_nodes(coords: &[f64], order: &[u32], cc: &[f64], numbers: &mut [u32])
     requires { (length coords.now / 2 ≤ 16384) × (length numbers.old ≤ 16384) × InOrder coords.now order.now }
     ensures { numbers.new ≡ each (length numbers.old) (λ j. number_by coords.now order.now cc.now (get_or numbers.old j 0) j) }
@@ -227,6 +236,7 @@ fn number_nodes(coords: &[f64], order: &[u32], cc: &[f64], numbers: &mut [u32])
 }
 
 // The numbers of the cutter's nodes, at the front of w; as many places behind them as the subject has nodes are used, and zero at the end.
+#[tactic(auto, using(crate::proofs::Whole::ordered))]
 pub fn duplicates_from(subject: &MeshView, cutter: &MeshView, w: &mut [u32])
     requires { (length subject.now.coords.now / 2 ≤ 16384) × (length cutter.now.coords.now / 2 ≤ 16384)
         × (length cutter.now.coords.now / 2 + length subject.now.coords.now / 2 ≤ length w.old)

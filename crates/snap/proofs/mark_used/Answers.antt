@@ -1,14 +1,10 @@
-use mathlib.Core.Path.{refl, ap, ◌∙◌}
+use mathlib.Core.Path.{ap, ◌∙◌}
 use Prim.Native.Nat.{◌<◌}
 use native.Mathlib.Omega.{arith}
 use lib.ListN.{length, get_or, length-set}
 use Rattle.snap.specs.Steps.{used}
-use Rattle.snap.proofs.Marks.{mark_zero, mark_turn, mark_end}
+use Rattle.snap.proofs.Marks.{mark_turn, mark_end}
 use Rattle.snap.proofs.mark_used.Goals as goal
-
-pub loop-v-init : goal.loop-v-init
-loop-v-init c =
-    let z = c.fill in (refl, mark_zero _ (length c.args.marks.now) z.new.self (z.ensures.after (λ _ h. h)))
 
 pub loop-v-preserved : goal.loop-v-preserved
 loop-v-preserved c =

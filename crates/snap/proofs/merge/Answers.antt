@@ -1,45 +1,16 @@
-use mathlib.Core.Path.{◌≡◌, sym, ap, ◌∙◌}
+use mathlib.Core.Path.{◌≡◌, ap, ◌∙◌}
 use Prim.Native.Nat.{ℕ, ◌+◌, ◌-◌}
 use native.Mathlib.Omega.{arith}
 use lib.ListN.{length-take}
-use lib.Seq.{length-take-le}
 use Rattle.std.specs.List.{copy_within}
-use Rattle.snap.proofs.Moves.{copied_within, merge_start, merge_ready, merge_room, merge_turn, merge_end}
+use Rattle.snap.proofs.Moves.{copied_within, merge_ready, merge_turn, merge_end}
 use Rattle.snap.proofs.merge.Goals as goal
-
-pub loop-j-init : goal.loop-j-init
-loop-j-init c = merge_start _ _ _ _ (omega arith)
-
-pub slice_bounds-nodes-end : goal.slice_bounds-nodes-end
-slice_bounds-nodes-end c =
-    let h = c.loop-j.invariant in
-    omega (arith, h.under, h.size, c.requires.0)
-
-pub slice_bounds-nodes-end-in-loop-j : goal.slice_bounds-nodes-end-in-loop-j
-slice_bounds-nodes-end-in-loop-j c =
-    let l = c.loop-j in
-    sym (length-take-le l.end l.s (omega (arith, l.invariant.under, l.invariant.size, c.requires.0)))
 
 pub place-p-requires : goal.place-p-requires
 place-p-requires c =
     let l = c.loop-j in
     merge_ready c.args.more.now.coords.now c.args.s.now c.args.k c.args.more.now.order.now c.requires.0 l.s l.end
     l.j l.invariant c.requires.1
-
-pub bounds-s-p : goal.bounds-s-p
-bounds-s-p c =
-    let l = c.loop-j in
-    let p = c.place-p in
-    let m = c.copy_within in
-    merge_room c.args.more.now.coords.now c.args.s.now c.args.k c.args.more.now.order.now c.requires.0 l.s l.end
-    l.j l.invariant p.result m.new.self c.loop-j-test.true c.requires.2 p.ensures.0 p.ensures.1
-    (m.ensures.after ∙ ap (λ (n : ℕ). copy_within l.s p.result l.end n) (let e : p.result + (l.j - 1) + 1 ≡ p.result + l.j = omega (arith, c.loop-j-test.true) in e) ∙ copied_within l.s p.result l.end (p.result + l.j) (omega (arith, p.ensures.1, length-take l.end l.s)) (omega (arith, l.invariant.under, l.invariant.size, c.requires.0)))
-
-pub overflow_add-s : goal.overflow_add-s
-overflow_add-s c = record { fits = omega (arith, bounds-s-p c) }
-
-pub offset_bounds-s-p : goal.offset_bounds-s-p
-offset_bounds-s-p c = record { fits = omega (arith, bounds-s-p c) }
 
 pub loop-j-preserved : goal.loop-j-preserved
 loop-j-preserved c =

@@ -1,15 +1,9 @@
 -- `snap::merge_full` meets its contract. Assumes nothing.
-use native.Mathlib.Omega.{arith}
-use Rattle.snap.proofs.Blocks.{not_full, full, full_in_order}
+use Rattle.snap.proofs.Blocks.{not_full, full}
 use Rattle.snap.proofs.merge_full.Goals as goal
 
 pub returns-then-b-block : goal.returns-then-b-block
 returns-then-b-block c = not_full _ _ _ _ _ c.if-b-block.true
-
-pub merge-requires : goal.merge-requires
-merge-requires c =
-    let t = c.if-b-block.false in
-    (omega arith, c.requires.2, full_in_order c.args.coords.now c.args.block.now c.args.b t c.requires.3)
 
 pub returns : goal.returns
 returns c =

@@ -1,11 +1,7 @@
-use mathlib.Core.Path.{refl}
 use native.Mathlib.Omega.{arith}
 use lib.ListN.{length-set}
-use Rattle.snap.proofs.Numbers.{number_start, number_turn, number_end}
+use Rattle.snap.proofs.Numbers.{number_turn, number_end}
 use Rattle.snap.proofs.number_nodes.Goals as goal
-
-pub loop-j-init : goal.loop-j-init
-loop-j-init c = (refl, number_start _ _ _ _)
 
 pub loop-j-preserved : goal.loop-j-preserved
 loop-j-preserved c =

@@ -1,15 +1,9 @@
 -- `snap::put_in_order` meets its contract. Assumes nothing.
-use mathlib.Core.Path.{sym}
-use native.Mathlib.Omega.{arith}
-use lib.Seq.{length-take-le}
 use Rattle.snap.proofs.Blocks.{left_out, put_in_lem}
 use Rattle.snap.proofs.put_in_order.Goals as goal
 
 pub returns-then-marks-i-eq0 : goal.returns-then-marks-i-eq0
 returns-then-marks-i-eq0 c = left_out _ _ _ _ _ c.if-marks-i-eq0.true
-
-pub slice_bounds-nodes-end-2 : goal.slice_bounds-nodes-end-2
-slice_bounds-nodes-end-2 c = sym (length-take-le _ _ (omega arith))
 
 pub returns : goal.returns
 returns c =
