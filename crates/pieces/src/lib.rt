@@ -7,7 +7,6 @@ ghost use Rattle.lists.specs.Gather.{passing};
 ghost use Rattle.entry.specs.Mesh.{prior, Rising};
 ghost use Rattle.refusals.specs.Numbers.{number};
 ghost use Rattle.rules.specs.Inside.{some_holds, point_inside};
-ghost use Rattle.rules.specs.Operations.{keeps};
 ghost use Rattle.pieces.specs.Pieces.{side_of, runs_of, cells_in, cell_at, cell_contains, keep_of, is_kept, tagged, Space, left, refused_in, placed_in, BeforeZeroing, SameLists};
 
 use corners::Ring;
@@ -45,23 +44,16 @@ fn cell<'a>(cells: Things<'a>, j: usize) -> &'a [u32]
     &cells.nodes[start..end]
 }
 
-// Whether cell j contains p.
-fn cell_contains(cells: Things, j: usize, p: Point) -> bool
-    requires { j < length cells.ends.now }
-    ensures { result ≡ cell_contains cells.entry p j }
-{
-    inside(Ring::new(cells.coords, cell(cells, j)), p)
-}
-
 // Whether one of the cells at these places contains p.
 fn one_contains(cells: Things, js: &[u32], p: Point) -> bool
     requires { All (λ j. j < length cells.ends.now) js.now }
     ensures { result ≡ list_any (cell_contains cells.entry p) js.now }
 {
-    js.iter().any(|j| cell_contains(cells, *j as usize, p))
+    js.iter().any(|j| inside(Ring::new(cells.coords, cell(cells, *j as usize)), p))
 }
 
-// Whether some cell holds the point: those whose boxes hold it are asked, 64 at a time.
+// Whether some cell holds the point: those whose boxes hold it are asked, 64 at a time. A `while`, since a round begins behind the last cell that the one
+// before it found.
 #[tactic(auto, using(crate::proofs::Inside::places_low, crate::proofs::Inside::last_within, crate::proofs::Inside::none_holds))]
 fn some_holds(cells: Index, p: Point) -> bool
     ensures { result ≡ some_holds cells.entry.things.coords.now (cells_in cells.entry.things) (Some p) }
@@ -100,33 +92,24 @@ fn point_inside(cells: Index, piece: &[u32]) -> bool
 
 // ---- Kept or not
 
-// Whether the operation keeps those pieces of a mesh that lie inside the other, and those that don't.
+// Whether the operation keeps those pieces of a mesh that lie inside the other, and those that don't. Two flags, since each is kept or not for itself.
 #[derive(Clone, Copy)]
 pub struct Keep {
     pub inside: bool,
     pub outside: bool,
 }
 
-// Whether the operation with this number keeps a piece.
-fn keeps(op: u32, cutter: bool, inside: bool) -> bool
-    ensures { result ≡ keeps op (side_of cutter) inside }
-{
-    match Operation::try_from(op) {
-        Ok(Operation::Union) => !cutter | !inside,
-        Ok(Operation::Intersection) => inside,
-        Ok(Operation::Difference | Operation::SymmetricDifference) => !inside,
-        _ => true,
-    }
-}
-
 // What the operation keeps of the mesh whose cells are cut. By its number, since the promise is for each number, one that names no operation too.
 pub fn keep_of(op: u32, cutter: bool) -> Keep
     ensures { result ≡ keep_of op (side_of cutter) }
 {
-    Keep {
-        inside: keeps(op, cutter, true),
-        outside: keeps(op, cutter, false),
-    }
+    let (inside, outside) = match Operation::try_from(op) {
+        Ok(Operation::Union) => (!cutter, true),
+        Ok(Operation::Intersection) => (true, false),
+        Ok(Operation::Difference | Operation::SymmetricDifference) => (false, true),
+        _ => (true, true),
+    };
+    Keep { inside, outside }
 }
 
 impl Keep {
@@ -154,7 +137,8 @@ pub struct Listed {
     pub entries: usize,
 }
 
-// The lists that pieces go to: their corners, where each ends among them, and a tag for each.
+// The lists that pieces go to: their corners, where each ends among them, and a tag for each. Each method promises that they are the same lists, so that
+// a caller knows what its own come to hold; how many pieces stand there is beside them, as no ghost field says what holds of a `&mut` and a count.
 #[derive(Drop)]
 pub struct PieceLists<'a> {
     pub corners: &'a mut [u32],
