@@ -1,7 +1,7 @@
 -- What `find` leaves in the lists is what the cells ask for. Assumes nothing.
 use mathlib.Core.Path.{◌≡◌, refl, sym, ap, ◌∙◌, subst}
 use mathlib.Core.List.{List, [], ◌∷◌, ◌++◌}
-use Prim.Native.Nat.{ℕ, zero, suc, ◌+◌, ◌*◌, ◌/◌, ◌≤◌}
+use Prim.Native.Nat.{ℕ, zero, suc, ◌+◌, ◌*◌, ◌/◌, ◌^◌, ◌≤◌, ◌<◌}
 use native.Mathlib.Omega.{arith}
 use lib.Dec.{eqb}
 use lib.ListN.{length, take, drop, length-append}
@@ -16,6 +16,8 @@ use Rattle.segments.specs.Meet as Meet
 use Rattle.cutting.specs.Edges.{Edge, edge_at}
 use Rattle.entry.specs.Mesh.{Mesh, node_count}
 use Rattle.entry.specs.Passed.{Passed}
+use Rattle.entry.specs.Refused.{entry_of}
+use Rattle.entry.proofs.Passed.{passed}
 use Rattle.rules.specs.Neighbours.{Net, subject_net, cutter_net}
 use Rattle.rules.specs.SpatialIndex.{edge_box, candidates}
 use Rattle.rules.specs.Meetings.{Met, Scene, added_by, recorded, segment_of, met_pair, met_all, meetings_to, meetings, scene_of}
@@ -25,16 +27,17 @@ use Rattle.refusals.specs.declared.Refusal.{Refusal}
 use Rattle.refusals.specs.Numbers.{by_number, refused_with}
 use Rattle.finding.specs.declared.stages.Found.{Found}
 use Rattle.finding.specs.Nets.{FindAsks}
-use Rattle.finding.specs.Found.{found_as, found_of}
+use Rattle.rules.specs.Refusals.{first_refusal}
+use Rattle.finding.specs.Found.{found_as, found_events, found_of}
 use Rattle.finding.proofs.Passed.{bare, ready}
 use Rattle.finding.proofs.Held.{Holds}
 use Rattle.finding.proofs.Settled.{leaves}
-use Rattle.finding.proofs.Result.{answer_is, coords_are, work_is, code_is, worked_long, calm, holds, low}
+use Rattle.finding.proofs.Result.{answer_is, coords_are, work_is, code_is, worked_long, calm, holds, low, met_few}
 use Rattle.regions.specs.declared.Indexes.{Indexes}
 use Rattle.indexing.specs.Indexes.{indexes, indexes_at, MeshIndexed, Asks}
 use Rattle.indexing.proofs.Written.{subject_indexed, cutter_indexed}
 use Rattle.cutting_cells.specs.Yields.{MeshesReady}
-use Rattle.overlay.proofs.Yielded.{MeshesIn}
+use Rattle.overlay.specs.Prepared.{MeshesIn, PreparedIn}
 use Rattle.overlay.proofs.Stands.{meshes_in, meshes_ready}
 use Rattle.overlay.proofs.Indexed.{index_asks, holds_after}
 
@@ -81,7 +84,7 @@ module _ (coords : List Float) (s c : Net) where
 
 module _ (op : ℕ) (s c : Mesh) (es : length s.coords ≡ 2 * node_count s) (ec : length c.coords ≡ 2 * node_count c) where
   -- two for each node, and for each meeting with a new point
-  pub coords_long : (k : ℕ) × (length (scene_for op s c).coords ≡ 2 * (node_count s + node_count c + k)) × (k ≤ length (scene_for op s c).met)
+  coords_long : (k : ℕ) × (length (scene_for op s c).coords ≡ 2 * (node_count s + node_count c + k)) × (k ≤ length (scene_for op s c).met)
   unfolding scene_of
   coords_long =
       let ms : List Met = meetings (s.coords ++ c.coords) (subject_net s) (cutter_net (eqb op 5) s c) in
@@ -105,28 +108,37 @@ module _ (op m : ℕ) (s c : Mesh) (w₀ : List ℕ) (ok : Passed op m s c (leng
   work_long =
       ap length (work_is op m s c w₀ asks oc oc' w' r told x z) ∙ worked_long op m s c (length oc / 2) 0 0 (sym (code_is op m s c w₀ asks oc oc' w' r told 0 0) ∙ ap refused_with z) w₀ asks
 
-  pub placed : oc' ≡ front oc sc.coords
+  placed : oc' ≡ front oc sc.coords
   placed = coords_are op m s c w₀ asks oc oc' w' r told x z
 
   -- the number of the next point
-  pub next_is : x.next ≡ length sc.coords / 2
+  next_is : x.next ≡ length sc.coords / 2
   unfolding found_as
   next_is = ap (λ (y : Found). y.next) (answer_is op m s c w₀ asks oc oc' w' r told x z)
 
-  pub next_long : length sc.coords ≡ 2 * x.next
+  next_long : length sc.coords ≡ 2 * x.next
   next_long = let k = coords_long op s c ok.subject.even ok.cutter.even in omega (arith, next_is, k.1)
 
-  pub points_in_lem : 2 * x.next ≤ length oc'
+  points_in_lem : 2 * x.next ≤ length oc'
   unfolding front
   points_in_lem = omega (arith, next_long, ap length placed, length-append sc.coords (drop (length sc.coords) oc))
 
   points : take (2 * x.next) oc' ≡ sc.coords
   points = ap (take (2 * x.next)) placed ∙ take_front_of oc sc.coords (2 * x.next) next_long
 
+  least : (length s.coords + length c.coords) / 2 ≤ x.next
+  least = let k = coords_long op s c ok.subject.even ok.cutter.even in omega (arith, next_long, k.1, ok.subject.even, ok.cutter.even)
+
+  most : x.next < 2 ^ 32
+  most =
+      let k = coords_long op s c ok.subject.even ok.cutter.even in
+      let few = met_few op m s c (length oc / 2) 0 0 (sym (code_is op m s c w₀ asks oc oc' w' r told 0 0) ∙ ap refused_with z) in
+      omega (arith, next_long, k.1, k.2, few, ok.most, ok.subject.most_nodes, ok.cutter.most_nodes)
+
   -- ---- with the indexes
 
-  pub asks_index : Asks w' x.regions s.ends c.ends
-  asks_index = index_asks op m s c x.regions w' (length w₀) ok work_long held (low op m s c w₀ asks oc oc' w' r told x z)
+  index_ready : Asks w' x.regions s.ends c.ends
+  index_ready = index_asks op m s c x.regions w' (length w₀) ok work_long held (low op m s c w₀ asks oc oc' w' r told x z)
 
   module _ (i : Indexes) (w'' : List ℕ) (built : (i ≡ indexes_at (take (2 * x.next) oc') w' x.regions s.ends c.ends)
       × (w'' ≡ put w' x.regions.links.end (indexes (take (2 * x.next) oc') w' x.regions s.ends c.ends))) where
@@ -135,17 +147,49 @@ module _ (op m : ℕ) (s c : Mesh) (w₀ : List ℕ) (ok : Passed op m s c (leng
         subst (λ (v : List ℕ). Holds op s c x.regions v) (sym built.1)
         (holds_after op m s c x.regions w' (length w₀) ok work_long held (low op m s c w₀ asks oc oc' w' r told x z) (take (2 * x.next) oc'))
 
-    pub lists_hold : MeshesIn sc (take (2 * x.next) oc') w'' x.regions s.ends c.ends
+    lists_hold : MeshesIn sc (take (2 * x.next) oc') w'' x.regions s.ends c.ends
     lists_hold = meshes_in op s c x.regions w'' held'' (take (2 * x.next) oc') (sym points)
 
-    pub lists_ready : MeshesReady op (take (2 * x.next) oc') w'' x.regions i s.ends c.ends
+    lists_ready : MeshesReady op (take (2 * x.next) oc') w'' x.regions i s.ends c.ends
     lists_ready =
         meshes_ready op s c x.regions w'' held'' m (length w₀) ok (calm op m s c w₀ asks oc oc' w' r told x z) (take (2 * x.next) oc') i
         (both (λ (y : Indexes) (v : List ℕ). MeshIndexed (take (2 * x.next) oc') v x.regions.subject s.ends y.subject)
-        (subject_indexed (take (2 * x.next) oc') w' x.regions s.ends c.ends asks_index))
+        (subject_indexed (take (2 * x.next) oc') w' x.regions s.ends c.ends index_ready))
         (both (λ (y : Indexes) (v : List ℕ). MeshIndexed (take (2 * x.next) oc') v x.regions.cutter c.ends y.cutter)
-        (cutter_indexed (take (2 * x.next) oc') w' x.regions s.ends c.ends asks_index))
+        (cutter_indexed (take (2 * x.next) oc') w' x.regions s.ends c.ends index_ready))
       where
         both : (P : Indexes → List ℕ → Type 0) → P (indexes_at (take (2 * x.next) oc') w' x.regions s.ends c.ends)
             (put w' x.regions.links.end (indexes (take (2 * x.next) oc') w' x.regions s.ends c.ends)) → P i w''
         both P h = subst (λ (y : Indexes). P y w'') (sym built.0) (subst (P (indexes_at (take (2 * x.next) oc') w' x.regions s.ends c.ends)) (sym built.1) h)
+
+    held_in : PreparedIn op s c oc oc' w'' (record { next = x.next; regions = x.regions; indexes = i })
+    held_in = record { placed = placed; long = next_long; fits = points_in_lem; least = least; most = most; stands = lists_hold; ready = lists_ready }
+
+-- ---- what `prepare` comes to, where the entry refuses nothing
+
+module _ (op m : ℕ) (s c : Mesh) (w : List ℕ) (entered : entry_of op m s c (length w) ≡ 0) where
+  pub find_asked : FindAsks op m (bare s) (bare c) (length w)
+  find_asked = ready op m s c (length w) (passed op m s c (length w) entered)
+
+  module _ (oc oc' : List Float) (w' : List ℕ) where
+    pub refusal_is : (r : Result Found Refusal) → leaves (by_number r) oc' w' ≡ found_of op m (bare s) (bare c) oc w
+        → (q n : ℕ) → refused_with r ≡ first_refusal m (length oc / 2) q n (found_events op s c)
+    refusal_is r told = code_is op m s c w find_asked oc oc' w' r told
+
+    module _ (x : Found) (told : leaves (Ok x) oc' w' ≡ found_of op m (bare s) (bare c) oc w) where
+      abbrev ok : Passed op m s c (length w)
+      ok = passed op m s c (length w) entered
+
+      pub index_asked : Asks w' x.regions s.ends c.ends
+      index_asked = index_ready op m s c w ok oc oc' w' (Ok x) told x refl
+
+      pub points_fit : 2 * x.next ≤ length oc'
+      points_fit = points_in_lem op m s c w ok oc oc' w' (Ok x) told x refl
+
+      pub next_most : x.next < 2 ^ 32
+      next_most = most op m s c w ok oc oc' w' (Ok x) told x refl
+
+      pub prepared : (i : Indexes) (w'' : List ℕ) → (i ≡ indexes_at (take (2 * x.next) oc') w' x.regions s.ends c.ends)
+          × (w'' ≡ put w' x.regions.links.end (indexes (take (2 * x.next) oc') w' x.regions s.ends c.ends))
+          → PreparedIn op s c oc oc' w'' (record { next = x.next; regions = x.regions; indexes = i })
+      prepared i w'' built = held_in op m s c w ok oc oc' w' (Ok x) told x refl i w'' built

@@ -5,5 +5,4 @@ pub mod Stands
 pub mod Indexed
 pub mod Found
 pub mod Whole
-pub mod Stages
 pub mod Returns

@@ -22,7 +22,7 @@ use Rattle.rules.specs.Refusals.{Event, of_cell}
 use Rattle.regions.specs.declared.Run.{Run}
 use Rattle.regions.specs.declared.MeshRuns.{MeshRuns}
 use Rattle.regions.specs.declared.Regions.{Regions}
-use Rattle.regions.specs.Runs.{run_in, mesh_edges}
+use Rattle.regions.specs.Runs.{run_in}
 use Rattle.edge_nodes.specs.Lent.{nodes_on}
 use Rattle.cells.specs.Cells.{edges_in}
 use Rattle.cells.proofs.Scene.{cut_is, copied_is}
@@ -30,14 +30,8 @@ use Rattle.pieces.specs.Pieces.{runs_of, keep_of, is_kept, events, Yield}
 use Rattle.pieces.proofs.Listing.{kept_nodes, kept_alike, events_nodes}
 use Rattle.cutting_cells.specs.Yields as Yields
 use Rattle.cutting_cells.specs.Yields.{outcome_by, is_cut, yield_by, yield_of}
+use Rattle.overlay.specs.Prepared.{SceneIn}
 use Rattle.passes.specs.Tags.{kind_by, family_by, mesh_by, cell_by}
-
--- What the cells of the mesh w are cut by: the coordinates, the sorted nodes of edges, and the other mesh's edges and cells.
-pub record SceneIn (sc : Scene) (w : Side) (coords : List Float) (work : List ℕ) (g : Regions) (o : MeshRuns) (ends : List ℕ) : Type 0 where
-  pub points : sc.coords ≡ coords
-  pub nodes_are : (e : Edge) → nodes_on sc.coords work g e ≡ sorted_nodes sc e
-  pub near_edges : (net_of sc (other w)).edges ≡ mesh_edges work o
-  pub near_cells : (net_of sc (other w)).cells ≡ runs_of (run_in work o.entries) ends
 
 -- what happens at cell i
 abbrev pub cell_events : ℕ → Scene → Side → ℕ → List Event

@@ -33,7 +33,7 @@ use Rattle.pieces.specs.Pieces.{runs_of}
 use Rattle.finding.proofs.Cells.{cells_lists, cells_renumbered}
 use Rattle.finding.proofs.Held.{Holds, holds_linked}
 use Rattle.cutting_cells.specs.Yields.{MeshesReady}
-use Rattle.overlay.proofs.Yielded.{MeshesIn}
+use Rattle.overlay.specs.Prepared.{MeshesIn}
 use Rattle.overlay.proofs.Keys.{cells_ready, not_crowded}
 
 -- ---- lines are never cut

@@ -12,23 +12,33 @@ use lib.Ieee.{Float}
 use Rattle.lists.specs.Gather.{gathered}
 use Rattle.lists.specs.Regions.{front, zeros}
 use Rattle.lists.proofs.Regions.{front_put, take_front_of}
+use Rattle.refusals.specs.declared.Refusal.{Refusal}
+use Rattle.refusals.specs.Numbers.{number}
+use Rattle.refusals.proofs.Numbers.{some_not_zero}
 use Rattle.cutting.specs.Outcome.{Outcome, refusal, pieces, flat, stops}
 use Rattle.cutting.proofs.Runs.{stops_length}
 use Rattle.entry.specs.Mesh.{Mesh}
+use Rattle.entry.specs.Passed.{Passed}
 use Rattle.rules.specs.Mesh.{Side, the_subject, the_cutter, side_number}
+use Rattle.rules.specs.Neighbours.{subject_net, cutter_net}
 use Rattle.rules.specs.Meetings.{Scene, net_of, added_by, scene_of}
 use Rattle.rules.specs.Cell.{outcome_of}
-use Rattle.rules.specs.Operations.{Piece, cuts, scene_for, kept, over_cells, listing_with}
+use Rattle.rules.specs.Operations.{Piece, cuts, scene_for, kept, over_cells, listing, listing_with}
 use Rattle.rules.specs.Refusals.{Event, meeting, point, piece, stop, of_cell, course, first_refusal}
 use Rattle.rules.specs.Overlay.{Lists, lent_lists, result_of, piece_room, written, state_of, state_with, answered, answered_with}
+use Rattle.finding.specs.Found.{found_events}
+use Rattle.finding.proofs.Scenes.{course_is, found_passes}
 use Rattle.pieces.specs.declared.Listed.{Listed}
-use Rattle.pieces.specs.Pieces.{Yield, placing, placed_behind}
+use Rattle.pieces.specs.Pieces.{Yield}
 use Rattle.pieces.proofs.Room.{refused}
-use Rattle.pieces.proofs.Placing.{Steady, code_met, all_placed, fit}
-use Rattle.cutting_cells.specs.Yields.{none_yet}
+use Rattle.pieces.proofs.Placing.{AllPlaced}
+use Rattle.cutting_cells.specs.Yields.{meshes_yield, none_yet}
 use Rattle.passes.specs.Tags.{kind_by, family_by, mesh_by, cell_by}
+use Rattle.overlay.specs.declared.Counts.{Counts}
+use Rattle.overlay.specs.declared.Prepared.{Prepared}
+use Rattle.overlay.specs.Prepared.{PreparedIn, PlacedIn, runs_in}
 use Rattle.overlay.proofs.Scene.{cell_events, nodes_of}
-use Rattle.overlay.proofs.Yielded.{over_both}
+use Rattle.overlay.proofs.Yielded.{over_both, of_side, meshes_events, meshes_pieces, meshes_kinds, meshes_families, meshes_parent_meshes, meshes_parent_cells}
 
 -- ---- a part of a list, lent and come back
 
@@ -38,11 +48,6 @@ front_back w xs w' n e h l =
     ap (λ (v : List _). v ++ drop n w) e ∙ append_assoc xs (drop (length xs) (take n w)) (drop n w)
     ∙ ap (λ (v : List _). xs ++ v)
     (sym (drop-append-le (length xs) (take n w) (drop n w) (omega (arith, h, length-take-le n w l))) ∙ ap (drop (length xs)) (take-append-drop n w))
-
--- it comes back as long as it was
-pub back_long : {A : Type 0} (w w' : List A) (n : ℕ) → length w' ≡ length (take n w) → length (w' ++ drop n w) ≡ length w
-back_long w w' n e =
-    omega (arith, e, length-append w' (drop n w), length-append (take n w) (drop n w), ap length (take-append-drop n w))
 
 -- as many elements take the place of a front
 front_over : {A : Type 0} (w xs ys : List A) (n : ℕ) → length xs ≡ n → length ys ≡ n → ys ++ drop n (front w xs) ≡ front w ys
@@ -107,107 +112,139 @@ cells_over op sc = cells_append (one the_subject) (one the_cutter) (of the_subje
         go true = cells_gathered (length (net_of sc w).cells) (cell_events op sc w) (λ i. cells_of (outcome_of sc w i) (kept sc w op i))
         go false = tt
 
--- ---- the refusal of the state, and the answer
+-- ---- the refusal
 
-module _ (op m : ℕ) (s c : Mesh) (l : Lists) (found : List Event)
-    (course_is : course op s c ≡ found ++ over_both op (scene_for op s c) (cell_events op (scene_for op s c))) where
+module _ (op : ℕ) (s c : Mesh) where
   abbrev sc₀ : Scene
   sc₀ = scene_for op s c
 
-  -- how many pieces have their places
-  abbrev room : ℕ
-  room = piece_room l
+  module _ (m p q n : ℕ) where
+    -- one met before the cells
+    pub refused_before : (r : Refusal) → ((q n : ℕ) → number r ≡ first_refusal m p q n (found_events op s c)) → number r ≡ first_refusal m p q n (course op s c)
+    refused_before r e =
+        refused (number r) (found_events op s c) (over_both op sc₀ (cell_events op sc₀)) m p q n (some_not_zero r) (e q n)
+        ∙ ap (first_refusal m p q n) (sym (course_is op s c))
+
+    -- where none is met before, the cells' is the first
+    pub cells_met : (x : ℕ) (es : List Event) → ((q n : ℕ) → 0 ≡ first_refusal m p q n (found_events op s c))
+        → es ≡ over_both op sc₀ (cell_events op sc₀) → x ≡ first_refusal 0 0 (q - 0) (n - 0) es → x ≡ first_refusal m p q n (course op s c)
+    cells_met x es none are e =
+        let f = found_passes op s c m p q n (sym (none q n)) in
+        let all = over_both op sc₀ (cell_events op sc₀) in
+        let q₀ : q - 0 ≡ q = omega arith in
+        let n₀ : n - 0 ≡ n = omega arith in
+        e ∙ (λ i. first_refusal 0 0 (q₀ i) (n₀ i) (are i)) ∙ sym (only_cells f.0 f.1 q n all (cells_over op sc₀)) ∙ sym (f.2 all) ∙ ap (first_refusal m p q n) (sym (course_is op s c))
+
+  -- ---- what the cells leave
 
   abbrev ps : List Piece
   ps = over_both op sc₀ (λ v. kept sc₀ v op)
 
-  -- refused before the cells
-  pub found_refused : (code : ℕ) → (code ≡ 0 → ⊥) → ((q n : ℕ) → code ≡ first_refusal m (length l.coords / 2) q n found) → code ≡ state_of op m s c l
+  module _ (oc₀ oc : List Float) (w : List ℕ) (p : Prepared) (ready : PreparedIn op s c oc₀ oc w p) where
+    -- what they yield
+    abbrev y : Yield
+    y = meshes_yield op (take (2 * p.next) oc) w p.regions s.ends c.ends
+
+    pub yielded_events : (meshes_yield op (take (2 * p.next) oc) w p.regions s.ends c.ends).events ≡ over_both op (scene_for op s c) (cell_events op (scene_for op s c))
+    yielded_events = meshes_events op sc₀ (take (2 * p.next) oc) w p.regions s.ends c.ends ready.stands
+
+    -- the points are those that the meetings add
+    points_are : (k : ℕ) → length s.coords + length c.coords ≡ 2 * k → p.next - k ≡ length (added_by sc₀.met) / 2
+    unfolding scene_of
+    points_are k even =
+        omega (arith, ready.long, even, length-append (s.coords ++ c.coords) (added_by sc₀.met), length-append s.coords c.coords)
+
+    kinds_stand : (v : Side) → (net_of sc₀ v).kinds ≡ of_side s.kinds c.kinds v
+    unfolding scene_of subject_net cutter_net
+    kinds_stand the_subject = refl
+    kinds_stand the_cutter = refl
+
+    families_stand : (v : Side) → (net_of sc₀ v).families ≡ of_side s.families c.families v
+    unfolding scene_of subject_net cutter_net
+    families_stand the_subject = refl
+    families_stand the_cutter = refl
+
+    pub placed_in : (m n : ℕ) → Passed op m s c n → (on oe ot on' oe' ot' : List ℕ) (r : Listed)
+        → AllPlaced none_yet (meshes_yield op (take (2 * p.next) oc) w p.regions s.ends c.ends) on oe ot r on' oe' ot' → r.count ≤ length oe
+        → PlacedIn op s c (record { pieces = r.count; points = p.next - (length s.coords + length c.coords) / 2 }) oc₀ on oe ot oc on' oe' ot'
+    unfolding listing_with
+    placed_in m n ok on oe ot on' oe' ot' r a low =
+        let sc = sc₀ in
+        let coords = take (2 * p.next) oc in
+        let g = p.regions in
+        let ins = ready.stands in
+        let pieces : y.pieces ≡ nodes_of ps = meshes_pieces op sc coords w g s.ends c.ends ins in
+        let half : length s.coords + length c.coords ≡ 2 * ((length s.coords + length c.coords) / 2) = omega (arith, ok.subject.even, ok.cutter.even) in
+        record {
+          coords = ready.placed;
+          corners = a.corners ∙ front_put on (flat y.pieces) ∙ ap (λ (ks : List (List ℕ)). front on (flat ks)) pieces;
+          ends = a.ends ∙ front_put oe (stops 0 y.pieces) ∙ ap (λ (ks : List (List ℕ)). front oe (stops 0 ks)) pieces;
+          pieces = a.counted ∙ zero-add (length y.pieces) ∙ ap length pieces ∙ length-map ps (λ p. p.nodes);
+          points = points_are ((length s.coords + length c.coords) / 2) half;
+          room = low;
+          tags = y.tags;
+          tagged = a.tags ∙ front_put ot y.tags;
+          say = record {
+            kinds = meshes_kinds op sc coords w g s.ends c.ends ins s.kinds c.kinds ok.subject.kinds_long kinds_stand;
+            families = meshes_families op sc coords w g s.ends c.ends ins s.families c.families ok.subject.families_long families_stand;
+            meshes = meshes_parent_meshes op sc coords w g s.ends c.ends ins;
+            cells = meshes_parent_cells op sc coords w g s.ends c.ends ins;
+          };
+        }
+
+-- ---- the answer
+
+module _ (op : ℕ) (s c : Mesh) (l : Lists) (room : ℕ) (most : room ≡ piece_room l) where
+  in_ends : length (take room l.ends) ≡ room
+  in_ends = length-take-le room l.ends (omega (arith, most))
+
+  pub state_is : (m n : ℕ) → n ≡ first_refusal m (length l.coords / 2) (length (take room l.ends)) (length l.nodes) (course op s c) → n ≡ state_of op m s c l
   unfolding state_with
-  found_refused code n e =
-      refused code found (over_both op sc₀ (cell_events op sc₀)) m (length l.coords / 2) room (length l.nodes) n (e room (length l.nodes))
-      ∙ ap (first_refusal m (length l.coords / 2) room (length l.nodes)) (sym course_is)
+  state_is m n e = e ∙ ap (λ (q : ℕ). first_refusal m (length l.coords / 2) q (length l.nodes) (course op s c)) (in_ends ∙ most)
 
-  module _ (m' p' : ℕ) (passes : (fs : List Event) → first_refusal m (length l.coords / 2) room (length l.nodes) (found ++ fs) ≡ first_refusal m' p' room (length l.nodes) fs)
-      (y : Yield) (steady : Steady y) (events_are : y.events ≡ over_both op sc₀ (cell_events op sc₀)) (r : Listed) (on' oe' of' : List ℕ)
-      (placed : placing r on' oe' of' ≡ placed_behind none_yet y l.nodes (take room l.ends) (take room l.families)) where
-    ends_long : length (take room l.ends) ≡ room
-    ends_long = length-take-le room l.ends (omega arith)
+  module _ (k : Counts) (oc : List Float) (on oe ot : List ℕ) (h : PlacedIn op s c k l.coords l.nodes (take room l.ends) (take room l.families) oc on oe ot) where
+    few : k.pieces ≤ room
+    few = omega (arith, h.room, in_ends)
 
-    pub cells_state : r.code ≡ state_of op m s c l
-    unfolding state_with
-    cells_state =
-        let a : length (take room l.ends) - 0 ≡ room = omega (arith, ends_long) in
-        let b : length l.nodes - 0 ≡ length l.nodes = omega arith in
-        code_met none_yet y l.nodes (take room l.ends) (take room l.families) r on' oe' of' placed
-        ∙ (λ i. first_refusal 0 0 (a i) (b i) (events_are i))
-        ∙ sym (only_cells m' p' room (length l.nodes) (over_both op sc₀ (cell_events op sc₀)) (cells_over op sc₀))
-        ∙ sym (passes (over_both op sc₀ (cell_events op sc₀))) ∙ ap (first_refusal m (length l.coords / 2) room (length l.nodes)) (sym course_is)
+    -- a number of each piece, as many as there are
+    long : (f : Piece → ℕ) → length (map f (listing op s c)) ≡ k.pieces
+    long f = length-map (listing op s c) f ∙ sym h.pieces
 
-    module _ (z : r.code ≡ 0) (pieces_are : y.pieces ≡ nodes_of ps) where
-      count_is : r.count ≡ length y.pieces
-      count_is = (all_placed none_yet y l.nodes (take room l.ends) (take room l.families) r on' oe' of' placed z).counted ∙ zero-add (length y.pieces)
+    tags_long : length h.tags ≡ k.pieces
+    tags_long = sym (length-map h.tags (kind_by s.kinds c.kinds)) ∙ ap length h.say.kinds ∙ long (λ p. p.kind)
 
-      -- what is counted has its place
-      pub count_low : r.count ≤ room
-      count_low = let f = fit none_yet y l.nodes (take room l.ends) (take room l.families) r on' oe' of' placed steady (omega arith) (omega arith) z in omega (arith, f.0, ends_long)
+    tagged : ot ++ drop room l.families ≡ front l.families h.tags
+    tagged = front_back l.families h.tags ot room h.tagged (omega (arith, tags_long, few)) (omega (arith, most))
 
-      tags_long : length y.tags ≡ r.count
-      tags_long = steady.tags ∙ sym count_is
+    -- what the passes read
+    abbrev read : List ℕ
+    read = take k.pieces (ot ++ drop room l.families)
 
-      abbrev of'' : List ℕ
-      of'' = of' ++ drop room l.families
+    read_is : read ≡ h.tags
+    read_is = ap (take k.pieces) tagged ∙ take_front_of l.families h.tags k.pieces tags_long
 
-      tagged : of'' ≡ front l.families y.tags
-      tagged =
-          front_back l.families y.tags of' room
-          ((all_placed none_yet y l.nodes (take room l.ends) (take room l.families) r on' oe' of' placed z).tags ∙ front_put (take room l.families) y.tags)
-          (omega (arith, tags_long, count_low)) (omega arith)
+    -- a list that a pass has written to by the tags
+    by_tags : (list list' : List ℕ) (by : ℕ → ℕ) (part : Piece → ℕ) → map by h.tags ≡ map part (listing op s c) → list' ≡ front list (map by read)
+        → list' ≡ front list (map part (listing op s c))
+    by_tags list list' by part say e = e ∙ ap (λ (ts : List ℕ). front list (map by ts)) read_is ∙ ap (front list) say
 
-      -- the tags of the pieces
-      pub tags_read : take r.count of'' ≡ y.tags
-      tags_read = ap (take r.count) tagged ∙ take_front_of l.families y.tags r.count tags_long
-
-      pub tags_fit : r.count ≤ length of''
-      unfolding front
-      tags_fit = omega (arith, ap length tagged, length-append y.tags (drop (length y.tags) l.families), tags_long)
-
-      -- a list that a pass has written to by the tags
-      passed : (by : ℕ → ℕ) (part : Piece → ℕ) → map by y.tags ≡ map part ps
-          → (list list' : List ℕ) → list' ≡ front list (map by (take r.count of'')) → list' ≡ front list (map part ps)
-      passed by part are list list' e = e ∙ ap (λ (ts : List ℕ). front list (map by ts)) tags_read ∙ ap (front list) are
-
-      module _ (kinds_are : map (kind_by s.kinds c.kinds) y.tags ≡ map (λ p. p.kind) ps)
-          (families_are : map (family_by s.families c.families) y.tags ≡ map (λ p. p.family) ps)
-          (meshes-are : map (mesh_by (length s.ends)) y.tags ≡ map (λ p. side_number p.mesh) ps)
-          (cells_are : map (cell_by (length s.ends)) y.tags ≡ map (λ p. p.cell) ps) where
-        pub cells_answered : (ok' fs om' oi' : List ℕ) → ok' ≡ front l.kinds (map (kind_by s.kinds c.kinds) (take r.count of''))
-            → fs ≡ map (family_by s.families c.families) (take r.count of'')
-            → om' ≡ front l.meshes (map (mesh_by (length s.ends)) (take r.count of'')) → oi' ≡ front l.cells (map (cell_by (length s.ends)) (take r.count of''))
-            → (oc' : List Float) → oc' ≡ front l.coords sc₀.coords → (points : ℕ) → points ≡ length (added_by sc₀.met) / 2
-            → result_of 0 r.count points 0 (lent_lists oc' on' (oe' ++ drop room l.ends) ok' (fs ++ drop r.count of'') om' oi' (zeros (length l.work))) ≡ answered op s c l
-        unfolding answered_with written listing_with
-        cells_answered ok' fs om' oi' ek ef em ei oc' ec points ep =
-            let a = all_placed none_yet y l.nodes (take room l.ends) (take room l.families) r on' oe' of' placed z in
-            let count : r.count ≡ length ps = count_is ∙ ap length pieces_are ∙ length-map ps (λ p. p.nodes) in
-            let corners : on' ≡ front l.nodes (flat (nodes_of ps)) =
-            a.corners ∙ front_put l.nodes (flat y.pieces) ∙ ap (λ (ks : List (List ℕ)). front l.nodes (flat ks)) pieces_are in
-            let ends : oe' ++ drop room l.ends ≡ front l.ends (stops 0 (nodes_of ps)) =
-            front_back l.ends (stops 0 y.pieces) oe' room (a.ends ∙ front_put (take room l.ends) (stops 0 y.pieces))
-            (omega (arith, stops_length 0 y.pieces, count_is, count_low)) (omega arith)
-            ∙ ap (λ (ks : List (List ℕ)). front l.ends (stops 0 ks)) pieces_are in
-            let kinds = passed (kind_by s.kinds c.kinds) (λ p. p.kind) kinds_are l.kinds ok' ek in
-            let meshes = passed (mesh_by (length s.ends)) (λ p. side_number p.mesh) meshes-are l.meshes om' em in
-            let cells = passed (cell_by (length s.ends)) (λ p. p.cell) cells_are l.cells oi' ei in
-            let fs_are : fs ≡ map (λ p. p.family) ps = ef ∙ ap (map (family_by s.families c.families)) tags_read ∙ families_are in
-            let families : fs ++ drop r.count of'' ≡ front l.families (map (λ p. p.family) ps) =
-            ap₂ (λ (u v : List ℕ). u ++ drop r.count v) fs_are tagged
-            ∙ front_over l.families y.tags (map (λ p. p.family) ps) r.count tags_long (length-map ps (λ p. p.family) ∙ sym count) in
-            λ i. result_of 0 (count i) (ep i) 0 (lent_lists (ec i) (corners i) (ends i) (kinds i) (families i) (meshes i) (cells i) (zeros (length l.work)))
-
--- the points are those that the meetings add
-pub points_are : (op : ℕ) (s c : Mesh) (next k : ℕ) → length s.coords + length c.coords ≡ 2 * k → next ≡ length (scene_for op s c).coords / 2
-    → next - k ≡ length (added_by (scene_for op s c).met) / 2
-unfolding scene_of
-points_are op s c next k even e =
-    omega (arith, e, even, length-append (s.coords ++ c.coords) (added_by (scene_for op s c).met), length-append s.coords c.coords)
+    pub answer_is : (ok fs om oi : List ℕ) → ok ≡ front l.kinds (map (kind_by s.kinds c.kinds) (take k.pieces (ot ++ drop room l.families)))
+        → fs ≡ map (family_by s.families c.families) (take k.pieces (ot ++ drop room l.families))
+        → (om ≡ front l.meshes (map (mesh_by (length s.ends)) (take k.pieces (ot ++ drop room l.families))))
+        × (oi ≡ front l.cells (map (cell_by (length s.ends)) (take k.pieces (ot ++ drop room l.families))))
+        → result_of 0 k.pieces k.points 0 (lent_lists oc on (oe ++ drop room l.ends) ok (fs ++ drop k.pieces (ot ++ drop room l.families)) om oi (zeros (length l.work)))
+        ≡ answered op s c l
+    unfolding answered_with written
+    answer_is ok fs om oi ek ef (em, ei) =
+        let runs = runs_in op s c in
+        let ends : oe ++ drop room l.ends ≡ front l.ends (stops 0 runs) =
+        front_back l.ends (stops 0 runs) oe room h.ends
+        (omega (arith, stops_length 0 runs, length-map (listing op s c) (λ (p : Piece). p.nodes), h.pieces, few)) (omega (arith, most)) in
+        let kinds = by_tags l.kinds ok (kind_by s.kinds c.kinds) (λ p. p.kind) h.say.kinds ek in
+        let meshes = by_tags l.meshes om (mesh_by (length s.ends)) (λ p. side_number p.mesh) h.say.meshes em in
+        let cells = by_tags l.cells oi (cell_by (length s.ends)) (λ p. p.cell) h.say.cells ei in
+        let of : fs ≡ map (λ p. p.family) (listing op s c) = ef ∙ ap (map (family_by s.families c.families)) read_is ∙ h.say.families in
+        let families : fs ++ drop k.pieces (ot ++ drop room l.families) ≡ front l.families (map (λ p. p.family) (listing op s c)) =
+        ap₂ (λ (u v : List ℕ). u ++ drop k.pieces v) of tagged
+        ∙ front_over l.families h.tags (map (λ p. p.family) (listing op s c)) k.pieces tags_long (long (λ p. p.family)) in
+        λ i. result_of 0 (h.pieces i) (h.points i) 0 (lent_lists (h.coords i) (h.corners i) (ends i) (kinds i) (families i) (meshes i) (cells i) (zeros (length l.work)))

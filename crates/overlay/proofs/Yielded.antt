@@ -22,7 +22,8 @@ use Rattle.pieces.proofs.Runs.{length_runs}
 use Rattle.cutting_cells.specs.Yields.{runs_on, numbered_from, cells_yield, meshes_yield}
 use Rattle.cutting_cells.proofs.Meshes.{cell_yield, all_cells}
 use Rattle.passes.specs.Tags.{kind_by, family_by, mesh_by, cell_by}
-use Rattle.overlay.proofs.Scene.{SceneIn, cell_events, nodes_of, pieces_are, events_are, tags_are, kinds_are, families_are, parent_meshes_are, parent_cells_are, tag_in}
+use Rattle.overlay.specs.Prepared.{SceneIn, MeshesIn}
+use Rattle.overlay.proofs.Scene.{cell_events, nodes_of, pieces_are, events_are, tags_are, kinds_are, families_are, parent_meshes_are, parent_cells_are, tag_in}
 
 -- f for each cell of both meshes, if the operation cuts them
 abbrev pub over_both : {A : Type 0} → ℕ → Scene → (Side → ℕ → List A) → List A
@@ -50,13 +51,6 @@ module _ {A B : Type 0} (h : A → B) where
 abbrev pub of_side : List ℕ → List ℕ → Side → List ℕ
 of_side xs ys the_subject = xs
 of_side xs ys the_cutter = ys
-
--- a scene whose meshes stand in the working list, with the ends of their cells
-pub record MeshesIn (sc : Scene) (coords : List Float) (work : List ℕ) (g : Regions) (se ce : List ℕ) : Type 0 where
-  pub subject_cut : SceneIn sc the_subject coords work g g.cutter ce
-  pub cutter_cut : SceneIn sc the_cutter coords work g g.subject se
-  pub subject_cells : sc.subject.cells ≡ runs_of (run_in work g.subject.entries) se
-  pub cutter_cells : sc.cutter.cells ≡ runs_of (run_in work g.cutter.entries) ce
 
 module _ (op : ℕ) (sc : Scene) (coords : List Float) (work : List ℕ) (g : Regions) (se ce : List ℕ) (ins : MeshesIn sc coords work g se ce) where
   -- the ends of the cells of the mesh w

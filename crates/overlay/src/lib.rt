@@ -1,224 +1,170 @@
 // The overlay of two meshes: the public call.
 #![tactic(auto)]
 
-ghost use Rattle.std.specs.Prelude.{◌≡◌, min, length};
+ghost use Rattle.std.specs.Prelude.{◌≡◌, Ok, IfOk, [], ℕ, ◌/◌, length};
 ghost use Rattle.lists.specs.Regions.{zeros};
-ghost use Rattle.entry.specs.Mesh.{mesh};
+ghost use Rattle.refusals.specs.Numbers.{refused_with};
+ghost use Rattle.entry.specs.Mesh.{mesh_of};
+ghost use Rattle.entry.specs.Named.{op_number};
 ghost use Rattle.entry.specs.Refused.{entry_of};
-ghost use Rattle.rules.specs.Overlay.{lent_lists, result_of, cleared, state_of, answered, overlay_of};
+ghost use Rattle.rules.specs.Refusals.{course, first_refusal};
+ghost use Rattle.rules.specs.Overlay.{piece_room, state_of, answered, overlay_of};
+ghost use Rattle.finding.specs.Found.{found_events};
+ghost use Rattle.views.specs.Same.{SameLists};
+ghost use Rattle.overlay.specs.Shown.{lists_of, answer_of};
+ghost use Rattle.overlay.specs.Prepared.{PreparedIn, PlacedIn};
 
 use cutting_cells::cut_meshes;
 use entry::{Operation, entry};
 use finding::find;
 use indexing::index_meshes;
 use passes::{write_families, write_kinds, write_parents};
-use views::MeshView;
+use refusals::Refusal;
+use regions::{Indexes, Regions};
+use views::{MeshView, OutputView};
 
-// The refusal or 0, and the counts of pieces and new points; `doubled` is 0, as no table names a neighbour twice, and is kept for readers of old
-// listings.
-#[derive(Clone, Copy)]
-pub struct Answer {
-    pub code: u32,
+// How many pieces there are, and how many new points.
+#[derive(Clone, Copy, Debug, PartialEq, Eq)]
+pub struct Counts {
     pub pieces: u32,
     pub points: u32,
-    pub doubled: u32,
 }
 
-fn plain(code: u32) -> Answer
-    ensures { (result.code ≡ code) × (result.pieces ≡ 0) × (result.points ≡ 0) × (result.doubled ≡ 0) }
-{
-    Answer {
-        code,
-        pieces: 0,
-        points: 0,
-        doubled: 0,
-    }
+// What the cells are cut by: the number that the next point has, where edges, cells, meetings and links stand in the working list, and the indexes there.
+#[derive(Clone, Copy)]
+struct Prepared {
+    next: usize,
+    regions: Regions,
+    indexes: Indexes,
 }
 
-fn least(a: usize, b: usize, c: usize) -> usize
-    ensures { result ≡ min a (min b c) }
-{
-    if b <= c {
-        if a <= b {
-            return a;
-        }
-        return b;
-    }
-    if a <= c {
-        return a;
-    }
-    c
-}
-
-// The stages behind the entry. The cells' pieces have tags in the list of families; kinds, parents and families are written by them. Where a
-// stage refuses, the lists are to be cleared.
-fn run(
-    op: u32,
+// The stages between the entry and the cells: all coordinates go to the front of their list, what the cells are cut by to the working list.
+fn prepare(
+    operation: Operation,
     m: u32,
-    sc: &[f64],
-    sn: &[u32],
-    se: &[u32],
-    sk: &[u8],
-    sf: &[u32],
-    cc: &[f64],
-    cn: &[u32],
-    ce: &[u32],
-    ck: &[u8],
-    cf: &[u32],
-    oc: &mut [f64],
-    on: &mut [u32],
-    oe: &mut [u32],
-    ok: &mut [u8],
-    of: &mut [u32],
-    om: &mut [u32],
-    oi: &mut [u32],
+    subject: &MeshView,
+    cutter: &MeshView,
+    coords: &mut [f64],
     work: &mut [u32],
-) -> Answer
-    requires { entry_of op m (mesh sc.now sn.now se.now sk.now sf.now) (mesh cc.now cn.now ce.now ck.now cf.now) (length work.old) ≡ 0 }
-    ensures { (result.code ≡ state_of op m (mesh sc.now sn.now se.now sk.now sf.now)
-        (mesh cc.now cn.now ce.now ck.now cf.now)
-        (lent_lists oc.old on.old oe.old ok.old of.old om.old oi.old work.old))
-        × (result.code ≡ 0 → result_of 0 result.pieces result.points result.doubled
-        (lent_lists oc.new on.new oe.new ok.new of.new om.new oi.new (zeros (length work.old)))
-        ≡ answered op (mesh sc.now sn.now se.now sk.now sf.now)
-        (mesh cc.now cn.now ce.now ck.now cf.now)
-        (lent_lists oc.old on.old oe.old ok.old of.old om.old oi.old work.old)) }
+) -> Result<Prepared, Refusal>
+    requires { entry_of (op_number operation) m (mesh_of subject.now) (mesh_of cutter.now) (length work.old) ≡ 0 }
+    ensures refusal { (q n : ℕ) → refused_with result
+        ≡ first_refusal m (length coords.old / 2) q n (found_events (op_number operation) (mesh_of subject.now) (mesh_of cutter.now)) }
+    ensures prepared { IfOk result (λ p. PreparedIn (op_number operation) (mesh_of subject.now) (mesh_of cutter.now) coords.old coords.new work.new p) }
 {
-    let subject = MeshView {
-        coords: sc,
-        nodes: sn,
-        ends: se,
-        kinds: sk,
-        families: sf,
-    };
-    let cutter = MeshView {
-        coords: cc,
-        nodes: cn,
-        ends: ce,
-        kinds: ck,
-        families: cf,
-    };
-    let Ok(operation) = Operation::try_from(op) else {
-        return plain(1);
-    };
-    let f = match find(operation, m, &subject, &cutter, oc, work) {
-        Ok(f) => f,
-        Err(refusal) => return plain(refusal.number()),
-    };
-    let next = f.next;
-    let k = 2 * next;
-    let g = f.regions;
-    let x = index_meshes(&oc[..k], work, g, se, ce);
-    let rest = least(of.len(), om.len(), oi.len());
-    let room = least(oe.len(), ok.len(), rest);
-    let r = cut_meshes(
-        op,
-        &oc[..k],
+    let found = find(operation, m, subject, cutter, coords, work)?;
+    let points = &coords[..2 * found.next];
+    let indexes = index_meshes(points, work, found.regions, subject.ends, cutter.ends);
+    Ok(Prepared {
+        next: found.next,
+        regions: found.regions,
+        indexes,
+    })
+}
+
+// Places all pieces that the operation keeps, each with its tag; as many have a place as there is room for ends.
+fn place(
+    operation: Operation,
+    m: u32,
+    subject: &MeshView,
+    cutter: &MeshView,
+    coords: &mut [f64],
+    nodes: &mut [u32],
+    ends: &mut [u32],
+    tags: &mut [u32],
+    work: &mut [u32],
+) -> Result<Counts, Refusal>
+    requires entered { entry_of (op_number operation) m (mesh_of subject.now) (mesh_of cutter.now) (length work.old) ≡ 0 }
+    requires as_many { length ends.old ≡ length tags.old }
+    ensures refusal { refused_with result ≡ first_refusal m (length coords.old / 2) (length ends.old) (length nodes.old)
+        (course (op_number operation) (mesh_of subject.now) (mesh_of cutter.now)) }
+    ensures placed { IfOk result (λ k. PlacedIn (op_number operation) (mesh_of subject.now) (mesh_of cutter.now) k
+        coords.old nodes.old ends.old tags.old coords.new nodes.new ends.new tags.new) }
+{
+    let p = prepare(operation, m, subject, cutter, coords, work)?;
+    let listed = cut_meshes(
+        u32::from(operation),
+        &coords[..2 * p.next],
         work,
-        g,
-        x,
-        se,
-        ce,
-        on,
-        &mut oe[..room],
-        &mut of[..room],
-    );
-    let full = r.code;
-    if full != 0 {
-        return plain(full);
-    }
-    let n = r.count;
-    write_kinds(&of[..n], sk, ck, ok);
-    write_parents(&of[..n], se.len() as u32, om, oi);
-    write_families(sf, cf, &mut of[..n]);
-    Answer {
-        code: 0,
-        pieces: n as u32,
-        points: (next - (sc.len() + cc.len()) / 2) as u32,
-        doubled: 0,
-    }
+        p.regions,
+        p.indexes,
+        subject.ends,
+        cutter.ends,
+        nodes,
+        ends,
+        tags,
+    )?;
+    Ok(Counts {
+        pieces: listed.count as u32,
+        points: (p.next - (subject.coords.len() + cutter.coords.len()) / 2) as u32,
+    })
 }
 
-// Every output list and the working list to zero.
-fn clear(
-    oc: &mut [f64],
-    on: &mut [u32],
-    oe: &mut [u32],
-    ok: &mut [u8],
-    of: &mut [u32],
-    om: &mut [u32],
-    oi: &mut [u32],
-    work: &mut [u32],
-)
-    ensures { lent_lists oc.new on.new oe.new ok.new of.new om.new oi.new work.new
-        ≡ cleared (lent_lists oc.old on.old oe.old ok.old of.old om.old oi.old work.old) }
+// How many pieces have their places.
+fn piece_room(out: &OutputView) -> usize
+    ensures { result ≡ piece_room (lists_of out.now []) }
 {
-    oc.fill(0.0);
-    on.fill(0);
-    oe.fill(0);
-    ok.fill(0);
-    of.fill(0);
-    om.fill(0);
-    oi.fill(0);
-    work.fill(0);
+    let parents = out.meshes.len().min(out.cells.len());
+    let of_each = out.kinds.len().min(out.families.len().min(parents));
+    out.ends.len().min(of_each)
 }
 
-// Operation, meeting limit M; the subject's and the cutter's coordinates, node numbers, cell ends, kinds and families; the same five output lists, and
-// those of the parents' meshes and cells; the working list.
+// What stands behind the entry. The pieces' tags come into the list of families; kinds, parents and families are written by them. Where a stage
+// refuses, the lists are to be cleared.
+fn run(
+    operation: Operation,
+    m: u32,
+    subject: &MeshView,
+    cutter: &MeshView,
+    out: &mut OutputView,
+    work: &mut [u32],
+) -> Result<Counts, Refusal>
+    requires { entry_of (op_number operation) m (mesh_of subject.now) (mesh_of cutter.now) (length work.old) ≡ 0 }
+    ensures refusal { refused_with result ≡ state_of (op_number operation) m (mesh_of subject.now) (mesh_of cutter.now) (lists_of out.old work.old) }
+    ensures answer { IfOk result (λ k. answer_of (Ok k) (lists_of out.new (zeros (length work.old)))
+        ≡ answered (op_number operation) (mesh_of subject.now) (mesh_of cutter.now) (lists_of out.old work.old)) }
+    ensures same_lists { SameLists out.new out.old }
+{
+    let room = piece_room(out);
+    let ends = &mut *out.ends;
+    let tags = &mut *out.families;
+    let counts = place(
+        operation,
+        m,
+        subject,
+        cutter,
+        out.coords,
+        out.nodes,
+        &mut ends[..room],
+        &mut tags[..room],
+        work,
+    )?;
+    let tags = &mut tags[..counts.pieces as usize];
+    write_kinds(tags, subject.kinds, cutter.kinds, out.kinds);
+    let meshes = &mut *out.meshes;
+    write_parents(tags, subject.ends.len() as u32, meshes, out.cells);
+    write_families(subject.families, cutter.families, tags);
+    Ok(counts)
+}
+
+// Operation, meeting limit M, subject, cutter, output lists, working list.
 pub fn overlay(
     op: u32,
     m: u32,
-    sc: &[f64],
-    sn: &[u32],
-    se: &[u32],
-    sk: &[u8],
-    sf: &[u32],
-    cc: &[f64],
-    cn: &[u32],
-    ce: &[u32],
-    ck: &[u8],
-    cf: &[u32],
-    oc: &mut [f64],
-    on: &mut [u32],
-    oe: &mut [u32],
-    ok: &mut [u8],
-    of: &mut [u32],
-    om: &mut [u32],
-    oi: &mut [u32],
+    subject: &MeshView,
+    cutter: &MeshView,
+    out: &mut OutputView,
     work: &mut [u32],
-) -> Answer
-    ensures { result_of result.code result.pieces result.points result.doubled
-        (lent_lists oc.new on.new oe.new ok.new of.new om.new oi.new work.new)
-        ≡ overlay_of op m
-        (mesh sc.now sn.now se.now sk.now sf.now)
-        (mesh cc.now cn.now ce.now ck.now cf.now)
-        (lent_lists oc.old on.old oe.old ok.old of.old om.old oi.old work.old) }
+) -> Result<Counts, Refusal>
+    ensures answer { answer_of result (lists_of out.new work.new)
+        ≡ overlay_of op m (mesh_of subject.now) (mesh_of cutter.now) (lists_of out.old work.old) }
+    ensures same_lists { SameLists out.new out.old }
 {
-    let subject = MeshView {
-        coords: sc,
-        nodes: sn,
-        ends: se,
-        kinds: sk,
-        families: sf,
-    };
-    let cutter = MeshView {
-        coords: cc,
-        nodes: cn,
-        ends: ce,
-        kinds: ck,
-        families: cf,
-    };
-    if let Err(refusal) = entry(op, m, &subject, &cutter, work.len()) {
-        return plain(refusal.number());
-    }
-    let a = run(
-        op, m, sc, sn, se, sk, sf, cc, cn, ce, ck, cf, oc, on, oe, ok, of, om, oi, work,
-    );
-    let code = a.code;
-    if code != 0 {
-        clear(oc, on, oe, ok, of, om, oi, work);
-        return plain(code);
+    let operation = entry(op, m, subject, cutter, work.len())?;
+    let result = run(operation, m, subject, cutter, out, work);
+    if result.is_err() {
+        out.clear();
     }
     work.fill(0);
-    a
+    result
 }

@@ -7,42 +7,44 @@ ghost use Rattle.rules.specs.Overlay.{lent_lists, overlay_of};
 ghost use Rattle.overlay_c.specs.Answer.{AnswerOf, placed};
 
 use overlay::overlay;
+use views::{OutputView, view};
 
-// The counts are put into the first three places, where there are three.
+// The counts and 0 are put into the first three places, where there are three.
 #[tactic(auto, unfolding(crate::specs::Answer::placed))]
-fn put(counts: &mut [u32], pieces: u32, points: u32, doubled: u32)
-    ensures { counts.new ≡ placed pieces points doubled counts.old }
+fn put(counts: &mut [u32], pieces: u32, points: u32)
+    ensures { counts.new ≡ placed pieces points 0 counts.old }
 {
     if counts.len() > 2 {
         counts[0] = pieces;
         counts[1] = points;
-        counts[2] = doubled;
+        counts[2] = 0;
     }
 }
 
 // Operation, meeting limit M; the subject's and the cutter's coordinates, node numbers, cell ends, kinds and families; the same five output lists, and
-// those of the parents' meshes and cells; the working list; the counts of pieces and new points, and 0.
+// those of the parents' meshes and cells; the working list; the counts of pieces and new points, and 0. Plain lists, as C lends them; the output is
+// written out, not made by `output`, so that the prover knows what each list ends as.
 #[unsafe(no_mangle)]
-pub extern "C" fn daqwimay_overlay(
+pub extern "C" fn daqwimay_overlay<'a, 'b, 'c>(
     op: u32,
     m: u32,
-    sc: &[f64],
-    sn: &[u32],
-    se: &[u32],
-    sk: &[u8],
-    sf: &[u32],
-    cc: &[f64],
-    cn: &[u32],
-    ce: &[u32],
-    ck: &[u8],
-    cf: &[u32],
-    oc: &mut [f64],
-    on: &mut [u32],
-    oe: &mut [u32],
-    ok: &mut [u8],
-    of: &mut [u32],
-    om: &mut [u32],
-    oi: &mut [u32],
+    sc: &'a [f64],
+    sn: &'a [u32],
+    se: &'a [u32],
+    sk: &'a [u8],
+    sf: &'a [u32],
+    cc: &'b [f64],
+    cn: &'b [u32],
+    ce: &'b [u32],
+    ck: &'b [u8],
+    cf: &'b [u32],
+    oc: &'c mut [f64],
+    on: &'c mut [u32],
+    oe: &'c mut [u32],
+    ok: &'c mut [u8],
+    of: &'c mut [u32],
+    om: &'c mut [u32],
+    oi: &'c mut [u32],
     work: &mut [u32],
     counts: &mut [u32],
 ) -> u32
@@ -52,9 +54,25 @@ pub extern "C" fn daqwimay_overlay(
         (lent_lists oc.old on.old oe.old ok.old of.old om.old oi.old work.old)) counts.old
         result (lent_lists oc.new on.new oe.new ok.new of.new om.new oi.new work.new) counts.new }
 {
-    let a = overlay(
-        op, m, sc, sn, se, sk, sf, cc, cn, ce, ck, cf, oc, on, oe, ok, of, om, oi, work,
-    );
-    put(counts, a.pieces, a.points, a.doubled);
-    a.code
+    let subject = view(sc, sn, se, sk, sf);
+    let cutter = view(cc, cn, ce, ck, cf);
+    let mut out = OutputView {
+        coords: oc,
+        nodes: on,
+        ends: oe,
+        kinds: ok,
+        families: of,
+        meshes: om,
+        cells: oi,
+    };
+    match overlay(op, m, &subject, &cutter, &mut out, work) {
+        Ok(k) => {
+            put(counts, k.pieces, k.points);
+            0
+        }
+        Err(refusal) => {
+            put(counts, 0, 0);
+            refusal.number()
+        }
+    }
 }

@@ -1,56 +1,45 @@
 -- From the contracts of reading, overlay and printing to the program's answer. Assumes nothing.
 use mathlib.Core.Path.{◌≡◌, refl, ap, subst, ◌∙◌}
-use mathlib.Core.Bool.{Bool, true, false, cond}
 use mathlib.Core.List.{List, [], ◌++◌}
 use Prim.Native.Nat.{ℕ, ◌+◌, ◌≤◌}
 use native.Mathlib.Omega.{arith}
 use lib.Dec.{eqb}
 use lib.ListN.{length, take, length-append}
 use lib.Ieee.{Float}
-use borrow.Author.Tests.{eq-eqb, ne_eqb}
+use borrow.Author.Tests.{ne_eqb}
 use Rattle.lists.specs.Regions.{zeros, fzeros}
 use Rattle.cutting.specs.Setting.{ours}
 use Rattle.entry.specs.Mesh.{Mesh, mesh, node_count}
 use Rattle.rules.specs.Meetings.{added_by, scene_of}
-use Rattle.rules.specs.Overlay.{Lists, Result, lent_lists, result_of, answered as succeeded, answered_with, overlay_of}
+use Rattle.rules.specs.Overlay.{Lists, Result as Answered, lent_lists, answered as succeeded, answered_with, overlay_of}
 use Rattle.rules.proofs.Endings.{Ending, input, state_met, success, ending, input_refused, state_refused, succeeds}
 use Rattle.rules.proofs.Lengths.{accepted_fits}
-use Rattle.text.specs.Text.{Answer, answer_text}
+use Rattle.text.specs.Text.{answer_text}
 use Rattle.text.specs.Read.{input_from}
 use Rattle.text.specs.Given.{Given, Parsed, ReadMesh, Limits, limits}
-use Rattle.std.specs.Prelude.{None, Some}
+use Rattle.std.specs.Prelude.{None, Some, Result, Ok, Err, IfOk}
+use Rattle.refusals.specs.declared.Refusal.{Refusal}
+use Rattle.refusals.specs.Numbers.{number}
+use Rattle.refusals.proofs.Numbers.{some_not_zero}
+use Rattle.overlay.specs.declared.Counts.{Counts}
+use Rattle.overlay.specs.Shown.{answer_of}
 use Rattle.printing.specs.Page.{Place, Prints}
 use Rattle.printing.specs.Told.{told}
 use Rattle.printing.specs.declared.Listing.{Listing}
-use Rattle.printing.specs.declared.Answer.{Answer as Printed}
 use Rattle.printing.specs.declared.Answer.TheVariants as printed
 use Rattle.program.specs.Answered.{read_limits, lent, blank, result_told, overlay_told, answer_given, answer_to}
 use Rattle.program.specs.Printed.{printed_of}
 
 -- ---- what is printed
 
-pub a_refusal : (n code p q d : ℕ) → (code ≡ 0 → ⊥) → printed.Refused code ≡ printed_of n code p q d
-unfolding printed_of
-a_refusal n code p q d h = rw (ne_eqb code 0 h) refl
-
-pub a_listing : (n code p q d : ℕ) → code ≡ 0 → printed.Overlay (n + q) (record { pieces = p; points = q; doubled = d }) ≡ printed_of n code p q d
-unfolding printed_of
-a_listing n code p q d h = rw (eq-eqb code 0 h) refl
-
 -- the lists that printing is lent, and the working list
 abbrev shown : Listing → List ℕ → Lists
 shown v ws = lent_lists v.coords.now v.nodes.now v.ends.now v.kinds.now v.families.now v.meshes.now v.cells.now ws
 
-printed_told : (n code p q d : ℕ) (v : Listing) (ws : List ℕ) → told (printed_of n code p q d) v ≡ result_told n (result_of code p q d (shown v ws))
-unfolding printed_of told result_told
-printed_told n code p q d v ws = go (eqb code 0)
-  where
-    left : Bool → Answer
-    left b = told (cond b (printed.Overlay (n + q) (record { pieces = p; points = q; doubled = d })) (printed.Refused code)) v
-
-    go : (b : Bool) → left b ≡ cond b (left true) (left false)
-    go true = refl
-    go false = refl
+printed_told : (n : ℕ) (r : Result Counts Refusal) (v : Listing) (ws : List ℕ) → told (printed_of n r) v ≡ result_told n (answer_of r (shown v ws))
+unfolding told result_told
+printed_told n (Ok k) v ws = refl
+printed_told n (Err r) v ws = rw (ne_eqb (number r) 0 (some_not_zero r)) refl
 
 -- ---- the overlay of two meshes, into the program's lists
 
@@ -65,7 +54,7 @@ module _ (op m : ℕ) (s c : Mesh) where
   success_few : overlay_of op m s c lists ≡ succeeded op s c lists → (succeeded op s c lists).points ≤ 2048
   unfolding answered_with
   success_few same =
-      let fits = (accepted_fits op m s c lists (ap (λ (r : Result). r.code) same)).coords in
+      let fits = (accepted_fits op m s c lists (ap (λ (r : Answered). r.code) same)).coords in
       omega (arith, coords_added, fits)
 
   points_few : (overlay_of op m s c lists).points ≤ 2048
@@ -76,19 +65,22 @@ module _ (op m : ℕ) (s c : Mesh) where
       go (state_met e n) = rw (state_refused ours op m s c lists e n) (omega arith)
       go (success e f) = let same = succeeds ours op m s c lists e f in rw same (success_few same)
 
-  module _ (n code p q d : ℕ) (l : Lists)
-      (same : result_of code p q d l ≡ overlay_of op m s c
+  module _ (n : ℕ) (a : Result Counts Refusal) (l : Lists)
+      (same : answer_of a l ≡ overlay_of op m s c
       (lent_lists (fzeros 4096) (zeros 8192) (zeros 2048) (zeros 2048) (zeros 2048) (zeros 2048) (zeros 2048) (zeros 16384))) where
-    pub nodes_fit_lem : n ≤ 1024 → n + q ≤ 4294967295
-    nodes_fit_lem h = omega (arith, h, points_few, ap (λ (r : Result). r.points) same)
+    pub nodes_fit_lem : n ≤ 1024 → IfOk a (λ k. n + k.points ≤ 4294967295)
+    nodes_fit_lem h = go a same
+      where
+        go : (a : Result Counts Refusal) → answer_of a l ≡ overlay_of op m s c lists → IfOk a (λ k. n + k.points ≤ 4294967295)
+        go (Ok k) e = omega (arith, h, points_few, ap (λ (r : Answered). r.points) e)
+        go (Err r) e = tt
 
-    pub cut_printed : (g : Printed) (v : Listing) (r : Place) (o u : List ℕ) → n ≡ node_count s + node_count c → g ≡ printed_of n code p q d → shown v l.work ≡ l
-        → Prints r o u (answer_text (told g v)) → Prints r o u (answer_text (overlay_told op m s c))
+    pub cut_printed : (v : Listing) (r : Place) (o u : List ℕ) → n ≡ node_count s + node_count c → shown v l.work ≡ l
+        → Prints r o u (answer_text (told (printed_of n a) v)) → Prints r o u (answer_text (overlay_told op m s c))
     unfolding blank overlay_told
-    cut_printed g v r o u z e f h =
-        let text : told g v ≡ result_told (node_count s + node_count c) (overlay_of op m s c lists) =
-        ap (λ x. told x v) e ∙ printed_told n code p q d v l.work ∙ ap (λ x. result_told n (result_of code p q d x)) f ∙ ap (result_told n) same
-        ∙ ap (λ k. result_told k (overlay_of op m s c lists)) z in
+    cut_printed v r o u z f h =
+        let text : told (printed_of n a) v ≡ result_told (node_count s + node_count c) (overlay_of op m s c lists) =
+        printed_told n a v l.work ∙ ap (λ x. result_told n (answer_of a x)) f ∙ ap (result_told n) same ∙ ap (λ k. result_told k (overlay_of op m s c lists)) z in
         rw text at h
 
 -- ---- what was read

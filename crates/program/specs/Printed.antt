@@ -1,8 +1,12 @@
 -- What the program hands to printing, before the lists are looked at. Assumes nothing.
-use Rattle.std.specs.Prelude.{ℕ, ◌+◌, cond, eqb}
+use Rattle.std.specs.Prelude.{ℕ, ◌+◌, Result, Ok, Err}
+use Rattle.refusals.specs.declared.Refusal.{Refusal}
+use Rattle.refusals.specs.Numbers.{number}
+use Rattle.overlay.specs.declared.Counts.{Counts}
 use Rattle.printing.specs.declared.Answer.{Answer as Printed}
 use Rattle.printing.specs.declared.Answer.TheVariants as printed
 
-unfoldable pub printed_of : ℕ → ℕ → ℕ → ℕ → ℕ → Printed
-printed_of nodes code pieces points doubled =
-    cond (eqb code 0) (printed.Overlay (nodes + points) (record { pieces = pieces; points = points; doubled = doubled })) (printed.Refused code)
+-- of an overlay, how many nodes there are then and the three counts
+abbrev pub printed_of : ℕ → Result Counts Refusal → Printed
+printed_of nodes (Ok k) = printed.Overlay (nodes + k.points) (record { pieces = k.pieces; points = k.points; doubled = 0 })
+printed_of nodes (Err r) = printed.Refused (number r)

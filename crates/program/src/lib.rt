@@ -1,7 +1,7 @@
 // The program's answer: a text read, two meshes overlaid, the answer printed.
 #![tactic(auto)]
 
-ghost use Rattle.std.specs.Prelude.{◌≡◌, ◌+◌, ◌≤◌, length};
+ghost use Rattle.std.specs.Prelude.{◌≡◌, ◌+◌, ◌≤◌, length, IfOk};
 ghost use Rattle.lists.specs.Regions.{front};
 ghost use Rattle.entry.specs.Mesh.{mesh_of};
 ghost use Rattle.text.specs.Text.{answer_text};
@@ -9,39 +9,41 @@ ghost use Rattle.printing.specs.Page.{Prints};
 ghost use Rattle.program.specs.Answered.{overlay_told, answer_to};
 ghost use Rattle.program.specs.Printed.{printed_of};
 
+use overlay::overlay;
 use printing::{Answer, Counts, Full, Listing};
 use reading::MeshLists;
+use refusals::Refusal;
 use views::{MeshView, OutputView};
 
 // what is printed of an overlay's answer: `nodes` are those of both meshes
-fn told(nodes: u32, a: overlay::Answer) -> Answer
-    requires { nodes + a.points ≤ 4294967295 }
-    ensures { result ≡ printed_of nodes a.code a.pieces a.points a.doubled }
+fn told(nodes: u32, answer: Result<overlay::Counts, Refusal>) -> Answer
+    requires { IfOk answer (λ k. nodes + k.points ≤ 4294967295) }
+    ensures { result ≡ printed_of nodes answer }
 {
-    if a.code != 0 {
-        return Answer::Refused(a.code);
-    }
-    Answer::Overlay {
-        nodes: nodes + a.points,
-        counts: Counts {
-            pieces: a.pieces,
-            points: a.points,
-            doubled: a.doubled,
+    match answer {
+        Ok(k) => Answer::Overlay {
+            nodes: nodes + k.points,
+            counts: Counts {
+                pieces: k.pieces,
+                points: k.points,
+                doubled: 0,
+            },
         },
+        Err(refusal) => Answer::Refused(refusal.number()),
     }
 }
 
 // the answer for two meshes as read
-fn cut<'a, 'b>(
+fn cut(
     op: u32,
     m: u32,
-    subject: MeshView<'a>,
-    cutter: MeshView<'b>,
+    subject: &MeshView,
+    cutter: &MeshView,
     out: &mut [u8],
 ) -> Result<usize, Full>
-    requires subject_nodes { length subject.coords.now ≤ 1024 }
-    requires cutter_nodes { length cutter.coords.now ≤ 1024 }
-    ensures { Prints result out.old out.new (answer_text (overlay_told op m (mesh_of subject.entry) (mesh_of cutter.entry))) }
+    requires subject_nodes { length subject.now.coords.now ≤ 1024 }
+    requires cutter_nodes { length cutter.now.coords.now ≤ 1024 }
+    ensures { Prints result out.old out.new (answer_text (overlay_told op m (mesh_of subject.now) (mesh_of cutter.now))) }
 {
     let mut oc = [0.0; 4096];
     let mut on = [0u32; 8192];
@@ -52,7 +54,7 @@ fn cut<'a, 'b>(
     let mut oi = [0u32; 2048];
     let mut work = [0u32; 16384];
     let nodes = (subject.coords.len() / 2 + cutter.coords.len() / 2) as u32;
-    let pieces = OutputView {
+    let mut pieces = OutputView {
         coords: &mut oc,
         nodes: &mut on,
         ends: &mut oe,
@@ -61,7 +63,7 @@ fn cut<'a, 'b>(
         meshes: &mut om,
         cells: &mut oi,
     };
-    let a = mesh_view::overlay_views(op, m, subject, cutter, pieces, &mut work);
+    let answer = overlay(op, m, subject, cutter, &mut pieces, &mut work);
     let lists = Listing {
         coords: &oc,
         nodes: &on,
@@ -71,7 +73,7 @@ fn cut<'a, 'b>(
         meshes: &om,
         cells: &oi,
     };
-    printing::print_answer(out, told(nodes, a), &lists)
+    printing::print_answer(out, told(nodes, answer), &lists)
 }
 
 // The answer to the text s, from the first place of `out` on.
@@ -119,7 +121,7 @@ pub fn answer(s: &[u8], out: &mut [u8]) -> Result<usize, Full>
         kinds: &ck[..input.cutter.cells],
         families: &cf[..input.cutter.cells],
     };
-    cut(input.op, input.m, subject, cutter, out)
+    cut(input.op, input.m, &subject, &cutter, out)
 }
 
 // The same in a list that holds any answer: how many bytes it has.

@@ -2,6 +2,7 @@
 #![tactic(auto)]
 
 ghost use Rattle.std.specs.Prelude.{◌≡◌};
+ghost use Rattle.views.specs.Same.{SameLists, Cleared};
 
 // A mesh as read: coordinates (x then y), node numbers (flat), cell ends, kinds, families.
 #[derive(Clone, Copy)]
@@ -63,5 +64,21 @@ pub fn output<'a>(
         families,
         meshes,
         cells,
+    }
+}
+
+impl OutputView<'_> {
+    // Every list to zero.
+    pub fn clear(&mut self)
+        ensures cleared { Cleared self.old self.new }
+        ensures same_lists { SameLists self.new self.old }
+    {
+        self.coords.fill(0.0);
+        self.nodes.fill(0);
+        self.ends.fill(0);
+        self.kinds.fill(0);
+        self.families.fill(0);
+        self.meshes.fill(0);
+        self.cells.fill(0);
     }
 }

@@ -1,0 +1,66 @@
+-- What the cells are cut by, as it stands in the lists once both meshes are indexed: what only contracts of inner functions cite. Assumes nothing.
+use Rattle.std.specs.Prelude.{◌≡◌, List, map, ℕ, ◌+◌, ◌*◌, ◌/◌, ◌^◌, ◌≤◌, ◌<◌, length, take, Float}
+use Rattle.lists.specs.Regions.{front}
+use Rattle.cutting.specs.Edges.{Edge}
+use Rattle.cutting.specs.Outcome.{flat, stops}
+use Rattle.entry.specs.Mesh.{Mesh}
+use Rattle.rules.specs.Mesh.{Side, the_subject, the_cutter, other, side_number}
+use Rattle.rules.specs.Meetings.{Scene, net_of, added_by}
+use Rattle.rules.specs.Nodes.{sorted_nodes}
+use Rattle.rules.specs.Operations.{Piece, scene_for, listing}
+use Rattle.regions.specs.declared.MeshRuns.{MeshRuns}
+use Rattle.regions.specs.declared.Regions.{Regions}
+use Rattle.regions.specs.Runs.{run_in, mesh_edges}
+use Rattle.edge_nodes.specs.Lent.{nodes_on}
+use Rattle.pieces.specs.Pieces.{runs_of}
+use Rattle.cutting_cells.specs.Yields.{MeshesReady}
+use Rattle.passes.specs.Tags.{kind_by, family_by, mesh_by, cell_by}
+use Rattle.overlay.specs.declared.Counts.{Counts}
+use Rattle.overlay.specs.declared.Prepared.{Prepared}
+
+-- What the cells of the mesh w are cut by: the coordinates, the sorted nodes of edges, and the other mesh's edges and cells.
+pub record SceneIn (sc : Scene) (w : Side) (coords : List Float) (work : List ℕ) (g : Regions) (o : MeshRuns) (ends : List ℕ) : Type 0 where
+  pub points : sc.coords ≡ coords
+  pub nodes_are : (e : Edge) → nodes_on sc.coords work g e ≡ sorted_nodes sc e
+  pub near_edges : (net_of sc (other w)).edges ≡ mesh_edges work o
+  pub near_cells : (net_of sc (other w)).cells ≡ runs_of (run_in work o.entries) ends
+
+-- a scene whose meshes stand in the working list, with the ends of their cells
+pub record MeshesIn (sc : Scene) (coords : List Float) (work : List ℕ) (g : Regions) (se ce : List ℕ) : Type 0 where
+  pub subject_cut : SceneIn sc the_subject coords work g g.cutter ce
+  pub cutter_cut : SceneIn sc the_cutter coords work g g.subject se
+  pub subject_cells : sc.subject.cells ≡ runs_of (run_in work g.subject.entries) se
+  pub cutter_cells : sc.cutter.cells ≡ runs_of (run_in work g.cutter.entries) ce
+
+-- All coordinates stand in the front of oc, which was oc₀, and the scene in the working list w; p is what the cells are asked with.
+pub record PreparedIn (op : ℕ) (s c : Mesh) (oc₀ oc : List Float) (w : List ℕ) (p : Prepared) : Type 0 where
+  pub placed : oc ≡ front oc₀ (scene_for op s c).coords
+  pub long : length (scene_for op s c).coords ≡ 2 * p.next
+  pub fits : 2 * p.next ≤ length oc
+  pub least : (length s.coords + length c.coords) / 2 ≤ p.next
+  pub most : p.next < 2 ^ 32
+  pub stands : MeshesIn (scene_for op s c) (take (2 * p.next) oc) w p.regions s.ends c.ends
+  pub ready : MeshesReady op (take (2 * p.next) oc) w p.regions p.indexes s.ends c.ends
+
+abbrev pub runs_in : ℕ → Mesh → Mesh → List (List ℕ)
+runs_in op s c = map (λ p. p.nodes) (listing op s c)
+
+-- what the tags ts say of the pieces ps
+pub record Tagged (s c : Mesh) (ts : List ℕ) (ps : List Piece) : Type 0 where
+  pub kinds : map (kind_by s.kinds c.kinds) ts ≡ map (λ p. p.kind) ps
+  pub families : map (family_by s.families c.families) ts ≡ map (λ p. p.family) ps
+  pub meshes : map (mesh_by (length s.ends)) ts ≡ map (λ p. side_number p.mesh) ps
+  pub cells : map (cell_by (length s.ends)) ts ≡ map (λ p. p.cell) ps
+
+-- The coordinates, corners, ends and tags of the pieces stand in the fronts of oc', on', oe' and ot', which were oc, on, oe and ot; k counts pieces and
+-- new points.
+pub record PlacedIn (op : ℕ) (s c : Mesh) (k : Counts) (oc : List Float) (on oe ot : List ℕ) (oc' : List Float) (on' oe' ot' : List ℕ) : Type 0 where
+  pub coords : oc' ≡ front oc (scene_for op s c).coords
+  pub corners : on' ≡ front on (flat (runs_in op s c))
+  pub ends : oe' ≡ front oe (stops 0 (runs_in op s c))
+  pub pieces : k.pieces ≡ length (listing op s c)
+  pub points : k.points ≡ length (added_by (scene_for op s c).met) / 2
+  pub room : k.pieces ≤ length oe
+  pub tags : List ℕ
+  pub tagged : ot' ≡ front ot tags
+  pub say : Tagged s c tags (listing op s c)
