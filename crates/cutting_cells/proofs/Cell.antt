@@ -96,12 +96,12 @@ module _ (t : Treatment) (cell near : List ℕ) (at : near ≡ near_to t cell) (
   made = outcome_of t near cell
 
   abbrev yield : ℕ → Outcome → Yield
-  yield i z = yield_by t.coords.now t.work.now t.regions t.other t.ends.now t.keep (2 * i + bit (ltb 0 (length near))) z
+  yield i z = yield_by t.scene.coords.now t.scene.work.now t.scene.regions t.other t.ends.now t.keep (2 * i + bit (ltb 0 (length near))) z
 
   yield_is : (i : ℕ) → yield i made ≡ yield_for t i cell
   unfolding yield_of
   yield_is i =
-      ap (λ (js : List ℕ). yield_by t.coords.now t.work.now t.regions t.other t.ends.now t.keep (2 * i + bit (ltb 0 (length js))) (outcome_of t js cell)) at
+      ap (λ (js : List ℕ). yield_by t.scene.coords.now t.scene.work.now t.scene.regions t.other t.ends.now t.keep (2 * i + bit (ltb 0 (length js))) (outcome_of t js cell)) at
 
   -- refused by the cell
   pub cell_refused : (why : Refusal) → cut (Err why) runs stops ≡ cut_as (outcome_of t near cell) runs₀ stops₀
@@ -119,14 +119,14 @@ module _ (t : Treatment) (cell near : List ℕ) (at : near ≡ near_to t cell) (
 
   -- its pieces, as they are lent with the other mesh's cells
   pub pieces_yielded : (k : Counts) → cut (Ok k) runs stops ≡ cut_as (outcome_of t near cell) runs₀ stops₀
-      → (o : Things) → (o.coords.now ≡ t.coords.now) × (o.nodes.now ≡ run_in t.work.now t.other.entries) × (o.ends.now ≡ t.ends.now)
+      → (o : Things) → (o.coords.now ≡ t.scene.coords.now) × (o.nodes.now ≡ run_in t.scene.work.now t.other.entries) × (o.ends.now ≡ t.ends.now)
       → (n : ℕ) → n ≡ length near → (i tag : ℕ) → tag ≡ 2 * i + bit (ltb 0 n)
       → tagged tag (passing (is_kept t.keep o.coords.now (cells_in o)) (runs_of (take k.entries runs) (take k.pieces stops))) ≡ yield_for t i cell
   pieces_yielded k is o lent n count i tag tag_is =
-      let r = read made (outcome_sound t.coords.now t.work.now t.regions t.other.edges near cell) runs₀ stops₀ runs stops k is in
+      let r = read made (outcome_sound t.scene.coords.now t.scene.work.now t.scene.regions t.other.edges near cell) runs₀ stops₀ runs stops k is in
       (λ s. tagged (tag_is s) (passing (is_kept t.keep (lent.0 s) (runs_of (lent.1 s) (lent.2 s))) (runs_of (r.nodes_are s) (r.ends_are s))))
       ∙ (λ s. tagged (2 * i + bit (ltb 0 (count s)))
-      (passing (is_kept t.keep t.coords.now (runs_of (run_in t.work.now t.other.entries) t.ends.now)) (read_back r.all s)))
+      (passing (is_kept t.keep t.scene.coords.now (runs_of (run_in t.scene.work.now t.other.entries) t.ends.now)) (read_back r.all s)))
       ∙ ap (yield i) (sym r.outcome) ∙ yield_is i
 
 -- of pieces that stand in lists of 1,024 few are counted

@@ -2,7 +2,6 @@
 use mathlib.Core.Path.{◌≡◌, refl, sym, ap, ◌∙◌, subst}
 use mathlib.Core.List.{List, []}
 use Prim.Native.Nat.{ℕ, ◌+◌, ◌-◌, ◌≤◌, ◌<◌}
-use native.Mathlib.Nat.{le_antisymm}
 use native.Mathlib.Omega.{arith}
 use lib.ListN.{length, get_or, take, drop}
 use Rattle.std.specs.Prelude.{Ok, Err}
@@ -39,7 +38,7 @@ module _ (t : Treatment) (own stops : List ℕ) (from : ℕ) (p : Listed) (l : P
   f i = yield_for t (from + i) (get_or (runs_of own stops) i [])
 
   steady : (i : ℕ) → Steady (f i)
-  steady i = yield_steady t.coords.now t.work.now t.regions t.other t.ends.now t.keep (from + i) (get_or (runs_of own stops) i [])
+  steady i = yield_steady t.scene.coords.now t.scene.work.now t.scene.regions t.other t.ends.now t.keep (from + i) (get_or (runs_of own stops) i [])
 
   pub start₀ : Going t own stops from p l l p 0 0
   unfolding prior all_of
@@ -56,27 +55,15 @@ module _ (t : Treatment) (own stops : List ℕ) (from : ℕ) (p : Listed) (l : P
     so_far : Steady (all_of i f)
     so_far = steady_all f i (λ j h. steady j)
 
-    pub end_placed : length stops ≤ i → left (Ok q) l' ≡ placed_in p (all_yield t own stops from) l
-    end_placed h =
-        let e : i ≡ n = le_antisymm inv.within h in
-        inv.placed ∙ ap (λ (m : ℕ). placed_in p (all_of m f) l) e
-
-    pub end_few : length stops ≤ i → Few (length stops) p q
-    end_few h = subst (λ (m : ℕ). Few m p q) (le_antisymm inv.within h) inv.few
-
     module _ (more : i < length stops) where
-      -- the cell that comes next lies there
-      pub next_within : (start ≤ get_or stops i 0) × (get_or stops i 0 ≤ length own)
-      next_within = let b = asks.rise i more in (omega (arith, b.0, inv.starts), b.1)
-
       abbrev cell : List ℕ
       cell = take (get_or stops i 0 - start) (drop start own)
 
       cell_is : get_or (runs_of own stops) i [] ≡ cell
       cell_is = run_at own stops i more ∙ sym (part_is own stops start i inv.starts)
 
-      pub next_few : AllFew t.work.now t.regions (ring (take (get_or stops i 0 - start) (drop start own)))
-      next_few = subst (λ (c : List ℕ). AllFew t.work.now t.regions (ring c)) cell_is (asks.cells i more).0
+      pub next_few : AllFew t.scene.work.now t.scene.regions (ring (take (get_or stops i 0 - start) (drop start own)))
+      next_few = subst (λ (c : List ℕ). AllFew t.scene.work.now t.scene.regions (ring c)) cell_is (asks.cells i more).0
 
       pub next_short : length (take (get_or stops i 0 - start) (drop start own)) ≤ 256
       next_short =

@@ -70,7 +70,7 @@ module _ (op : ℕ) (coords : List Float) (work : List ℕ) (g : Regions) (x : I
   abbrev rest : Yield
   rest = cond (cuts op the_cutter) second nothing
 
-  pub asks_first : (t : Treatment) → t.work.now ≡ work → t.regions ≡ g → (own : List ℕ) → own ≡ run_in work g.subject.entries → CellsAsk t own se 0 none_yet l
+  pub asks_first : (t : Treatment) → t.scene.work.now ≡ work → t.scene.regions ≡ g → (own : List ℕ) → own ≡ run_in work g.subject.entries → CellsAsk t own se 0 none_yet l
   asks_first t ew eg own eo =
       rw eo (record {
         cells = rw (ew, eg) ready.subject_cells;
@@ -79,28 +79,38 @@ module _ (op : ℕ) (coords : List Float) (work : List ℕ) (g : Regions) (x : I
         space = record { counted = omega arith; tags = ht; corners = omega arith; short = omega (arith, ready.most_subject) };
       })
 
-  module _ (l₁ : PieceLists) where
-    pub first_refused : (e : Refusal) → left (Err e) l₁ ≡ placed_in none_yet (cells_yield op coords work g the_subject ce se) l
-        → left (Err e) l₁ ≡ placed_in none_yet (meshes_yield op coords work g se ce) l
+  -- the subject's cells as they are lent
+  module _ (k₁ : Keep) (own₁ : List ℕ) (ek₁ : k₁ ≡ keep_of op the_subject) (eo₁ : own₁ ≡ run_in work g.subject.entries) (l₁ : PieceLists) where
+    abbrev pub lent₁ : Yield
+    lent₁ = all_of (length se) (λ i. yield_of coords work g g.cutter ce k₁ (0 + i) (get_or (runs_of own₁ se) i []))
+
+    lent₁_is : lent₁ ≡ first
+    lent₁_is = cells_lent op coords work g the_subject ce se k₁ own₁ 0 ek₁ eo₁ refl
+
+    pub first_refused : (e : Refusal) → left (Err e) l₁ ≡ placed_in none_yet lent₁ l → left (Err e) l₁ ≡ placed_in none_yet (meshes_yield op coords work g se ce) l
     unfolding meshes_yield
     first_refused e one =
-        one ∙ sym (refused_first none_yet first rest l.corners.now l.ends.now l.tags.now e (ap (λ (q : Placing). q.answer) one))
+        let all : left (Err e) l₁ ≡ placed_in none_yet first l = one ∙ ap (λ (y : Yield). placed_in none_yet y l) lent₁_is in
+        all ∙ sym (refused_first none_yet first rest l.corners.now l.ends.now l.tags.now e (ap (λ (q : Placing). q.answer) all))
 
-    module _ (p : Listed) (one : left (Ok p) l₁ ≡ placed_in none_yet (cells_yield op coords work g the_subject ce se) l) where
+    module _ (p : Listed) (one : left (Ok p) l₁ ≡ placed_in none_yet lent₁ l) where
+      all₁ : left (Ok p) l₁ ≡ placed_in none_yet first l
+      all₁ = one ∙ ap (λ (y : Yield). placed_in none_yet y l) lent₁_is
+
       pub first_only : cuts op the_cutter ≡ false → left (Ok p) l₁ ≡ placed_in none_yet (meshes_yield op coords work g se ce) l
       unfolding meshes_yield
-      first_only e = one ∙ ap (λ (y : Yield). placed_in none_yet y l) (sym behind_none ∙ ap (λ (b : Bool). both first (cond b second nothing)) (sym e))
+      first_only e = all₁ ∙ ap (λ (y : Yield). placed_in none_yet y l) (sym behind_none ∙ ap (λ (b : Bool). both first (cond b second nothing)) (sym e))
         where
           behind_none : both first nothing ≡ first
           behind_none = λ s. record { events = append-nil first.events s; pieces = append-nil first.pieces s; tags = append-nil first.tags s }
 
-      module _ (e : cuts op the_cutter ≡ true) where
-        pub asks_second : Few (length se) none_yet p → SameLists l₁ l → (t : Treatment) → t.work.now ≡ work → t.regions ≡ g
-            → (own : List ℕ) → own ≡ run_in work g.cutter.entries → CellsAsk t own ce (length se) p l₁
-        asks_second few same t ew eg own eo =
-            let f = fit none_yet first l.corners.now l.ends.now l.tags.now p l₁.corners.now l₁.ends.now l₁.tags.now one
+      -- and the cutter's
+      module _ (e : cuts op the_cutter ≡ true) (own₂ : List ℕ) (eo₂ : own₂ ≡ run_in work g.cutter.entries) where
+        pub asks_second : Few (length se) none_yet p → SameLists l₁ l → (t : Treatment) → t.scene.work.now ≡ work → t.scene.regions ≡ g → CellsAsk t own₂ ce (length se) p l₁
+        asks_second few same t ew eg =
+            let f = fit none_yet first l.corners.now l.ends.now l.tags.now p l₁.corners.now l₁.ends.now l₁.tags.now all₁
             (cells_steady op coords work g the_subject ce se) (omega arith) (omega arith) in
-            rw eo (record {
+            rw eo₂ (record {
               cells = rw (ew, eg) (ready.cutter_cells e);
               rise = ready.cutter.indexed.cells.rising;
               most = omega (arith, ready.most_subject, ready.most_cutter);
@@ -112,11 +122,15 @@ module _ (op : ℕ) (coords : List Float) (work : List ℕ) (g : Regions) (x : I
               };
             })
 
-        pub both_placed : (r : Result Listed Refusal) (l₂ : PieceLists) → left r l₂ ≡ placed_in p (cells_yield op coords work g the_cutter se ce) l₁
-            → left r l₂ ≡ placed_in none_yet (meshes_yield op coords work g se ce) l
-        unfolding meshes_yield
-        both_placed r l₂ two =
-            two
-            ∙ sym (placed_behind_lem none_yet first second l.corners.now l.ends.now l.tags.now (cells_steady op coords work g the_subject ce se) (omega arith) ht
-            (omega arith) p l₁.corners.now l₁.ends.now l₁.tags.now one)
-            ∙ ap (λ (b : Bool). placed_in none_yet (both first (cond b second nothing)) l) (sym e)
+        module _ (k₂ : Keep) (ek₂ : k₂ ≡ keep_of op the_cutter) where
+          abbrev pub lent₂ : Yield
+          lent₂ = all_of (length ce) (λ i. yield_of coords work g g.subject se k₂ (length se + i) (get_or (runs_of own₂ ce) i []))
+
+          pub both_placed : (r : Result Listed Refusal) (l₂ : PieceLists) → left r l₂ ≡ placed_in p lent₂ l₁
+              → left r l₂ ≡ placed_in none_yet (meshes_yield op coords work g se ce) l
+          unfolding meshes_yield
+          both_placed r l₂ two =
+              two ∙ ap (λ (y : Yield). placed_in p y l₁) (cells_lent op coords work g the_cutter se ce k₂ own₂ (length se) ek₂ eo₂ refl)
+              ∙ sym (placed_behind_lem none_yet first second l.corners.now l.ends.now l.tags.now (cells_steady op coords work g the_subject ce se) (omega arith) ht
+              (omega arith) p l₁.corners.now l₁.ends.now l₁.tags.now all₁)
+              ∙ ap (λ (b : Bool). placed_in none_yet (both first (cond b second nothing)) l) (sym e)

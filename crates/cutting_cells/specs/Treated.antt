@@ -10,10 +10,10 @@ use Rattle.cutting_cells.specs.declared.Treatment.{Treatment}
 use Rattle.cutting_cells.specs.Yields.{near_of, outcome_by, yield_of, CellsReady}
 
 abbrev pub near_to : Treatment → List ℕ → List ℕ
-near_to t = near_of t.coords.now t.work.now t.regions t.other t.ends.now
+near_to t = near_of t.scene.coords.now t.scene.work.now t.scene.regions t.other t.ends.now
 
 abbrev pub outcome_of : Treatment → List ℕ → List ℕ → Outcome
-outcome_of t = outcome_by t.coords.now t.work.now t.regions t.other.edges
+outcome_of t = outcome_by t.scene.coords.now t.scene.work.now t.scene.regions t.other.edges
 
 -- the pieces that an answer counts can be read
 pub record Readable (k : Counts) (runs stops : List ℕ) : Type 0 where
@@ -22,14 +22,14 @@ pub record Readable (k : Counts) (runs stops : List ℕ) : Type 0 where
   pub rise : Rising (take k.pieces stops) (length (take k.entries runs))
 
 abbrev pub yield_for : Treatment → ℕ → List ℕ → Yield
-yield_for t = yield_of t.coords.now t.work.now t.regions t.other t.ends.now t.keep
+yield_for t = yield_of t.scene.coords.now t.scene.work.now t.scene.regions t.other t.ends.now t.keep
 
 abbrev pub all_yield : Treatment → (own stops : List ℕ) → ℕ → Yield
 all_yield t own stops from = all_of (length stops) (λ i. yield_for t (from + i) (get_or (runs_of own stops) i []))
 
 -- the first has the number `from`; what they yield goes behind what p counts
 pub record CellsAsk (t : Treatment) (own stops : List ℕ) (from : ℕ) (p : Listed) (l : PieceLists) : Type 0 where
-  pub cells : CellsReady t.work.now t.regions own stops
+  pub cells : CellsReady t.scene.work.now t.scene.regions own stops
   pub rise : Rising stops (length own)
   pub most : from + length stops ≤ 32768
   pub space : Space p (1024 * length stops) l

@@ -16,6 +16,7 @@ ghost use Rattle.cutting_cells.specs.Yields.{meshes_yield, none_yet, Few, OtherR
 use cells::cut_cell;
 use corners::next_corner;
 use dart_walk::Counts;
+use edge_nodes::SceneLists;
 use entry::Operation;
 use lists::copy_at;
 use outlines::edges_repeat;
@@ -75,14 +76,12 @@ fn tag_of(number: usize, cut: bool) -> u32
 // indexes; `ends` is where its cells end.
 #[derive(Clone, Copy)]
 struct Treatment<'a> {
-    coords: &'a [f64],
-    work: &'a [u32],
-    regions: Regions,
+    scene: SceneLists<'a>,
     keep: Keep,
     other: MeshRuns,
     index: MeshIndex,
     ends: &'a [u32],
-    ghost ready: { OtherReady coords.now work.now regions other ends.now index },
+    ghost ready: { OtherReady scene.coords.now scene.work.now scene.regions other ends.now index },
 }
 
 impl<'a> Treatment<'a> {
@@ -90,33 +89,33 @@ impl<'a> Treatment<'a> {
 
     // The other mesh's edges.
     fn edges(&self) -> Index<'a>
-        ensures { (result.things.coords.now ≡ self.now.coords.now) × (result.things.nodes.now ≡ run_in self.now.work.now self.now.other.edges)
+        ensures { (result.things.coords.now ≡ self.now.scene.coords.now) × (result.things.nodes.now ≡ run_in self.now.scene.work.now self.now.other.edges)
             × (result.things.ends.now ≡ []) }
     {
         let things = Things {
-            coords: self.coords,
-            nodes: part(self.work, self.other.edges),
+            coords: self.scene.coords,
+            nodes: part(self.scene.work, self.other.edges),
             ends: &self.ends[..0],
         };
         Index {
             things,
-            numbers: part(self.work, self.index.edges),
+            numbers: part(self.scene.work, self.index.edges),
         }
     }
 
     // Its cells.
     fn cells(&self) -> Index<'a>
-        ensures { (result.things.coords.now ≡ self.now.coords.now) × (result.things.nodes.now ≡ run_in self.now.work.now self.now.other.entries)
+        ensures { (result.things.coords.now ≡ self.now.scene.coords.now) × (result.things.nodes.now ≡ run_in self.now.scene.work.now self.now.other.entries)
             × (result.things.ends.now ≡ self.now.ends.now) }
     {
         let things = Things {
-            coords: self.coords,
-            nodes: part(self.work, self.other.entries),
+            coords: self.scene.coords,
+            nodes: part(self.scene.work, self.other.entries),
             ends: self.ends,
         };
         Index {
             things,
-            numbers: part(self.work, self.index.cells),
+            numbers: part(self.scene.work, self.index.cells),
         }
     }
 
@@ -124,10 +123,11 @@ impl<'a> Treatment<'a> {
     #[tactic(auto, using(crate::proofs::Near::near_read, crate::proofs::Near::near_places, crate::proofs::Near::near_fits))]
     fn near(&self, cell: &[u32], found: &mut [u32; 65536]) -> usize
         ensures held { take result found.new ≡ near_to self.now cell.now }
-        ensures places { Places (take result found.new) (edges_in self.now.work.now self.now.other.edges) }
+        ensures places { Places (take result found.new) (edges_in self.now.scene.work.now self.now.other.edges) }
         ensures fits { result ≤ length found.new }
     {
-        self.edges().gather(bounds2(self.coords, cell), 0, found)
+        self.edges()
+            .gather(bounds2(self.scene.coords, cell), 0, found)
     }
 
     // What a cell comes to by those of the edges that stand at the places js. A cell near which there is none is copied.
@@ -139,7 +139,7 @@ impl<'a> Treatment<'a> {
         runs: &mut [u32; 1024],
         stops: &mut [u32; 1024],
     ) -> Result<Counts, Refusal>
-        requires { AllFew self.now.work.now self.now.regions (ring cell.now) × Places js.now (edges_in self.now.work.now self.now.other.edges)
+        requires { AllFew self.now.scene.work.now self.now.scene.regions (ring cell.now) × Places js.now (edges_in self.now.scene.work.now self.now.other.edges)
             × (length cell.now ≤ 256) }
         ensures comes_to { cut result runs.new stops.new ≡ cut_as (outcome_of self.now js.now cell.now) runs.old stops.old }
         ensures readable { IfOk result (λ k. Readable k runs.new stops.new) }
@@ -149,9 +149,9 @@ impl<'a> Treatment<'a> {
         }
         let edges = self.other.edges;
         cut_cell(
-            self.coords,
-            self.work,
-            self.regions,
+            self.scene.coords,
+            self.scene.work,
+            self.scene.regions,
             edges,
             js,
             cell,
@@ -169,7 +169,7 @@ impl<'a> Treatment<'a> {
         lists: &mut PieceLists,
         p: Listed,
     ) -> Result<Listed, Refusal>
-        requires { AllFew self.now.work.now self.now.regions (ring cell.now) × (length cell.now ≤ 256) × Space p 1024 lists.old × (number < 2 ^ 31) }
+        requires { AllFew self.now.scene.work.now self.now.scene.regions (ring cell.now) × (length cell.now ≤ 256) × Space p 1024 lists.old × (number < 2 ^ 31) }
         ensures placed { left result lists.new ≡ placed_in p (yield_for self.now number cell.now) lists.old }
         ensures few { IfOk result (λ r. Few 1 p r) }
         ensures same_lists { SameLists lists.new lists.old }
@@ -232,19 +232,18 @@ fn cuts_both(op: u32) -> bool
     )
 }
 
-// Cuts the cells of the subject, and then those of the cutter where the operation cuts both meshes.
+// Cuts the cells of the subject, which end at `se`, and then those of the cutter, which end at `ce`, where the operation cuts both meshes.
 fn cut_both(
     op: u32,
-    coords: &[f64],
-    w: &[u32],
-    g: Regions,
+    scene: SceneLists,
     x: Indexes,
     se: &[u32],
     ce: &[u32],
     lists: &mut PieceLists,
 ) -> Result<Listed, Refusal>
-    requires { MeshesReady op coords.now w.now g x se.now ce.now × (length lists.old.ends.now ≤ length lists.old.tags.now) }
-    ensures placed { left result lists.new ≡ placed_in none_yet (meshes_yield op coords.now w.now g se.now ce.now) lists.old }
+    requires { MeshesReady op scene.coords.now scene.work.now scene.regions x se.now ce.now × (length lists.old.ends.now ≤ length lists.old.tags.now) }
+    ensures placed { left result lists.new ≡ placed_in none_yet
+        (meshes_yield op scene.entry.coords.now scene.entry.work.now scene.entry.regions se.now ce.now) lists.old }
     ensures few { IfOk result (λ r. Few (length se.now + length ce.now) none_yet r) }
     ensures same_lists { SameLists lists.new lists.old }
 {
@@ -253,29 +252,25 @@ fn cut_both(
         entries: 0,
     };
     let subject = Treatment {
-        coords,
-        work: w,
-        regions: g,
+        scene,
         keep: keep_of(op, false),
-        other: g.cutter,
+        other: scene.regions.cutter,
         index: x.cutter,
         ends: ce,
     };
-    let own = part(w, g.subject.entries);
+    let own = part(scene.work, scene.regions.subject.entries);
     let placed = subject.cut_cells(own, se, 0, lists, none)?;
     if !cuts_both(op) {
         return Ok(placed);
     }
     let cutter = Treatment {
-        coords,
-        work: w,
-        regions: g,
+        scene,
         keep: keep_of(op, true),
-        other: g.subject,
+        other: scene.regions.subject,
         index: x.subject,
         ends: se,
     };
-    let own = part(w, g.cutter.entries);
+    let own = part(scene.work, scene.regions.cutter.entries);
     cutter.cut_cells(own, ce, se.len(), lists, placed)
 }
 
@@ -303,5 +298,10 @@ pub fn cut_meshes(
         ends: oe,
         tags: ot,
     };
-    cut_both(op, coords, w, g, x, se, ce, &mut lists)
+    let scene = SceneLists {
+        coords,
+        work: w,
+        regions: g,
+    };
+    cut_both(op, scene, x, se, ce, &mut lists)
 }

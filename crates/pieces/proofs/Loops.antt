@@ -58,10 +58,6 @@ module _ (f : List ℕ → Bool) (runs ends : List ℕ) (up : Rising ends (lengt
         rw e inv.placed
 
     module _ (more : i < length ends) where
-      -- the run that comes next lies there
-      pub next_within : (start ≤ get_or ends i 0) × (get_or ends i 0 ≤ length runs)
-      next_within = let b = up i more in (omega (arith, b.0, inv.starts), b.1)
-
       abbrev piece : List ℕ
       piece = take (get_or ends i 0 - start) (drop start runs)
 

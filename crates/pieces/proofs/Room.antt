@@ -42,20 +42,6 @@ taken (k ∷ ks) =
     let t = taken ks in
     (t.0, t.1, ap suc t.2, omega (arith, t.3, length-append k (flat ks)))
 
--- no room for meetings and points is asked for
-pub only_pieces : (m p q n : ℕ) (ks : List (List ℕ)) → first_refusal m p q n (events ks) ≡ first_refusal 0 0 q n (events ks)
-unfolding first_refusal
-only_pieces m p q n [] = refl
-only_pieces m p zero n (k ∷ ks) = refl
-only_pieces m p (suc q) n (k ∷ ks) = go (leb (length k) n) (only_pieces m p q (n - length k) ks)
-  where
-    go : (t : Bool) → first_refusal m p q (n - length k) (events ks) ≡ first_refusal 0 0 q (n - length k) (events ks)
-        → (let x : ℕ = elim t [ true ↦ first_refusal m p q (n - length k) (events ks) | false ↦ 12 ] in
-        let y : ℕ = elim t [ true ↦ first_refusal 0 0 q (n - length k) (events ks) | false ↦ 12 ] in
-        x ≡ y)
-    go true ih = ih
-    go false ih = refl
-
 -- where all are placed they fit
 pub fits : (ks : List (List ℕ)) (m p q n : ℕ) → first_refusal m p q n (events ks) ≡ 0 → (length ks ≤ q) × (length (flat ks) ≤ n)
 unfolding first_refusal flat
