@@ -5,18 +5,18 @@ use Rattle.lists.specs.Regions.{zeros, fzeros}
 use Rattle.views.specs.declared.OutputView.{OutputView}
 
 -- the same list, as long as it was, written or not
-pub record Kept {A : Type 0} (l m : MutBor (List A)) : Type 0 where
+pub record SameList {A : Type 0} (l m : MutBor (List A)) : Type 0 where
   pub name : l.ghost_name ≡ m.ghost_name
   pub long : length l.now ≡ length m.now
 
 pub record SameLists (l m : OutputView) : Type 0 where
-  pub coords : Kept l.coords m.coords
-  pub nodes : Kept l.nodes m.nodes
-  pub ends : Kept l.ends m.ends
-  pub kinds : Kept l.kinds m.kinds
-  pub families : Kept l.families m.families
-  pub meshes : Kept l.meshes m.meshes
-  pub cells : Kept l.cells m.cells
+  pub coords : SameList l.coords m.coords
+  pub nodes : SameList l.nodes m.nodes
+  pub ends : SameList l.ends m.ends
+  pub kinds : SameList l.kinds m.kinds
+  pub families : SameList l.families m.families
+  pub meshes : SameList l.meshes m.meshes
+  pub cells : SameList l.cells m.cells
 
 -- where l is cleared it is m
 pub record Cleared (l m : OutputView) : Type 0 where
