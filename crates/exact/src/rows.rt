@@ -17,7 +17,7 @@ pub(crate) struct Rows {
     pub(crate) less: [u64; 136],
 }
 
-// v · 2^e is added to the number that the cells stand for. Nothing is carried.
+// v · 2^e is added to the number that the cells stand for: e is an exponent, no place in a list. Nothing is carried.
 fn add_word(acc: &mut [u64; 136], v: u64, e: usize)
     requires { (e < 4288) × Row 64 acc.old }
     ensures { RowGrown 1 (v * 2 ^ e) acc.old acc.new }
