@@ -31,6 +31,7 @@ fn index_run(coords: &[f64], w: &mut [u32], r: Run, ends: &[u32], at: usize) -> 
 }
 
 // Those of one mesh, from `at` on: of its edges, and behind it of its cells, which end at `ends`.
+#[tactic(auto, using(crate::proofs::Written::edges_asked))]
 fn index_mesh(coords: &[f64], w: &mut [u32], m: MeshRuns, ends: &[u32], at: usize) -> MeshIndex
     requires { MeshAsks w.old m ends.now at }
     ensures { (result ≡ mesh_index_at coords.now w.old m ends.now at)

@@ -17,6 +17,7 @@ use corners::after;
 use keys::{SortedKey, edge_chain};
 
 // Whether some pair has the key of the edge a, b: those on its chain are looked at, from the last to the first.
+#[tactic(auto, using(crate::proofs::Chains::falls, crate::proofs::Chains::none))]
 fn has_key(edges: &[u32], links: &[u32], h: usize, a: u32, b: u32) -> bool
     requires { (0 < h) × (h + length edges.now / 2 ≤ length links.now) × Chained h (pairs edges.now) links.now }
     ensures { result ≡ has (λ i. same_key (edge_at (pairs edges.now) i) (a, b)) (length (pairs edges.now)) }
@@ -35,6 +36,7 @@ fn has_key(edges: &[u32], links: &[u32], h: usize, a: u32, b: u32) -> bool
 }
 
 // Edge k, from a to b, becomes the last on its chain.
+#[tactic(auto, unfolding(crate::specs::Chains::linked))]
 fn link_edge(links: &mut [u32], h: usize, k: usize, a: u32, b: u32)
     requires { (0 < h) × (h + k < length links.old) × (k < 65536) }
     ensures { links.new ≡ linked h links.old k (edge_chain h (a, b)) }
@@ -46,6 +48,7 @@ fn link_edge(links: &mut [u32], h: usize, k: usize, a: u32, b: u32)
 }
 
 // Adds the edge a, b to the k edges at the front of `edges`, unless one has its key. Answers how many there are then.
+#[tactic(auto, using(crate::proofs::Loops::key_ready))]
 fn add_edge(edges: &mut [u32], k: usize, a: u32, b: u32, links: &mut [u32], h: usize) -> usize
     requires { (2 * k + 2 ≤ length edges.old) × (h + k < length links.old) × (k < 65536) × (0 < h) × Chained h (pairs (take (2 * k) edges.old)) links.old }
     ensures { (result ≡ length (added (pairs (take (2 * k) edges.old)) (a, b)))
@@ -62,6 +65,7 @@ fn add_edge(edges: &mut [u32], k: usize, a: u32, b: u32, links: &mut [u32], h: u
 }
 
 // Adds the edges of a cell to the k edges at the front of `edges`.
+#[tactic(auto, using(corners::proofs::Remainders::after_inside, crate::proofs::Loops::cell_ready))]
 fn cell_edges(cell: &[u32], edges: &mut [u32], k: usize, links: &mut [u32], h: usize) -> usize
     requires { (2 * k + 2 * length cell.now ≤ length edges.old) × (h + (k + length cell.now) ≤ length links.old) × (k + length cell.now ≤ 65536) × (0 < h)
         × Chained h (pairs (take (2 * k) edges.old)) links.old }

@@ -66,6 +66,7 @@ fn tolerance(v: Point, w: Point) -> f64
     64.0 * (s * s) * f64::EPSILON
 }
 
+#[tactic(auto, using(plane::proofs::FloatOrder::partial_le_floats))]
 fn in_unit(t: f64) -> bool
     ensures { result ≡ in_unit t }
 {
@@ -101,6 +102,7 @@ fn is_number(t: f64) -> bool
     !t.is_nan()
 }
 
+#[tactic(auto, using(crate::proofs::Sorted::orderable_all))]
 fn orderable(ts: [f64; 4]) -> bool
     ensures { result ≡ orderable ts }
 {
@@ -131,6 +133,7 @@ impl Ends {
 }
 
 // The ids in the order of their parameters: each one moves down past those that it is lower than.
+#[tactic(auto, unfolding(crate::specs::Scans::swept))]
 fn in_order(ts: [f64; 4]) -> [PointId; 4]
     ensures { result ≡ swept ts }
 {
@@ -159,6 +162,7 @@ fn of_order(ids: [PointId; 4]) -> Meeting
     }
 }
 
+#[tactic(auto, unfolding(crate::specs::Colinear::colinear), using(crate::proofs::Sorted::colinear_is))]
 fn colinear(s: Segment, o: Segment) -> Meeting
     ensures { result ≡ colinear s o }
 {

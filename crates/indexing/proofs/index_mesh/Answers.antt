@@ -1,11 +1,6 @@
 -- `indexing::index_mesh` meets its contract. Assumes nothing.
-use Rattle.indexing.proofs.Written.{edges_asked, cells_asked, mesh_end_lem}
+use Rattle.indexing.proofs.Written.{cells_asked, mesh_end_lem}
 use Rattle.indexing.proofs.index_mesh.Goals as goal
-
-pub index_run-edges-requires : goal.index_run-edges-requires
-index_run-edges-requires c =
-    let a = c.args in
-    edges_asked a.coords.now a.w.now a.m a.ends.now a.at c.requires
 
 pub index_run-cells-requires : goal.index_run-cells-requires
 index_run-cells-requires c =

@@ -2,9 +2,6 @@
 use Rattle.indexing.proofs.Written.{cutter_asked, meshes_end}
 use Rattle.indexing.proofs.index_meshes.Goals as goal
 
-pub index_mesh-subject-requires : goal.index_mesh-subject-requires
-index_mesh-subject-requires c = c.requires.subject
-
 pub index_mesh-cutter-requires : goal.index_mesh-cutter-requires
 index_mesh-cutter-requires c =
     let a = c.args in

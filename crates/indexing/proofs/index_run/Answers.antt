@@ -11,10 +11,6 @@ use Rattle.strips.proofs.IndexAt.{length_index}
 use Rattle.indexing.proofs.Written.{run_lent, run_written}
 use Rattle.indexing.proofs.index_run.Goals as goal
 
-pub part-nodes-requires : goal.part-nodes-requires
-part-nodes-requires c =
-    record { rises = c.requires.lies.rises; fits = omega (arith, c.requires.lies.fits, c.split_at_mut-before.ensures.front_len) }
-
 pub invariant_of-things : goal.invariant_of-things
 invariant_of-things c =
     let a = c.args in

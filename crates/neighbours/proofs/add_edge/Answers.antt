@@ -1,11 +1,6 @@
 use mathlib.Core.Path.{sym, ◌∙◌}
-use Rattle.neighbours.proofs.Loops.{key_ready, hit, miss}
+use Rattle.neighbours.proofs.Loops.{hit, miss}
 use Rattle.neighbours.proofs.add_edge.Goals as goal
-
-pub has_key-requires : goal.has_key-requires
-has_key-requires c =
-    let a = c.args in
-    key_ready a.edges.now a.k a.a a.b a.links.now a.h c.requires.0 c.requires.1 c.requires.3 c.requires.4
 
 pub returns-then-has_key : goal.returns-then-has_key
 returns-then-has_key c =

@@ -1,13 +1,10 @@
 use mathlib.Core.Path.{sym, ap, ◌∙◌}
-use Prim.Native.Nat.{◌+◌, ◌-◌}
+use Prim.Native.Nat.{◌-◌}
 use native.Mathlib.Omega.{arith}
 use Rattle.cutting.specs.Edges.{Edge}
 use Rattle.keys.specs.Chains.{chain_of}
-use Rattle.neighbours.proofs.Chains.{key_is, one_key, search_start, found, further, falls, none}
+use Rattle.neighbours.proofs.Chains.{key_is, one_key, search_start, found, further}
 use Rattle.neighbours.proofs.has_key.Goals as goal
-
-pub overflow_cast-e : goal.overflow_cast-e
-overflow_cast-e c = omega (arith, c.type_inv.links c.chain.result)
 
 pub loop-e-init : goal.loop-e-init
 loop-e-init c =
@@ -22,16 +19,6 @@ returns-then-eq c =
     (key_is c.args.edges.now c.args.a c.args.b (l.e - 1) (omega (arith, l.invariant.0, c.loop-e-test.true))
     ∙ one_key _ _ c.new.ensures c.new-key.ensures ∙ sym c.eq.ensures ∙ c.if-eq.true)
 
-pub overflow_cast-e-in-loop-e : goal.overflow_cast-e-in-loop-e
-overflow_cast-e-in-loop-e c =
-    omega (arith, c.type_inv.links (c.args.h + (c.loop-e.e - 1)))
-
-pub loop-e-smaller : goal.loop-e-smaller
-loop-e-smaller c =
-    let l = c.loop-e in
-    falls c.args.h c.args.edges.now c.args.links.now c.args.a c.args.b c.requires.2 l.e
-    (l.e - 1) l.invariant (omega (arith, c.loop-e-test.true))
-
 pub loop-e-preserved : goal.loop-e-preserved
 loop-e-preserved c =
     let l = c.loop-e in
@@ -39,8 +26,3 @@ loop-e-preserved c =
     (l.e - 1) l.invariant (omega (arith, c.loop-e-test.true))
     (key_is c.args.edges.now c.args.a c.args.b (l.e - 1) (omega (arith, l.invariant.0, c.loop-e-test.true))
     ∙ one_key _ _ c.new.ensures c.new-key.ensures ∙ sym c.eq.ensures ∙ c.if-eq.false)
-
-pub returns : goal.returns
-returns c =
-    none c.args.h c.args.edges.now c.args.links.now c.args.a c.args.b c.requires.2
-    c.loop-e.e c.loop-e-test.false c.loop-e.invariant

