@@ -18,7 +18,7 @@ use dart_walk::{Counts, walk_dart_map};
 use edge_nodes::SceneLists;
 use outlines::{edges_meet, edges_repeat, lay_own_edge};
 use refusals::Refusal;
-use regions::{Regions, Run, part};
+use regions::{Regions, Run};
 
 // A refusal leaves the lists of corners and stops zero.
 pub fn refused(why: Refusal, runs: &mut [u32], stops: &mut [u32]) -> Result<Counts, Refusal>
@@ -188,7 +188,7 @@ pub fn cut_cell(
     let own = OwnEdges { scene, cell };
     let near = NearEdges {
         scene,
-        edges: part(w, edges).as_chunks::<2>().0,
+        edges: edges.part(w).as_chunks::<2>().0,
         places: js,
     };
     let mut nodes = [0u32; 258];

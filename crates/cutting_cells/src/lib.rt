@@ -22,7 +22,7 @@ use lists::copy_at;
 use outlines::edges_repeat;
 use pieces::{Keep, Listed, PieceLists, keep_of};
 use refusals::Refusal;
-use regions::{Indexes, MeshIndex, MeshRuns, Regions, part};
+use regions::{Indexes, MeshIndex, MeshRuns, Regions};
 use spatial_index::bounds2;
 use strips::{Index, Things};
 
@@ -94,12 +94,12 @@ impl<'a> Treatment<'a> {
     {
         let things = Things {
             coords: self.scene.coords,
-            nodes: part(self.scene.work, self.other.edges),
+            nodes: self.other.edges.part(self.scene.work),
             ends: &self.ends[..0],
         };
         Index {
             things,
-            numbers: part(self.scene.work, self.index.edges),
+            numbers: self.index.edges.part(self.scene.work),
         }
     }
 
@@ -110,12 +110,12 @@ impl<'a> Treatment<'a> {
     {
         let things = Things {
             coords: self.scene.coords,
-            nodes: part(self.scene.work, self.other.entries),
+            nodes: self.other.entries.part(self.scene.work),
             ends: self.ends,
         };
         Index {
             things,
-            numbers: part(self.scene.work, self.index.cells),
+            numbers: self.index.cells.part(self.scene.work),
         }
     }
 
@@ -258,7 +258,7 @@ fn cut_both(
         index: x.cutter,
         ends: ce,
     };
-    let own = part(scene.work, scene.regions.subject.entries);
+    let own = scene.regions.subject.entries.part(scene.work);
     let placed = subject.cut_cells(own, se, 0, lists, none)?;
     if !cuts_both(op) {
         return Ok(placed);
@@ -270,7 +270,7 @@ fn cut_both(
         index: x.subject,
         ends: se,
     };
-    let own = part(scene.work, scene.regions.cutter.entries);
+    let own = scene.regions.cutter.entries.part(scene.work);
     cutter.cut_cells(own, ce, se.len(), lists, placed)
 }
 

@@ -19,7 +19,7 @@ use chains::Chains;
 pub use chains::{LinkedMeetings, link_meetings};
 use keys::SortedKey;
 use nodes::{Nodes, dedup, place};
-use regions::{Regions, part};
+use regions::Regions;
 
 impl<'a> Chains<'a> {
     // Puts the nodes that the meetings collect under the key in their places.
@@ -115,10 +115,10 @@ impl<'a> SceneLists<'a> {
     {
         let g = self.regions;
         let meetings = LinkedMeetings {
-            subject: part(self.work, g.subject.edges),
-            cutter: part(self.work, g.cutter.edges),
-            met: part(self.work, g.met),
-            links: part(self.work, g.links),
+            subject: g.subject.edges.part(self.work),
+            cutter: g.cutter.edges.part(self.work),
+            met: g.met.part(self.work),
+            links: g.links.part(self.work),
         };
         meetings.sorted_nodes(self.coords, SortedKey::new(a, b), out)
     }

@@ -15,7 +15,7 @@ use entry::Operation;
 use lists::copy_at;
 use meetings::Edges;
 use refusals::Refusal;
-use regions::{MeshRuns, Regions, Run, part};
+use regions::{MeshRuns, Regions, Run};
 use strips::{Index, Things, index_size};
 use views::MeshView;
 
@@ -83,10 +83,10 @@ fn crowded(w: &[u32], g: Regions) -> bool
     ensures { result ≡ both_full (run_in w.now g.subject.edges) (run_in w.now g.cutter.edges) (run_in w.now g.met) }
 {
     let meetings = LinkedMeetings {
-        subject: part(w, g.subject.edges),
-        cutter: part(w, g.cutter.edges),
-        met: part(w, g.met),
-        links: part(w, g.links),
+        subject: g.subject.edges.part(w),
+        cutter: g.cutter.edges.part(w),
+        met: g.met.part(w),
+        links: g.links.part(w),
     };
     either_overfull(&meetings)
 }

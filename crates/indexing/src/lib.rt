@@ -7,7 +7,7 @@ ghost use Rattle.regions.specs.Runs.{run_in};
 ghost use Rattle.strips.specs.Index.{index_of};
 ghost use Rattle.indexing.specs.Indexes.{mesh_index, mesh_index_at, indexes, indexes_at, RunAsks, MeshAsks, Asks};
 
-use regions::{Indexes, MeshIndex, MeshRuns, Regions, Run, part};
+use regions::{Indexes, MeshIndex, MeshRuns, Regions, Run};
 use strips::Things;
 
 // That of the things of a run, which end at `ends`, from `at` on: where it stands.
@@ -17,7 +17,7 @@ fn index_run(coords: &[f64], w: &mut [u32], r: Run, ends: &[u32], at: usize) -> 
         × (w.new ≡ put w.old at (index_of coords.now (run_in w.old r) ends.now)) }
 {
     let (before, ix) = w.split_at_mut(at);
-    let nodes = part(before, r);
+    let nodes = r.part(before);
     let things = Things {
         coords,
         nodes,

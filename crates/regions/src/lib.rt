@@ -11,6 +11,17 @@ pub struct Run {
     pub end: usize,
 }
 
+impl Run {
+    // The part of w that it names.
+    #[tactic(auto, unfolding(lists::specs::Regions::run, crate::specs::Runs::run_in))]
+    pub fn part(self, w: &[u32]) -> &[u32]
+        requires { Within self (length w.now) }
+        ensures { result.now ≡ run_in w.now self }
+    {
+        &w[self.from..self.end]
+    }
+}
+
 // Of one mesh: its edges, two numbers each, and the node entries of its cells, under one numbering of both meshes.
 #[derive(Clone, Copy, Debug, PartialEq, Eq)]
 pub struct MeshRuns {
@@ -38,14 +49,4 @@ pub struct MeshIndex {
 pub struct Indexes {
     pub subject: MeshIndex,
     pub cutter: MeshIndex,
-}
-
-// The part of w that a run names.
-pub fn part(w: &[u32], r: Run) -> &[u32]
-    requires { Within r (length w.now) }
-    ensures { result.now ≡ run_in w.now r }
-{
-    let a = r.from;
-    let e = r.end;
-    &w[a..e]
 }
