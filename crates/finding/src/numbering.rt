@@ -17,7 +17,7 @@ use strips::Things;
 use views::MeshView;
 
 // Where the cutter's entries begin, then the subject's; where the subject's edges begin and how many there are; the same of the cutter's; where the index
-// of these begins; where there is room behind it.
+// of these begins; where there is room behind it. Places, not slices: the list is still written where they are used, and the cells are told them (`Regions`).
 #[derive(Clone, Copy)]
 pub struct NetPlaces {
     pub entries: usize,

@@ -20,7 +20,8 @@ use segments::{Meeting, PointId, Segment};
 use spatial_index::edge_bounds;
 use strips::Index;
 
-// How many meetings there are, and how many new points.
+// How many meetings there are, and how many new points. The lists that they stand in are no part of it: what holds of list and count can be no ghost field
+// beside a `&mut`.
 #[derive(Clone, Copy)]
 pub struct Found {
     pub met: usize,

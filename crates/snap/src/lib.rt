@@ -55,6 +55,7 @@ impl<'a> Nodes<'a> {
 }
 
 // Node i is put in among the first k entries of the block, which are in order, if its mark isn't 0. Answers how many they are then.
+// Block and count are no struct: `InOrder` can be no ghost field of it, so that each contract would say the same of both.
 fn put_in_order(coords: &[f64], marks: &[u32], block: &mut [u32], k: usize, i: usize) -> usize
     requires { (k < length block.old) × (i < length marks.now) × (length marks.now ≤ 16384) × InOrder coords.now (take k block.old) }
     ensures { (result ≡ counted marks.now k i) × (block.new ≡ with_node coords.now marks.now block.old k i) }

@@ -136,6 +136,7 @@ impl<'a> Things<'a> {
         let strips = Strips { xs, ys };
         let n = nexts.len();
         heads.fill(n as u32);
+        // by number: it is the thing's number that is written
         let mut levels: usize = 0;
         for j in (0..n).rev() {
             let l = self.link_thing(&strips, heads, nexts, j);
