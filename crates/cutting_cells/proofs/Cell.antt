@@ -32,7 +32,7 @@ use Rattle.pieces.specs.declared.Listed.{Listed}
 use Rattle.strips.specs.declared.things.Things.{Things}
 use Rattle.pieces.specs.Pieces.{runs_of, cells_in, is_kept, Yield, tagged, placing, refused_by, placed_behind}
 use Rattle.pieces.proofs.Runs.{length_runs, read_back, stops_rise, kept_within}
-use Rattle.pieces.proofs.Placing.{Steady, steady_tagged, placed_not, all_placed}
+use Rattle.pieces.proofs.Placing.{Steady, steady_tagged, placed_not, counted_most}
 use Rattle.cutting_cells.specs.declared.Treatment.{Treatment}
 use Rattle.cutting_cells.specs.Yields.{outcome_by, near_of, is_cut, yield_by, yield_of, Few}
 use Rattle.cutting_cells.specs.Treated.{near_to, outcome_of, Readable, yield_for}
@@ -138,11 +138,11 @@ pieces_few k runs stops u ln ls test tag p (Err e) on oe ot on' oe' ot' got = tt
 pieces_few k runs stops u ln ls test tag p (Ok q) on oe ot on' oe' ot' got =
     let corners : List ℕ = take k.entries runs in
     let stops' : List ℕ = take k.pieces stops in
-    let a = all_placed p (tagged tag (passing test (runs_of corners stops'))) on oe ot q on' oe' ot' got in
+    let most = counted_most p (tagged tag (passing test (runs_of corners stops'))) on oe ot (Ok q) on' oe' ot' got in
     record {
       pieces = omega (
         arith,
-        a.counted,
+        most.0,
         length_passing test (runs_of corners stops'),
         tally_le test (runs_of corners stops'),
         length_runs corners stops',
@@ -150,5 +150,5 @@ pieces_few k runs stops u ln ls test tag p (Ok q) on oe ot on' oe' ot' got =
         ls,
         u.ends,
       );
-      corners = omega (arith, a.entered, kept_within test corners stops' u.rise, length-take k.entries runs, ln, u.corners);
+      corners = omega (arith, most.1, kept_within test corners stops' u.rise, length-take k.entries runs, ln, u.corners);
     }

@@ -12,7 +12,7 @@ use Rattle.lists.proofs.Regions.{length_put, put_none, put_append}
 use Rattle.cutting.specs.Outcome.{flat, stops}
 use Rattle.cutting.proofs.Runs.{stops_length}
 use Rattle.rules.specs.Refusals.{Event, piece, first_refusal}
-use Rattle.std.specs.Prelude.{Result, Ok, Err}
+use Rattle.std.specs.Prelude.{Result, Ok, Err, IfOk}
 use Rattle.refusals.specs.declared.Refusal.{Refusal}
 use Rattle.refusals.specs.Numbers.{number, refused_with}
 use Rattle.refusals.proofs.Numbers.{some_not_zero}
@@ -177,6 +177,12 @@ module _ (p : Listed) (y : Yield) (on oe ot : List ℕ) where
         let f = fits y.pieces 0 0 (length oe - p.count) (length on - p.entries)
         (ap (first_refusal 0 0 (length oe - p.count) (length on - p.entries)) (sym (s.placing (length oe - p.count) (length on - p.entries) none_met)) ∙ none_met) in
         (omega (arith, hc, f.0, all_placed.counted), omega (arith, he, f.1, all_placed.entered))
+
+  -- no more is counted than is yielded
+  pub counted_most : (r : Result Listed Refusal) (on' oe' ot' : List ℕ) → placing r on' oe' ot' ≡ placed_behind p y on oe ot
+      → IfOk r (λ q. (q.count ≤ p.count + length y.pieces) × (q.entries ≤ p.entries + length (flat y.pieces)))
+  counted_most (Err e) on' oe' ot' placed = tt
+  counted_most (Ok q) on' oe' ot' placed = let a = all_placed q on' oe' ot' placed in (omega (arith, a.counted), omega (arith, a.entered))
 
 -- ---- yields behind yields
 
