@@ -21,6 +21,7 @@ use refusals::Refusal;
 use regions::{Regions, Run};
 
 // A refusal leaves the lists of corners and stops zero.
+#[tactic(auto, unfolding(crate::specs::Cells::cut_as))]
 pub fn refused(why: Refusal, runs: &mut [u32], stops: &mut [u32]) -> Result<Counts, Refusal>
     ensures { cut result runs.new stops.new ≡ cut_as (refusal (number why)) runs.old stops.old }
 {
@@ -51,6 +52,7 @@ impl<'a> OwnEdges<'a> {
     ghost use Rattle.cells.specs.Near.{outline_of, darts_at, outline_from, LaidIn, Held};
 
     // Makes the outline of the cell and the table of its own edges, until one is refused. The outline has an entry for each slot.
+    #[tactic(auto, using(crate::proofs::Own::outline_end))]
     fn add_darts(
         &self,
         nodes: &mut [u32; 258],
@@ -70,6 +72,7 @@ impl<'a> OwnEdges<'a> {
     }
 
     // Writes the darts of the own edge at corner i to the front of a flat list of pairs. Answers how many entries they take.
+    #[tactic(auto, using(crate::proofs::Cut::read_front, crate::proofs::Over::nodes_few))]
     fn lay(&self, i: usize, nodes: &mut [u32; 258], darts: &mut [u32; 518]) -> usize
         requires { i < length self.now.cell.now }
         ensures { LaidIn (darts_at self.now i) result darts.old darts.new }
@@ -81,6 +84,7 @@ impl<'a> OwnEdges<'a> {
     }
 
     // Whether one of some darts, a flat list of pairs, is between the same two nodes as one of the own edges from edge k on.
+    #[tactic(auto, using(crate::proofs::Over::meets_now, crate::proofs::Over::meets_on, crate::proofs::Over::meets_out))]
     fn meets_later(&self, k: usize, nodes: &mut [u32; 258], darts: &[u32]) -> bool
         ensures { result ≡ edges_meet (pairs darts.now) (outline_from self.now k) }
     {
@@ -98,6 +102,7 @@ impl<'a> OwnEdges<'a> {
 
     // Whether the outline of the cell passes between the same two nodes twice or from a node to itself, where it has too many darts for the table: 19
     // comes before 10. Each own edge is compared with itself and with those after it; as such a cell is refused, this happens once in a call.
+    #[tactic(auto, using(crate::proofs::Over::all_from, crate::proofs::Over::repeats_now, crate::proofs::Over::repeats_later, crate::proofs::Over::repeats_on, crate::proofs::Over::repeats_out))]
     fn outline_repeats(&self, nodes: &mut [u32; 258]) -> bool
         ensures { result ≡ repeats (outline_of self.now) }
     {
@@ -120,6 +125,7 @@ impl<'a> NearEdges<'a> {
     ghost use Rattle.cells.specs.Near.{laid_near, Held};
 
     // Adds them by the cell's finished outline to the table of its own edges, until one is refused.
+    #[tactic(auto, using(crate::proofs::Near::near_start, crate::proofs::Near::place_low, crate::proofs::Near::near_few, crate::proofs::Near::near_end))]
     fn add_darts(
         &self,
         outline: &[u32],
@@ -140,6 +146,7 @@ impl<'a> NearEdges<'a> {
     // Cuts a cell with a finished outline, whose own edges have the slots, one for each of its entries: adds the edges near it and walks. The part of
     // refusal 11 that is looked at after a walk never fires (cutting's `without_test`), so it is left out.
     // `runs` and `stops` stay lists: C lends them, and they are filled in part, which no ghost field beside a `&mut` can say.
+    #[tactic(auto, using(crate::proofs::Cut::too_many, crate::proofs::Cut::repeated))]
     fn cut(
         &self,
         outline: &[u32],

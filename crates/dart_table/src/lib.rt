@@ -116,6 +116,7 @@ impl DartTable {
     }
 
     // Adds the slot from a to b, and the one from b to a with the mark `back`.
+    #[tactic(auto, using(lists::proofs::Sort::length_insert), unfolding(lists::specs::Sort::sort_onto, cutting::specs::Cell::edge_slots))]
     fn add_dart(&mut self, coords: &[f64], a: u32, b: u32, back: u32)
         requires { length self.old + 2 ≤ 1024 }
         ensures { self.new ≡ sort_onto (stands_before coords.now) self.old (edge_slots back ((a, b) ∷ [])) }
@@ -191,6 +192,7 @@ impl DartTable {
     }
 
     // Adds the edge from a to b, with a slot at both its ends, if it is new to the table.
+    #[tactic(auto, using(crate::proofs::Slots::found, crate::proofs::Adds::edge_loop, crate::proofs::Adds::edge_known))]
     fn add_edge(&mut self, coords: &[f64], a: u32, b: u32) -> Result<(), Full>
         ensures { table_in result self.new ≡ with_edge coords.now (a, b) self.old }
     {
@@ -220,6 +222,7 @@ impl DartTable {
 
     // Adds an edge of the other mesh near the cell, from a to b: those windows of its sorted nodes that are new to the table, or, without such nodes,
     // the whole edge, if it is new.
+    #[tactic(auto, using(crate::proofs::Adds::some_of, crate::proofs::Adds::near_whole, crate::proofs::Adds::near_along, crate::proofs::Adds::edge_alone))]
     pub fn add_near_edge(
         &mut self,
         coords: &[f64],

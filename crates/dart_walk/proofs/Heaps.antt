@@ -30,6 +30,13 @@ unfolding stacked
 length_stacked xs zero = refl
 length_stacked xs (suc k) = ap suc (length_stacked xs k)
 
+-- one with room has it in its array
+pub heap_fits : (xs : List ℕ) (k : ℕ) (h : List ℕ) → stacked xs k ≡ h → length h < 2048 → k < 2048
+heap_fits xs k h e few = omega (arith, ap length e, length_stacked xs k)
+
+pub heap_pushed : (xs : List ℕ) (k v : ℕ) (h : List ℕ) → stacked xs k ≡ h → length h < length xs → stacked (set xs k v) (k + 1) ≡ v ∷ h
+heap_pushed xs k v h e few = stacked_push xs k v (omega (arith, ap length e, length_stacked xs k)) ∙ ap (λ (l : List ℕ). v ∷ l) e
+
 module _ (n : ℕ) (src dst : List ℕ) where
   pub slot_le : (a b s : ℕ) → s ≡ slot n src dst a b → s ≤ n
   unfolding slot

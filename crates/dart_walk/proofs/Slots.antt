@@ -7,7 +7,7 @@ use native.Mathlib.Omega.{arith}
 use lib.Dec.{ltb}
 use lib.ListN.{length, get_or}
 use borrow.Author.Tests.{ltb-false, ltb-true}
-use Rattle.std.proofs.Common.{Option, Some, None, is_some, unwrap_or, IfSome}
+use Rattle.std.proofs.Common.{Option, Some, None, unwrap_or, IfSome}
 use Rattle.std.specs.List.{position, position_or_len}
 use Rattle.lists.specs.Search.{seek, first}
 use Rattle.lists.proofs.Search.{first_here, first_shift, first_le}
@@ -55,27 +55,3 @@ module _ (a b : ℕ) (t : List Slot) where
           first_le (leads (srcs t) (dsts t) a b) 0 (length t) (omega arith),
         ),
       )
-
--- ---- a slot that is found, or none
-
-module _ (r : Option ℕ) (n d : ℕ) where
-  pub some_below : is_some r ≡ true → IfSome r (λ i. i < n) → unwrap_or r d < n
-  some_below h w = go r h w
-    where
-      go : (x : Option ℕ) → is_some x ≡ true → IfSome x (λ i. i < n) → unwrap_or x d < n
-      go (Some i) h w = w
-      go None h w = cc
-
-  pub none_is : is_some r ≡ false → unwrap_or r d ≡ d
-  none_is h = go r h
-    where
-      go : (x : Option ℕ) → is_some x ≡ false → unwrap_or x d ≡ d
-      go (Some i) h = cc
-      go None h = refl
-
-  pub some_same : is_some r ≡ true → unwrap_or r n ≡ unwrap_or r d
-  some_same h = go r h
-    where
-      go : (x : Option ℕ) → is_some x ≡ true → unwrap_or x n ≡ unwrap_or x d
-      go (Some i) h = refl
-      go None h = cc

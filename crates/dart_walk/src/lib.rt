@@ -39,6 +39,7 @@ fn find(slots: &[Slot], a: u32, b: u32) -> Option<usize>
 }
 
 // The first unmarked slot of the node a from k on, below n. By index, since the marks stand beside the slots, as in the definition's state.
+#[tactic(auto, using(lists::proofs::Search::first_on, lists::proofs::Search::first_here, lists::proofs::Search::first_end_lem, lists::proofs::Search::right_false))]
 fn first_open(slots: &[Slot], marks: &[u32], a: u32, k: usize, n: usize) -> Option<usize>
     requires { (k ≤ n) × (n ≤ length slots.now) × (n ≤ length marks.now) }
     ensures within { IfSome result (λ i. i < n) }
@@ -53,6 +54,7 @@ fn first_open(slots: &[Slot], marks: &[u32], a: u32, k: usize, n: usize) -> Opti
 }
 
 // The first unmarked slot of the node a after its slot r, going round, r itself last.
+#[tactic(auto, using(cutting::proofs::Rounds::next_open_late, cutting::proofs::Rounds::next_open_early, cutting::proofs::Rounds::next_open_back, cutting::proofs::Rounds::next_open_none))]
 fn next_open(slots: &[Slot], marks: &[u32], a: u32, r: usize) -> Option<usize>
     requires { (r < length slots.now) × (length slots.now ≤ length marks.now) }
     ensures within { IfSome result (λ i. i < length slots.now) }
@@ -85,6 +87,7 @@ impl Model for Heap {
 }
 
 impl Heap {
+    #[tactic(auto, unfolding(cutting::specs::Lent::stacked))]
     fn new() -> Self
         ensures { result ≡ [] }
     {
@@ -94,6 +97,7 @@ impl Heap {
         }
     }
 
+    #[tactic(auto, using(crate::proofs::Heaps::heap_pushed, crate::proofs::Heaps::heap_fits))]
     fn push(&mut self, slot: usize)
         requires { (length self.old < 2048) × (slot ≤ 1024) }
         ensures { self.new ≡ slot ∷ self.old }
@@ -102,6 +106,7 @@ impl Heap {
         self.count += 1;
     }
 
+    #[tactic(auto, using(crate::proofs::Heaps::stacked_pop), unfolding(cutting::specs::Lent::stacked))]
     fn pop(&mut self) -> Option<usize>
         ensures { MatchOption result (self.old ≡ []) (λ i. self.old ≡ i ∷ self.new) }
     {
@@ -113,6 +118,7 @@ impl Heap {
     }
 
     // Puts on the first slots of the outline's darts; the number of the slots stands for none.
+    #[tactic(auto, using(cutting::proofs::Chunks::chunked, crate::proofs::Heaps::slot_le, crate::proofs::Heaps::start_turn))]
     fn fill(&mut self, slots: &[Slot], outline: &[u32])
         requires { (length slots.now ≤ 1024) × (2 * length self.old + length outline.now ≤ 4096) }
         ensures { self.new ≡ starts (length slots.now) (srcs slots.now) (dsts slots.now) (pairs outline.now) self.old }
@@ -182,6 +188,7 @@ fn walk_on(
 }
 
 // Walks the slots with marks and a heap of its own. Slots, outline, nodes and stops are four lists, each with its own length.
+#[tactic(auto, using(crate::proofs::Answers::walked_as), unfolding(cutting::specs::Walk::walk_with))]
 fn walk_table(
     slots: &[Slot],
     outline: &[u32],

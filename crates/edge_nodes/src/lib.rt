@@ -37,6 +37,7 @@ impl<'a> Chains<'a> {
     }
 
     // How many they are. The limit of meetings is asked where they are counted: as a ghost field it would be asked of `nodes_on` too.
+    #[tactic(auto, using(crate::proofs::Under::under_few, crate::proofs::Count::count_end_lem, crate::proofs::Walk::nexts_long))]
     fn count(&self, key: SortedKey) -> usize
         requires { length self.now.meetings.met.now ≤ 327680 }
         ensures { (result ≡ length (under_in self.now.meetings (edge_of key))) × (result ≤ 131072) }
@@ -55,6 +56,7 @@ impl<'a> Chains<'a> {
 
 impl<'a> LinkedMeetings<'a> {
     // Writes the sorted nodes of the key to the front of `out`. Answers how many they are.
+    #[tactic(auto, using(lists::proofs::Sort::length_insert, crate::proofs::Count::length_collected, crate::proofs::Sorted::some_nodes))]
     fn sorted_nodes(&self, coords: &[f64], key: SortedKey, out: &mut [u32]) -> usize
         requires { (length (collected_in (pairs self.now.subject.now) (pairs self.now.cutter.now) self.now.met.now (edge_of key)) ≤ 256) × (258 ≤ length out.old) }
         ensures { FrontIs (sorted_in coords.now (pairs self.now.subject.now) (pairs self.now.cutter.now) self.now.met.now (edge_of key)) out.old result out.new }
@@ -72,6 +74,7 @@ impl<'a> LinkedMeetings<'a> {
     }
 
     // Whether over 256 nodes are collected under the key.
+    #[tactic(auto, using(crate::proofs::Count::length_collected))]
     fn is_crowded(&self, key: SortedKey) -> bool
         requires { length self.now.met.now ≤ 327680 }
         ensures { result ≡ ltb most_nodes (length (collected_in (pairs self.now.subject.now) (pairs self.now.cutter.now) self.now.met.now (edge_of key))) }

@@ -1,19 +1,12 @@
-use mathlib.Core.Path.{ap, ap₂, ◌∙◌}
-use mathlib.Core.Bool.{true}
-use mathlib.Core.List.{List}
-use Prim.Native.Nat.{ℕ}
+use mathlib.Core.Path.{ap, ◌∙◌}
 use native.Mathlib.Omega.{arith}
 use lib.ListN.{length}
 use lib.Seq.{length-take-le}
-use Rattle.cutting.specs.Walk.{walk_from, walk_with, starts, srcs, dsts}
+use Rattle.cutting.specs.Walk.{srcs, dsts}
 use Rattle.cutting.specs.Lent.{pairs}
 use Rattle.cutting.proofs.Pairs.{pairs_length}
-use Rattle.dart_walk.proofs.Answers.{walked_as}
 use Rattle.dart_walk.proofs.Heaps.{length_starts}
 use Rattle.dart_walk.proofs.walk_table.Goals as goal
-
-pub fill-requires : goal.fill-requires
-fill-requires c = (c.requires.0, omega (arith, ap length c.new-heap.ensures, c.requires.1))
 
 pub walk_on-requires : goal.walk_on-requires
 walk_on-requires c =
@@ -29,11 +22,3 @@ walk_on-requires c =
       corners = c.requires.2;
       stopped = c.requires.3;
     }
-
-pub returns : goal.returns
-unfolding walk_with
-returns c =
-    let t = c.args.slots.now in
-    walked_as _ _ _ _ _ _ _
-    (ap₂ (λ (m h : List ℕ). walk_from true (length t) (srcs t) (dsts t) m h) c.copy_marks.ensures
-    (c.fill.ensures ∙ ap (starts (length t) (srcs t) (dsts t) (pairs c.args.outline.now)) c.new-heap.ensures)) c.walk_on.ensures

@@ -1,23 +1,9 @@
 use mathlib.Core.Path.{refl}
-use native.Mathlib.Omega.{arith}
-use Rattle.std.proofs.Common.{rules}
 use Rattle.std.proofs.lemmas.Result.{err_from_is_err_and}
 use Rattle.cutting.specs.Lent.{pairs}
-use Rattle.cells.proofs.Near.{near_start, place_low, near_few, near_step, near_many, near_end}
+use Rattle.cells.proofs.Near.{near_step, near_many}
 use Rattle.cells.proofs.Cut.{read_front}
 use Rattle.cells.proofs.NearEdges.add_darts.Goals as goal
-
-pub loop-place-init : goal.loop-place-init
-loop-place-init c = near_start c.args.self.now (pairs c.args.outline.now) c.args.table.now c.requires
-
-pub bounds-self-place : goal.bounds-self-place
-bounds-self-place c = omega (arith, place_low c.args.self.now (pairs c.args.outline.now) c.loop-place.invariant c.loop-place-test.true)
-
-pub bounds-self-place-in-loop-place : goal.bounds-self-place-in-loop-place
-bounds-self-place-in-loop-place c = omega (arith, place_low c.args.self.now (pairs c.args.outline.now) c.loop-place.invariant c.loop-place-test.true)
-
-pub nodes_on-count-requires : goal.nodes_on-count-requires
-nodes_on-count-requires c = (near_few c.args.self.now (pairs c.args.outline.now) c.loop-place.invariant c.loop-place-test.true, search rules)
 
 pub returns-in_err-add_near_edge : goal.returns-in_err-add_near_edge
 returns-in_err-add_near_edge c =
@@ -30,7 +16,3 @@ pub loop-place-preserved : goal.loop-place-preserved
 loop-place-preserved c =
     near_step c.args.self.now (pairs c.args.outline.now) c.loop-place.invariant c.loop-place-test.true _ (read_front _ _ _ _ c.nodes_on-count.ensures) _ _
     c.in_ok-add_near_edge.ensures refl
-
-pub returns : goal.returns
-returns c =
-    record { fits = λ f. near_end c.args.self.now (pairs c.args.outline.now) c.loop-place.invariant c.loop-place-test.false; over = λ f. cc }

@@ -5,16 +5,8 @@ use Rattle.cutting.specs.Walk.{walk}
 use Rattle.cutting.specs.Outcome.{of_walk}
 use Rattle.cutting.specs.Lent.{pairs}
 use Rattle.cells.specs.Cells.{cut_as}
-use Rattle.cells.proofs.Cut.{too_many, repeated, as_walked, answered}
+use Rattle.cells.proofs.Cut.{as_walked, answered}
 use Rattle.cells.proofs.NearEdges.cut.Goals as goal
-
-pub returns-then-edges_repeat : goal.returns-then-edges_repeat
-returns-then-edges_repeat c = c.refused.ensures ∙ repeated _ (pairs c.args.outline.now) _ _ _ (sym c.edges_repeat.ensures ∙ c.if-edges_repeat.true)
-
-pub returns-then-is_err : goal.returns-then-is_err
-returns-then-is_err c =
-    c.refused-then-is_err.ensures ∙ too_many _ (pairs c.args.outline.now) _ _ _ (sym c.edges_repeat.ensures ∙ c.if-edges_repeat.false)
-    (c.add_darts.ensures.over (sym c.is_err.ensures.value ∙ c.if-is_err.true))
 
 pub returns : goal.returns
 returns c =

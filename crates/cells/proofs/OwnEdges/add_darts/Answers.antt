@@ -23,9 +23,5 @@ loop-i-preserved c =
     outline_turn c.args.self.now _ _ _ c.loop-i.invariant _ c.loop-i-test.true c.next_corner-b.ensures _ (read_front _ _ _ _ c.nodes_on-count.ensures) _ _ _
     c.in_ok-add_own_edge.ensures.table c.in_ok-add_own_edge.ensures.outline refl (search rules)
 
-pub returns-clause-held : goal.returns-clause-held
-returns-clause-held c =
-    record { fits = λ f. (outline_end c.args.self.now _ _ _ c.loop-i.invariant c.loop-i-test.false).0; over = λ f. cc }
-
 pub returns-clause-outlined : goal.returns-clause-outlined
 returns-clause-outlined c = λ f. (outline_end c.args.self.now _ _ _ c.loop-i.invariant c.loop-i-test.false).1

@@ -1,15 +1,11 @@
-use native.Mathlib.Omega.{arith}
 use Rattle.std.proofs.Common.{rules}
 use Rattle.cells.proofs.Cut.{read_front}
 use Rattle.cells.proofs.Own.{few_at}
-use Rattle.cells.proofs.Over.{nodes_few, laid_at}
+use Rattle.cells.proofs.Over.{laid_at}
 use Rattle.cells.proofs.OwnEdges.lay.Goals as goal
 
 pub nodes_on-count-requires : goal.nodes_on-count-requires
 nodes_on-count-requires c = rw (c.next_corner-b.ensures) (few_at c.args.self.now c.args.i c.requires, search rules)
-
-pub lay_own_edge-requires : goal.lay_own_edge-requires
-lay_own_edge-requires c = omega (arith, nodes_few c.args.self.now c.args.i c.requires c.next_corner-b.ensures (read_front _ _ _ _ c.nodes_on-count.ensures), c.told-darts)
 
 pub returns : goal.returns
 returns c = laid_at c.args.self.now c.args.i c.requires c.next_corner-b.ensures (read_front _ _ _ _ c.nodes_on-count.ensures) c.lay_own_edge.ensures

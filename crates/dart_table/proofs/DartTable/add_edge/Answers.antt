@@ -5,18 +5,9 @@ use lib.ListN.{length}
 use Rattle.std.specs.List.{position}
 use native.Mathlib.Omega.{arith}
 use Rattle.cutting.specs.Cell.{names}
-use Rattle.dart_table.proofs.Slots.{found, found_not}
-use Rattle.dart_table.proofs.Adds.{darts_full, darts_fit, edge_loop, edge_known, edge_new}
+use Rattle.dart_table.proofs.Slots.{found_not}
+use Rattle.dart_table.proofs.Adds.{darts_full, darts_fit, edge_new}
 use Rattle.dart_table.proofs.DartTable.add_edge.Goals as goal
-
-pub returns-then-a-b : goal.returns-then-a-b
-returns-then-a-b c = edge_loop c.args.coords.now c.args.a c.args.b c.args.self.now c.if-a-b.true
-
-pub returns-then-is_some : goal.returns-then-is_some
-returns-then-is_some c =
-    let a = c.args in
-    let is = c.find_slot.ensures ∙ ap (position (names a.a a.b)) c.slots.ensures.slots in
-    edge_known a.coords.now a.a a.b a.self.now (found (names a.a a.b) a.self.now _ is (sym c.is_some.ensures ∙ c.if-is_some.true))
 
 pub returns-then-slots-gt1024 : goal.returns-then-slots-gt1024
 returns-then-slots-gt1024 c =

@@ -5,7 +5,7 @@ use lib.ListN.{length}
 use Rattle.cutting.specs.Lent.{pairs}
 use Rattle.edge_nodes.specs.Chained.{number, edge_of}
 use Rattle.edge_nodes.proofs.Under.{under_few}
-use Rattle.edge_nodes.proofs.Count.{count_start, count_turn, count_moved, count_end_lem}
+use Rattle.edge_nodes.proofs.Count.{count_start, count_turn, count_moved}
 use Rattle.edge_nodes.proofs.Walk.{walk_start, walk_turn, head_read, next_read, nexts_long}
 use Rattle.edge_nodes.proofs.chains.Chains.count.Goals as goal
 
@@ -19,17 +19,6 @@ loop-q-init c =
       count_moved (pairs m.edges.now) m.met.now (number m.side) (edge_of c.args.key) 0 _ 0
           (count_start (pairs m.edges.now) m.met.now (number m.side) (edge_of c.args.key)) (omega arith) w.0.0 w.1,
     )
-
-pub under-requires : goal.under-requires
-under-requires c =
-    let t = c.args.self.now in
-    omega (arith, c.loop-q-test.true, nexts_long t.meetings t.heads.now t.nexts.now t.some t.heads_are t.nexts_are)
-
-pub overflow_add-n : goal.overflow_add-n
-overflow_add-n c =
-    let m = c.args.self.now.meetings in
-    let i = c.loop-q.invariant in
-    omega (arith, i.1.0, i.1.2, c.requires, ap length c.under.ensures, under_few (pairs m.edges.now) m.met.now (number m.side) (edge_of c.args.key) c.loop-q.q)
 
 pub loop-q-smaller : goal.loop-q-smaller
 loop-q-smaller c =
@@ -58,11 +47,3 @@ loop-q-preserved c =
       count_moved (pairs m.edges.now) m.met.now (number m.side) e (l.q + 1) _ (l.n + length c.under.result.now)
           (count_turn (pairs m.edges.now) m.met.now (number m.side) e l.q l.n (length c.under.result.now) l.invariant.1 h (same, omega (arith, same, few))) (omega (arith, w.1)) w.0.0 w.2,
     )
-
-pub returns : goal.returns
-returns c =
-    let t = c.args.self.now in
-    let m = t.meetings in
-    let l = c.loop-q in
-    let long = nexts_long m t.heads.now t.nexts.now t.some t.heads_are t.nexts_are in
-    count_end_lem (pairs m.edges.now) m.met.now (number m.side) (edge_of c.args.key) l.q l.n l.invariant.1 (omega (arith, c.loop-q-test.false, long)) c.requires
