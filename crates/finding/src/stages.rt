@@ -1,11 +1,10 @@
 // The stages before the cells, one after the other.
-ghost use Rattle.std.specs.Prelude.{◌≡◌, IfOk, true, ◌++◌, ◌+◌, ◌-◌, ◌/◌, ◌≤◌, leb, length, take};
+ghost use Rattle.std.specs.Prelude.{◌≡◌, IfOk, true, ◌++◌, ◌+◌, ◌-◌, ◌/◌, ◌≤◌, leb, eqb, length, take};
 ghost use Rattle.lists.specs.Gather.{joined};
 ghost use Rattle.lists.specs.Regions.{front};
 ghost use Rattle.refusals.specs.Numbers.{by_number, refused_with};
 ghost use Rattle.rules.specs.Refusals.{of_meeting, first_refusal};
 ghost use Rattle.regions.specs.Runs.{run_in};
-ghost use Rattle.entry.specs.Named.{op_number};
 ghost use Rattle.finding.specs.Nets.{plain_of, FindAsks};
 ghost use Rattle.finding.specs.Found.{regions_by, found_of, both_full, LinkedIn, MeetingsRoom, CutterIndexed, met_in, MetWritten, LinkRoom, linked_by, StagesGive};
 
@@ -136,24 +135,31 @@ fn link(w: &mut [u32], n: NetPlaces, met: usize, h: usize) -> Regions
     }
 }
 
+// Whether the operation with this number cuts a mesh by lines. By the number, since the promise of `find` is for each number, one that names no operation too.
+fn takes_lines(op: u32) -> bool
+    ensures { result ≡ eqb op 5 }
+{
+    matches!(Operation::try_from(op), Ok(Operation::Lines))
+}
+
 // Refusals 12, 8, 12 and 9, in this order; one leaves the lists as they are then.
 #[tactic(auto, using(crate::proofs::Ends::twelve, crate::proofs::Ends::coords_lent, crate::proofs::Ends::met_stop, crate::proofs::Ends::nine_stop))]
 fn stages(
-    op: Operation,
+    op: u32,
     limit: u32,
     subject: &MeshView,
     cutter: &MeshView,
     coords: &mut [f64],
     work: &mut [u32],
 ) -> Result<Found, Refusal>
-    requires { FindAsks (op_number op) limit (plain_of subject.now) (plain_of cutter.now) (length work.old) }
-    ensures { StagesGive (op_number op) limit (plain_of subject.now) (plain_of cutter.now) coords.old work.old coords.new work.new result }
+    requires { FindAsks op limit (plain_of subject.now) (plain_of cutter.now) (length work.old) }
+    ensures { StagesGive op limit (plain_of subject.now) (plain_of cutter.now) coords.old work.old coords.new work.new result }
 {
     if !place_coords(subject.coords, cutter.coords, coords) {
         return Err(Refusal::NoPlace);
     }
     let placed = subject.coords.len() + cutter.coords.len();
-    let n = nets(op.takes_lines(), &coords[..placed], subject, cutter, work);
+    let n = nets(takes_lines(op), &coords[..placed], subject, cutter, work);
     let f = meet(n, placed, limit as usize, coords, work)?;
     let g = link(work, n, f.met, placed / 2 + 1);
     if crowded(work, g) {
@@ -169,16 +175,16 @@ fn stages(
 // leaves zeros.
 #[tactic(auto, using(crate::proofs::Ends::kept_all))]
 pub fn find(
-    op: Operation,
+    op: u32,
     limit: u32,
     subject: &MeshView,
     cutter: &MeshView,
     coords: &mut [f64],
     work: &mut [u32],
 ) -> Result<Found, Refusal>
-    requires { FindAsks (op_number op) limit (plain_of subject.now) (plain_of cutter.now) (length work.old) }
+    requires { FindAsks op limit (plain_of subject.now) (plain_of cutter.now) (length work.old) }
     ensures { record { answer = by_number result; coords = coords.new; work = work.new }
-        ≡ found_of (op_number op) limit (plain_of subject.now) (plain_of cutter.now) coords.old work.old }
+        ≡ found_of op limit (plain_of subject.now) (plain_of cutter.now) coords.old work.old }
 {
     let answer = stages(op, limit, subject, cutter, coords, work);
     if answer.is_err() {

@@ -52,7 +52,7 @@ fn prepare(
         ≡ first_refusal m (length coords.old / 2) q n (found_events (op_number operation) (mesh_of subject.now) (mesh_of cutter.now)) }
     ensures prepared { IfOk result (λ p. PreparedIn (op_number operation) (mesh_of subject.now) (mesh_of cutter.now) coords.old coords.new work.new p) }
 {
-    let found = find(operation, m, subject, cutter, coords, work)?;
+    let found = find(u32::from(operation), m, subject, cutter, coords, work)?;
     let points = &coords[..2 * found.next];
     let indexes = index_meshes(points, work, found.regions, subject.ends, cutter.ends);
     Ok(Prepared {
