@@ -15,6 +15,7 @@ returns c =
     let r = c.partition_point in
     let p : ℕ → Bool = before a.self.now.coords.now a.v in
     partition_first p a.self.now.order.now r.result
-    (IsPartitionPoint-from_clause (λ u. not (p u)) a.self.now.order.now r.result r.ensures.partitioned (partitioned p a.self.now.order.now (place_turns a.self.now.coords.now a.self.now.order.now a.v c.requires))
+    (IsPartitionPoint-from_clause (λ u. not (p u)) a.self.now.order.now r.result r.ensures.partitioned
+    (partitioned p a.self.now.order.now (place_turns a.self.now.coords.now a.self.now.order.now a.v c.requires))
     (λ u t f k. search rules))
     r.ensures.bound

@@ -17,6 +17,7 @@ returns c =
     let r = c.partition_point in
     let p : ℕ → Bool = λ v. lt (ahead a.self.now.coords.now a.p v) weld_eps in
     partition_first p a.self.now.order.now r.result
-    (IsPartitionPoint-from_clause (λ v. not (p v)) a.self.now.order.now r.result r.ensures.partitioned (partitioned p a.self.now.order.now (window_turns a.self.now.coords.now a.self.now.order.now a.p c.requires))
+    (IsPartitionPoint-from_clause (λ v. not (p v)) a.self.now.order.now r.result r.ensures.partitioned
+    (partitioned p a.self.now.order.now (window_turns a.self.now.coords.now a.self.now.order.now a.p c.requires))
     (λ v t f k. search rules))
     r.ensures.bound
