@@ -39,6 +39,7 @@ struct Prepared {
 }
 
 // The stages between the entry and the cells: all coordinates go to the front of their list, what the cells are cut by to the working list.
+// That the entry refused nothing is asked by three functions: it speaks of the working list's length, and no ghost field can stand beside a `&mut` list.
 fn prepare(
     operation: Operation,
     m: u32,
@@ -63,6 +64,7 @@ fn prepare(
 }
 
 // Places all pieces that the operation keeps, each with its tag; as many have a place as there is room for ends.
+// The lists come one by one: a struct of parts of a lent struct's lists isn't covered by the borrow checker.
 fn place(
     operation: Operation,
     m: u32,
@@ -147,7 +149,7 @@ fn run(
     Ok(counts)
 }
 
-// Operation, meeting limit M, subject, cutter, output lists, working list.
+// Operation, meeting limit M, subject, cutter, output lists, working list. The operation by its number: any number is answered.
 pub fn overlay(
     op: u32,
     m: u32,
