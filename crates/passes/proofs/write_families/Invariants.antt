@@ -4,4 +4,4 @@ use Rattle.passes.proofs.Written.{Written}
 use Rattle.passes.proofs.write_families.Given as goal
 
 abbrev pub invariant-loop-tag : goal.invariant-loop-tag
-invariant-loop-tag l = Written (family_by l.sf l.cf) l.initial.tags l.initial.tags l.tags l.tag-index
+invariant-loop-tag l = Written (family_by l.subject l.cutter) l.initial.tags l.initial.tags l.tags l.tag-index

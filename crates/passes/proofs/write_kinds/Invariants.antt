@@ -4,4 +4,4 @@ use Rattle.passes.proofs.Written.{Written}
 use Rattle.passes.proofs.write_kinds.Given as goal
 
 abbrev pub invariant-loop-i : goal.invariant-loop-i
-invariant-loop-i l = Written (kind_by l.sk l.ck) l.tags l.initial.ok l.ok l.i
+invariant-loop-i l = Written (kind_by l.subject l.cutter) l.tags l.initial.kinds l.kinds l.i

@@ -4,4 +4,4 @@ use Rattle.passes.proofs.Written.{Written}
 use Rattle.passes.proofs.write_parents.Given as goal
 
 abbrev pub invariant-loop-i : goal.invariant-loop-i
-invariant-loop-i l = Written (mesh_by l.n) l.tags l.initial.om l.om l.i × Written (cell_by l.n) l.tags l.initial.oi l.oi l.i
+invariant-loop-i l = Written (mesh_by l.n) l.tags l.initial.meshes l.meshes l.i × Written (cell_by l.n) l.tags l.initial.cells l.cells l.i
