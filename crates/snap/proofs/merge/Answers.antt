@@ -19,7 +19,10 @@ loop-j-preserved c =
     let m = c.copy_within in
     merge_turn c.args.more.now.coords.now c.args.s.now c.args.k c.args.more.now.order.now c.requires.0 l.s l.end
     l.j l.invariant p.result m.new.self c.loop-j-test.true c.requires.2 p.ensures.0 p.ensures.1
-    (m.ensures.after ∙ ap (λ (n : ℕ). copy_within l.s p.result l.end n) (let e : p.result + (l.j - 1) + 1 ≡ p.result + l.j = omega (arith, c.loop-j-test.true) in e) ∙ copied_within l.s p.result l.end (p.result + l.j) (omega (arith, p.ensures.1, length-take l.end l.s)) (omega (arith, l.invariant.under, l.invariant.size, c.requires.0)))
+    (m.ensures.after
+    ∙ ap (λ (n : ℕ). copy_within l.s p.result l.end n) (let e : p.result + (l.j - 1) + 1 ≡ p.result + l.j = omega (arith, c.loop-j-test.true) in e)
+    ∙ copied_within l.s p.result l.end (p.result + l.j) (omega (arith, p.ensures.1, length-take l.end l.s))
+    (omega (arith, l.invariant.under, l.invariant.size, c.requires.0)))
 
 pub returns : goal.returns
 returns c =
