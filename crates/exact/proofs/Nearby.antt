@@ -9,10 +9,9 @@ use lib.IntN.{◌-ℤ◌}
 use lib.Pow.{pow-add, pow_mono, shl_lt, shl_exact}
 use Rattle.exact.specs.Exact.{signed}
 use Rattle.exact.specs.Inner.{size, signed_size}
-use Rattle.exact.specs.InnerNear.{Close, CloseBoth, Holds, HoldsBoth}
+use Rattle.exact.specs.InnerNear.{Close, Holds}
 use Rattle.exact.specs.declared.parts.Parts.{Parts}
 use Rattle.exact.specs.declared.orient.Window.{Window}
-use Rattle.exact.specs.declared.vectors.Vector.{Vector}
 use Rattle.exact.proofs.Integers.{minus_like_more, minus_like_less, minus_unlike}
 use Rattle.exact.proofs.SignLaws.{size_none}
 
@@ -73,9 +72,3 @@ module _ (a b : Parts) (h : a.e ≡ b.e) where
 
 pub holds_more : {w w' : Window} {p : Parts} → Holds w p → w'.base ≤ w.base → w.top ≤ w'.top → Holds w' p
 holds_more h a b = record { from = λ k. omega (arith, h.from k); to = λ k. omega (arith, h.to k) }
-
-pub close_of : {w : Window} {p : Parts} → Holds w p → w.top ≤ w.base + 9 → Close w.base p
-close_of h k = record { from = h.from; to = λ z. omega (arith, h.to z) }
-
-pub close_both : {w : Window} {v : Vector} → HoldsBoth w v → w.top ≤ w.base + 9 → CloseBoth w.base v
-close_both h k = (close_of h.0 k, close_of h.1 k)

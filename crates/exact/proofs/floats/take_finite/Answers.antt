@@ -5,11 +5,6 @@ use Rattle.exact.proofs.floats.take_finite.Goals as goal
 pub float_to_bits-b : goal.float_to_bits-b
 float_to_bits-b c = finite_not_nan c.args.x c.requires
 
-pub invariant_of-result : goal.invariant_of-result
-invariant_of-result c =
-    let t = small _ _ c.if-f-eq0.true (read c.args.x c.well_formed.0.1 c.requires).taken in
-    record { digits = t.digits; range = t.range }
-
 pub invariant_of-result-2 : goal.invariant_of-result-2
 invariant_of-result-2 c =
     let t = large _ _ c.if-f-eq0.false (read c.args.x c.well_formed.0.1 c.requires).taken in

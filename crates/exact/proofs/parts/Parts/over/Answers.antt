@@ -3,9 +3,6 @@ use Rattle.exact.proofs.Nearby.{near_shift}
 use Rattle.exact.proofs.Scaled.{over_none, word_fits, negated_fits, over_positive, over_negative}
 use Rattle.exact.proofs.parts.Parts.over.Goals as goal
 
-pub overflow_sub-m : goal.overflow_sub-m
-overflow_sub-m c = c.requires.from c.if-self-eq0.false
-
 pub overflow_shl-m : goal.overflow_shl-m
 overflow_shl-m c = near_shift _ c.args.self c.requires c.if-self-eq0.false
 
