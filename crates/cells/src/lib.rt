@@ -89,7 +89,6 @@ impl<'a> OwnEdges<'a> {
         ensures { result ≡ edges_meet (pairs darts.now) (outline_from self.now k) }
     {
         let mut others = [0u32; 518];
-        // by index, since a corner's edge leads to the next one
         // by index, as an edge leads from corner j to the next one
         for j in k..self.cell.len() {
             let n = self.lay(j, nodes, &mut others);
