@@ -8,6 +8,12 @@ use native.Mathlib.Omega.{arith}
 use lib.Dec.{eqb, leb}
 use lib.ListN.{length}
 use borrow.Author.Tests.{eq-eqb, ne_eqb, le-leb, lt-leb}
+use Rattle.std.specs.Ordering.{ord_min}
+use Rattle.refusals.specs.declared.Refusal.{Refusal}
+use Rattle.refusals.specs.Numbers.{number}
+use Rattle.refusals.specs.contracts.RefusalOrd.TheImpl as order
+use Rattle.refusals.proofs.Numbers.{number_positive}
+use Rattle.refusals.proofs.Order.{lower_number}
 use Rattle.entry.specs.Mesh.{Mesh, node_count}
 use Rattle.entry.specs.Refused.{call_ok, shape_ok, coords_ok, kinds_ok, nodes_ok, cells_ok, work_ok, entry_of}
 use Rattle.entry.specs.ByMesh.{mesh_refusal, lower_refusal}
@@ -81,6 +87,13 @@ pub lower_one : (a : ℕ) → 0 < a → a ≡ lower_refusal a 0
 unfolding lower_refusal
 lower_one zero h = refl
 lower_one (suc n) h = rw (ne_eqb (suc n) 0 (suc-ne-zero n))
+
+-- the lower of two refusals by their own order
+pub lower_two : {t : Refusal} (r s : Refusal) → t ≡ ord_min (order.ghosts).cmp r s → number t ≡ lower_refusal (number r) (number s)
+unfolding lower_refusal
+lower_two r s e =
+    ap number e ∙ lower_number r s
+    ∙ sym (rw (ne_eqb (number r) 0 (λ z. omega (arith, z, number_positive r)), ne_eqb (number s) 0 (λ z. omega (arith, z, number_positive s))))
 
 -- where the lower of two is 0, both are
 pub lower_zero : (a b : ℕ) → lower_refusal a b ≡ 0 → (a ≡ 0) × (b ≡ 0)

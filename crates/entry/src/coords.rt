@@ -2,20 +2,17 @@
 ghost use Rattle.std.specs.Prelude.{◌≡◌};
 ghost use Rattle.entry.specs.Refused.{coord_ok, coords_ok};
 
-// A zero is told from −0 by the sign of its inverse; a NaN is not equal to itself.
+// 2^40: no coordinate is larger in size.
+const MOST: f64 = 1099511627776.0;
+
+#[tactic(auto, using(crate::proofs::Coord::zero_sign, crate::proofs::Coord::within))]
 fn coord_ok(x: f64) -> bool
     ensures { result ≡ coord_ok x }
 {
-    if x > 1099511627776.0 {
-        return false;
-    }
-    if x < -1099511627776.0 {
-        return false;
-    }
     if x == 0.0 {
-        return 1.0 / x > 0.0;
+        return !x.is_sign_negative();
     }
-    x == x
+    x.abs() <= MOST
 }
 
 #[tactic(auto, unfolding(crate::specs::Refused::coords_ok))]

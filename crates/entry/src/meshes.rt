@@ -38,11 +38,11 @@ fn check(lines: bool, mesh: &MeshView) -> Result<(), Refusal>
 }
 
 // The lower of two refusals.
-#[tactic(auto, unfolding(crate::specs::ByMesh::lower_refusal), using(refusals::proofs::Numbers::number_positive))]
+#[tactic(auto, using(crate::proofs::Lowest::lower_two))]
 fn lower(a: Refusal, b: Refusal) -> Refusal
     ensures { number result ≡ lower_refusal (number a) (number b) }
 {
-    if a.number() <= b.number() { a } else { b }
+    a.min(b)
 }
 
 // The refusal of one of two checks, the lower one where both refuse.

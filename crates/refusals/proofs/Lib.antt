@@ -1,2 +1,3 @@
 pub mod Distinct
 pub mod Numbers
+pub mod Order

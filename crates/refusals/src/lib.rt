@@ -7,57 +7,42 @@ ghost use Rattle.refusals.specs.Numbers.{number};
 use std::error::Error;
 use std::fmt;
 
-// 1 to 7 are of the input, 8 to 12 and 19 of the state.
-#[derive(Clone, Copy, Debug, PartialEq, Eq)]
+// By the numbers that the rules give them: 1 to 7 are of the input, 8 to 12 and 19 of the state.
+#[derive(Clone, Copy, Debug, PartialEq, Eq, PartialOrd, Ord)]
 pub enum Refusal {
-    // 1: an operation or a limit of meetings that there isn't
-    Call,
-    // 2: lists that don't go together, or too long ones
-    Lists,
-    // 3: a coordinate that isn't finite, is too large or is −0
-    Coordinates,
-    // 4: a kind that isn't taken, out of order, or with a wrong node count
-    Kinds,
-    // 5: a node number not below the node count
-    NodeNumbers,
-    // 6: a node twice in one cell or line
-    NodeTwice,
-    // 7: a working list that is too short
-    WorkingList,
-    // 8: a meeting beyond the limit
-    TooManyMeetings,
-    // 9: over 256 nodes collected under one edge key
-    CrowdedEdge,
-    // 10: over 1,024 slots in a cell's table
-    FullTable,
-    // 11: a walk that can't go on
-    OpenWalk,
-    // 12: the next item has no place in its output list
-    NoPlace,
-    // 19: an outline that passes between the same two nodes twice, or from a node to itself
-    RepeatedEdge,
+    // an operation or a limit of meetings that there isn't
+    Call = 1,
+    // lists that don't go together, or too long ones
+    Lists = 2,
+    // a coordinate that isn't finite, is too large or is −0
+    Coordinates = 3,
+    // a kind that isn't taken, out of order, or with a wrong node count
+    Kinds = 4,
+    // a node number not below the node count
+    NodeNumbers = 5,
+    // a node twice in one cell or line
+    NodeTwice = 6,
+    // a working list that is too short
+    WorkingList = 7,
+    // a meeting beyond the limit
+    TooManyMeetings = 8,
+    // over 256 nodes collected under one edge key
+    CrowdedEdge = 9,
+    // over 1,024 slots in a cell's table
+    FullTable = 10,
+    // a walk that can't go on
+    OpenWalk = 11,
+    // the next item has no place in its output list
+    NoPlace = 12,
+    // an outline that passes between the same two nodes twice, or from a node to itself
+    RepeatedEdge = 19,
 }
 
 impl Refusal {
-    // The number that the rules give it.
     pub fn number(self) -> u32
         ensures { result ≡ number self }
     {
-        match self {
-            Refusal::Call => 1,
-            Refusal::Lists => 2,
-            Refusal::Coordinates => 3,
-            Refusal::Kinds => 4,
-            Refusal::NodeNumbers => 5,
-            Refusal::NodeTwice => 6,
-            Refusal::WorkingList => 7,
-            Refusal::TooManyMeetings => 8,
-            Refusal::CrowdedEdge => 9,
-            Refusal::FullTable => 10,
-            Refusal::OpenWalk => 11,
-            Refusal::NoPlace => 12,
-            Refusal::RepeatedEdge => 19,
-        }
+        self as u32
     }
 }
 
