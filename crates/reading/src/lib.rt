@@ -21,21 +21,14 @@ pub struct MeshLists<'a> {
 }
 
 // how much of the five lists is a mesh
-#[derive(Clone, Copy)]
+#[derive(Clone, Copy, Default)]
 pub struct Counts {
     pub points: usize,
     pub cells: usize,
     pub entries: usize,
 }
 
-impl Counts {
-    pub const NONE: Counts = Counts {
-        points: 0,
-        cells: 0,
-        entries: 0,
-    };
-}
-
+// The operation is a number, as it is read: one that is none is refused 1, no fault of the text.
 #[derive(Clone, Copy)]
 pub struct Input {
     pub op: u32,
@@ -158,7 +151,7 @@ pub fn read_input(
     let input = read_text(s, subject_lists, cutter_lists);
     let (subject, cutter) = match input {
         Some(i) => (i.subject, i.cutter),
-        None => (Counts::NONE, Counts::NONE),
+        None => (Counts::default(), Counts::default()),
     };
     clear_rest(subject, subject_lists);
     clear_rest(cutter, cutter_lists);

@@ -41,6 +41,7 @@ pub struct CellCounts {
     pub entries: usize,
 }
 
+// Any number is read as an operation: one that is none is refused 1, no fault of the text.
 #[derive(Clone, Copy)]
 pub struct First {
     pub op: u32,
@@ -109,7 +110,8 @@ pub fn read_nodes<'a>(s: &'a [u8], coords: &mut [f64]) -> Option<(usize, &'a [u8
     Some((room, rest))
 }
 
-// Numbers with a space before each, as many as the list has room for: how many there are, and the text after them. Written by index, as above.
+// Numbers with a space before each, as many as the list has room for: how many there are, and the text after them. Written by index, since of
+// `nodes.iter_mut().enumerate()` a proof knows no element.
 #[tactic(auto, using(crate::proofs::Many::entries_steps))]
 pub fn read_entries<'a>(s: &'a [u8], nodes: &mut [u32]) -> Option<(usize, &'a [u8])>
     ensures read { read_by (λ n. take n nodes.new) result ≡ entries_from (length nodes.old) [] s.now }
@@ -139,7 +141,8 @@ pub fn read_cell<'a>(s: &'a [u8], nodes: &mut [u32]) -> Option<(Cell, &'a [u8])>
     Some((Cell { heading, corners }, s))
 }
 
-// Cell lines, as many as the lists have room for: how many there are, with how many entries, and the text after them. Written by index, as above.
+// Cell lines, as many as the lists have room for: how many there are, with how many entries, and the text after them. Written by index, since of
+// `iter_mut` zipped with another a proof knows no element.
 #[tactic(auto, using(crate::proofs::Many::cells_steps))]
 pub fn read_cells<'a>(s: &'a [u8], lists: &mut CellLists) -> Option<(CellCounts, &'a [u8])>
     requires few { length lists.old.nodes.now ≤ 4294967295 }

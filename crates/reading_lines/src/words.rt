@@ -87,14 +87,13 @@ pub fn read_hex(s: &[u8]) -> Option<(u64, &[u8])>
 }
 
 // a NaN's pattern is no argument of from_bits
+#[tactic(auto, using(std::proofs::lemmas::Float::not_nan_f64_bits, crate::proofs::Patterns::beyond))]
 pub fn coordinate_of(bits: u64) -> f64
     ensures { result ≡ coordinate bits }
 {
-    if bits % 9223372036854775808 / 4503599627370496 != 2047 {
-        return f64::from_bits(bits);
+    if bits % 0x8000_0000_0000_0000 <= 0x7ff0_0000_0000_0000 {
+        f64::from_bits(bits)
+    } else {
+        f64::NAN
     }
-    if bits % 4503599627370496 == 0 {
-        return f64::from_bits(bits);
-    }
-    0.0 / 0.0
 }
