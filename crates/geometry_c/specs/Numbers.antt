@@ -1,11 +1,10 @@
 -- Answers as a number and a point in a lent list, for C. Assumes nothing.
-use Rattle.std.specs.Prelude.{Option, None, Some, List, cond, ℕ, ◌+◌, ◌*◌, ltb, Float, length, set}
+use Rattle.std.specs.Prelude.{Option, None, Some, List, cond, ℕ, ltb, Float, length, set}
 use Rattle.std.specs.declared.cmp.Ordering.{Ordering}
 use Rattle.std.specs.declared.cmp.Ordering.TheVariants.{Less, Equal, Greater}
 use Rattle.plane.specs.declared.Point.{Point}
-use Rattle.segments.specs.Code.{id_code}
+use Rattle.segments.specs.Code.{meeting_number}
 use Rattle.segments.specs.declared.Segment.{Segment}
-use Rattle.segments.specs.declared.PointId.{PointId}
 use Rattle.segments.specs.declared.Meeting.{Meeting}
 use Rattle.segments.specs.declared.Meeting.TheVariants.{Apart, Existing, New, Overlap}
 
@@ -15,15 +14,9 @@ side_number Less = 0
 side_number Equal = 1
 side_number Greater = 2
 
-abbrev pub id_number : PointId → ℕ
-id_number = id_code
-
 -- 0 none, 1 to 4 one of P1 to P4, 5 a new point, 10 p + q two of P1 to P4
 abbrev pub meet_number : Meeting → ℕ
-meet_number Apart = 0
-meet_number (Existing p) = id_number p
-meet_number (New x y) = 5
-meet_number (Overlap p q) = 10 * id_number p + id_number q
+meet_number = meeting_number
 
 -- a point in the first two places, where there are two
 unfoldable pub new_point : Float → Float → List Float → List Float

@@ -1,13 +1,13 @@
 // The geometry layer for C and Rust programs: numbers in the place of structs and enums, points written into lent lists.
 #![tactic(auto)]
 
-ghost use Rattle.std.specs.Prelude.{◌≡◌};
+ghost use Rattle.std.specs.Prelude.{◌≡◌, List, Float};
 ghost use Rattle.exact.specs.Angle.{orientation, angles};
 ghost use Rattle.segments.specs.Meet.{meeting};
 ghost use Rattle.corners.specs.Corners.{oriented, turned};
 ghost use Rattle.insides.specs.Inside.{contains_stable};
 ghost use Rattle.polygons.specs.Interior.{strict_interior_point};
-ghost use Rattle.geometry_c.specs.Numbers.{side_number, meet_number, new_point, meet_point, inner_number, inner_point, point_of, segment_from};
+ghost use Rattle.geometry_c.specs.Numbers.{side_number, meet_number, meet_point, inner_number, inner_point, point_of, segment_from};
 
 use corners::Ring;
 use plane::Point;
@@ -24,11 +24,7 @@ fn point_of(x: f64, y: f64) -> Point
 fn side_number(o: Ordering) -> u8
     ensures { result ≡ side_number o }
 {
-    match o {
-        Ordering::Less => 0,
-        Ordering::Equal => 1,
-        Ordering::Greater => 2,
-    }
+    (o as i8 + 1) as u8
 }
 
 #[unsafe(no_mangle)]
@@ -45,34 +41,26 @@ pub extern "C" fn geometry_angles(x: f64, y: f64, u: f64, v: f64) -> u8
     side_number(exact::compare_angles(point_of(x, y), point_of(u, v)))
 }
 
-// 0 none, 1 to 4 an end, 5 a new point, 10 p + q two ends.
-fn meet_number(m: Meeting) -> u8
-    ensures { result ≡ meet_number m }
+// A point, where there is one, is put into the first two places, where there are two.
+#[tactic(auto, unfolding(crate::specs::Numbers::new_point))]
+fn put(point: Option<Point>, places: &mut [f64])
+    ensures { places.new ≡ inner_point point places.old }
+{
+    if let Some(p) = point
+        && places.len() > 1
+    {
+        places[0] = p.x;
+        places[1] = p.y;
+    }
+}
+
+// The point of a meeting at a new one.
+fn new_point(m: Meeting) -> Option<Point>
+    ensures { (l : List Float) → inner_point result l ≡ meet_point m l }
 {
     match m {
-        Meeting::Apart => 0,
-        Meeting::Existing(p) => u8::from(p),
-        Meeting::New(_, _) => 5,
-        Meeting::Overlap(p, q) => 10 * u8::from(p) + u8::from(q),
-    }
-}
-
-// A point is put into the first two places, where there are two.
-#[tactic(auto, unfolding(crate::specs::Numbers::new_point))]
-fn put(point: &mut [f64], x: f64, y: f64)
-    ensures { point.new ≡ new_point x y point.old }
-{
-    if point.len() > 1 {
-        point[0] = x;
-        point[1] = y;
-    }
-}
-
-fn put_meeting(m: Meeting, point: &mut [f64])
-    ensures { point.new ≡ meet_point m point.old }
-{
-    if let Meeting::New(x, y) = m {
-        put(point, x, y);
+        Meeting::New(x, y) => Some(point_of(x, y)),
+        _ => None,
     }
 }
 
@@ -103,22 +91,14 @@ pub extern "C" fn geometry_meet(
     ensures point_after { point.new ≡ meet_point (meeting (segment_from x1 y1 x2 y2) (segment_from x3 y3 x4 y4)) point.old }
 {
     let m = segment_of(x1, y1, x2, y2).intersect(segment_of(x3, y3, x4, y4));
-    put_meeting(m, point);
-    meet_number(m)
+    put(new_point(m), point);
+    u8::from(m)
 }
 
 fn inner_number(i: Option<Point>) -> u8
     ensures { result ≡ inner_number i }
 {
     u8::from(i.is_some())
-}
-
-fn put_inner(i: Option<Point>, point: &mut [f64])
-    ensures { point.new ≡ inner_point i point.old }
-{
-    if let Some(p) = i {
-        put(point, p.x, p.y);
-    }
 }
 
 // 1 where there is an inner point, which goes into `point`. C hands lists over one by one.
@@ -128,7 +108,7 @@ pub extern "C" fn geometry_inner(coords: &[f64], corners: &[u32], point: &mut [f
     ensures point_after { point.new ≡ inner_point (strict_interior_point coords.now corners.now) point.old }
 {
     let i = polygons::strict_interior_point(Ring::new(coords, corners));
-    put_inner(i, point);
+    put(i, point);
     inner_number(i)
 }
 

@@ -3,7 +3,7 @@
 
 ghost use Rattle.std.specs.Prelude.{◌≡◌, ◌<◌};
 ghost use Rattle.plane.specs.Plane.{is_number, scale, tolerance, in_unit};
-ghost use Rattle.segments.specs.Code.{id_code};
+ghost use Rattle.segments.specs.Code.{id_code, meeting_number};
 ghost use Rattle.segments.specs.Colinear.{spread, parameters, orderable, of_order, colinear};
 ghost use Rattle.segments.specs.Meet.{near, settled, crossing, meeting};
 ghost use Rattle.segments.specs.Scans.{exchanged, exchanged_ids, swept};
@@ -36,7 +36,7 @@ impl From<PointId> for u8 {
     }
 }
 
-// No meeting; at one of the four ends; at a new point; all along between two of the ends.
+// No meeting; at one of the four ends; at a new point; all along between two of the ends. The cases are document 01's: a new point is two numbers there.
 #[derive(Clone, Copy, Debug, PartialEq)]
 pub enum Meeting {
     Apart,
@@ -45,9 +45,25 @@ pub enum Meeting {
     Overlap(PointId, PointId),
 }
 
+// 0 none, 1 to 4 an end, 5 a new point, 10 p + q two ends.
+impl From<Meeting> for u8 {
+    ghost from_gives = { λ m n. n ≡ meeting_number m };
+
+    fn from(m: Meeting) -> u8
+        ensures { result ≡ meeting_number m }
+    {
+        match m {
+            Meeting::Apart => 0,
+            Meeting::Existing(p) => u8::from(p),
+            Meeting::New(_, _) => 5,
+            Meeting::Overlap(p, q) => 10 * u8::from(p) + u8::from(q),
+        }
+    }
+}
+
 // ---- Sizes
 
-// Four numbers one after the other: a fold over an array of them is no plainer.
+// Four numbers one after the other: a fold from 0 is another answer where the first is no number, and `larger` keeps it there.
 #[tactic(auto, unfolding(plane::specs::Plane::scale))]
 fn scale(v: Point, w: Point) -> f64
     ensures { result ≡ scale v w }
@@ -109,7 +125,7 @@ fn orderable(ts: [f64; 4]) -> bool
     ts.iter().all(|t| is_number(*t))
 }
 
-// The four ends, and beside each its parameter.
+// The four ends, and beside each its parameter: the two lists are the definition's, which exchanges in both at one place.
 #[derive(Clone, Copy)]
 struct Ends {
     ts: [f64; 4],
@@ -132,7 +148,8 @@ impl Ends {
     }
 }
 
-// The ids in the order of their parameters: each one moves down past those that it is lower than.
+// The ids in the order of their parameters, equal ones as P1 to P4, as document 01 has it: each one moves down past those that it is lower than, by exchanges.
+// `sort_by`, which keeps equal ones in place, takes a heap.
 #[tactic(auto, unfolding(crate::specs::Scans::swept))]
 fn in_order(ts: [f64; 4]) -> [PointId; 4]
     ensures { result ≡ swept ts }
@@ -184,7 +201,7 @@ fn near(p: Point, q: Point, eps: f64) -> bool
     v.dot(v) < eps
 }
 
-// The first end that is near the point, else the point. The ends are in two structs: a search in an array of them with their ids is no plainer.
+// The first end that is near the point, else the point. A `find` in an array of the ends with their ids was tried: the search left its proof open.
 #[tactic(auto, unfolding(crate::specs::Meet::settled))]
 fn settled(s: Segment, o: Segment, p: Point, eps: f64) -> Meeting
     ensures { result ≡ settled s o p eps }
