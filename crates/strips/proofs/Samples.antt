@@ -1,7 +1,7 @@
 -- The samples and the nodes at which strips begin, as they are made. Assumes nothing.
 use mathlib.Core.Path.{◌≡◌, refl, sym, ap, ap₂, ◌∙◌}
 use mathlib.Core.List.{List, ◌++◌, append-nil}
-use Prim.Native.Nat.{ℕ, ◌+◌, ◌*◌, ◌/◌, ◌<◌}
+use Prim.Native.Nat.{ℕ, ◌+◌, ◌*◌, ◌/◌, ◌≤◌, ◌<◌}
 use native.Mathlib.Omega.{arith}
 use lib.ListN.{length, get_or, set, take, drop_of_length-le}
 use lib.Seq.{take_all, get_or-take, length-take-le}
@@ -10,7 +10,11 @@ use Rattle.lists.specs.Search.{first}
 use Rattle.lists.specs.Gather.{gathered, each}
 use Rattle.lists.specs.Sort.{insert, sort_onto, sorted}
 use Rattle.lists.specs.Regions.{front, insert_at}
-use Rattle.lists.proofs.Search.{first_ext}
+use Rattle.std.proofs.Common.{unwrap_or}
+use Rattle.std.specs.List.{position}
+use Rattle.lists.proofs.Search.{first_ext, first_le}
+use Rattle.lists.proofs.InPlace.{place_is}
+use Rattle.lists.proofs.Library.{first_list}
 use Rattle.lists.proofs.Gather.{each_more, length_each}
 use Rattle.lists.proofs.Sort.{insert_at_is, length_insert, length_sorted, sorted_snoc}
 use Rattle.lists.proofs.Regions.{length_front, take_front_of, front_store}
@@ -28,6 +32,14 @@ sample_is nodes ends k i n s r n_is s_is r_is =
 
 pub before_is : (coords : List Float) (axis : Axis) (v u : ℕ) (c d : Float) → c ≡ coordinate_of coords axis v → d ≡ coordinate_of coords axis u → is_before coords axis v u ≡ lt c d
 before_is coords axis v u c d e f = ap₂ lt (sym e) (sym f)
+
+-- where a node goes: the first that it stands before
+pub placed : (coords : List Float) (axis : Axis) (v : ℕ) (order : List ℕ) (r : ℕ) → r ≡ unwrap_or (position (is_before coords axis v) order) (length order)
+    → (r ≡ first (λ i. is_before coords axis v (get_or order i 0)) 0 (length order)) × (r ≤ length order)
+placed coords axis v order r e =
+    let at : r ≡ first (λ i. is_before coords axis v (get_or order i 0)) 0 (length order) =
+    e ∙ place_is (is_before coords axis v) order ∙ sym (first_list (is_before coords axis v) order 0) in
+    (at, omega (arith, at, first_le (λ i. is_before coords axis v (get_or order i 0)) 0 (length order) (omega arith)))
 
 -- ---- samples put in order one by one
 

@@ -1,5 +1,6 @@
 // The index as it is made, in a lent list.
 ghost use Rattle.std.specs.Prelude.{◌≡◌, ◌≤◌, ◌<◌, length, get_or, set};
+ghost use Rattle.std.specs.List.{position};
 ghost use Rattle.lists.specs.Search.{first};
 ghost use Rattle.lists.specs.Gather.{each};
 ghost use Rattle.lists.specs.Regions.{front};
@@ -15,6 +16,7 @@ use lists::insert_at;
 fn side_of(n: usize) -> usize
     ensures { (result ≡ strip_count n) × (1 ≤ result) × (result ≤ 256) }
 {
+    // No `find`: over a range it promises its steps alone, and the check found no proof (tried) that what it gives is the first.
     for s in 1..256 {
         if n < (s + 1) * (s + 1) {
             return s;
@@ -41,18 +43,20 @@ pub fn index_size(n: usize) -> usize
     2 + 2 * side + h + n
 }
 
+// Before which of those in order the node v goes; none where it goes behind them.
+#[tactic(auto, using(crate::proofs::Samples::before_is))]
+fn position_of(coords: &[f64], order: &[u32], axis: Axis, v: u32) -> Option<usize>
+    ensures { result ≡ position (is_before coords.now axis v) order.now }
+{
+    let c = coordinate(coords, axis, v);
+    order.iter().position(|u| c < coordinate(coords, axis, *u))
+}
+
 // Where the node v goes among those in order.
-#[tactic(auto, using(lists::proofs::Search::first_on, lists::proofs::Search::first_end_lem, lists::proofs::Search::search_here, crate::proofs::Samples::before_is))]
 fn place(coords: &[f64], order: &[u32], axis: Axis, v: u32) -> usize
     ensures { (result ≡ first (λ i. is_before coords.now axis v (get_or order.now i 0)) 0 (length order.now)) × (result ≤ length order.now) }
 {
-    let c = coordinate(coords, axis, v);
-    for (i, u) in order.iter().enumerate() {
-        if c < coordinate(coords, axis, *u) {
-            return i;
-        }
-    }
-    order.len()
+    position_of(coords, order, axis, v).unwrap_or(order.len())
 }
 
 // Evenly spread ones of those in order. By index: a contract names what is written.

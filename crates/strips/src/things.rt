@@ -1,4 +1,5 @@
-// The things: runs of a list of node numbers, by their ends, or pairs where there are no ends.
+// The things: runs of a list of node numbers, by their ends, or pairs where there are no ends. Pairs are no `Option` of ends: a mesh without cells is such
+// a list too, and the definitions take one (`thing_count`), so that it would be a second word for an empty list.
 ghost use Rattle.std.specs.Prelude.{◌≡◌, ◌≤◌, ◌<◌, length, get_or};
 ghost use Rattle.entry.specs.Mesh.{prior, Rising};
 ghost use Rattle.strips.specs.Things.{thing_count, start_of, thing_box};
@@ -25,7 +26,7 @@ pub(crate) fn number_at(xs: &[u32], i: usize) -> u32
 impl<'a> Things<'a> {
     // How many there are.
     #[tactic(auto, using(crate::proofs::PairsOrRuns::count_pairs, crate::proofs::PairsOrRuns::count_runs))]
-    pub fn count(&self) -> usize
+    pub(crate) fn count(&self) -> usize
         ensures { result ≡ thing_count self.now.nodes.now self.now.ends.now }
     {
         if self.ends.is_empty() {
