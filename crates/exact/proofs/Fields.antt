@@ -1,19 +1,20 @@
 -- What the bit pattern of a finite f64 says: its sign, its significand and its exponent, in units of 2^-1074. Assumes nothing.
 use mathlib.Core.Path.{◌≡◌, refl, sym, ap, ap₂, ◌∙◌, subst}
-use mathlib.Core.Bool.{Bool, true, false, not, cond, ◌&&◌, true≢false}
+use mathlib.Core.Bool.{Bool, true, false, not, cond, true≢false}
 use Prim.Native.Nat.{ℕ, zero, suc, ◌+◌, ◌-◌, ◌*◌, ◌/◌, ◌%◌, ◌^◌, ◌≤◌, ◌<◌}
 use native.Mathlib.Nat.{mul-div_cancel, le_trans, le_of_eq, lt_of_lt_of_le, lt_of_not-le, not-le_of_lt, mul-le-mul_right}
 use native.Mathlib.Numerals.{sub-one}
 use native.Mathlib.Omega.{arith}
 use lib.Dec.{T, leb, eqb}
 use lib.Pow.{pow-add, pow_pos, pow_mono, shl_lt}
-use lib.Ieee.{Float, nan, inf, fin, lt, binary64, down, odd, fits, is_nan, of_fields, of_bits, to_bits}
+use lib.Ieee.{Float, nan, inf, fin, binary64, down, odd, fits, is_nan, of_fields, of_bits, to_bits}
 use lib.Ieee.{size as binaryDigits}
 use lib.Ieee.Exact.{HasValue, odd_sign}
 use lib.Ieee.Fits.{down_pos}
 use lib.Ieee.Bits.{of_bits-to_bits}
 use lib.Ieee.Digits.{size-lt, size-le}
 use lib.Ieee.Scale.{finite}
+use Rattle.std.specs.Float.{float_is_finite}
 use Rattle.exact.specs.Exact.{mag, minus, signed, coord, take_apart}
 use Rattle.exact.specs.Inner.{Taken}
 
@@ -23,13 +24,12 @@ finite_not_nan nan h = h
 finite_not_nan (inf s) h = tt
 finite_not_nan (fin s m e) h = tt
 
--- finite is what lies strictly between the infinities
-pub strictly_between : (x : Float) → lt x (inf false) && lt (inf true) x ≡ finite x
-unfolding lt
-strictly_between nan = refl
-strictly_between (inf false) = refl
-strictly_between (inf true) = refl
-strictly_between (fin s m e) = refl
+-- std's word
+pub finite_is : (x : Float) → float_is_finite x ≡ finite x
+unfolding float_is_finite
+finite_is nan = refl
+finite_is (inf s) = refl
+finite_is (fin s m e) = refl
 
 -- ---- parts with the value of x
 
@@ -53,11 +53,18 @@ pub coord_of : {x : Float} {s : Bool} (m e : ℕ) → Taken x s m e → signed s
 unfolding coord
 coord_of m e t = λ i. signed (t.sign i) (t.value i)
 
-pub not_finite : (x : Float) → finite x ≡ false → Taken x false 0 0
+not_finite : (x : Float) → finite x ≡ false → Taken x false 0 0
 unfolding mag
 not_finite nan h = record { sign = refl; value = refl; digits = omega arith; range = omega arith; full = λ k. absurd (k refl) }
 not_finite (inf s) h = record { sign = refl; value = refl; digits = omega arith; range = omega arith; full = λ k. absurd (k refl) }
 not_finite (fin s m e) h = absurd (true≢false h)
+
+-- what is not finite counts as 0
+pub none_apart : (x : Float) → finite x ≡ false → (false, 0, 0) ≡ take_apart x
+none_apart x h = settled 0 0 (not_finite x h)
+
+pub none_coord : (x : Float) → finite x ≡ false → signed false (0 * 2 ^ 0) ≡ coord x
+none_coord x h = coord_of 0 0 (not_finite x h)
 
 -- ---- significand and exponent by the fields of the bit pattern: exponent field f, digits t
 
@@ -117,3 +124,12 @@ read x h k =
     let same : of_fields binary64 (leb (2 ^ 63) b) (b % 2 ^ 63 / 2 ^ 52) (b % 2 ^ 52) ≡ x = of_bits-to_bits binary64 x (subst T (sym h) tt) in
     subst (λ (v : Float). Read v (leb (2 ^ 63) b) (significand (b % 2 ^ 63 / 2 ^ 52) (b % 2 ^ 52)) (exponent (b % 2 ^ 63 / 2 ^ 52))) same
     (fields (leb (2 ^ 63) b) (b % 2 ^ 63 / 2 ^ 52) (b % 2 ^ 52) (omega arith) (omega arith) (subst (λ (v : Float). T (finite v)) (sym same) k))
+
+-- the parts of a finite float by its bits
+pub small_read : (x : Float) → fits binary64 x ≡ true → T (finite x) → to_bits binary64 x % 2 ^ 63 / 2 ^ 52 ≡ 0
+    → Taken x (leb (2 ^ 63) (to_bits binary64 x)) (to_bits binary64 x % 2 ^ 52) 0
+small_read x h k z = small _ _ z (read x h k).taken
+
+pub large_read : (x : Float) → fits binary64 x ≡ true → T (finite x) → (to_bits binary64 x % 2 ^ 63 / 2 ^ 52 ≡ 0 → ⊥)
+    → Taken x (leb (2 ^ 63) (to_bits binary64 x)) (2 ^ 52 + to_bits binary64 x % 2 ^ 52) (to_bits binary64 x % 2 ^ 63 / 2 ^ 52 - 1)
+large_read x h k z = large _ _ z (read x h k).taken

@@ -1,6 +1,6 @@
 -- Whole numbers as differences of two naturals: sums, negatives, products and signs go through, so that an identity of whole numbers is one of naturals. Assumes nothing.
 use mathlib.Core.Path.{◌≡◌, refl, sym, ap, ap₂, ◌∙◌, subst}
-use mathlib.Core.Bool.{Bool, true, false, cond, not, beq}
+use mathlib.Core.Bool.{Bool, true, false, cond, not, beq, true≢false, false≢true}
 use Rattle.exact.specs.Angle.{det}
 use Prim.Native.Nat.{ℕ, zero, suc, ◌+◌, ◌*◌}
 use native.Mathlib.Nat.{add_assoc, add_comm, add_left_comm, mul_comm, mul-add, add-mul}
@@ -179,6 +179,13 @@ pub add_signed : (a b : ℕ) (s : Bool) (t : ℕ) → diff (a + cond s 0 t) (b +
 add_signed a b false t = sym (ap (λ (z : ℤ). diff a b +ℤ z) (signed_diff false t) ∙ diff_add a b t 0)
 add_signed a b true t = sym (ap (λ (z : ℤ). diff a b +ℤ z) (signed_diff true t) ∙ diff_add a b 0 t)
 
+pub signed_neg : (s : Bool) (n : ℕ) → signed (not s) n ≡ neg_ℤ (signed s n)
+signed_neg s n = signed_diff (not s) n ∙ go s ∙ ap neg_ℤ (sym (signed_diff s n))
+  where
+    go : (s : Bool) → diff (cond (not s) 0 n) (cond (not s) n 0) ≡ neg_ℤ (diff (cond s 0 n) (cond s n 0))
+    go false = sym (diff_neg n 0)
+    go true = sym (diff_neg 0 n)
+
 pub add_negated : (x y z : ℤ) → x +ℤ neg_ℤ y *ℤ z ≡ x -ℤ y *ℤ z
 add_negated x y z =
     ap (λ (n : ℤ). x +ℤ n) (every₂ (λ (y z : ℤ). neg_ℤ y *ℤ z ≡ neg_ℤ (y *ℤ z))
@@ -189,3 +196,26 @@ pub minus_signed : (s t : Bool) (m n : ℕ) → signed s m -ℤ signed t n ≡ d
 minus_signed s t m n =
     ap₂ ◌-ℤ◌ (signed_diff s m) (signed_diff t n) ∙ ap (λ (z : ℤ). diff (cond s 0 m) (cond s m 0) +ℤ z) (diff_neg (cond t 0 n) (cond t n 0))
     ∙ diff_add (cond s 0 m) (cond s m 0) (cond t n 0) (cond t 0 n)
+
+minus_is : (r s t : Bool) (k m n : ℕ) → cond r 0 k + (cond s m 0 + cond t 0 n) ≡ cond s 0 m + cond t n 0 + cond r k 0
+    → signed r k ≡ signed s m -ℤ signed t n
+minus_is r s t k m n e =
+    signed_diff r k ∙ diff_same (cond r 0 k) (cond r k 0) (cond s 0 m + cond t n 0) (cond s m 0 + cond t 0 n) e ∙ sym (minus_signed s t m n)
+
+pub minus_like_more : (s t : Bool) (k m n : ℕ) → beq s t ≡ true → m ≡ k + n → signed s k ≡ signed s m -ℤ signed t n
+minus_like_more false false k m n e h = minus_is false false false k m n (omega arith)
+minus_like_more true true k m n e h = minus_is true true true k m n (omega arith)
+minus_like_more true false k m n e h = absurd (false≢true e)
+minus_like_more false true k m n e h = absurd (false≢true e)
+
+pub minus_like_less : (s t : Bool) (k m n : ℕ) → beq s t ≡ true → n ≡ k + m → signed (not s) k ≡ signed s m -ℤ signed t n
+minus_like_less false false k m n e h = minus_is true false false k m n (omega arith)
+minus_like_less true true k m n e h = minus_is false true true k m n (omega arith)
+minus_like_less true false k m n e h = absurd (false≢true e)
+minus_like_less false true k m n e h = absurd (false≢true e)
+
+pub minus_unlike : (s t : Bool) (k m n : ℕ) → beq s t ≡ false → k ≡ m + n → signed s k ≡ signed s m -ℤ signed t n
+minus_unlike false true k m n e h = minus_is false false true k m n (omega arith)
+minus_unlike true false k m n e h = minus_is true true false k m n (omega arith)
+minus_unlike true true k m n e h = absurd (true≢false e)
+minus_unlike false false k m n e h = absurd (true≢false e)

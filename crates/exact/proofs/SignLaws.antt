@@ -1,6 +1,6 @@
 -- Signs of signed numbers and of a difference of two of them, by their sizes. Assumes nothing.
 use mathlib.Core.Path.{◌≡◌, refl, sym, ap, ap₂, ◌∙◌}
-use mathlib.Core.Bool.{Bool, true, false, cond, beq, true≢false, false≢true}
+use mathlib.Core.Bool.{Bool, true, false, ◌&&◌, cond, beq, true≢false, false≢true}
 use Prim.Native.Nat.{ℕ, zero, suc, ◌+◌, ◌*◌, ◌^◌, ◌<◌}
 use native.Mathlib.Nat.{zero-mul, mul-zero, mul-pos}
 use native.Mathlib.Omega.{arith}
@@ -81,6 +81,19 @@ apart_pos false true p q e f h = sym (minus_sign false true p q ∙ ordered_grea
 apart_pos false false p q e f h = absurd (true≢false e)
 apart_pos true t p q e f h = absurd (true≢false f)
 
+-- ---- a size that is zero, or is not
+
+pub none : {r : Bool} (p : ℕ) → r ≡ eqb p 0 → r ≡ true → p ≡ 0
+none p e t = eqb-true p 0 (sym e ∙ t)
+
+pub some : {r : Bool} (p : ℕ) → r ≡ eqb p 0 → r ≡ false → 0 < p
+some zero e t = absurd (true≢false (sym e ∙ t))
+some (suc p) e t = omega arith
+
+both : (r t : Bool) → r && t ≡ true → (r ≡ true) × (t ≡ true)
+both true t h = (refl, h)
+both false t h = absurd (false≢true h)
+
 -- the same of two products
 module _ (a b c d : Parts) where
   abbrev pub neg : Bool
@@ -98,14 +111,27 @@ module _ (a b c d : Parts) where
   pub cross_pos : beq neg neg' ≡ true → neg ≡ false → ordered (size a * size b) (size c * size d) ≡ sign (signed_size a *ℤ signed_size b -ℤ signed_size c *ℤ signed_size d)
   cross_pos e f = both_pos neg neg' (size a * size b) (size c * size d) e f ∙ crossed
 
-  pub cross_none : size a * size b ≡ 0 → size c * size d ≡ 0 → Equal ≡ sign (signed_size a *ℤ signed_size b -ℤ signed_size c *ℤ signed_size d)
-  cross_none e f = apart_none neg neg' (size a * size b) (size c * size d) e f ∙ crossed
+  module _ {r t : Bool} (is_r : r ≡ eqb (size a * size b) 0) (is_t : t ≡ eqb (size c * size d) 0) where
+    pub cross_none : r && t ≡ true → Equal ≡ sign (signed_size a *ℤ signed_size b -ℤ signed_size c *ℤ signed_size d)
+    cross_none h =
+        let (p, q) = both r t h in
+        apart_none neg neg' (size a * size b) (size c * size d) (none _ is_r p) (none _ is_t q) ∙ crossed
 
-  pub cross_less : beq neg neg' ≡ false → neg ≡ true → 0 < size a * size b + size c * size d → Less ≡ sign (signed_size a *ℤ signed_size b -ℤ signed_size c *ℤ signed_size d)
-  cross_less e f h = apart_neg neg neg' (size a * size b) (size c * size d) e f h ∙ crossed
+    not_both : r && t ≡ false → 0 < size a * size b + size c * size d
+    not_both h = go r t h is_r is_t
+      where
+        go : (r t : Bool) → r && t ≡ false → r ≡ eqb (size a * size b) 0 → t ≡ eqb (size c * size d) 0 → 0 < size a * size b + size c * size d
+        go true true h p q = absurd (true≢false h)
+        go true false h p q = omega (arith, some (size c * size d) q refl)
+        go false t h p q = omega (arith, some (size a * size b) p refl)
 
-  pub cross_greater : beq neg neg' ≡ false → neg ≡ false → 0 < size a * size b + size c * size d → Greater ≡ sign (signed_size a *ℤ signed_size b -ℤ signed_size c *ℤ signed_size d)
-  cross_greater e f h = apart_pos neg neg' (size a * size b) (size c * size d) e f h ∙ crossed
+    pub cross_less : beq neg neg' ≡ false → neg ≡ true → r && t ≡ false → Less ≡ sign (signed_size a *ℤ signed_size b -ℤ signed_size c *ℤ signed_size d)
+    cross_less e f h = apart_neg neg neg' (size a * size b) (size c * size d) e f (not_both h) ∙ crossed
+
+    pub cross_greater : beq neg neg' ≡ false → neg ≡ false → r && t ≡ false → Greater ≡ sign (signed_size a *ℤ signed_size b -ℤ signed_size c *ℤ signed_size d)
+    cross_greater e f h = apart_pos neg neg' (size a * size b) (size c * size d) e f (not_both h) ∙ crossed
+
+pub ruleset cross_steps = (cross_neg, cross_pos, cross_none, cross_less, cross_greater)
 
 -- ---- the part of the plane
 
@@ -125,18 +151,13 @@ module _ (x y : Parts) where
   pub part_none : size x ≡ 0 → size y ≡ 0 → 1 ≡ part_at (sign (signed_size x)) (sign (signed_size y))
   part_none e z = sym (ap₂ part_at (sign_none x.neg (size x) e) (sign_none y.neg (size y) z))
 
--- ---- a size that is zero, or is not
+pub ruleset part_steps = (part_below, part_above, part_west, part_east, part_none, none, some)
 
 pub zero_size : (m e : ℕ) → eqb m 0 ≡ eqb (m * 2 ^ e) 0
 zero_size zero e = sym (eq-eqb _ 0 (zero-mul (2 ^ e)))
 zero_size (suc m) e = ne_eqb (suc m) 0 (λ q. omega arith) ∙ sym (ne_eqb _ 0 (λ q. omega (arith, size_some (suc m) e (λ p. omega arith))))
 
-pub none : {r : Bool} (p : ℕ) → r ≡ eqb p 0 → r ≡ true → p ≡ 0
-none p e t = eqb-true p 0 (sym e ∙ t)
-
-pub some : {r : Bool} (p : ℕ) → r ≡ eqb p 0 → r ≡ false → 0 < p
-some zero e t = absurd (true≢false (sym e ∙ t))
-some (suc p) e t = omega arith
+-- ---- products
 
 -- a product is zero where its first factor is, and else where its second one is
 pub vanish_left : {r : Bool} (p q : ℕ) → r ≡ eqb p 0 → r ≡ true → true ≡ eqb (p * q) 0

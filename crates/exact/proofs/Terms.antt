@@ -86,31 +86,31 @@ no_steps : Filled 0 empty
 no_steps = record { more = zero_row; less = zero_row }
 
 -- there is room for one product more: in empty rows, and after one to five products; after six the rows can be compared
-pub room₀ : Filled 60 empty
-room₀ = filled_up 60 no_steps (lit≤ tt)
+pub room_none : Filled 60 empty
+room_none = filled_up 60 no_steps (lit≤ tt)
 
 module _ {r₁ : Rows} (g₁ : Grows empty r₁) where
-  pub room₁ : Filled 60 r₁
-  room₁ = filled_up 60 (g₁ 0 no_steps) (lit≤ tt)
+  pub room_one : Filled 60 r₁
+  room_one = filled_up 60 (g₁ 0 no_steps) (lit≤ tt)
 
   module _ {r₂ : Rows} (g₂ : Grows r₁ r₂) where
-    pub room₂ : Filled 60 r₂
-    room₂ = filled_up 60 (g₂ 2 (g₁ 0 no_steps)) (lit≤ tt)
+    pub room_two : Filled 60 r₂
+    room_two = filled_up 60 (g₂ 2 (g₁ 0 no_steps)) (lit≤ tt)
 
     module _ {r₃ : Rows} (g₃ : Grows r₂ r₃) where
       three : Filled 6 r₃
       three = g₃ 4 (g₂ 2 (g₁ 0 no_steps))
 
-      pub room₃ : Filled 60 r₃
-      room₃ = filled_up 60 three (lit≤ tt)
+      pub room_three : Filled 60 r₃
+      room_three = filled_up 60 three (lit≤ tt)
 
       module _ {r₄ : Rows} (g₄ : Grows r₃ r₄) where
-        pub room₄ : Filled 60 r₄
-        room₄ = filled_up 60 (g₄ 6 three) (lit≤ tt)
+        pub room_four : Filled 60 r₄
+        room_four = filled_up 60 (g₄ 6 three) (lit≤ tt)
 
         module _ {r₅ : Rows} (g₅ : Grows r₄ r₅) where
-          pub room₅ : Filled 60 r₅
-          room₅ = filled_up 60 (g₅ 8 (g₄ 6 three)) (lit≤ tt)
+          pub room_five : Filled 60 r₅
+          room_five = filled_up 60 (g₅ 8 (g₄ 6 three)) (lit≤ tt)
 
           pub all_six : {r₆ : Rows} → Grows r₅ r₆ → Filled 64 r₆
           all_six g₆ = filled_up 64 (g₆ 10 (g₅ 8 (g₄ 6 three))) (lit≤ tt)
@@ -148,7 +148,12 @@ to_orientation ax ay bx by cx cy p q r s t u = λ i. sign (det (p i) (q i) (r i)
 
 -- ---- the answer's number
 
-pub with_number : {r : Ordering} (ax ay bx by cx cy : Float) → r ≡ orientation ax ay bx by cx cy
+with_number : {r : Ordering} (ax ay bx by cx cy : Float) → r ≡ orientation ax ay bx by cx cy
     → sign_number r ≡ signum (det (coord ax) (coord ay) (coord bx) (coord by) (coord cx) (coord cy))
 unfolding orientation
 with_number ax ay bx by cx cy e = ap sign_number e ∙ sign_number_lem (det (coord ax) (coord ay) (coord bx) (coord by) (coord cx) (coord cy))
+
+pub to_number : {r : Ordering} (ax ay bx by cx cy : Float) {a b c d e f : ℤ} → r ≡ sign (det a b c d e f)
+    → a ≡ coord ax → b ≡ coord ay → c ≡ coord bx → d ≡ coord by → e ≡ coord cx → f ≡ coord cy
+    → sign_number r ≡ signum (det (coord ax) (coord ay) (coord bx) (coord by) (coord cx) (coord cy))
+to_number ax ay bx by cx cy g p q r s t u = with_number ax ay bx by cx cy (g ∙ to_orientation ax ay bx by cx cy p q r s t u)

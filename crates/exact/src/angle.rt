@@ -18,6 +18,7 @@ pub(crate) enum Part {
 }
 
 impl Part {
+    #[tactic(auto, using(crate::proofs::Places::part_order))]
     fn order(self, other: Part) -> Ordering
         ensures { result ≡ ordered (part_number self) (part_number other) }
     {
@@ -25,6 +26,7 @@ impl Part {
     }
 }
 
+#[tactic(auto, using(crate::proofs::SignLaws::part_steps))]
 fn part_of(v: Vector) -> Part
     ensures { part_number result ≡ part_at (sign (signed_size v.x)) (sign (signed_size v.y)) }
 {
@@ -38,6 +40,7 @@ fn part_of(v: Vector) -> Part
 }
 
 // Less where the direction v stands before w. A zero direction is east.
+#[tactic(auto, using(crate::proofs::SignLaws::same_part, crate::proofs::SignLaws::to_angles, crate::proofs::SignLaws::angles_number_lem))]
 pub fn compare_angles(v: Point, w: Point) -> Ordering
     ensures value { result ≡ angles v.x v.y w.x w.y }
     ensures number { sign_number result ≡ angles_number v.x v.y w.x w.y }

@@ -8,6 +8,7 @@ use std::cmp::Ordering;
 
 // Inlined, as a call would pass the vectors through memory.
 #[inline(always)]
+#[tactic(auto, using(crate::proofs::SignLaws::cross_steps))]
 pub(crate) fn cross_sign(v: Vector, w: Vector) -> Ordering
     ensures { result ≡ sign (cross_of v w) }
 {
@@ -18,7 +19,8 @@ pub(crate) fn cross_sign(v: Vector, w: Vector) -> Ordering
         let q = v.y.times(w.x);
         return if s { q.compare(p) } else { p.compare(q) };
     }
-    if v.x.vanishes(w.y) && v.y.vanishes(w.x) {
+    // `&`: with `&&` each end's proof has two cases
+    if v.x.vanishes(w.y) & v.y.vanishes(w.x) {
         return Ordering::Equal;
     }
     if s { Ordering::Less } else { Ordering::Greater }

@@ -7,13 +7,15 @@ ghost use Rattle.exact.specs.Inner.{Taken, signed_size};
 use crate::parts::Parts;
 
 // Whether x is a number, and no infinity.
+#[tactic(auto, using(crate::proofs::Fields::finite_is))]
 pub fn is_finite(x: f64) -> bool
     ensures { result ≡ finite x }
 {
-    (x < 1.0 / 0.0) & (-1.0 / 0.0 < x)
+    x.is_finite()
 }
 
 // The sign, the significand and the exponent of a float. What is not finite counts as 0.
+#[tactic(auto, using(crate::proofs::Fields::none_apart, crate::proofs::Fields::none_coord, crate::proofs::Fields::settled, crate::proofs::Fields::coord_of))]
 pub(crate) fn take_apart(x: f64) -> Parts
     ensures value { (result.neg, result.m, result.e) ≡ take_apart x }
     ensures coord { signed_size result ≡ coord x }
@@ -28,6 +30,7 @@ pub(crate) fn take_apart(x: f64) -> Parts
     }
 }
 
+#[tactic(auto, using(crate::proofs::Fields::finite_not_nan, crate::proofs::Fields::small_read, crate::proofs::Fields::large_read))]
 fn take_finite(x: f64) -> Parts
     requires { T (finite x) }
     ensures { Taken x result.neg result.m result.e }

@@ -9,6 +9,7 @@ use crate::vectors::Vector;
 use std::cmp::Ordering;
 
 // The sign of (a.x−c.x)(b.y−c.y) − (a.y−c.y)(b.x−c.x).
+#[tactic(auto, using(crate::proofs::Scaled::apart_fits))]
 pub(crate) fn orient_near(a: Vector, b: Vector, c: Vector, base: usize) -> Ordering
     requires { (CloseBoth base a) × (CloseBoth base b) × (CloseBoth base c) }
     ensures { result ≡ sign (det_of a b c) }

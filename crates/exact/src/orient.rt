@@ -46,6 +46,7 @@ impl Window {
 
 // The sign of (a.x−c.x)(b.y−c.y) − (a.y−c.y)(b.x−c.x): greater than 0 where c lies to the left of
 // the line from a to b.
+#[tactic(auto, using(crate::proofs::Nearby::close_both, crate::proofs::Terms::to_orientation))]
 pub fn orient2d(a: Point, b: Point, c: Point) -> Ordering
     ensures value { result ≡ orientation a.x a.y b.x b.y c.x c.y }
     ensures number { sign_number result ≡ signum (det (coord a.x) (coord a.y) (coord b.x) (coord b.y) (coord c.x) (coord c.y)) }

@@ -18,6 +18,7 @@ impl Parts {
     ghost use Rattle.exact.specs.Inner.{signed_size, size, product_size};
     ghost use Rattle.exact.specs.InnerNear.{Close, Over};
 
+    #[tactic(auto, using(crate::proofs::SignLaws::zero_size))]
     pub(crate) fn is_zero(self) -> bool
         ensures { result ≡ (size self == 0) }
     {
@@ -25,13 +26,11 @@ impl Parts {
     }
 
     // Whether the product is zero.
+    #[tactic(auto, using(crate::proofs::SignLaws::vanish_left, crate::proofs::SignLaws::vanish_right))]
     pub(crate) fn vanishes(self, other: Parts) -> bool
         ensures { result ≡ (size self * size other == 0) }
     {
-        if self.is_zero() {
-            return true;
-        }
-        other.is_zero()
+        self.is_zero() || other.is_zero()
     }
 
     pub(crate) fn negated(self) -> Parts
@@ -45,6 +44,7 @@ impl Parts {
     }
 
     // The same number, counted in units of 2^base.
+    #[tactic(auto, using(crate::proofs::Nearby::near_shift, crate::proofs::Scaled::over_none, crate::proofs::Scaled::word_fits, crate::proofs::Scaled::negated_fits))]
     pub(crate) fn over(self, base: usize) -> i64
         requires { Close base self }
         ensures { Over base self result }
@@ -57,6 +57,7 @@ impl Parts {
     }
 
     // The size of the product.
+    #[tactic(auto, using(crate::proofs::Leading::scaled_of))]
     pub(crate) fn times(self, other: Parts) -> Product
         ensures { product_size result ≡ size self * size other }
     {

@@ -17,6 +17,7 @@ impl Product {
     ghost use Rattle.exact.specs.Inner.{Lead, product_size};
 
     // How many zeros stand above the leading bit of w, by its high word and its low one: 128 for 0.
+    #[tactic(auto, using(crate::proofs::Leading::lead_of_high, crate::proofs::Leading::lead_of_low))]
     fn lead(self) -> u32
         ensures { Lead self.w result }
     {
@@ -30,6 +31,7 @@ impl Product {
 
     // By the places of the leading bits, and where those are the same, by the digits, each number
     // moved up until its leading bit is at the top.
+    #[tactic(auto, using(crate::proofs::Leading::without_lead, crate::proofs::Leading::by_place, crate::proofs::Leading::by_digits))]
     pub(crate) fn compare(self, other: Product) -> Ordering
         ensures { result ≡ ordered (product_size self) (product_size other) }
     {

@@ -10,6 +10,9 @@ use crate::products::Product;
 use crate::vectors::Vector;
 use std::cmp::Ordering;
 
+// What a cell is worth in units of the one before.
+const CELL: u64 = 0x1_0000_0000;
+
 // The number of the first row less that of the second.
 #[derive(Drop)]
 pub(crate) struct Rows {
@@ -24,13 +27,14 @@ fn add_word(acc: &mut [u64; 136], v: u64, e: usize)
 {
     let j = e / 32;
     let r = e % 32;
-    let a = (v % 0x1_0000_0000) << r;
-    let b = (v / 0x1_0000_0000) << r;
-    acc[j] += a % 0x1_0000_0000;
-    acc[j + 1] += a / 0x1_0000_0000 + b % 0x1_0000_0000;
-    acc[j + 2] += b / 0x1_0000_0000;
+    let a = (v % CELL) << r;
+    let b = (v / CELL) << r;
+    acc[j] += a % CELL;
+    acc[j + 1] += a / CELL + b % CELL;
+    acc[j + 2] += b / CELL;
 }
 
+#[tactic(auto, using(crate::proofs::Cells::grown_product))]
 fn add_product(acc: &mut [u64; 136], p: Product)
     requires { Row 60 acc.old }
     ensures { RowGrown 2 (product_size p) acc.old acc.new }
@@ -64,9 +68,9 @@ impl Rows {
         for (p, n) in self.more.iter().zip(&self.less) {
             let a = *p + u;
             let b = *n + v;
-            order = (a % 0x1_0000_0000).cmp(&(b % 0x1_0000_0000)).then(order);
-            u = a / 0x1_0000_0000;
-            v = b / 0x1_0000_0000;
+            order = (a % CELL).cmp(&(b % CELL)).then(order);
+            u = a / CELL;
+            v = b / CELL;
         }
         u.cmp(&v).then(order)
     }

@@ -1,13 +1,7 @@
 -- `exact::near::orient_near` meets its contract. Assumes nothing.
 use mathlib.Core.Path.{◌∙◌}
-use Rattle.exact.proofs.Scaled.{near, apart_fits, term_fits, term_is}
+use Rattle.exact.proofs.Scaled.{near, term_fits, term_is}
 use Rattle.exact.proofs.near.orient_near.Goals as goal
-
-pub overflow_sub-over-3 : goal.overflow_sub-over-3
-overflow_sub-over-3 c = apart_fits c.over-3.ensures c.over-y.ensures
-
-pub overflow_sub-over-4 : goal.overflow_sub-over-4
-overflow_sub-over-4 c = apart_fits c.over-4.ensures c.over-x.ensures
 
 pub overflow_mul-p : goal.overflow_mul-p
 overflow_mul-p c = term_fits c.over.ensures c.over-x.ensures c.over-2.ensures c.over-y.ensures c.from.ensures c.from-2.ensures

@@ -2,26 +2,26 @@
 use mathlib.Core.Path.{◌∙◌, ap}
 use Rattle.exact.specs.Exact.{sign}
 use Rattle.exact.specs.Inner.{signed_size}
-use Rattle.exact.proofs.Terms.{room₀, room₁, room₂, room₃, room₄, room₅, all_six, none, all}
+use Rattle.exact.proofs.Terms.{room_none, room_one, room_two, room_three, room_four, room_five, all_six, none, all}
 use Rattle.exact.proofs.rows.orient_far.Goals as goal
 
 pub add-requires : goal.add-requires
-add-requires c = room₀
+add-requires c = room_none
 
 pub add-requires-2 : goal.add-requires-2
-add-requires-2 c = room₁ c.add.ensures.filled
+add-requires-2 c = room_one c.add.ensures.filled
 
 pub add-requires-3 : goal.add-requires-3
-add-requires-3 c = room₂ c.add.ensures.filled c.add-2.ensures.filled
+add-requires-3 c = room_two c.add.ensures.filled c.add-2.ensures.filled
 
 pub add-requires-4 : goal.add-requires-4
-add-requires-4 c = room₃ c.add.ensures.filled c.add-2.ensures.filled c.add-3.ensures.filled
+add-requires-4 c = room_three c.add.ensures.filled c.add-2.ensures.filled c.add-3.ensures.filled
 
 pub add-requires-5 : goal.add-requires-5
-add-requires-5 c = room₄ c.add.ensures.filled c.add-2.ensures.filled c.add-3.ensures.filled c.add-4.ensures.filled
+add-requires-5 c = room_four c.add.ensures.filled c.add-2.ensures.filled c.add-3.ensures.filled c.add-4.ensures.filled
 
 pub add-requires-6 : goal.add-requires-6
-add-requires-6 c = room₅ c.add.ensures.filled c.add-2.ensures.filled c.add-3.ensures.filled c.add-4.ensures.filled c.add-5.ensures.filled
+add-requires-6 c = room_five c.add.ensures.filled c.add-2.ensures.filled c.add-3.ensures.filled c.add-4.ensures.filled c.add-5.ensures.filled
 
 pub sign-requires : goal.sign-requires
 sign-requires c = all_six c.add.ensures.filled c.add-2.ensures.filled c.add-3.ensures.filled c.add-4.ensures.filled c.add-5.ensures.filled c.add-6.ensures.filled
