@@ -5,7 +5,8 @@ ghost use Rattle.std.specs.Prelude.{◌≡◌, ◌&&◌, ◌+◌, length, leb, l
 ghost use Rattle.lists.specs.Regions.{copied, insert_at};
 
 // Copies src into dst, from `at` on. Answers whether it has its place there; nothing changes where not.
-// The place stands beside the list: lists are fixed memory, filled in part.
+// The place stands beside the list: lists are fixed memory, filled in part. A bool, as a copy without a place is no fault of its own: the caller
+// knows what it refuses then, or that there is a place.
 pub fn copy_at<T: Copy>(dst: &mut [T], at: usize, src: &[T]) -> bool
     ensures fits { result ≡ leb (at + length src.now) (length dst.old) }
     ensures after { dst.new ≡ copied dst.old at src.now }
@@ -18,7 +19,7 @@ pub fn copy_at<T: Copy>(dst: &mut [T], at: usize, src: &[T]) -> bool
 }
 
 // Puts x into the first n entries at k; those from k on move up. Answers whether k and n have their place; nothing changes where not.
-// So does how many entries there are.
+// How many entries there are stands beside the list, as the place does above.
 pub fn insert_at<T: Copy>(xs: &mut [T], n: usize, k: usize, x: T) -> bool
     ensures fits { result ≡ (leb k n && ltb n (length xs.old)) }
     ensures after { xs.new ≡ insert_at xs.old n k x }

@@ -89,9 +89,8 @@ fn show_ring<W: Write>(out: &mut W, count: usize) -> io::Result<()>
     requires { count ≤ 514 }
 {
     let mut nodes = [0u32; 514];
-    // by index, as the two beyond stay 0
-    for i in 0..512 {
-        nodes[i] = i as u32;
+    for (node, i) in nodes[..512].iter_mut().zip(0..) {
+        *node = i;
     }
     show(out, &[0.0; 2], &[along(0, 1, &nodes[..count])], &[])
 }
