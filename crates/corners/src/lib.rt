@@ -3,13 +3,14 @@
 
 ghost use Rattle.std.specs.Prelude.{◌≡◌, ◌<◌, length, get_or};
 ghost use Rattle.std.specs.Iterator.{YieldsFirst, item_count};
-ghost use Rattle.corners.specs.Corners.{corner_at, corner_after, corner_before, next_corner, oriented, doubled_sum, signed_area2, turned, into_ccw2};
+ghost use Rattle.corners.specs.Corners.{corner_at, corner_after, corner_before, next_corner, doubled_sum, signed_area2, turned, into_ccw2};
 ghost use Rattle.corners.specs.Ring.{as_read, points, points_left, edges, edges_left};
 
 use plane::{Point, point_at};
 
 // A polygon: its corners are a run of node numbers, read from the other end where back is true. The coordinates are those of all nodes.
-// The flag is no state of its own: C hands it over, and what reads the corners asks it at each.
+// The flag is no state of its own: C hands it over, and what reads the corners asks it at each. Contracts cite coordinates and corners apart, as the definitions
+// take them: a model of a ring would be that pair, taken apart at each.
 #[derive(Clone, Copy)]
 pub struct Ring<'a> {
     pub coords: &'a [f64],
@@ -138,7 +139,8 @@ pub fn next_corner(cell: &[u32], i: usize) -> u32
     cell[j]
 }
 
-// The corners of a ring that are still to come.
+// The corners of a ring that are still to come. Edges count in the same way: a counter below both would promise its own rest, which each `next` then turns into
+// its items, and that is no plainer.
 #[derive(Drop)]
 pub struct Points<'a> {
     ring: Ring<'a>,

@@ -30,6 +30,7 @@ pub struct Near {
     pub place: Place,
 }
 
+#[tactic(auto, unfolding(crate::specs::Inside::orient2d2))]
 fn orient2d2(a: Point, b: Point, c: Point) -> Ordering
     ensures { result ≡ orient2d2 a b c }
 {

@@ -24,7 +24,7 @@ impl SortedKey {
         }
     }
 
-    // The chain of the edges with this key, of h chains.
+    // The chain of the edges with this key, of h chains. A caller's h is the length of a list, above 0 by a clause: as a `NonZeroUsize` each call would make one first.
     pub fn chain(self, h: usize) -> usize
         requires { 0 < h }
         ensures { (result ≡ chain_of h self.first) × (result < h) }
@@ -33,14 +33,14 @@ impl SortedKey {
     }
 }
 
-// Whether the edges from a to b and from c to d have one key.
+// Whether the edges from a to b and from c to d have one key. Stages compare keys; this stands for the public interface, as its promise is one about edges.
 pub fn same_key(a: u32, b: u32, c: u32, d: u32) -> bool
     ensures { result ≡ same_key (a, b) (c, d) }
 {
     SortedKey::new(a, b) == SortedKey::new(c, d)
 }
 
-// The chain of node v, of h chains.
+// The chain of node v, of h chains. The public interface has the chain by a node, by a key and by an edge, each with its promise.
 pub fn chain_of(v: u32, h: usize) -> usize
     requires { 0 < h }
     ensures { (result ≡ chain_of h v) × (result < h) }

@@ -97,6 +97,7 @@ fn climbs(ring: Ring) -> Climb
 }
 
 // The middle of the widest gap.
+#[tactic(auto, using(crate::proofs::Ascent::climbs_in), unfolding(crate::specs::Interior::widest_in))]
 fn widest(ring: Ring) -> Option<f64>
     ensures { result ≡ widest_in ring.entry.coords.now (as_read ring.entry) }
 {

