@@ -4,12 +4,11 @@ use mathlib.Core.List.{List, [], ◌++◌}
 use Prim.Native.Nat.{ℕ, ◌+◌, ◌≤◌}
 use native.Mathlib.Omega.{arith}
 use lib.Dec.{eqb}
-use lib.ListN.{length, take, length-append}
-use lib.Ieee.{Float}
+use lib.ListN.{length, length-append}
 use borrow.Author.Tests.{ne_eqb}
 use Rattle.lists.specs.Regions.{zeros, fzeros}
 use Rattle.cutting.specs.Setting.{ours}
-use Rattle.entry.specs.Mesh.{Mesh, mesh, node_count}
+use Rattle.entry.specs.Mesh.{Mesh, node_count}
 use Rattle.rules.specs.Meetings.{added_by, scene_of}
 use Rattle.rules.specs.Overlay.{Lists, Result as Answered, lent_lists, answered as succeeded, answered_with, overlay_of}
 use Rattle.rules.proofs.Endings.{Ending, input, state_met, success, ending, input_refused, state_refused, succeeds}
@@ -84,10 +83,6 @@ module _ (op m : ℕ) (s c : Mesh) where
         rw text at h
 
 -- ---- what was read
-
-pub same_front : {cs cs' : List Float} {ns ns' es es' ks ks' fs fs' : List ℕ} (p n k : ℕ) → cs ≡ cs' → ns ≡ ns' → es ≡ es' → ks ≡ ks' → fs ≡ fs'
-    → mesh (take p cs) (take n ns) (take k es) (take k ks) (take k fs) ≡ mesh (take p cs') (take n ns') (take k es') (take k ks') (take k fs')
-same_front p n k a b d e f = rw (a, b, d, e, f)
 
 module _ (s : List ℕ) where
   abbrev whole : Limits

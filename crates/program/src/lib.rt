@@ -1,12 +1,13 @@
 // The program's answer: a text read, two meshes overlaid, the answer printed.
 #![tactic(auto)]
 
-ghost use Rattle.std.specs.Prelude.{◌≡◌, ◌+◌, ◌≤◌, length, IfOk};
+ghost use Rattle.std.specs.Prelude.{◌≡◌, ◌+◌, ◌*◌, ◌≤◌, length, IfOk};
 ghost use Rattle.lists.specs.Regions.{front};
 ghost use Rattle.entry.specs.Mesh.{mesh_of};
+ghost use Rattle.reading.specs.Seen.{mesh_of as read_of};
 ghost use Rattle.text.specs.Text.{answer_text};
 ghost use Rattle.printing.specs.Page.{Prints};
-ghost use Rattle.program.specs.Answered.{overlay_told, answer_to};
+ghost use Rattle.program.specs.Answered.{overlay_told, answer_to, lent};
 ghost use Rattle.program.specs.Printed.{printed_of};
 
 use overlay::overlay;
@@ -30,6 +31,42 @@ fn told(nodes: u32, answer: Result<overlay::Counts, Refusal>) -> Answer
             },
         },
         Err(refusal) => Answer::Refused(refusal.number()),
+    }
+}
+
+// the lists of the pieces, as they are printed
+fn listing<'a>(pieces: &'a OutputView) -> Listing<'a>
+    ensures { (result.coords.now ≡ pieces.now.coords.now) × (result.nodes.now ≡ pieces.now.nodes.now) × (result.ends.now ≡ pieces.now.ends.now)
+        × (result.kinds.now ≡ pieces.now.kinds.now) × (result.families.now ≡ pieces.now.families.now)
+        × (result.meshes.now ≡ pieces.now.meshes.now) × (result.cells.now ≡ pieces.now.cells.now) }
+{
+    Listing {
+        coords: pieces.coords,
+        nodes: pieces.nodes,
+        ends: pieces.ends,
+        kinds: pieces.kinds,
+        families: pieces.families,
+        meshes: pieces.meshes,
+        cells: pieces.cells,
+    }
+}
+
+// a mesh as read: as much of the lists as the counts say. It stands here, since reading and views don't cite each other, and so does `listing`.
+fn view<'a>(lists: &'a MeshLists, counts: reading::Counts) -> MeshView<'a>
+    requires coords { 2 * counts.points ≤ length lists.now.coords.now }
+    requires nodes { counts.entries ≤ length lists.now.nodes.now }
+    requires ends { counts.cells ≤ length lists.now.ends.now }
+    requires kinds { counts.cells ≤ length lists.now.kinds.now }
+    requires families { counts.cells ≤ length lists.now.families.now }
+    ensures mesh { mesh_of result ≡ lent (read_of counts lists.now) }
+    ensures long { length result.coords.now ≤ length lists.now.coords.now }
+{
+    MeshView {
+        coords: &lists.coords[..2 * counts.points],
+        nodes: &lists.nodes[..counts.entries],
+        ends: &lists.ends[..counts.cells],
+        kinds: &lists.kinds[..counts.cells],
+        families: &lists.families[..counts.cells],
     }
 }
 
@@ -64,16 +101,7 @@ fn cut(
         cells: &mut oi,
     };
     let answer = overlay(op, m, subject, cutter, &mut pieces, &mut work);
-    let lists = Listing {
-        coords: &oc,
-        nodes: &on,
-        ends: &oe,
-        kinds: &ok,
-        families: &of,
-        meshes: &om,
-        cells: &oi,
-    };
-    printing::print_answer(out, told(nodes, answer), &lists)
+    printing::print_answer(out, told(nodes, answer), &listing(&pieces))
 }
 
 // The answer to the text s, from the first place of `out` on.
@@ -107,20 +135,8 @@ pub fn answer(s: &[u8], out: &mut [u8]) -> Result<usize, Full>
     let Some(input) = reading::read_input(s, &mut subject_lists, &mut cutter_lists) else {
         return printing::print_answer(out, Answer::Unread, &Listing::default());
     };
-    let subject = MeshView {
-        coords: &sc[..2 * input.subject.points],
-        nodes: &sn[..input.subject.entries],
-        ends: &se[..input.subject.cells],
-        kinds: &sk[..input.subject.cells],
-        families: &sf[..input.subject.cells],
-    };
-    let cutter = MeshView {
-        coords: &cc[..2 * input.cutter.points],
-        nodes: &cn[..input.cutter.entries],
-        ends: &ce[..input.cutter.cells],
-        kinds: &ck[..input.cutter.cells],
-        families: &cf[..input.cutter.cells],
-    };
+    let subject = view(&subject_lists, input.subject);
+    let cutter = view(&cutter_lists, input.cutter);
     cut(input.op, input.m, &subject, &cutter, out)
 }
 

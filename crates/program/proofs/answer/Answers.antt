@@ -1,6 +1,5 @@
 -- `program::answer` meets its contract. Assumes nothing.
-use Rattle.std.proofs.Common.{rules}
-use Rattle.program.proofs.Answers.{unread_printed, same_front, read_printed}
+use Rattle.program.proofs.Answers.{unread_printed, read_printed}
 use Rattle.program.proofs.answer.Goals as goal
 
 pub returns-in_default : goal.returns-in_default
@@ -12,5 +11,4 @@ pub returns : goal.returns
 returns c =
     let r = c.in-Some in
     read_printed c.args.s.now r.input.op r.input.m _ _ _ _ c.args.out.now c.cut.new.out c.cut.result r.ensures.read c.cut.ensures
-    (same_front _ _ _ (search rules) (search rules) (search rules) (search rules) (search rules))
-    (same_front _ _ _ (search rules) (search rules) (search rules) (search rules) (search rules))
+    c.view-subject.ensures.mesh c.view-cutter.ensures.mesh
