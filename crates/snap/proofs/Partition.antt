@@ -6,7 +6,11 @@ use Prim.Native.Nat.{ℕ, ◌≤◌}
 use native.Mathlib.Decide.{ℕ_discrete}
 use native.Mathlib.Omega.{arith}
 use lib.ListN.{length, get_or}
+use denote.Ref.{Bor}
+use denote.Param.Members.{Mut}
+use Rattle.std.specs.Fn.{Called, ComputesKey}
 use Rattle.std.specs.List.Sorted.{IsPartitionedBy, IsPartitionPoint}
+use Rattle.std.proofs.lemmas.List.Sorted.{IsPartitionPoint-from_clause}
 use Rattle.std.proofs.lemmas.List.{get_or_default}
 use Rattle.lists.specs.Search.{first}
 use Rattle.lists.proofs.Halving.{Turns, between_end}
@@ -46,3 +50,10 @@ module _ (p : ℕ → Bool) (xs : List ℕ) where
         pass = λ k l m. not_false (test k) (r.1 k 0 l m);
       })
       (omega arith)
+
+  -- what `partition_point` promises of a closure that gives `not (p y)`
+  pub partition_of : {F : Type 0} {g : Mut F (Bor ℕ × Unit {0}) Bool} {f : F} (i : ℕ) → Turns test (length xs)
+      → ((q : ℕ → Bool) → ComputesKey g q f → IsPartitionedBy q xs → IsPartitionPoint (λ y. q y ≡ true) (λ y. q y ≡ false) xs i)
+      → ((a : Bor ℕ × Unit {0}) (r : Bool) (f' : F) → Called g f a r f' → (r ≡ not (p a.0.now)) × (f' ≡ f)) → i ≤ length xs
+      → (i ≡ first test 0 (length xs)) × (i ≤ length xs)
+  partition_of i turns clause called h = partition_first i (IsPartitionPoint-from_clause (λ y. not (p y)) xs i clause (partitioned turns) called) h

@@ -15,7 +15,7 @@ use views::MeshView;
 
 // ---- Used nodes, in order
 
-// 1 for each node that some element names, 0 for the others.
+// 1 for each node that some element names, 0 for the others. Marks are numbers: they stand in the caller's list, whose places the nodes' numbers take.
 #[tactic(auto, using(crate::proofs::Marks::mark_zero))]
 fn mark_used(nodes: &[u32], marks: &mut [u32])
     requires { Below (length marks.old) nodes.now }
@@ -27,6 +27,8 @@ fn mark_used(nodes: &[u32], marks: &mut [u32])
     }
 }
 
+// By x, then y. Not derived: the order would be one of all points, and only nodes are sorted, and here alone.
+#[tactic(auto, unfolding(rules::specs::Snap::precedes))]
 fn precedes(p: Point, q: Point) -> bool
     ensures { result ≡ precedes p q }
 {
@@ -34,7 +36,7 @@ fn precedes(p: Point, q: Point) -> bool
 }
 
 // Some nodes over a list of coordinates. That they are in order is asked by the methods: `InOrder` says what each coordinate is, and a ghost field takes only
-// what has one proof.
+// what has one proof. That nodes are few is none: `number_of` alone needs it, and all that make such a struct would be asked for it.
 #[derive(Clone, Copy)]
 struct Nodes<'a> {
     coords: &'a [f64],
@@ -81,7 +83,7 @@ fn merge(more: &Nodes, s: &mut [u32], k: usize)
     ensures { s.new ≡ merged more.now.coords.now s.old k more.now.order.now }
 {
     let mut end = k;
-    // By index: it is how many places the others move up.
+    // By index, which says how many places the others move up. `iter().enumerate().rev()` was tried: a proof knows its items by what is yielded alone, and didn't close.
     for j in (0..more.order.len()).rev() {
         let v = more.order[j];
         let nodes = Nodes {
@@ -139,13 +141,11 @@ fn sorted_indices_for(coords: &[f64], s: &mut [u32]) -> usize
 
 // ---- The nearest of them
 
-#[tactic(auto, unfolding(plane::specs::Plane::between))]
 fn distance2(p: Point, q: Point) -> f64
     ensures { result ≡ distance2 p q }
 {
-    let x = p.x - q.x;
-    let y = p.y - q.y;
-    x * x + y * y
+    let step = p - q;
+    step.dot(step)
 }
 
 fn nearer(d: f64, v: u32, best: Nearest) -> Nearest
