@@ -1,3 +1,4 @@
 pub mod Distinct
 pub mod Numbers
 pub mod Order
+pub mod Residual
