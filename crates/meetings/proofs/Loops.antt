@@ -106,7 +106,7 @@ module _ (first : ℕ) (oc : List Float) (w : List ℕ) (met next : ℕ) (ready 
           omega (arith, a, b, gr.few, ready.3),
         )
 
--- ---- `of_places`
+-- ---- `add_for_places`
 
 -- the meetings `done` are added, of those with the edges js, and those with the edges `rest` are left
 pub record Walked (cs : List Float) (es fs js : List ℕ) (i met next : ℕ) (oc : List Float) (w : List ℕ) (oc' : List Float) (w' : List ℕ) (g : Found) (rest : List ℕ) : Type 0 where
@@ -211,7 +211,7 @@ module _ (cs : List Float) (es fs js : List ℕ) (i met next : ℕ) (oc : List F
     pub walk_end : (oc₁ : List Float) (w₁ : List ℕ) (g : Found) (k : ℕ) → Walked₀ oc₁ w₁ g (drop k js) → length js ≤ k → Answered limit oc w met next whole oc₁ w₁ (Ok g)
     walk_end oc₁ w₁ g k v l = all_added oc₁ w₁ g (drop k js) v (drop_of_length-le js {i = k} l)
 
--- ---- `of_edge`
+-- ---- `add_for_edge`
 
 -- where the numbers that pass lie
 among_within : (p : ℕ → Bool) (k m i : ℕ) → i < length (places_among p k m) → (k ≤ get_or (places_among p k m) i 0) × (get_or (places_among p k m) i 0 < k + m)
@@ -322,7 +322,7 @@ module _ (cs : List Float) (es fs : List ℕ) (i met next : ℕ) (oc : List Floa
           round_full oc₂ w₂ a ans =
               some_added cs es fs (near 0) i met next oc w ready (take r out') (near (get_or out' (r - 1) 0 + 1)) oc₁ w₁ g (rw (← round_on) v) oc₂ w₂ a ans
 
--- ---- `of_edges` and `compute_intersections`
+-- ---- `add_for_edges` and `compute_intersections`
 
 -- the meetings of the first i edges of the subject are added
 pub record Through (cs : List Float) (es fs : List ℕ) (oc : List Float) (w : List ℕ) (oc' : List Float) (w' : List ℕ) (f : Found) (i : ℕ) : Type 0 where

@@ -1,22 +1,25 @@
 -- An edge as it is read, and its candidates, as `gather` of crate `strips` finds them. Assumes nothing.
-use mathlib.Core.Path.{◌≡◌, sym, ap, ◌∙◌}
-use mathlib.Core.List.{List, []}
-use Prim.Native.Nat.{ℕ, ◌+◌, ◌*◌, ◌/◌, ◌≤◌, ◌<◌}
+use mathlib.Core.Path.{◌≡◌, ap, ◌∙◌}
+use mathlib.Core.List.{List, [], ◌∷◌}
+use Prim.Native.Nat.{ℕ, ◌/◌, ◌≤◌, ◌<◌}
 use native.Mathlib.Omega.{arith}
 use lib.ListN.{length, get_or, take}
 use lib.Ieee.{Float}
 use Rattle.cutting.specs.Edges.{Edge, edge_at}
 use Rattle.cutting.specs.Lent.{pairs}
-use Rattle.cutting.proofs.Pairs.{pairs_length, pairs_at}
+use Rattle.std.specs.Simd.{first_chunks}
+use Rattle.std.proofs.lemmas.List.{get_or_default}
+use Rattle.cutting.proofs.Chunks.{chunk_at}
 use Rattle.rules.specs.declared.Bounds.{Bounds}
 use Rattle.spatial_index.specs.Candidates.{places_from, meets}
 use Rattle.strips.specs.Things.{thing_count}
 use Rattle.strips.specs.Meeting.{things_meeting, FrontIs}
 use Rattle.strips.proofs.Uses.{pairs_meeting}
 
--- the numbers of edge i are a pair
-pub edge_read : (es : List ℕ) (i : ℕ) → i < length es / 2 → (get_or es (2 * i) 0, get_or es (2 * i + 1) 0) ≡ edge_at (pairs es) i
-edge_read es i h = sym (pairs_at es i (omega (arith, pairs_length es, h)))
+-- the numbers of edge i are a pair, read from the list in pairs
+pub edge_read : (es : List ℕ) (i : ℕ) (chunks : List (List ℕ)) → chunks ≡ first_chunks 2 (length es / 2) es → length chunks ≡ length es / 2 → i < length es / 2
+    → ◌≡◌ {A = Edge} (get_or (get_or chunks i []) 0 0, get_or (get_or chunks i []) 1 0) (edge_at (pairs es) i)
+edge_read es i chunks e n h = chunk_at es chunks i (get_or chunks i []) e (get_or_default chunks i [] (0 ∷ 0 ∷ []) (omega (arith, n, h)))
 
 -- how many things there are without ends
 pub pairs_few : (fs ends : List ℕ) → ends ≡ [] → thing_count fs ends ≤ 65536 → length fs / 2 ≤ 65536

@@ -1,4 +1,5 @@
-// Where edges of the two meshes meet (document 01, module 7, `compute_intersections`). New points go to one list, meetings to another.
+// Where edges of the two meshes meet (document 01, module 7, `compute_intersections`). New points go to one list, meetings to another: five numbers each, not
+// structs, since they stand in the caller's working list, which holds numbers of every kind (fixed memory).
 #![tactic(auto)]
 
 ghost use Rattle.std.specs.Prelude.{◌≡◌, [], ◌∷◌, Ok, Err, ◌+◌, ◌*◌, ◌/◌, ◌≤◌, ◌<◌, length, get_or, take};
@@ -52,6 +53,7 @@ fn node_of(p: PointId, e: (u32, u32), f: (u32, u32)) -> u32
 }
 
 // How the edge e meets the edge f.
+#[tactic(auto, unfolding(rules::specs::Meetings::segment_of))]
 fn edges_meet(coords: &[f64], e: (u32, u32), f: (u32, u32)) -> Meeting
     ensures { result ≡ meeting (segment_of coords.now e) (segment_of coords.now f) }
 {
@@ -72,10 +74,12 @@ fn edge_at(edges: &[u32], i: usize) -> (u32, u32)
     requires { i < length edges.now / 2 }
     ensures { result ≡ edge_at (pairs edges.now) i }
 {
-    (edges[2 * i], edges[2 * i + 1])
+    let [a, b] = edges.as_chunks::<2>().0[i];
+    (a, b)
 }
 
-// A meeting at one or two nodes that there are already, if there is room for one more: its two edges, the count of its nodes, and these.
+// A meeting at one or two nodes that there are already, if there is room for one more: its two edges, the count of its nodes, and these. Count and second
+// node, 0 for none, as they are written: an `Option` would be turned into the same two numbers at once.
 #[tactic(auto, using(lists::proofs::Regions::copied_fits))]
 fn add_known(
     met: &mut [u32],
@@ -162,7 +166,7 @@ impl<'a> Edges<'a> {
 
     // Adds those of the subject's edge i with the cutter's edges js.
     #[tactic(auto, using(crate::proofs::Loops::walk_start, crate::proofs::Loops::walk_turn))]
-    fn of_places(
+    fn add_for_places(
         &self,
         points: &mut [f64],
         met: &mut [u32],
@@ -197,7 +201,7 @@ impl<'a> Edges<'a> {
 
     // Adds those of the subject's edge i with all its candidates to those found: as many at a time as `found` has places.
     #[tactic(auto, using(crate::proofs::Loops::gone_start, crate::proofs::Loops::round_full))]
-    fn of_edge(
+    fn add_for_edge(
         &self,
         points: &mut [f64],
         met: &mut [u32],
@@ -216,10 +220,10 @@ impl<'a> Edges<'a> {
         let count = self.cutter.things.nodes.len() / 2;
         let mut g = f;
         let mut from: usize = 0;
-        // by the number of the edge at which the next search begins
+        // By the number of the edge at which the next search begins.
         while from < count {
             let k = self.gather_near(e, from, found);
-            g = self.of_places(points, met, &found[..k], i, g)?;
+            g = self.add_for_places(points, met, &found[..k], i, g)?;
             if k < found.len() {
                 return Ok(g);
             }
@@ -228,9 +232,9 @@ impl<'a> Edges<'a> {
         Ok(g)
     }
 
-    // Those of all the subject's edges.
+    // Adds those of all the subject's edges.
     #[tactic(auto, using(crate::proofs::Loops::stop))]
-    fn of_edges(
+    fn add_for_edges(
         &self,
         points: &mut [f64],
         met: &mut [u32],
@@ -242,9 +246,9 @@ impl<'a> Edges<'a> {
             points.new met.new result }
     {
         let mut f = Found { met: 0, points: 0 };
-        // by number: it is the edge's number that a meeting is written with
+        // By number, which a meeting is written with: `enumerate` over the pairs would give the edge besides, which `add_for_edge` reads by its number.
         for i in 0..self.subject.len() / 2 {
-            f = self.of_edge(points, met, found, i, f)?;
+            f = self.add_for_edge(points, met, found, i, f)?;
         }
         Ok(f)
     }
@@ -262,7 +266,7 @@ impl<'a> Edges<'a> {
             ≡ meetings_found (meetings_of self.now.cutter.things.coords.now self.now.subject.now self.now.cutter.things.nodes.now) points.old met.old }
     {
         let mut found = [0u32; 1024];
-        let answer = self.of_edges(points, met, &mut found);
+        let answer = self.add_for_edges(points, met, &mut found);
         if answer.is_err() {
             points.fill(0.0);
             met.fill(0);

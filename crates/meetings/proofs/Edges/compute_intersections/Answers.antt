@@ -5,7 +5,7 @@ use Rattle.meetings.proofs.Edges.compute_intersections.Goals as goal
 
 pub returns-then-is_err : goal.returns-then-is_err
 returns-then-is_err c =
-    let x = c.of_edges-answer in
+    let x = c.add_for_edges-answer in
     let a = c.args in
     one_refused a.self.now.cutter.things.coords.now a.self.now.subject.now a.self.now.cutter.things.nodes.now a.points.now a.met.now a.self.now.even c.requires
     x.new.points x.new.met x.result (sym c.is_err.ensures.value ∙ c.if-is_err.true) x.ensures

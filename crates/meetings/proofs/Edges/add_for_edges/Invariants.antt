@@ -1,8 +1,8 @@
--- `meetings::Edges::of_edges` meets its contract. The loop's invariant: the meetings of the first i edges of the subject are added. Assumes nothing.
+-- `meetings::Edges::add_for_edges` meets its contract. The loop's invariant: the meetings of the first i edges of the subject are added. Assumes nothing.
 use mathlib.Core.Path.{◌≡◌}
 use lib.ListN.{length}
 use Rattle.meetings.proofs.Loops.{Through}
-use Rattle.meetings.proofs.Edges.of_edges.Given as goal
+use Rattle.meetings.proofs.Edges.add_for_edges.Given as goal
 
 abbrev pub invariant-loop-i : goal.invariant-loop-i
 invariant-loop-i l =

@@ -1,6 +1,6 @@
 use mathlib.Core.Path.{refl, ◌∙◌}
 use Rattle.meetings.proofs.Loops.{begin, go_on, finish}
-use Rattle.meetings.proofs.Edges.of_edges.Goals as goal
+use Rattle.meetings.proofs.Edges.add_for_edges.Goals as goal
 
 pub loop-i-init : goal.loop-i-init
 loop-i-init c =
@@ -9,7 +9,7 @@ loop-i-init c =
 
 pub loop-i-preserved : goal.loop-i-preserved
 loop-i-preserved c =
-    let x = c.of_edge in
+    let x = c.add_for_edge in
     let a = c.args in
     let l = c.loop-i in (
       go_on a.self.now.cutter.things.coords.now a.self.now.subject.now a.self.now.cutter.things.nodes.now a.points.now a.met.now a.self.now.even c.requires.0

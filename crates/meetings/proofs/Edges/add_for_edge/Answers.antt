@@ -1,10 +1,10 @@
 use native.Mathlib.Omega.{arith}
-use Rattle.std.proofs.lemmas.Result.{err_from_is_err_and}
+use Rattle.refusals.proofs.Residual.{passed_on}
 use Rattle.meetings.proofs.Loops.{gone_all, taken_within, round_stop, round_last, last_within}
-use Rattle.meetings.proofs.Edges.of_edge.Goals as goal
+use Rattle.meetings.proofs.Edges.add_for_edge.Goals as goal
 
-pub of_places-requires : goal.of_places-requires
-of_places-requires c =
+pub add_for_places-requires : goal.add_for_places-requires
+add_for_places-requires c =
     let x = c.gather_near-k in
     let a = c.args in
     let l = c.loop-from in
@@ -19,12 +19,11 @@ of_places-requires c =
 
 pub returns-in_err-g : goal.returns-in_err-g
 returns-in_err-g c =
-    let x = c.of_places in
+    let x = c.add_for_places in
     let a = c.args in
     let l = c.loop-from in
     let front = rw c.edge_at-e.ensures at c.gather_near-k.ensures in
-    let p = err_from_is_err_and c.from_residual.result c.from_residual.ensures.1 in
-    rw (p.1, p.2)
+    rw (passed_on c.from_residual.result _ c.from_residual.ensures.1)
     (round_stop a.self.now.cutter.things.coords.now a.self.now.subject.now a.self.now.cutter.things.nodes.now a.i a.f.met a.f.points a.points.now
     a.met.now c.requires.0
     l.points l.met l.g l.from l.invariant.0 c.loop-from-test.true l.found
@@ -33,7 +32,7 @@ returns-in_err-g c =
 
 pub returns-then-k-found : goal.returns-then-k-found
 returns-then-k-found c =
-    let x = c.of_places in
+    let x = c.add_for_places in
     let a = c.args in
     let l = c.loop-from in
     let front = rw c.edge_at-e.ensures at c.gather_near-k.ensures in

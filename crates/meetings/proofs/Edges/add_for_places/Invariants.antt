@@ -1,7 +1,7 @@
--- `meetings::Edges::of_places` meets its contract. The loop's invariant: the meetings with the first of the edges js are added. Assumes nothing.
+-- `meetings::Edges::add_for_places` meets its contract. The loop's invariant: the meetings with the first of the edges js are added. Assumes nothing.
 use lib.ListN.{drop}
 use Rattle.meetings.proofs.Loops.{Walked}
-use Rattle.meetings.proofs.Edges.of_places.Given as goal
+use Rattle.meetings.proofs.Edges.add_for_places.Given as goal
 
 abbrev pub invariant-loop-j : goal.invariant-loop-j
 invariant-loop-j l =

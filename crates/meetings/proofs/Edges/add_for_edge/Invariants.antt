@@ -1,9 +1,9 @@
--- `meetings::Edges::of_edge` meets its contract. The loop's invariant: the meetings with the candidates below `from` are added. Assumes nothing.
+-- `meetings::Edges::add_for_edge` meets its contract. The loop's invariant: the meetings with the candidates below `from` are added. Assumes nothing.
 use mathlib.Core.Path.{◌≡◌}
 use Prim.Native.Nat.{◌-◌}
 use lib.ListN.{length}
 use Rattle.meetings.proofs.Loops.{Gone}
-use Rattle.meetings.proofs.Edges.of_edge.Given as goal
+use Rattle.meetings.proofs.Edges.add_for_edge.Given as goal
 
 abbrev pub invariant-loop-from : goal.invariant-loop-from
 invariant-loop-from l =
