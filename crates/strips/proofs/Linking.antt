@@ -1,5 +1,5 @@
 -- Things put on chains, the last one first. Assumes nothing.
-use mathlib.Core.Path.{◌≡◌, refl, sym, ap, ◌∙◌}
+use mathlib.Core.Path.{◌≡◌, refl, sym, ap, ◌∙◌, subst}
 use mathlib.Core.Bool.{Bool, true, false, cond}
 use mathlib.Core.List.{List}
 use Prim.Native.Nat.{ℕ, suc, ◌+◌, ◌*◌, ◌-◌, ◌≤◌, ◌<◌, max}
@@ -65,6 +65,10 @@ module _ (f g : ℕ → ℕ) (h n : ℕ) where
     pub next : (p : ℕ) → q ≤ p → p < n → get_or nexts p 0 ≡ next_at f n p
     pub highest : levels ≡ above g q (n - q)
     pub few : levels ≤ 513
+
+  -- the same by another word for the number
+  pub linked_at : (k q : ℕ) (heads nexts : List ℕ) (levels : ℕ) → k ≡ q → Linked k heads nexts levels → Linked q heads nexts levels
+  linked_at k q heads nexts levels e = subst (λ (j : ℕ). Linked j heads nexts levels) e
 
   -- no thing is on a chain yet
   pub link_start : (heads nexts : List ℕ) → length heads ≡ h → length nexts ≡ n → ((c : ℕ) → c < h → get_or heads c 0 ≡ n) → Linked n heads nexts 0

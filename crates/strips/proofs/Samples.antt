@@ -1,7 +1,8 @@
 -- The samples and the nodes at which strips begin, as they are made. Assumes nothing.
 use mathlib.Core.Path.{◌≡◌, refl, sym, ap, ap₂, ◌∙◌}
 use mathlib.Core.List.{List, ◌++◌, append-nil}
-use Prim.Native.Nat.{ℕ, ◌+◌, ◌*◌, ◌/◌, ◌≤◌, ◌<◌}
+use Prim.Native.Nat.{ℕ, ◌+◌, ◌*◌, ◌/◌, ◌≤◌, ◌<◌, min}
+use native.Mathlib.Nat.{min-le_left, min-le_right}
 use native.Mathlib.Omega.{arith}
 use lib.ListN.{length, get_or, set, take, drop_of_length-le}
 use lib.Seq.{take_all, get_or-take, length-take-le}
@@ -21,6 +22,7 @@ use Rattle.lists.proofs.Regions.{length_front, take_front_of, front_store}
 use Rattle.strips.specs.declared.squares.Axis.{Axis}
 use Rattle.strips.specs.Things.{thing_count, start_of}
 use Rattle.strips.specs.Squares.{coordinate_of}
+use Rattle.strips.proofs.Sizes.{side_range}
 use Rattle.strips.specs.Index.{strip_count, is_before, sample_count, sample_node, samples_of, picked, bounds_of}
 
 -- ---- one sample
@@ -107,6 +109,11 @@ module _ (w₀ order : List ℕ) (side k : ℕ) where
       inv ∙ ap (λ (u : List ℕ). each side one ++ u) (drop_of_length-le w₀ {i = length (each side one)} (omega (arith, n, l))) ∙ append-nil (each side one)
 
 -- ---- the nodes at which the strips of one axis begin
+
+-- how many samples are taken for as many nodes as there are strips: all have their place, and they are few
+pub samples_fit : (n side k : ℕ) (scratch : List ℕ) → side ≡ strip_count n → k ≡ min (4 * side) n → n ≤ length scratch → (length (take k scratch) ≡ k) × (k ≤ 1024)
+samples_fit n side k scratch s e fits =
+    (length-take-le k scratch (omega (arith, e, min-le_right (4 * side) n, fits)), omega (arith, e, min-le_left (4 * side) n, s, (side_range n).1))
 
 pub bound_is : (coords : List Float) (nodes ends : List ℕ) (axis : Axis) (side k : ℕ) (order : List ℕ) → side ≡ strip_count (thing_count nodes ends)
     → k ≡ sample_count (thing_count nodes ends) → order ≡ samples_of coords nodes ends axis k → picked side (length order) order ≡ bounds_of coords nodes ends axis

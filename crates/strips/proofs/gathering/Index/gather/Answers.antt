@@ -1,80 +1,39 @@
 use mathlib.Core.Path.{sym, ap, ◌∙◌}
-use Prim.Native.Nat.{ℕ, ◌-◌}
+use Prim.Native.Nat.{ℕ}
 use native.Mathlib.Omega.{arith}
-use lib.ListN.{length, take, drop, length-drop}
-use lib.Seq.{length-take-le}
+use lib.ListN.{length, take, drop}
 use Rattle.strips.specs.declared.squares.Axis.TheVariants.{X}
+use Rattle.strips.specs.declared.gathering.Index.{Index}
 use Rattle.strips.specs.Things.{thing_count}
 use Rattle.strips.specs.Index.{chain_count}
 use Rattle.strips.proofs.Sizes.{side_range}
 use Rattle.strips.proofs.IndexAt.{length_bounds}
-use Rattle.strips.proofs.Searching.{levels_few, index_long, side_read, levels_read, xs_read, links_read, chains_read}
+use Rattle.strips.proofs.Searching.{levels_few, Parts, parts, levels_read, xs_read, links_read, chains_read}
 use Rattle.strips.proofs.gathering.Index.gather.Goals as goal
 
+parts_of : (s : Index) → Parts s.things.coords.now s.things.nodes.now s.things.ends.now s.numbers.now s.is
+parts_of s = parts s.things.coords.now s.things.nodes.now s.things.ends.now s.numbers.now s.is
+
 pub bounds-numbers-0 : goal.bounds-numbers-0
-bounds-numbers-0 c =
-    let s = c.args.self.now in
-    let t = s.things in
-    omega (arith, index_long t.coords.now t.nodes.now t.ends.now s.numbers.now s.is)
+bounds-numbers-0 c = let p = parts_of c.args.self.now in omega (arith, p.numbers)
 
 pub bounds-numbers-1 : goal.bounds-numbers-1
-bounds-numbers-1 c =
-    let s = c.args.self.now in
-    let t = s.things in
-    omega (arith, index_long t.coords.now t.nodes.now t.ends.now s.numbers.now s.is)
+bounds-numbers-1 c = let p = parts_of c.args.self.now in omega (arith, p.numbers)
 
 pub slice_bounds-split_at-count : goal.slice_bounds-split_at-count
-slice_bounds-split_at-count c =
-    let s = c.args.self.now in
-    let t = s.things in
-    omega (arith, index_long t.coords.now t.nodes.now t.ends.now s.numbers.now s.is)
+slice_bounds-split_at-count c = let p = parts_of c.args.self.now in omega (arith, p.numbers)
 
 pub slice_bounds-split_at-start : goal.slice_bounds-split_at-start
-slice_bounds-split_at-start c =
-    let s = c.args.self.now in
-    let t = s.things in
-    omega (arith, index_long t.coords.now t.nodes.now t.ends.now s.numbers.now s.is)
+slice_bounds-split_at-start c = let p = parts_of c.args.self.now in omega (arith, p.numbers)
 
 pub split_at-requires : goal.split_at-requires
-split_at-requires c =
-    let s = c.args.self.now in
-    let t = s.things in
-    let long = index_long t.coords.now t.nodes.now t.ends.now s.numbers.now s.is in
-    let side = side_read t.coords.now t.nodes.now t.ends.now s.numbers.now s.is in
-    omega (arith, long, side, length-drop 2 s.numbers.now, length-take-le (length s.numbers.now - 2) (drop 2 s.numbers.now) (omega (arith, length-drop 2 s.numbers.now)))
+split_at-requires c = let p = parts_of c.args.self.now in omega (arith, p.first)
 
 pub split_at-requires-2 : goal.split_at-requires-2
-split_at-requires-2 c =
-    let s = c.args.self.now in
-    let t = s.things in
-    let long = index_long t.coords.now t.nodes.now t.ends.now s.numbers.now s.is in
-    let side = side_read t.coords.now t.nodes.now t.ends.now s.numbers.now s.is in
-    omega (
-      arith,
-      c.split_at.ensures.back_len,
-      long,
-      side,
-      length-drop 2 s.numbers.now,
-      length-take-le (length s.numbers.now - 2) (drop 2 s.numbers.now) (omega (arith, length-drop 2 s.numbers.now)),
-    )
+split_at-requires-2 c = let p = parts_of c.args.self.now in omega (arith, c.split_at.ensures.back_len, p.second)
 
 pub split_at-requires-3 : goal.split_at-requires-3
-split_at-requires-3 c =
-    let s = c.args.self.now in
-    let t = s.things in
-    let long = index_long t.coords.now t.nodes.now t.ends.now s.numbers.now s.is in
-    let side = side_read t.coords.now t.nodes.now t.ends.now s.numbers.now s.is in
-    let h = c.chain_count.ensures ∙ ap chain_count c.count.ensures in
-    omega (
-      arith,
-      h,
-      c.split_at-2.ensures.back_len,
-      c.split_at.ensures.back_len,
-      long,
-      side,
-      length-drop 2 s.numbers.now,
-      length-take-le (length s.numbers.now - 2) (drop 2 s.numbers.now) (omega (arith, length-drop 2 s.numbers.now)),
-    )
+split_at-requires-3 c = let p = parts_of c.args.self.now in omega (arith, c.chain_count.ensures ∙ ap chain_count c.count.ensures, c.split_at-2.ensures.back_len, c.split_at.ensures.back_len, p.third)
 
 pub invariant_of-search : goal.invariant_of-search
 invariant_of-search c =

@@ -5,7 +5,7 @@ use lib.ListN.{length}
 use Rattle.lists.specs.Gather.{each}
 use Rattle.strips.specs.Index.{head_at}
 use Rattle.strips.specs.Lent.{chain_in, level_in}
-use Rattle.strips.proofs.Linking.{Linked, chain_by_low, filled, link_start, link_turn, link_heads, link_nexts}
+use Rattle.strips.proofs.Linking.{linked_at, chain_by_low, filled, link_start, link_turn, link_heads, link_nexts}
 use Rattle.strips.proofs.things.Things.link.Goals as goal
 
 pub loop-j-init : goal.loop-j-init
@@ -24,7 +24,7 @@ loop-j-preserved c =
     let low : chain_in t a.xs.now a.ys.now q < length c.fill.new.self =
     omega (arith, chain_by_low t.coords.now a.xs.now a.ys.now t.nodes.now t.ends.now q, c.requires.0, c.requires.1, c.fill.ensures.len) in
     link_turn (chain_in t a.xs.now a.ys.now) (level_in t a.xs.now a.ys.now) (length c.fill.new.self) (length a.nexts.now) q l.heads l.nexts l.levels low (omega (arith, l.auto.j, back))
-    (subst (λ (k : ℕ). Linked (chain_in t a.xs.now a.ys.now) (level_in t a.xs.now a.ys.now) (length c.fill.new.self) (length a.nexts.now) k l.heads l.nexts l.levels) (sym back) l.invariant)
+    (linked_at _ _ _ _ _ _ _ _ _ (sym back) l.invariant)
     _ _ c.link_thing-l.result c.max-levels.result c.link_thing-l.ensures.head c.link_thing-l.ensures.next c.link_thing-l.ensures.level.0 c.link_thing-l.ensures.level.1
     c.max-levels.ensures
 
@@ -35,8 +35,7 @@ returns-clause-head c =
     let l = c.loop-j in
     let z : l.j ≡ 0 = omega (arith, c.loop-j-test.false) in
     subst (λ (m : ℕ). l.heads ≡ each m (head_at (chain_in t a.xs.now a.ys.now) (length a.nexts.now))) c.fill.ensures.len
-    (link_heads (chain_in t a.xs.now a.ys.now) (level_in t a.xs.now a.ys.now) (length c.fill.new.self) (length a.nexts.now) l.heads l.nexts l.levels
-    (subst (λ (k : ℕ). Linked (chain_in t a.xs.now a.ys.now) (level_in t a.xs.now a.ys.now) (length c.fill.new.self) (length a.nexts.now) k l.heads l.nexts l.levels) z l.invariant))
+    (link_heads (chain_in t a.xs.now a.ys.now) (level_in t a.xs.now a.ys.now) (length c.fill.new.self) (length a.nexts.now) l.heads l.nexts l.levels (linked_at _ _ _ _ _ _ _ _ _ z l.invariant))
 
 pub returns-clause-next : goal.returns-clause-next
 returns-clause-next c =
@@ -45,4 +44,4 @@ returns-clause-next c =
     let l = c.loop-j in
     let z : l.j ≡ 0 = omega (arith, c.loop-j-test.false) in
     link_nexts (chain_in t a.xs.now a.ys.now) (level_in t a.xs.now a.ys.now) (length c.fill.new.self) (length a.nexts.now) l.heads l.nexts l.levels
-    (subst (λ (k : ℕ). Linked (chain_in t a.xs.now a.ys.now) (level_in t a.xs.now a.ys.now) (length c.fill.new.self) (length a.nexts.now) k l.heads l.nexts l.levels) z l.invariant)
+    (linked_at _ _ _ _ _ _ _ _ _ z l.invariant)
