@@ -2,7 +2,7 @@
 use mathlib.Core.Path.{◌≡◌, refl, sym, ap, ap₂, ◌∙◌}
 use mathlib.Core.Bool.{Bool, true, false, true≢false, ◌&&◌}
 use mathlib.Core.List.{List, [], ◌∷◌, ◌++◌}
-use Prim.Native.Nat.{ℕ, zero, suc, ◌+◌, ◌*◌, ◌/◌, ◌≤◌, ◌<◌}
+use Prim.Native.Nat.{ℕ, zero, suc, ◌+◌, ◌/◌, ◌≤◌, ◌<◌}
 use native.Mathlib.Numerals.{add-one}
 use native.Mathlib.Decide.{dec_lt, ℕ_discrete}
 use native.Mathlib.Omega.{arith}
@@ -14,7 +14,10 @@ use Rattle.lists.specs.Search.{seek, first, has}
 use Rattle.lists.proofs.Search.{has_at, has_some, and_true}
 use Rattle.cutting.specs.Edges.{Edge, edge_at, key, same_key}
 use Rattle.cutting.specs.Lent.{pairs}
-use Rattle.cutting.proofs.Pairs.{pairs_length, pairs_at}
+use Rattle.std.specs.Simd.{first_chunks}
+use Rattle.std.proofs.lemmas.List.{get_or_default}
+use Rattle.cutting.proofs.Pairs.{pairs_length}
+use Rattle.cutting.proofs.Chunks.{chunk_at}
 use Rattle.keys.specs.Chains.{edge_chain}
 use Rattle.neighbours.specs.Chains.{last_below, on_chain, Chained, linked}
 
@@ -166,13 +169,17 @@ module _ (h : ℕ) (es : List Edge) (links : List ℕ) (f : Edge) (some : 0 < h)
 abbrev pub key_at : List ℕ → ℕ → ℕ → ℕ → Bool
 key_at s a b i = same_key (edge_at (pairs s) i) (a, b)
 
--- read from the list
-pub key_is : (s : List ℕ) (a b i : ℕ) → i < length s / 2 → key_at s a b i ≡ same_key (get_or s (2 * i) 0, get_or s (2 * i + 1) 0) (a, b)
-key_is s a b i h = ap (λ (e : Edge). same_key e (a, b)) (pairs_at s i h)
-
 -- the keys of e and f, compared
-pub one_key : (e f : Edge) {x y : Edge} → x ≡ key e → y ≡ key f → same_key e f ≡ (eqb x.0 y.0 && eqb x.1 y.1)
+one_key : (e f : Edge) {x y : Edge} → x ≡ key e → y ≡ key f → same_key e f ≡ (eqb x.0 y.0 && eqb x.1 y.1)
 one_key e f m n = sym (ap₂ (λ (x y : Edge). eqb x.0 y.0 && eqb x.1 y.1) m n)
+
+-- read from the list in pairs and compared
+pub key_seen : (s : List ℕ) (a b i : ℕ) (chunks : List (List ℕ)) (x y : Edge) → chunks ≡ first_chunks 2 (length s / 2) s → length chunks ≡ length s / 2 → i < length s / 2
+    → x ≡ key (get_or (get_or chunks i []) 0 0, get_or (get_or chunks i []) 1 0) → y ≡ key (a, b) → key_at s a b i ≡ (eqb x.0 y.0 && eqb x.1 y.1)
+key_seen s a b i chunks x y e n h m o =
+    let read : ◌≡◌ {A = Edge} (get_or (get_or chunks i []) 0 0, get_or (get_or chunks i []) 1 0) (edge_at (pairs s) i) =
+    chunk_at s chunks i (get_or chunks i []) e (get_or_default chunks i [] (0 ∷ 0 ∷ []) (omega (arith, n, h))) in
+    ap (λ (f : Edge). same_key f (a, b)) (sym read) ∙ one_key _ (a, b) m o
 
 -- those from e on have not the key; the one before is on its chain
 abbrev pub Passed : ℕ → List ℕ → ℕ → ℕ → ℕ → Type 0

@@ -81,7 +81,7 @@ module _ (e : List ℕ) (k a b : ℕ) (links : List ℕ) (h : ℕ) (room : 2 * k
         },
       )
 
--- ---- `cell_edges`
+-- ---- `add_cell`
 
 -- the first i edges of the cell are added to the k edges at the front of e₀
 abbrev pub Filled : List ℕ → List ℕ → ℕ → ℕ → List ℕ → List ℕ → List ℕ → ℕ → ℕ → Type 0
@@ -133,7 +133,7 @@ module _ (cs e₀ : List ℕ) (k h : ℕ) (links₀ : List ℕ) (fits : 2 * k + 
         let all : added_to i cs es₀ ≡ added_all es₀ (ring cs) = ap (λ (c : ℕ). added_to c cs es₀) q ∙ added_to_end cs es₀ in
         (inv.3 ∙ ap length all, rw (sym all) inv.4)
 
--- ---- `all_edges`
+-- ---- `add_cells`
 
 prior_more : (ends : List ℕ) (i : ℕ) → prior ends (i + 1) ≡ get_or ends i 0
 unfolding prior

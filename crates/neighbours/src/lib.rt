@@ -23,11 +23,13 @@ fn has_key(edges: &[u32], links: &[u32], h: usize, a: u32, b: u32) -> bool
     ensures { result ≡ has (λ i. same_key (edge_at (pairs edges.now) i) (a, b)) (length (pairs edges.now)) }
 {
     let key = SortedKey::new(a, b);
+    let pairs = edges.as_chunks::<2>().0;
     let mut e = links[key.chain(h)] as usize;
     // A walk along a chain, whose links are numbers: fixed memory, no heap.
     while 0 < e {
         let i = e - 1;
-        if SortedKey::new(edges[2 * i], edges[2 * i + 1]) == key {
+        let [x, y] = pairs[i];
+        if SortedKey::new(x, y) == key {
             return true;
         }
         e = links[h + i] as usize;
@@ -66,7 +68,7 @@ fn add_edge(edges: &mut [u32], k: usize, a: u32, b: u32, links: &mut [u32], h: u
 
 // Adds the edges of a cell to the k edges at the front of `edges`.
 #[tactic(auto, using(corners::proofs::Remainders::after_inside, crate::proofs::Loops::cell_ready))]
-fn cell_edges(cell: &[u32], edges: &mut [u32], k: usize, links: &mut [u32], h: usize) -> usize
+fn add_cell(cell: &[u32], edges: &mut [u32], k: usize, links: &mut [u32], h: usize) -> usize
     requires { (2 * k + 2 * length cell.now ≤ length edges.old) × (h + (k + length cell.now) ≤ length links.old) × (k + length cell.now ≤ 65536) × (0 < h)
         × Chained h (pairs (take (2 * k) edges.old)) links.old }
     ensures { (result ≡ length (added_all (pairs (take (2 * k) edges.old)) (ring cell.now)))
@@ -80,8 +82,8 @@ fn cell_edges(cell: &[u32], edges: &mut [u32], k: usize, links: &mut [u32], h: u
     r
 }
 
-// Writes the edges of all cells, and their chains over zeros.
-fn all_edges(nodes: &[u32], cells: &[u32], edges: &mut [u32], links: &mut [u32], h: usize) -> usize
+// Adds the edges of all cells to none, and their chains over zeros.
+fn add_cells(nodes: &[u32], cells: &[u32], edges: &mut [u32], links: &mut [u32], h: usize) -> usize
     requires { (2 * length nodes.now ≤ length edges.old) × (h + length nodes.now ≤ length links.old) × (length nodes.now ≤ 65536) × (0 < h)
         × (Rising cells.now (length nodes.now)) × (links.old ≡ zeros (length links.old)) }
     ensures { (result ≡ length (compute_descending (cells_of (mesh [] nodes.now cells.now [] []))))
@@ -91,7 +93,7 @@ fn all_edges(nodes: &[u32], cells: &[u32], edges: &mut [u32], links: &mut [u32],
     let mut start: usize = 0;
     for end in cells {
         let e = *end as usize;
-        k = cell_edges(&nodes[start..e], edges, k, links, h);
+        k = add_cell(&nodes[start..e], edges, k, links, h);
         start = e;
     }
     k
@@ -113,7 +115,7 @@ pub fn compute_descending(
         × (links.new ≡ zeros (length links.old)) × (result ≤ length nodes.now) }
 {
     links.fill(0);
-    let k = all_edges(nodes, cells, edges, links, h);
+    let k = add_cells(nodes, cells, edges, links, h);
     links.fill(0);
     k
 }

@@ -3,14 +3,14 @@ use native.Mathlib.Omega.{arith}
 use lib.ListN.{get_or}
 use Rattle.lists.specs.Regions.{run}
 use Rattle.neighbours.proofs.Loops.{written_start, all_ready, turn, end, lent_cell}
-use Rattle.neighbours.proofs.all_edges.Goals as goal
+use Rattle.neighbours.proofs.add_cells.Goals as goal
 
 pub loop-end-init : goal.loop-end-init
 loop-end-init c =
     let a = c.args in written_start a.nodes.now a.cells.now a.edges.now a.h a.links.now c.requires.0 c.requires.4 (omega (arith, c.requires.1)) c.requires.5
 
-pub cell_edges-k-requires : goal.cell_edges-k-requires
-cell_edges-k-requires c =
+pub add_cell-k-requires : goal.add_cell-k-requires
+add_cell-k-requires c =
     let a = c.args in
     let l = c.loop-end in
     let v = l.invariant in
@@ -29,7 +29,7 @@ unfolding run
 loop-end-preserved c =
     let a = c.args in
     let l = c.loop-end in
-    let e = c.cell_edges-k in
+    let e = c.add_cell-k in
     turn a.nodes.now a.cells.now a.edges.now a.h a.links.now c.requires.0 c.requires.4 l.edges l.links l.k l.start l.end-index l.invariant
     e.result _ e.new.edges e.new.links c.loop-end-test.true refl e.auto.edges e.auto.links e.ensures
 

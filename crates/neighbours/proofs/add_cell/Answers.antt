@@ -1,7 +1,7 @@
 use mathlib.Core.Path.{refl}
 use native.Mathlib.Omega.{arith}
 use Rattle.neighbours.proofs.Loops.{cell_start, cell_turn, cell_end_lem}
-use Rattle.neighbours.proofs.cell_edges.Goals as goal
+use Rattle.neighbours.proofs.add_cell.Goals as goal
 
 pub loop-i-init : goal.loop-i-init
 loop-i-init c =
