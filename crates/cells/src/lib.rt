@@ -18,7 +18,7 @@ use dart_walk::{Counts, walk_dart_map};
 use edge_nodes::SceneLists;
 use outlines::{edges_meet, edges_repeat, lay_own_edge};
 use refusals::Refusal;
-use regions::{Regions, Run};
+use regions::Run;
 
 // A refusal leaves the lists of corners and stops zero.
 #[tactic(auto, unfolding(crate::specs::Cells::cut_as))]
@@ -170,31 +170,25 @@ impl<'a> NearEdges<'a> {
 }
 
 // Cuts the cell by those of the edges near it that stand at the places js. The corners of the pieces go to the front of
-// `runs`, where each ends among them to that of `stops`, both lists that C lends. Coordinates, w and g are apart as the next stage has them.
+// `runs`, where each ends among them to that of `stops`, both lists that C lends.
 pub fn cut_cell(
-    coords: &[f64],
-    w: &[u32],
-    g: Regions,
+    scene: SceneLists,
     edges: Run,
     js: &[u32],
     cell: &[u32],
     runs: &mut [u32],
     stops: &mut [u32],
 ) -> Result<Counts, Refusal>
-    requires { AllFew w.now g (ring cell.now) × Within edges (length w.now) × AllFew w.now g (edges_in w.now edges)
-        × Places js.now (edges_in w.now edges) × (1024 ≤ length runs.old) × (1024 ≤ length stops.old) }
+    requires { AllFew scene.work.now scene.regions (ring cell.now) × Within edges (length scene.work.now)
+        × AllFew scene.work.now scene.regions (edges_in scene.work.now edges)
+        × Places js.now (edges_in scene.work.now edges) × (1024 ≤ length runs.old) × (1024 ≤ length stops.old) }
     ensures { cut result runs.new stops.new
-        ≡ cut_cell coords.now w.now g edges js.now cell.now runs.old stops.old }
+        ≡ cut_cell scene.entry.coords.now scene.entry.work.now scene.entry.regions edges js.now cell.now runs.old stops.old }
 {
-    let scene = SceneLists {
-        coords,
-        work: w,
-        regions: g,
-    };
     let own = OwnEdges { scene, cell };
     let near = NearEdges {
         scene,
-        edges: edges.part(w).as_chunks::<2>().0,
+        edges: edges.part(scene.work).as_chunks::<2>().0,
         places: js,
     };
     let mut nodes = [0u32; 258];

@@ -22,7 +22,7 @@ use lists::copy_at;
 use outlines::edges_repeat;
 use pieces::{Keep, Listed, PieceLists, keep_of};
 use refusals::Refusal;
-use regions::{Indexes, MeshIndex, MeshRuns, Regions};
+use regions::{Indexes, MeshIndex, MeshRuns};
 use spatial_index::bounds2;
 use strips::{Index, Things};
 
@@ -147,17 +147,7 @@ impl<'a> Treatment<'a> {
         if js.is_empty() {
             return copy_cell(cell, runs, stops);
         }
-        let edges = self.other.edges;
-        cut_cell(
-            self.scene.coords,
-            self.scene.work,
-            self.scene.regions,
-            edges,
-            js,
-            cell,
-            runs,
-            stops,
-        )
+        cut_cell(self.scene, self.other.edges, js, cell, runs, stops)
     }
 
     // Places the kept pieces of the cell with that number behind what p counts; `found` is room for the places of the other mesh's edges.
@@ -274,13 +264,11 @@ fn cut_both(
     cutter.cut_cells(own, ce, se.len(), lists, placed)
 }
 
-// The same with the lists one by one, since a struct of parts of a lent struct's lists isn't covered by the borrow checker. A refusal leaves zeros. By the
-// operation's number, since the promise is for each number, one that names no operation too.
+// Cuts the cells of both meshes and places the kept pieces in the three lists, which a refusal leaves zero. They come one by one, since a struct of parts
+// of a lent struct's lists isn't covered by the borrow checker; the operation by its number, since the promise is for each number, one that names none too.
 pub fn cut_meshes(
     op: u32,
-    coords: &[f64],
-    w: &[u32],
-    g: Regions,
+    scene: SceneLists,
     x: Indexes,
     se: &[u32],
     ce: &[u32],
@@ -288,20 +276,15 @@ pub fn cut_meshes(
     oe: &mut [u32],
     ot: &mut [u32],
 ) -> Result<Listed, Refusal>
-    requires { MeshesReady op coords.now w.now g x se.now ce.now × (length oe.old ≤ length ot.old) }
+    requires { MeshesReady op scene.coords.now scene.work.now scene.regions x se.now ce.now × (length oe.old ≤ length ot.old) }
     ensures placed { placing result on.new oe.new ot.new
-        ≡ placed_behind none_yet (meshes_yield op coords.now w.now g se.now ce.now) on.old oe.old ot.old }
+        ≡ placed_behind none_yet (meshes_yield op scene.entry.coords.now scene.entry.work.now scene.entry.regions se.now ce.now) on.old oe.old ot.old }
     ensures few { IfOk result (λ r. Few (length se.now + length ce.now) none_yet r) }
 {
     let mut lists = PieceLists {
         corners: on,
         ends: oe,
         tags: ot,
-    };
-    let scene = SceneLists {
-        coords,
-        work: w,
-        regions: g,
     };
     cut_both(op, scene, x, se, ce, &mut lists)
 }

@@ -15,6 +15,7 @@ ghost use Rattle.overlay.specs.Shown.{lists_of, answer_of};
 ghost use Rattle.overlay.specs.Prepared.{PreparedIn, PlacedIn};
 
 use cutting_cells::cut_meshes;
+use edge_nodes::SceneLists;
 use entry::{Operation, entry};
 use finding::find;
 use indexing::index_meshes;
@@ -84,11 +85,14 @@ fn place(
         coords.old nodes.old ends.old tags.old coords.new nodes.new ends.new tags.new) }
 {
     let p = prepare(operation, m, subject, cutter, coords, work)?;
+    let scene = SceneLists {
+        coords: &coords[..2 * p.next],
+        work,
+        regions: p.regions,
+    };
     let listed = cut_meshes(
         u32::from(operation),
-        &coords[..2 * p.next],
-        work,
-        p.regions,
+        scene,
         p.indexes,
         subject.ends,
         cutter.ends,

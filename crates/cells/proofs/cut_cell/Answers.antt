@@ -18,8 +18,8 @@ use Rattle.cells.proofs.cut_cell.Goals.{then-outline_repeats, else-outline_repea
 pub invariant_of-near : goal.invariant_of-near
 invariant_of-near c =
     let a = c.args in
-    let lent = sym (as_pairs a.w.now a.edges _ _ c.part.ensures c.as_chunks.ensures.front) in
-    record { few = subst (λ (es : List Edge). AllFew a.w.now a.g es) lent c.requires.2; within = subst (λ (es : List Edge). Places a.js.now es) lent c.requires.3 }
+    let lent = sym (as_pairs a.scene.work.now a.edges _ _ c.part.ensures c.as_chunks.ensures.front) in
+    record { few = subst (λ (es : List Edge). AllFew a.scene.work.now a.scene.regions es) lent c.requires.2; within = subst (λ (es : List Edge). Places a.js.now es) lent c.requires.3 }
 
 pub returns-then-is_err : goal.returns-then-is_err
 returns-then-is_err c =
@@ -27,9 +27,9 @@ returns-then-is_err c =
     let as_refused : (r : Refusal) → c.if-outline_repeats.why ≡ r → cut c.refused.result c.refused.new.runs c.refused.new.stops ≡ cut_as (refusal (number r)) a.runs.now a.stops.now =
     λ r e. c.refused.ensures ∙ ap (λ (s : Refusal). cut_as (refusal (number s)) a.runs.now a.stops.now) e in
     elim c.if-outline_repeats.branch [
-      | then-outline_repeats w ↦ as_refused RepeatedEdge w.why-is ∙ repeated_own a.coords.now a.w.now a.g a.edges a.js.now a.cell.now a.runs.now a.stops.now
+      | then-outline_repeats w ↦ as_refused RepeatedEdge w.why-is ∙ repeated_own a.scene.coords.now a.scene.work.now a.scene.regions a.edges a.js.now a.cell.now a.runs.now a.stops.now
           (sym c.outline_repeats.ensures ∙ w.if-outline_repeats.true)
-      | else-outline_repeats w ↦ as_refused FullTable w.why-is ∙ too_many_own a.coords.now a.w.now a.g a.edges a.js.now a.cell.now a.runs.now a.stops.now
+      | else-outline_repeats w ↦ as_refused FullTable w.why-is ∙ too_many_own a.scene.coords.now a.scene.work.now a.scene.regions a.edges a.js.now a.cell.now a.runs.now a.stops.now
           (sym c.outline_repeats.ensures ∙ w.if-outline_repeats.false) (c.add_darts.ensures.held.over (sym c.is_err.ensures.value ∙ c.if-is_err.true))
     ]
 
@@ -41,7 +41,7 @@ cut-requires c =
     let same = ap length c.slots-entries.ensures.slots in
     let lent = ap (λ (n : ℕ). take n own.new.outline) same ∙ own.ensures.outlined fits in (
       omega (arith, length-take (length c.slots-entries.result.now) own.new.outline, c.slots-entries.ensures.few, same),
-      own_table a.coords.now (outline_in a.coords.now a.w.now a.g a.cell.now) own.new.outline (length c.slots-entries.result.now) lent own.new.table (own.ensures.held.fits fits),
+      own_table a.scene.coords.now (outline_in a.scene.coords.now a.scene.work.now a.scene.regions a.cell.now) own.new.outline (length c.slots-entries.result.now) lent own.new.table (own.ensures.held.fits fits),
       c.requires.4,
       c.requires.5,
     )
@@ -53,7 +53,7 @@ returns c =
     let fits = sym c.is_err.ensures.value ∙ c.if-is_err.false in
     let same = ap length c.slots-entries.ensures.slots in
     let lent = ap (λ (n : ℕ). take n own.new.outline) same ∙ own.ensures.outlined fits in
-    cut_as_lent a.coords.now a.w.now a.g a.edges a.js.now a.cell.now a.runs.now a.stops.now own.new.outline (length c.slots-entries.result.now) _
+    cut_as_lent a.scene.coords.now a.scene.work.now a.scene.regions a.edges a.js.now a.cell.now a.runs.now a.stops.now own.new.outline (length c.slots-entries.result.now) _
     lent (c.cut.ensures ∙ ap (λ (es : List Edge). cut_by (pairs (take (length c.slots-entries.result.now) own.new.outline))
-    (cell_table a.coords.now (pairs (take (length c.slots-entries.result.now) own.new.outline)) (near_in a.coords.now a.w.now a.g es a.js.now)) a.runs.now a.stops.now)
-    (as_pairs a.w.now a.edges _ _ c.part.ensures c.as_chunks.ensures.front))
+    (cell_table a.scene.coords.now (pairs (take (length c.slots-entries.result.now) own.new.outline)) (near_in a.scene.coords.now a.scene.work.now a.scene.regions es a.js.now)) a.runs.now a.stops.now)
+    (as_pairs a.scene.work.now a.edges _ _ c.part.ensures c.as_chunks.ensures.front))
