@@ -2,15 +2,14 @@
 // regions of the working list.
 #![tactic(auto)]
 
-ghost use Rattle.std.specs.Prelude.{◌≡◌, false, [], map, ◌≤◌, ◌<◌, length, take, is_err};
+ghost use Rattle.std.specs.Prelude.{◌≡◌, false, [], map, ℕ, ◌≤◌, ◌<◌, length, take, is_err};
 ghost use Rattle.cutting.specs.Edges.{ring};
 ghost use Rattle.cutting.specs.Cell.{cell_table, repeats};
 ghost use Rattle.cutting.specs.Outcome.{refusal};
 ghost use Rattle.cutting.specs.Lent.{flat_edges, pairs, pair_of};
 ghost use Rattle.outlines.specs.Meets.{edges_meet};
 ghost use Rattle.regions.specs.Runs.{Within};
-ghost use Rattle.refusals.specs.Numbers.{number};
-ghost use Rattle.cells.specs.Cells.{edges_in, Places, cut, cut_as, cut_by, cut_cell, AllFew};
+ghost use Rattle.cells.specs.Cells.{edges_in, Places, cut, cut_to, cut_as, cut_by, cut_cell, AllFew};
 
 use corners::next_corner;
 use dart_table::{DartTable, Full};
@@ -20,14 +19,13 @@ use outlines::{edges_meet, edges_repeat, lay_own_edge};
 use refusals::Refusal;
 use regions::Run;
 
-// A refusal leaves the lists of corners and stops zero.
+// Makes the lists of corners and stops zero, as a refusal leaves them.
 #[tactic(auto, unfolding(crate::specs::Cells::cut_as))]
-pub fn refused(why: Refusal, runs: &mut [u32], stops: &mut [u32]) -> Result<Counts, Refusal>
-    ensures { cut result runs.new stops.new ≡ cut_as (refusal (number why)) runs.old stops.old }
+pub fn clear(runs: &mut [u32], stops: &mut [u32])
+    ensures { (code : ℕ) → cut_to (record { code = code; pieces = 0; entries = 0 }) runs.new stops.new ≡ cut_as (refusal code) runs.old stops.old }
 {
     runs.fill(0);
     stops.fill(0);
-    Err(why)
 }
 
 // The own edges of a cell.
@@ -144,7 +142,8 @@ impl<'a> NearEdges<'a> {
 
     // Cuts a cell with a finished outline, whose own edges have the slots, one for each of its entries: adds the edges near it and walks. The part of
     // refusal 11 that is looked at after a walk never fires (cutting's `without_test`), so it is left out.
-    // `runs` and `stops` stay lists: C lends them, and they are filled in part, which no ghost field beside a `&mut` can say.
+    // `runs` and `stops` come one by one: in a struct of the two each contract would have to say that they are the same lists. They are no arrays, as those
+    // would ask callers for 1,024 entries and no more.
     #[tactic(auto, using(crate::proofs::Cut::too_many, crate::proofs::Cut::repeated))]
     fn cut(
         &self,
@@ -160,17 +159,19 @@ impl<'a> NearEdges<'a> {
             (cell_table self.now.scene.coords.now (pairs outline.now) (laid_near self.now)) runs.old stops.old }
     {
         if edges_repeat(outline) {
-            return refused(Refusal::RepeatedEdge, runs, stops);
+            clear(runs, stops);
+            return Err(Refusal::RepeatedEdge);
         }
         if self.add_darts(outline, nodes, table).is_err() {
-            return refused(Refusal::FullTable, runs, stops);
+            clear(runs, stops);
+            return Err(Refusal::FullTable);
         }
         walk_dart_map(table.slots(), outline, runs, stops)
     }
 }
 
 // Cuts the cell by those of the edges near it that stand at the places js. The corners of the pieces go to the front of
-// `runs`, where each ends among them to that of `stops`, both lists that C lends.
+// `runs`, where each ends among them to that of `stops`: lists, as above.
 pub fn cut_cell(
     scene: SceneLists,
     edges: Run,
@@ -200,7 +201,8 @@ pub fn cut_cell(
         } else {
             Refusal::FullTable
         };
-        return refused(why, runs, stops);
+        clear(runs, stops);
+        return Err(why);
     }
     let entries = table.slots().len();
     near.cut(&outline[..entries], &mut nodes, &mut table, runs, stops)

@@ -52,7 +52,8 @@ fn copy_cell(
     ensures { cut result runs.new stops.new ≡ cut_as (copied_outcome cell.now) runs.old stops.old }
 {
     if copy_repeats(cell) {
-        return cells::refused(Refusal::RepeatedEdge, runs, stops);
+        cells::clear(runs, stops);
+        return Err(Refusal::RepeatedEdge);
     }
     copy_at(runs, 0, cell);
     stops[0] = cell.len() as u32;
@@ -179,7 +180,10 @@ impl<'a> Treatment<'a> {
                     tag,
                 )
             }
-            Err(why) => lists.refuse(why),
+            Err(why) => {
+                lists.clear();
+                Err(why)
+            }
         }
     }
 

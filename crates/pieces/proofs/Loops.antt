@@ -6,7 +6,7 @@ use Prim.Native.Nat.{ℕ, ◌+◌, ◌-◌, ◌≤◌, ◌<◌}
 use native.Mathlib.Nat.{le_antisymm}
 use native.Mathlib.Omega.{arith}
 use lib.ListN.{length, get_or, take, drop}
-use Rattle.std.specs.Prelude.{Ok, Err}
+use Rattle.std.specs.Prelude.{Result, Ok, Err, is_ok}
 use Rattle.lists.specs.Gather.{gathered, passing}
 use Rattle.entry.specs.Mesh.{prior, Rising}
 use Rattle.entry.proofs.Ends.{prior_more}
@@ -15,10 +15,10 @@ use Rattle.refusals.specs.declared.Refusal.{Refusal}
 use Rattle.refusals.specs.Numbers.{number}
 use Rattle.pieces.specs.declared.Listed.{Listed}
 use Rattle.pieces.specs.declared.PieceLists.{PieceLists}
-use Rattle.pieces.specs.Pieces.{runs_of, Yield, tagged, Space, Placing, left, placed_in, SameLists}
+use Rattle.pieces.specs.Pieces.{runs_of, Yield, tagged, Space, Placing, left, left_by, refused_in, placed_in, BeforeZeroing, SameLists}
 use Rattle.pieces.proofs.Runs.{part_is, kept_to, kept_more, kept_behind, length_cell, kept_short}
 use Rattle.pieces.proofs.Piece.{kept_yes, kept_no}
-use Rattle.pieces.proofs.Placing.{steady_tagged, tagged_both, all_placed, fit, placed_nothing, refused_first, placed_behind_lem}
+use Rattle.pieces.proofs.Placing.{steady_tagged, tagged_both, all_placed, fit, placed_nothing, refused_first, placed_behind_lem, zeroed}
 
 pub same_none : (l : PieceLists) → SameLists l l
 same_none l =
@@ -120,3 +120,16 @@ module _ (f : List ℕ → Bool) (runs ends : List ℕ) (up : Rising ends (lengt
             met ∙ sym (ap (λ (g : Placing). g.answer) (ap (λ (ks : List (List ℕ)). placed_in p (tagged t ks) l) b.1
             ∙ ap (λ (z : Yield). placed_in p z l) (tagged_both t (kept_to f runs ends (i + 1)) b.0)
             ∙ refused_first p (tagged t (kept_to f runs ends (i + 1))) (tagged t b.0) l.corners.now l.ends.now l.tags.now e met))
+
+-- ---- behind the last piece, or the lists cleared where one had no place
+
+module _ (p : Listed) (y : Yield) (l l' : PieceLists) where
+  pub left_ok : (r : Result Listed Refusal) → BeforeZeroing (placed_in p y l) r l' → true ≡ is_ok r → left r l' ≡ placed_in p y l
+  left_ok (Ok x) met e = met
+  left_ok (Err k) met e = cc
+
+  pub left_cleared : (r : Result Listed Refusal) → BeforeZeroing (placed_in p y l) r l' → false ≡ is_ok r → SameLists l' l
+      → (l'' : PieceLists) → ((code : ℕ) → left_by (Err code) l'' ≡ refused_in code l') → left r l'' ≡ placed_in p y l
+  left_cleared (Ok x) met e same l'' cleared = cc
+  left_cleared (Err k) met e same l'' cleared =
+      cleared (number k) ∙ zeroed p y _ _ _ k met _ _ _ same.corners.long same.ends.long same.tags.long

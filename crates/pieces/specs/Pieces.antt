@@ -102,8 +102,11 @@ placed_behind p y on oe ot =
 
 -- ---- the same of lists that are lent
 
+abbrev pub left_by : Result Listed ℕ → PieceLists → Placing
+left_by r l = record { answer = r; corners = l.corners.now; ends = l.ends.now; tags = l.tags.now }
+
 abbrev pub left : Result Listed Refusal → PieceLists → Placing
-left r l = placing r l.corners.now l.ends.now l.tags.now
+left r l = left_by (by_number r) l
 
 abbrev pub refused_in : ℕ → PieceLists → Placing
 refused_in code l = refused_by code l.corners.now l.ends.now l.tags.now

@@ -1,13 +1,12 @@
 // Which pieces of a cell an operation keeps (document 01, "Operations"), and their placing behind those of the cells before.
 #![tactic(auto)]
 
-ghost use Rattle.std.specs.Prelude.{◌≡◌, Some, [], ◌∷◌, ◌<◌, length};
+ghost use Rattle.std.specs.Prelude.{◌≡◌, Some, Err, [], ◌∷◌, ℕ, ◌<◌, length};
 ghost use Rattle.std.specs.List.{All, list_any};
 ghost use Rattle.lists.specs.Gather.{passing};
 ghost use Rattle.entry.specs.Mesh.{prior, Rising};
-ghost use Rattle.refusals.specs.Numbers.{number};
 ghost use Rattle.rules.specs.Inside.{some_holds, point_inside};
-ghost use Rattle.pieces.specs.Pieces.{side_of, runs_of, cells_in, cell_at, cell_contains, keep_of, is_kept, tagged, Space, left, refused_in, placed_in, BeforeZeroing, SameLists};
+ghost use Rattle.pieces.specs.Pieces.{side_of, runs_of, cells_in, cell_at, cell_contains, keep_of, is_kept, tagged, Space, left, left_by, refused_in, placed_in, BeforeZeroing, SameLists};
 
 use corners::Ring;
 use entry::Operation;
@@ -16,7 +15,7 @@ use lists::copy_at;
 use plane::Point;
 use polygons::strict_interior_point;
 use refusals::Refusal;
-use rules::Bounds;
+use spatial_index::point_bounds;
 use strips::{Index, Things};
 
 // ---- Inside the other mesh or not
@@ -58,12 +57,7 @@ fn one_contains(cells: Things, js: &[u32], p: Point) -> bool
 fn some_holds(cells: Index, p: Point) -> bool
     ensures { result ≡ some_holds cells.entry.things.coords.now (cells_in cells.entry.things) (Some p) }
 {
-    let bounds = Bounds {
-        left: p.x,
-        low: p.y,
-        right: p.x,
-        high: p.y,
-    };
+    let bounds = point_bounds(p);
     let mut found = [0u32; 64];
     let mut from: usize = 0;
     while from < cells.things.ends.len() {
@@ -198,15 +192,14 @@ impl<'a> PieceLists<'a> {
         Ok(placed)
     }
 
-    // A refusal leaves zeros.
-    pub fn refuse(&mut self, why: Refusal) -> Result<Listed, Refusal>
-        ensures refused { left result self.new ≡ refused_in (number why) self.old }
+    // Makes the lists zero, as a refusal leaves them.
+    pub fn clear(&mut self)
+        ensures cleared { (code : ℕ) → left_by (Err code) self.new ≡ refused_in code self.old }
         ensures same_lists { SameLists self.new self.old }
     {
         self.corners.fill(0);
         self.ends.fill(0);
         self.tags.fill(0);
-        Err(why)
     }
 
     // Places the pieces that are kept behind those that p counts, each with the tag. As many pieces have a place as there is room for ends; a refusal
@@ -226,9 +219,11 @@ impl<'a> PieceLists<'a> {
             self.old }
         ensures same_lists { SameLists self.new self.old }
     {
-        match self.place_run(keep, cells, p, runs, stops, tag) {
-            Ok(placed) => Ok(placed),
-            Err(why) => self.refuse(why),
+        let placed = self.place_run(keep, cells, p, runs, stops, tag);
+        if placed.is_ok() {
+            return placed;
         }
+        self.clear();
+        placed
     }
 }

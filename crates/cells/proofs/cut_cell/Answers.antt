@@ -1,5 +1,6 @@
 use mathlib.Core.Path.{◌≡◌, sym, ap, ◌∙◌, subst}
 use mathlib.Core.List.{List}
+use Rattle.std.proofs.Common.{Err}
 use Prim.Native.Nat.{ℕ}
 use native.Mathlib.Omega.{arith}
 use lib.ListN.{length, take, length-take}
@@ -24,8 +25,9 @@ invariant_of-near c =
 pub returns-then-is_err : goal.returns-then-is_err
 returns-then-is_err c =
     let a = c.args in
-    let as_refused : (r : Refusal) → c.if-outline_repeats.why ≡ r → cut c.refused.result c.refused.new.runs c.refused.new.stops ≡ cut_as (refusal (number r)) a.runs.now a.stops.now =
-    λ r e. c.refused.ensures ∙ ap (λ (s : Refusal). cut_as (refusal (number s)) a.runs.now a.stops.now) e in
+    let as_refused : (r : Refusal) → c.if-outline_repeats.why ≡ r
+    → cut (Err c.if-outline_repeats.why) c.clear.new.runs c.clear.new.stops ≡ cut_as (refusal (number r)) a.runs.now a.stops.now =
+    λ r e. c.clear.ensures (number c.if-outline_repeats.why) ∙ ap (λ (s : Refusal). cut_as (refusal (number s)) a.runs.now a.stops.now) e in
     elim c.if-outline_repeats.branch [
       | then-outline_repeats w ↦ as_refused RepeatedEdge w.why-is ∙ repeated_own a.scene.coords.now a.scene.work.now a.scene.regions a.edges a.js.now a.cell.now a.runs.now a.stops.now
           (sym c.outline_repeats.ensures ∙ w.if-outline_repeats.true)
@@ -41,7 +43,8 @@ cut-requires c =
     let same = ap length c.slots-entries.ensures.slots in
     let lent = ap (λ (n : ℕ). take n own.new.outline) same ∙ own.ensures.outlined fits in (
       omega (arith, length-take (length c.slots-entries.result.now) own.new.outline, c.slots-entries.ensures.few, same),
-      own_table a.scene.coords.now (outline_in a.scene.coords.now a.scene.work.now a.scene.regions a.cell.now) own.new.outline (length c.slots-entries.result.now) lent own.new.table (own.ensures.held.fits fits),
+      own_table a.scene.coords.now (outline_in a.scene.coords.now a.scene.work.now a.scene.regions a.cell.now) own.new.outline
+          (length c.slots-entries.result.now) lent own.new.table (own.ensures.held.fits fits),
       c.requires.4,
       c.requires.5,
     )

@@ -1,5 +1,6 @@
 use mathlib.Core.Path.{sym, ap, ◌∙◌}
 use lib.Seq.{length-take-le}
+use Rattle.refusals.specs.Numbers.{number}
 use Rattle.pieces.specs.Pieces.{placed_in}
 use Rattle.cutting_cells.proofs.Cell.{cell_refused, pieces_yielded, pieces_few}
 use Rattle.cutting_cells.proofs.Treatment.overlay_cell.Goals as goal
@@ -20,4 +21,4 @@ pub returns-in-Err-clause-placed : goal.returns-in-Err-clause-placed
 returns-in-Err-clause-placed c =
     let a = c.args in
     let n = c.near-n in
-    c.refuse.ensures.refused ∙ cell_refused a.self.now a.cell.now _ n.ensures.held _ _ _ _ c.in-Err.why c.in-Err.ensures.comes_to a.number a.p _ _ _
+    c.clear.ensures.cleared (number c.in-Err.why) ∙ cell_refused a.self.now a.cell.now _ n.ensures.held _ _ _ _ c.in-Err.why c.in-Err.ensures.comes_to a.number a.p _ _ _

@@ -1,8 +1,12 @@
-use mathlib.Core.Path.{◌∙◌}
-use Rattle.pieces.proofs.Placing.{zeroed}
+use Rattle.pieces.proofs.Loops.{left_ok, left_cleared}
 use Rattle.pieces.proofs.PieceLists.place_pieces.Goals as goal
 
-pub returns-in-Err-clause-placed : goal.returns-in-Err-clause-placed
-returns-in-Err-clause-placed c =
-    let s = c.in-Err.ensures.same_lists in
-    c.refuse.ensures.refused ∙ zeroed c.args.p _ _ _ _ c.in-Err.why c.in-Err.ensures.placed _ _ _ s.corners.long s.ends.long s.tags.long
+pub returns-then-is_ok-clause-placed : goal.returns-then-is_ok-clause-placed
+returns-then-is_ok-clause-placed c =
+    let run = c.place_run-placed in
+    left_ok _ _ c.args.self.now run.new.self _ run.ensures.placed c.if-is_ok.ensures.value
+
+pub returns-clause-placed : goal.returns-clause-placed
+returns-clause-placed c =
+    let run = c.place_run-placed in
+    left_cleared _ _ c.args.self.now run.new.self _ run.ensures.placed c.if-is_ok.ensures.value run.ensures.same_lists c.clear.new.self c.clear.ensures.cleared
