@@ -1,8 +1,10 @@
 -- What a walk answers, and writes to lent lists. Assumes nothing.
-use Rattle.std.specs.Prelude.{◌≡◌, Result, Ok, Err, List, [], ◌∷◌, ℕ, zero, suc, ◌+◌, ◌-◌, ◌≤◌, length, take, drop}
+use Rattle.std.specs.Prelude.{◌≡◌, true, Result, Ok, Err, List, [], ◌∷◌, ℕ, zero, suc, ◌+◌, ◌-◌, ◌≤◌, length, take, drop}
 use Rattle.lists.specs.Regions.{front, zeros}
 use Rattle.dart_walk.specs.declared.Counts.{Counts}
-use Rattle.cutting.specs.Outcome.{Outcome, refusal, pieces, flat, stops}
+use Rattle.cutting.specs.declared.Slot.{Slot}
+use Rattle.cutting.specs.Walk.{walk_from, srcs, dsts}
+use Rattle.cutting.specs.Outcome.{Outcome, refusal, pieces, of_walk, flat, stops}
 
 -- for k pieces with m corners in all
 abbrev pub closed_with : ℕ → ℕ → Result Counts ℕ
@@ -29,6 +31,10 @@ pieces_in from (suc k) nodes [] = []
 pieces_in from (suc k) nodes (e ∷ stops₀) = take (e - from) nodes ∷ pieces_in e k (drop (e - from) nodes) stops₀
 
 -- ---- what only inner functions' contracts and laws cite
+
+-- what the walk of some slots comes to with these marks, from those on the heap
+abbrev pub walked_from : List Slot → List ℕ → List ℕ → Outcome
+walked_from slots marks heap = of_walk (walk_from true (length slots) (srcs slots) (dsts slots) marks heap)
 
 -- there is room for the walk of n slots
 pub record Room (n : ℕ) (heap marks nodes stops : List ℕ) : Type 0 where

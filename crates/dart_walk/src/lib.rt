@@ -3,12 +3,11 @@
 
 ghost use Rattle.std.specs.Prelude.{◌≡◌, true, [], ◌∷◌, List, ℕ, ◌+◌, ◌*◌, ◌≤◌, ◌<◌, length, take, slice_index, unwrap_or, IfSome, MatchOption};
 ghost use Rattle.lists.specs.Search.{first};
-ghost use Rattle.cutting.specs.declared.Slot.{Slot};
-ghost use Rattle.cutting.specs.Walk.{open_at, next_open, starts, walk_from, walk, slot, srcs, dsts, marks_of};
+ghost use Rattle.cutting.specs.Walk.{open_at, next_open, starts, walk, slot, srcs, dsts, marks_of};
 ghost use Rattle.cutting.specs.Outcome.{of_walk};
 ghost use Rattle.cutting.specs.Lent.{pairs, stacked};
 ghost use Rattle.refusals.specs.Numbers.{by_number};
-ghost use Rattle.dart_walk.specs.Answer.{Room, Written, answer, corners_in, ends_in};
+ghost use Rattle.dart_walk.specs.Answer.{Room, Written, answer, walked_from, corners_in, ends_in};
 
 use cutting::Slot;
 use dart_table::find_slot;
@@ -38,7 +37,7 @@ fn find(slots: &[Slot], a: u32, b: u32) -> Option<usize>
     find_slot(slots, a, b)
 }
 
-// The first unmarked slot of the node a from k on, below n. By index, since the marks stand beside the slots, as in the definition's state.
+// The first unmarked slot of the node a from k on, below n. By index: tried by `zip` and `position`, and the proof didn't close.
 #[tactic(auto, using(lists::proofs::Search::first_on, lists::proofs::Search::first_here, lists::proofs::Search::first_end_lem, lists::proofs::Search::right_false))]
 fn first_open(slots: &[Slot], marks: &[u32], a: u32, k: usize, n: usize) -> Option<usize>
     requires { (k ≤ n) × (n ≤ length slots.now) × (n ≤ length marks.now) }
@@ -53,7 +52,8 @@ fn first_open(slots: &[Slot], marks: &[u32], a: u32, k: usize, n: usize) -> Opti
     None
 }
 
-// The first unmarked slot of the node a after its slot r, going round, r itself last.
+// The first unmarked slot of the node a after its slot r, going round, r itself last. Tried by `or_else`, and the proof didn't close: what its closures
+// promise isn't known behind them.
 #[tactic(auto, using(cutting::proofs::Rounds::next_open_late, cutting::proofs::Rounds::next_open_early, cutting::proofs::Rounds::next_open_back, cutting::proofs::Rounds::next_open_none))]
 fn next_open(slots: &[Slot], marks: &[u32], a: u32, r: usize) -> Option<usize>
     requires { (r < length slots.now) × (length slots.now ≤ length marks.now) }
@@ -117,7 +117,8 @@ impl Heap {
         Some(self.slots[self.count] as usize)
     }
 
-    // Puts on the first slots of the outline's darts; the number of the slots stands for none.
+    // Puts on the first slots of the outline's darts; the number of the slots stands for none, as on the definition's heap, which is this list: a list of
+    // options would be another.
     #[tactic(auto, using(cutting::proofs::Chunks::chunked, crate::proofs::Heaps::slot_le, crate::proofs::Heaps::start_turn))]
     fn fill(&mut self, slots: &[Slot], outline: &[u32])
         requires { (length slots.now ≤ 1024) × (2 * length self.old + length outline.now ≤ 4096) }
@@ -130,7 +131,7 @@ impl Heap {
     }
 }
 
-// Copies the slots' marks. By index, since what a loop over `iter_mut` writes isn't known behind it.
+// Copies the slots' marks. By index, since what a loop over a zipped `iter_mut` writes isn't known behind it.
 fn copy_marks(slots: &[Slot], marks: &mut [u32])
     requires { length slots.now ≤ length marks.old }
     ensures { take (length slots.now) marks.new ≡ marks_of slots.now }
@@ -141,7 +142,8 @@ fn copy_marks(slots: &[Slot], marks: &mut [u32])
 }
 
 // Walks the slots from those on the heap: each that is unmarked begins a piece, which goes on until it is back at its first node. A turn of a loop is a
-// step of the definition. The marks stand beside the slots as in its state; `nodes` and `stops`, which C lends, are filled in part.
+// step of the definition. Slots and marks are two parameters as in its state, since the slots stay as they are and the marks don't; a struct of both would
+// be taken apart in each contract. `nodes` and `stops` are filled in part, which no ghost field beside a `&mut` can say.
 fn walk_on(
     slots: &[Slot],
     heap: &mut Heap,
@@ -150,20 +152,19 @@ fn walk_on(
     stops: &mut [u32],
 ) -> Result<Counts, Refusal>
     requires { Room (length slots.now) heap.old marks.old nodes.old stops.old }
-    ensures { (by_number result ≡ answer (of_walk (walk_from true (length slots.now) (srcs slots.now) (dsts slots.now) marks.old heap.old)))
-        × Written (of_walk (walk_from true (length slots.now) (srcs slots.now) (dsts slots.now) marks.old heap.old)) nodes.old stops.old nodes.new
-        stops.new }
+    ensures { (by_number result ≡ answer (walked_from slots.now marks.old heap.old))
+        × Written (walked_from slots.now marks.old heap.old) nodes.old stops.old nodes.new stops.new }
 {
-    let mut m: usize = 0;
-    let mut k: usize = 0;
+    let mut pieces: usize = 0;
+    let mut entries: usize = 0;
     while let Some(first) = heap.pop() {
         if slots.len() <= first {
             return Err(Refusal::OpenWalk);
         }
         if marks[first] == 0 {
             let start = ends(slots, first).0;
-            nodes[m] = start;
-            m += 1;
+            nodes[entries] = start;
+            entries += 1;
             let mut at = first;
             loop {
                 marks[at] = 1;
@@ -174,17 +175,14 @@ fn walk_on(
                     break;
                 }
                 at = next_open(slots, marks, y, back).ok_or(Refusal::OpenWalk)?;
-                nodes[m] = y;
-                m += 1;
+                nodes[entries] = y;
+                entries += 1;
             }
-            stops[k] = m as u32;
-            k += 1;
+            stops[pieces] = entries as u32;
+            pieces += 1;
         }
     }
-    Ok(Counts {
-        pieces: k,
-        entries: m,
-    })
+    Ok(Counts { pieces, entries })
 }
 
 // Walks the slots with marks and a heap of its own. Slots, outline, nodes and stops are four lists, each with its own length.
@@ -207,7 +205,8 @@ fn walk_table(
 }
 
 // Walks the slots of a table from the outline's darts, a flat list of pairs. The corners of the pieces go to the front of `nodes`, one piece after the
-// other, and where each piece ends among them to the front of `stops`; both are zero on a refusal, and lists that C lends.
+// other, and where each piece ends among them to the front of `stops`; both are zero on a refusal. They come one by one: in a struct of the two each
+// contract would have to say that they are the same lists, and arrays would ask more of callers.
 pub fn walk_dart_map(
     slots: &[Slot],
     outline: &[u32],

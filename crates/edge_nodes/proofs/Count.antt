@@ -10,7 +10,7 @@ use Rattle.cutting.specs.Edges.{Edge}
 use Rattle.edge_nodes.specs.Lent.{under_at, under, collected_in}
 use Rattle.edge_nodes.proofs.Under.{length_under}
 
--- ---- `count_under`
+-- ---- `Chains::count`
 
 -- n nodes are those of the first q meetings
 abbrev pub Counted : List Edge → List ℕ → ℕ → Edge → ℕ → ℕ → Type 0

@@ -57,7 +57,7 @@ pub(crate) fn place(coords: &[f64], key: SortedKey, v: u32) -> Placed
     let q = point_at(coords, key.second);
     let n = point_at(coords, v);
     Placed {
-        along: (q.x - p.x) * (n.x - p.x) + (q.y - p.y) * (n.y - p.y),
+        along: (q - p).dot(n - p),
         node: v,
     }
 }

@@ -12,8 +12,8 @@ loop-first-init c = at_first c.requires
 pub returns-then-slots-first : goal.returns-then-slots-first
 returns-then-slots-first c = missing c.requires c.loop-first.invariant c.in-Some.ensures c.if-slots-first.true
 
-pub bounds-nodes-m : goal.bounds-nodes-m
-bounds-nodes-m c = corner_fits c.requires c.loop-first.invariant c.in-Some.ensures c.if-slots-first.false c.if-marks-first-eq0.true
+pub bounds-nodes-entries : goal.bounds-nodes-entries
+bounds-nodes-entries c = corner_fits c.requires c.loop-first.invariant c.in-Some.ensures c.if-slots-first.false c.if-marks-first-eq0.true
 
 pub loop-back-init : goal.loop-back-init
 loop-back-init c =
@@ -35,8 +35,8 @@ returns-in_err-at c =
     c.if-y-start.false _ c.next_open.ensures.found c.in_err-at.ensures.ok_part in
     (code ∙ e.0, e.1)
 
-pub bounds-nodes-m-in-loop-back : goal.bounds-nodes-m-in-loop-back
-bounds-nodes-m-in-loop-back c =
+pub bounds-nodes-entries-in-loop-back : goal.bounds-nodes-entries-in-loop-back
+bounds-nodes-entries-in-loop-back c =
     next_fits c.requires c.loop-back.invariant.0 c.ends-x.ensures _ c.find.ensures.found c.in_ok-back.ensures.ok_part c.find.ensures.within
     c.if-y-start.false _ c.next_open.ensures.found c.in_ok-at.ensures.ok_part c.next_open.ensures.within
 
@@ -53,8 +53,8 @@ loop-back-preserved c =
       omega (arith, one, c.loop-back.invariant.1),
     )
 
-pub bounds-stops-k : goal.bounds-stops-k
-bounds-stops-k c =
+pub bounds-stops-pieces : goal.bounds-stops-pieces
+bounds-stops-pieces c =
     stop_fits c.requires c.loop-back.invariant.0 c.ends-x.ensures _ c.find.ensures.found c.in_ok-back.ensures.ok_part c.find.ensures.within
 
 pub loop-first-smaller-then-marks-first-eq0 : goal.loop-first-smaller-then-marks-first-eq0

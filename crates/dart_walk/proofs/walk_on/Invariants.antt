@@ -11,7 +11,7 @@ use Rattle.dart_walk.proofs.walk_on.Given as goal
 abbrev pub invariant-loop-first : goal.invariant-loop-first
 invariant-loop-first l =
     Inv (length l.slots) (srcs l.slots) (dsts l.slots) (walk_from true (length l.slots) (srcs l.slots) (dsts l.slots) l.fn.marks l.fn.heap)
-    l.fn.marks l.fn.heap l.fn.nodes l.fn.stops l.marks l.heap l.nodes l.stops l.m l.k resting
+    l.fn.marks l.fn.heap l.fn.nodes l.fn.stops l.marks l.heap l.nodes l.stops l.entries l.pieces resting
 
 abbrev pub decreases-loop-first : goal.decreases-loop-first
 decreases-loop-first l = 2 * unmarked (length l.slots) l.marks + length l.heap
@@ -19,7 +19,7 @@ decreases-loop-first l = 2 * unmarked (length l.slots) l.marks + length l.heap
 abbrev pub invariant-loop-back : goal.invariant-loop-back
 invariant-loop-back l =
     Inside (length l.slots) (srcs l.slots) (dsts l.slots) (walk_from true (length l.slots) (srcs l.slots) (dsts l.slots) l.fn.marks l.fn.heap)
-    l.fn.marks l.fn.heap l.fn.nodes l.fn.stops l.marks l.heap l.nodes l.stops l.m l.k l.start l.at
+    l.fn.marks l.fn.heap l.fn.nodes l.fn.stops l.marks l.heap l.nodes l.stops l.entries l.pieces l.start l.at
     × (2 * unmarked (length l.slots) l.marks + length l.heap ≤ 2 * unmarked (length l.slots) l.initial.marks + length l.initial.heap)
 
 abbrev pub decreases-loop-back : goal.decreases-loop-back
