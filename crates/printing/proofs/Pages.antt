@@ -2,15 +2,18 @@
 use mathlib.Core.Path.{◌≡◌, refl, sym, ap, ◌∙◌}
 use mathlib.Core.Bool.{Bool, true, false, cond}
 use mathlib.Core.List.{List, [], ◌∷◌, ◌++◌, append-nil}
-use Prim.Native.Nat.{ℕ, suc, ◌+◌, ◌≤◌, ◌<◌}
+use Prim.Native.Nat.{ℕ, suc, ◌+◌, ◌-◌, ◌≤◌, ◌<◌}
 use native.Mathlib.Nat.{add-zero, zero-add}
 use native.Mathlib.Numerals.{add-one}
 use native.Mathlib.Omega.{arith}
+use native.Mathlib.Decide.{dec_le}
 use borrow.Author.Tests.{lt-ltb, le-ltb, le-leb, lt-leb, ltb-true, ltb-false}
 use lib.Dec.{ltb, leb}
-use lib.ListN.{length, get_or, set, take, drop, length-set, drop_of_length-le, take-append-drop}
-use lib.Seq.{drop-cons, take-suc-set, drop-set-lt, take_all, append_snoc}
+use lib.ListN.{length, get_or, set, take, drop, length-set, length-drop, drop_of_length-le, take-append-drop}
+use lib.Seq.{length-take-le, drop-cons, take-suc-set, drop-set-lt, take_all, append_snoc}
 use Rattle.std.specs.Prelude.{Ok, Err}
+use Rattle.lists.specs.Regions.{copied, put, front}
+use Rattle.lists.proofs.Regions.{copied_fits, copied_not}
 use Rattle.printing.specs.declared.Full.{Full}
 use Rattle.printing.specs.declared.writer.Writer.{Writer}
 use Rattle.printing.specs.Written.{page_of, Wrote}
@@ -41,16 +44,6 @@ module _ (o : List ℕ) (p b : ℕ) (t : List ℕ) where
   cons_full : length o ≤ p → page_with (page (Ok p) o) (b ∷ t) ≡ page full o
   unfolding page_with page byte
   cons_full h = ap (λ (x : Bool). page_with (cond x (page (Ok (p + 1)) (set o p b)) (page full o)) t) (le-ltb _ _ h) ∙ written_full o t
-
-module _ (o w : List ℕ) (p i : ℕ) where
-  pub bytes_end : length w ≤ i → page_with (page (Ok p) o) (drop i w) ≡ page (Ok p) o
-  bytes_end h = rw (drop_of_length-le w h) (written_nil (page (Ok p) o))
-
-  pub bytes_full : i < length w → length o ≤ p → page_with (page (Ok p) o) (drop i w) ≡ page full o
-  bytes_full h g = rw (drop-cons w i 0 h) (cons_full o p (get_or w i 0) (drop (suc i) w) g)
-
-  pub bytes_turn : i < length w → p < length o → page_with (page (Ok p) o) (drop i w) ≡ page_with (page (Ok (p + 1)) (set o p (get_or w i 0))) (drop (i + 1) w)
-  bytes_turn h g = rw (drop-cons w i 0 h, add-one i) (cons_fits o p (get_or w i 0) (drop (suc i) w) g)
 
 -- ---- what a list holds after a text
 -- the place after n bytes from p on, in a list of m
@@ -99,6 +92,51 @@ written_from o p (b ∷ t) h = go (λ l. written_from (set o p b) (p + 1) t l) (
     go ih false e =
         let l : length o ≤ p = ltb-false p (length o) e in
         cons_full o p b t l ∙ from_full o p b t l
+
+-- as much of a text as there is room for, and a whole one
+module _ (o t : List ℕ) (p : ℕ) where
+  pub copied_short : length o - p < length t → page full (copied o p (take (length o - p) t)) ≡ page_with (page (Ok p) o) t
+  unfolding put front laid_over
+  copied_short h = go (dec_le p (length o))
+    where
+      r : ℕ
+      r = length o - p
+
+      long : length (take r t) ≡ r
+      long = length-take-le r t (omega arith)
+
+      go : Dec (p ≤ length o) → page full (copied o p (take r t)) ≡ page_with (page (Ok p) o) t
+      go (yes l) =
+          let d : length (drop p o) ≡ r = length-drop p o in
+          sym (written_from o p t l
+          ∙ rw (
+            lt-leb (p + length t) (length o) (omega arith),
+            d,
+            drop_of_length-le (drop p o) {i = length t} (omega (arith, d)),
+            copied_fits o p (take r t) (omega (arith, long)),
+            long,
+            drop_of_length-le (drop p o) {i = r} (omega (arith, d)),
+          ))
+      go (no l) = rw (copied_not o p (take r t) (omega arith)) (sym (past t h (omega arith)))
+        where
+          past : (t : List ℕ) → length o - p < length t → length o ≤ p → page_with (page (Ok p) o) t ≡ page full o
+          past [] h g = absurd (omega arith)
+          past (b ∷ t) h g = cons_full o p b t g
+
+  pub copied_whole : length t ≤ length o - p → page (Ok (p + length t)) (copied o p t) ≡ page_with (page (Ok p) o) t
+  unfolding put front laid_over
+  copied_whole h = go (dec_le p (length o))
+    where
+      go : Dec (p ≤ length o) → page (Ok (p + length t)) (copied o p t) ≡ page_with (page (Ok p) o) t
+      go (yes l) =
+          let d : length (drop p o) ≡ length o - p = length-drop p o in
+          sym (written_from o p t l
+          ∙ rw (le-leb (p + length t) (length o) (omega arith), take_all (length (drop p o)) t (omega (arith, d)), copied_fits o p t (omega arith)))
+      go (no l) = rw (copied_not o p t (omega arith)) (past t (omega arith))
+        where
+          past : (t : List ℕ) → length t ≤ 0 → page (Ok (p + length t)) o ≡ page_with (page (Ok p) o) t
+          past [] h = rw (add-zero p) (sym (written_nil (page (Ok p) o)))
+          past (b ∷ t) h = absurd (omega arith)
 
 -- a text from the first place on
 pub whole : (o t : List ℕ) → page_with (page (Ok 0) o) t ≡ page (room_for (length o) t) (laid_over o t)

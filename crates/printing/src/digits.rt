@@ -17,7 +17,7 @@ pub(crate) fn hex_digits(n: u64) -> [u8; 16]
 {
     let mut digits = [0; 16];
     let mut left = n;
-    // by index: after `iter_mut` no element is known
+    // by index: of `iter_mut` from the right, `rev`, no element is known
     for i in (0..16).rev() {
         digits[i] = glyph_of((left % 16) as u8);
         left /= 16;

@@ -24,8 +24,8 @@ pub struct Counts {
     pub doubled: u32,
 }
 
-// what the program has to say, in three cases: a refusal by its number, as an overlay answers it; of an overlay, how many nodes the lists hold, and what was
-// counted
+// what the program has to say, in three cases: a refusal by its number, since a `Refusal` would ask more of who prints one; of an overlay, how many
+// nodes the lists hold, and what was counted
 #[derive(Clone, Copy, Debug, PartialEq, Eq)]
 pub enum Answer {
     Unread,

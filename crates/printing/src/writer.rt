@@ -4,6 +4,7 @@ ghost use Rattle.printing.specs.Page.{page, page_with};
 ghost use Rattle.printing.specs.Written.{Wrote};
 
 use crate::Full;
+use lists::copy_at;
 
 // The list and the place of the next byte. Where a byte has found none, nothing more is written.
 #[derive(Drop)]
@@ -12,21 +13,18 @@ pub(crate) struct Writer<'a> {
     pub(crate) place: Result<usize, Full>,
 }
 
-// The text from `at` on: the place after it. The list and the place come apart, since in a loop over the fields of a writer they are read anew for each byte
-// (tried: 1.66 ns a byte for 1.51).
+// The text from `at` on, as far as there is room: the place after it. std's `write!` says nothing of a list that is too short.
+#[tactic(auto, using(crate::proofs::Pages::copied_short, crate::proofs::Pages::copied_whole))]
 fn put_at(out: &mut [u8], at: usize, text: &[u8]) -> Result<usize, Full>
     ensures { page result out.new ≡ page_with (page (Ok at) out.old) text.now }
 {
-    let mut at = at;
-    // by index: after `iter_mut` no byte is known, and std's `write!` says nothing of a list that is too short
-    for b in text {
-        if out.len() <= at {
-            return Err(Full);
-        }
-        out[at] = *b;
-        at += 1;
+    let room = out.len().saturating_sub(at);
+    if room < text.len() {
+        copy_at(out, at, &text[..room]);
+        return Err(Full);
     }
-    Ok(at)
+    copy_at(out, at, text);
+    Ok(at + text.len())
 }
 
 impl<'a> Writer<'a> {
