@@ -33,7 +33,8 @@ impl TryFrom<u8> for Kind {
     }
 }
 
-// A kind comes as its number, and one that there isn't is refused here. `lines` says of which mesh, by the operation (`takes_lines`). Each kind has its own size.
+// A kind comes as its number, and one that there isn't is refused here. `lines` says of which mesh, by the operation (`takes_lines`): a flag, as the
+// definition has it. Each kind has its own size.
 #[tactic(auto, unfolding(crate::specs::Refused::kind_ok))]
 fn kind_ok(lines: bool, kind: u8, n: usize) -> bool
     ensures { result ≡ kind_ok lines kind n }

@@ -32,6 +32,7 @@ impl fmt::Display for Bits {
     }
 }
 
+// Words are not read by crate reading_lines: its numbers have 16 digits or are none, and here a shorter or malformed word has a value too.
 #[tactic(auto, using(std::proofs::lemmas::Float::not_nan_f64_bits))]
 fn float_of(bits: u64) -> f64 {
     if bits % 0x8000_0000_0000_0000 <= 0x7ff0_0000_0000_0000 {

@@ -6,7 +6,8 @@ ghost use Rattle.printing.specs.Written.{Wrote};
 use crate::Full;
 use lists::copy_at;
 
-// The list and the place of the next byte. Where a byte has found none, nothing more is written.
+// The list and the place of the next byte, which stand apart since the list is the caller's, filled from its front. Where a byte has found no place,
+// nothing more is written.
 #[derive(Drop)]
 pub(crate) struct Writer<'a> {
     pub(crate) bytes: &'a mut [u8],

@@ -95,20 +95,21 @@ fn show_ring<W: Write>(out: &mut W, count: usize) -> io::Result<()>
     show(out, &[0.0; 2], &[along(0, 1, &nodes[..count])], &[])
 }
 
-fn main(rt: HostRuntime) -> io::Result<()> {
-    let mut out = BufWriter::new(rt.alloc(), io::writer(&rt))?;
-    // the square 0 1 2 3, K1's square 4 5 6 7, the points 8 and 9 where they meet
-    let k1 = [
-        0.0, 0.0, 2.0, 0.0, 2.0, 2.0, 0.0, 2.0, 1.0, -1.0, 3.0, -1.0, 3.0, 3.0, 1.0, 3.0, 1.0, 0.0,
-        1.0, 2.0,
-    ];
-    let k1_own = [
+// Coordinates: the square 0 1 2 3, K1's square 4 5 6 7, the points 8 and 9 where they meet.
+const K1: [f64; 20] = [
+    0.0, 0.0, 2.0, 0.0, 2.0, 2.0, 0.0, 2.0, 1.0, -1.0, 3.0, -1.0, 3.0, 3.0, 1.0, 3.0, 1.0, 0.0,
+    1.0, 2.0,
+];
+
+// Cells that other edges cross.
+fn show_crossed<W: Write>(out: &mut W) -> io::Result<()> {
+    let own = [
         along(0, 1, &[0, 8, 1]),
         whole(1, 2),
         along(2, 3, &[2, 9, 3]),
         whole(3, 0),
     ];
-    show(&mut out, &k1, &k1_own, &[along(7, 4, &[4, 8, 9, 7])])?;
+    show(out, &K1, &own, &[along(7, 4, &[4, 8, 9, 7])])?;
     // K10: a line 4 5 that ends inside, at 6 on the edge 0 1
     let k10 = [
         0.0, 0.0, 2.0, 0.0, 2.0, 2.0, 0.0, 2.0, 1.0, -1.0, 1.0, 1.0, 1.0, 0.0,
@@ -119,26 +120,36 @@ fn main(rt: HostRuntime) -> io::Result<()> {
         whole(2, 3),
         whole(3, 0),
     ];
-    show(&mut out, &k10, &k10_own, &[along(4, 5, &[4, 6, 5])])?;
+    show(out, &k10, &k10_own, &[along(4, 5, &[4, 6, 5])])
+}
+
+// The square by edges that repeat, and by its own alone.
+fn show_square<W: Write>(out: &mut W) -> io::Result<()> {
     // the edge 0 1 comes whole once more
     let square = [whole(0, 1), whole(1, 2), whole(2, 3), whole(3, 0)];
     let twice = [whole(1, 0)];
-    show(&mut out, &k1, &square, &twice)?;
+    show(out, &K1, &square, &twice)?;
     // the same edge with its nodes is the outline's own
-    show(&mut out, &k1, &square, &[along(1, 0, &[0, 1])])?;
+    show(out, &K1, &square, &[along(1, 0, &[0, 1])])?;
     // an outline that runs back along itself, and one from a node to itself
     let folded = [whole(0, 1), whole(1, 2), whole(2, 1), whole(1, 0)];
     let stuck = [whole(0, 1), whole(1, 1), whole(1, 0)];
-    show(&mut out, &k1, &folded, &twice)?;
-    show(&mut out, &k1, &stuck, &twice)?;
+    show(out, &K1, &folded, &twice)?;
+    show(out, &K1, &stuck, &twice)?;
     // a copied cell
-    show(&mut out, &k1, &square, &[])?;
+    show(out, &K1, &square, &[])?;
     // a triangle 0 4 5 inside, that touches the outline at 0: the walk passes 0 twice, or ends there where it starts at 0
     let inside = [0.0, 0.0, 2.0, 0.0, 2.0, 2.0, 0.0, 2.0, 1.0, 0.5, 0.5, 1.0];
     let triangle = [whole(0, 4), whole(4, 5), whole(5, 0)];
     let later = [whole(1, 2), whole(2, 3), whole(3, 0), whole(0, 1)];
-    show(&mut out, &inside, &square, &triangle)?;
-    show(&mut out, &inside, &later, &triangle)?;
+    show(out, &inside, &square, &triangle)?;
+    show(out, &inside, &later, &triangle)
+}
+
+fn main(rt: HostRuntime) -> io::Result<()> {
+    let mut out = BufWriter::new(rt.alloc(), io::writer(&rt))?;
+    show_crossed(&mut out)?;
+    show_square(&mut out)?;
     // 1,024 slots, and 1,026
     show_ring(&mut out, 513)?;
     show_ring(&mut out, 514)?;
