@@ -36,14 +36,15 @@ fn renumber(cn: &[u32], w: &mut [u32], at: usize)
     requires { Below at cn.now × (at + length cn.now ≤ length w.old) }
     ensures { w.new ≡ put w.old at (map (λ n. get_or w.old n 0) cn.now) }
 {
-    // by index: the numbers are read from the list that is written
+    // By index: after a loop over `iter_mut` a proof knows no element. What is read lies before `at` (`Below`); to cut the list there would spare no index.
     for (i, &k) in cn.iter().enumerate() {
         w[at + i] = w[k as usize];
     }
 }
 
 // Writes the edges of a mesh from `base` on: its cells' node numbers are the `total` numbers at `at`. Answers how many there are. The h + n numbers at
-// `scratch` are zero then. By places in the working list: cut once for all that `edges` writes, it is seven lists, which is no plainer.
+// `scratch` are zero then. By places in the working list: `edges` tells them to others (`NetPlaces`) as it is, and cut into its parts there, the two equations
+// of this contract would be one of all parts.
 fn mesh_edges(
     w: &mut [u32],
     cells: &[u32],

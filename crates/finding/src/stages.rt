@@ -6,7 +6,7 @@ ghost use Rattle.refusals.specs.Numbers.{by_number, refused_with};
 ghost use Rattle.rules.specs.Refusals.{of_meeting, first_refusal};
 ghost use Rattle.regions.specs.Runs.{run_in};
 ghost use Rattle.finding.specs.Nets.{plain_of, FindAsks};
-ghost use Rattle.finding.specs.Found.{regions_by, found_of, both_full, LinkedIn, MeetingsRoom, CutterIndexed, met_in, MetWritten, LinkRoom, linked_by, StagesGive};
+ghost use Rattle.finding.specs.Found.{between, regions_by, found_of, both_full, LinkedIn, MeetingsRoom, CutterIndexed, met_in, MetWritten, LinkRoom, linked_by, StagesGive};
 
 use crate::numbering::{NetPlaces, nets};
 use edge_nodes::{LinkedMeetings, link_meetings};
@@ -25,7 +25,7 @@ pub struct Found {
     pub next: usize,
 }
 
-// Places the coordinates of both meshes, the subject's first. Answers whether they have their place.
+// Places the coordinates of both meshes, the subject's first. Answers whether they have their place, as `copy_at` does; what is refused then is said once, below.
 fn place_coords(sc: &[f64], cc: &[f64], oc: &mut [f64]) -> bool
     ensures { (result ≡ leb (length sc.now + length cc.now) (length oc.old))
         × (result ≡ true → oc.new ≡ front oc.old (sc.now ++ cc.now)) }
@@ -90,6 +90,12 @@ fn crowded(w: &[u32], g: Regions) -> bool
     either_overfull(&meetings)
 }
 
+fn between(from: usize, end: usize) -> Run
+    ensures { result ≡ between from end }
+{
+    Run { from, end }
+}
+
 // Writes the links of h chains behind the meetings, and names the regions.
 fn link(w: &mut [u32], n: NetPlaces, met: usize, h: usize) -> Regions
     requires { LinkRoom n met h (length w.old) }
@@ -108,30 +114,15 @@ fn link(w: &mut [u32], n: NetPlaces, met: usize, h: usize) -> Regions
     );
     Regions {
         subject: MeshRuns {
-            edges: Run {
-                from: n.from,
-                end: n.from + 2 * n.subject,
-            },
-            entries: Run {
-                from: n.copied,
-                end: n.from,
-            },
+            edges: between(n.from, subject_end),
+            entries: between(n.copied, n.from),
         },
         cutter: MeshRuns {
-            edges: Run {
-                from: n.at,
-                end: n.at + 2 * n.cutter,
-            },
-            entries: Run {
-                from: n.entries,
-                end: n.copied,
-            },
+            edges: between(n.at, cutter_end),
+            entries: between(n.entries, n.copied),
         },
-        met: Run { from: n.base, end },
-        links: Run {
-            from: end,
-            end: end + 2 * (h + met),
-        },
+        met: between(n.base, end),
+        links: between(end, end + 2 * (h + met)),
     }
 }
 
