@@ -104,7 +104,7 @@ impl<'a> OwnEdges<'a> {
         ensures { result ≡ repeats (outline_of self.now) }
     {
         let mut darts = [0u32; 518];
-        // by index, as above
+        // by index, as in `meets_later`
         for i in 0..self.cell.len() {
             let n = self.lay(i, nodes, &mut darts);
             if edges_repeat(&darts[..n]) {

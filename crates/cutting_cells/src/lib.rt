@@ -35,6 +35,7 @@ fn copy_repeats(cell: &[u32]) -> bool
     ensures { result ≡ repeats (ring cell.now) }
 {
     let mut sides = [0u32; 512];
+    // written by index: of a list written through `chunks_exact_mut` a proof knows the length alone
     for (i, a) in cell.iter().enumerate() {
         sides[2 * i] = *a;
         sides[2 * i + 1] = next_corner(cell, i);
@@ -120,7 +121,7 @@ impl<'a> Treatment<'a> {
         }
     }
 
-    // Writes the places of the edges near a cell to the front of `found`. Answers how many they are.
+    // Writes the places of the edges near a cell to the front of `found`. Answers how many they are: memory is fixed, and the room is one for all cells.
     #[tactic(auto, using(crate::proofs::Near::near_read, crate::proofs::Near::near_places, crate::proofs::Near::near_fits))]
     fn near(&self, cell: &[u32], found: &mut [u32; 65536]) -> usize
         ensures held { take result found.new ≡ near_to self.now cell.now }
@@ -188,6 +189,7 @@ impl<'a> Treatment<'a> {
     }
 
     // Cuts all cells of a mesh, runs of `own` by `stops`, the first of them with the number `first`, and places their kept pieces behind what p counts.
+    // Each begins where the one before it ends: windows over the ends have no first cell.
     fn cut_cells(
         &self,
         own: &[u32],
@@ -216,7 +218,7 @@ impl<'a> Treatment<'a> {
 
 // ---- Both meshes
 
-// Whether the operation with this number cuts the cutter's cells too.
+// Whether the operation with this number, which may name none, cuts the cutter's cells too.
 fn cuts_both(op: u32) -> bool
     ensures { result ≡ cuts op the_cutter }
 {

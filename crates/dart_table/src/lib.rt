@@ -67,7 +67,8 @@ impl From<Full> for Refusal {
     }
 }
 
-// A table of at most 1,024 slots, seen as their list.
+// A table of at most 1,024 slots, seen as their list. Memory is fixed, so it is an array and a count, as edge_nodes' `Nodes` and dart_walk's `Heap` are of
+// other elements, each in its own order. Coordinates come with each call: as a field they would be no part of what the table is seen as.
 #[derive(Drop)]
 pub struct DartTable {
     slots: [Slot; 1024],
@@ -115,7 +116,7 @@ impl DartTable {
         self.count = n + 1;
     }
 
-    // Adds the slot from a to b, and the one from b to a with the mark `back`.
+    // Adds the slot from a to b, and the one from b to a with the mark `back`, a number as a slot has it.
     #[tactic(auto, using(lists::proofs::Sort::length_insert), unfolding(lists::specs::Sort::sort_onto, cutting::specs::Cell::edge_slots))]
     fn add_dart(&mut self, coords: &[f64], a: u32, b: u32, back: u32)
         requires { length self.old + 2 ≤ 1024 }

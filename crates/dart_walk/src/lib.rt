@@ -71,7 +71,7 @@ fn next_open(slots: &[Slot], marks: &[u32], a: u32, r: usize) -> Option<usize>
     if marks[r] == 0 { Some(r) } else { None }
 }
 
-// The slots that pieces may begin at, the one put on last first. At most 2,048.
+// The slots that pieces may begin at, the one put on last first. At most 2,048: memory is fixed, so it is an array and a count. The definition's word.
 #[derive(Drop)]
 struct Heap {
     slots: [u32; 2048],

@@ -6,7 +6,8 @@ ghost use Rattle.edge_nodes.specs.Chained.{heads_in, nexts_in};
 
 use crate::sides::{Meetings, Side};
 
-// They are chained: the first meeting of each chain, and for each meeting the next one. Where a chain ends the number of meetings stands.
+// They are chained: the first meeting of each chain, and for each meeting the next one. Where a chain ends the number of meetings stands: links are
+// numbers of the working list, which has no other word for none.
 #[derive(Clone, Copy)]
 pub(crate) struct Chains<'a> {
     pub meetings: Meetings<'a>,
@@ -52,7 +53,7 @@ pub fn link_meetings(subject: &[u32], cutter: &[u32], met: &[u32], h: usize, lin
 impl<'a> LinkedMeetings<'a> {
     ghost use Rattle.edge_nodes.specs.Sides.{subject_meetings, cutter_meetings};
 
-    // The chains by subject edges, and those by cutter edges.
+    // The chains by subject edges, and those by cutter edges. Both are written out: by a function of `Side` edges, heads and nexts would be a match each.
     pub(crate) fn chains(&self) -> (Chains<'a>, Chains<'a>)
         ensures subjects { result.0.meetings ≡ subject_meetings self.now }
         ensures cutters { result.1.meetings ≡ cutter_meetings self.now }

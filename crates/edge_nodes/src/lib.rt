@@ -45,7 +45,7 @@ impl<'a> Chains<'a> {
         let nexts = self.nexts;
         let mut n: usize = 0;
         let mut q = self.heads[key.chain(self.heads.len())] as usize;
-        // along a chain of lent numbers: no index is counted
+        // as in `collect`: what the two have in common is this one step
         while q < nexts.len() {
             n += self.meetings.under(key, q).len();
             q = nexts[q] as usize;

@@ -15,13 +15,13 @@ use plane::point_at;
 use std::marker::Model;
 
 // A node, and how far it lies along a key.
-#[derive(Clone, Copy)]
+#[derive(Clone, Copy, Default)]
 pub(crate) struct Placed {
     pub along: f64,
     pub node: u32,
 }
 
-// At most 257 nodes in order, seen as their list.
+// At most 257 nodes in order, seen as their list. Memory is fixed, so it is an array and a count.
 #[derive(Drop)]
 pub(crate) struct Nodes {
     items: [Placed; 257],
@@ -73,12 +73,8 @@ impl Nodes {
     pub(crate) fn new() -> Self
         ensures { result ≡ [] }
     {
-        let none = Placed {
-            along: 0.0,
-            node: 0,
-        };
         Nodes {
-            items: [none; 257],
+            items: [Placed::default(); 257],
             count: 0,
         }
     }

@@ -14,7 +14,8 @@ pub(crate) enum Side {
     Cutter,
 }
 
-// The meetings by one side: its edges, pairs in a flat list, and all meetings, five numbers each.
+// The meetings by one side: its edges, pairs in a flat list, and all meetings, five numbers each. Flat, as they stand in the working list and in the
+// definitions; a meeting as an array of five would be read by place too, since how many nodes it has is one of its numbers.
 #[derive(Clone, Copy)]
 pub(crate) struct Meetings<'a> {
     pub edges: &'a [u32],

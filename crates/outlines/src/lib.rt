@@ -20,6 +20,7 @@ fn lay_along(inv: bool, nodes: &[u32], darts: &mut [u32]) -> usize
     // The darts are written by index: of a list written through `chunks_exact_mut` a proof knows the length alone.
     let mut k = 0;
     for pair in nodes.windows(2) {
+        // as dart_table's `turned`: a public function and its two edits would be more than the line
         let (a, b) = if inv {
             (pair[1], pair[0])
         } else {

@@ -1,8 +1,8 @@
 -- Which pieces are kept, and where they are placed. Assumes nothing.
 use Rattle.std.specs.Prelude.{◌≡◌, Bool, true, false, cond, Result, Ok, Err, List, [], ◌++◌, map, ℕ, zero, suc, ◌+◌, ◌-◌, ◌^◌, ◌≤◌, ◌<◌, eqb, length, get_or, replicate, Float, MatchResult}
-use denote.Ref.{MutBor}
 use Rattle.lists.specs.Regions.{put, zeros}
 use Rattle.plane.specs.declared.Point.{Point}
+use Rattle.views.specs.Same.{SameList}
 use Rattle.insides.specs.Inside.{inside}
 use Rattle.cutting.specs.Outcome.{flat, stops}
 use Rattle.entry.specs.Mesh.{mesh}
@@ -114,15 +114,10 @@ refused_in code l = refused_by code l.corners.now l.ends.now l.tags.now
 abbrev pub placed_in : Listed → Yield → PieceLists → Placing
 placed_in p y l = placed_behind p y l.corners.now l.ends.now l.tags.now
 
--- the same list, as long as it was, written or not
-pub record Kept (l m : MutBor (List ℕ)) : Type 0 where
-  pub name : l.ghost_name ≡ m.ghost_name
-  pub long : length l.now ≡ length m.now
-
 pub record SameLists (l m : PieceLists) : Type 0 where
-  pub corners : Kept l.corners m.corners
-  pub ends : Kept l.ends m.ends
-  pub tags : Kept l.tags m.tags
+  pub corners : SameList l.corners m.corners
+  pub ends : SameList l.ends m.ends
+  pub tags : SameList l.tags m.tags
 
 -- ---- what only inner functions' contracts cite
 

@@ -93,7 +93,8 @@ pub struct Keep {
     pub outside: bool,
 }
 
-// What the operation keeps of the mesh whose cells are cut. By its number, since the promise is for each number, one that names no operation too.
+// What the operation keeps of the mesh whose cells are cut. By its number, since the promise is for each number, one that names no operation too; the mesh
+// is the cutter or not, a flag, since a type of the two sides would say no more and ask callers for it.
 pub fn keep_of(op: u32, cutter: bool) -> Keep
     ensures { result ≡ keep_of op (side_of cutter) }
 {
@@ -124,7 +125,7 @@ impl Keep {
 
 // ---- Placed
 
-// How many pieces and corners there are.
+// How many pieces and corners there are. Not dart_walk's `Counts`: those are of one cell, these of all lists, and neither crate needs the other.
 #[derive(Clone, Copy)]
 pub struct Listed {
     pub count: usize,
@@ -163,7 +164,8 @@ impl<'a> PieceLists<'a> {
         })
     }
 
-    // Places the pieces that are kept, one after the other, up to the first that has no place.
+    // Places the pieces that are kept, one after the other, up to the first that has no place. Each begins where the one before it ends: windows over the
+    // ends have no first run.
     fn place_run(
         &mut self,
         keep: Keep,
@@ -203,7 +205,7 @@ impl<'a> PieceLists<'a> {
     }
 
     // Places the pieces that are kept behind those that p counts, each with the tag. As many pieces have a place as there is room for ends; a refusal
-    // leaves zeros.
+    // leaves zeros. No `or_else`: its closure would have to be lent the lists, and what it does to them isn't known behind it.
     pub fn place_pieces(
         &mut self,
         keep: Keep,
