@@ -44,7 +44,7 @@ pub fn view<'a>(
     }
 }
 
-// An output of seven lists: it stands for the public interface, beside `view`; overlay_c and the program write the fields by name.
+// An output of seven lists: it stands for the public interface, beside `view`. overlay_c writes the fields by name: over this call its proof didn't close.
 pub fn output<'a>(
     coords: &'a mut [f64],
     nodes: &'a mut [u32],
