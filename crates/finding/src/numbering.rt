@@ -36,7 +36,7 @@ fn renumber(cn: &[u32], w: &mut [u32], at: usize)
     requires { Below at cn.now × (at + length cn.now ≤ length w.old) }
     ensures { w.new ≡ put w.old at (map (λ n. get_or w.old n 0) cn.now) }
 {
-    // By index: after a loop over `iter_mut` a proof knows no element. What is read lies before `at` (`Below`); to cut the list there would spare no index.
+    // By index: after a loop over a zipped `iter_mut` a proof knows no element. What is read lies before `at` (`Below`); to cut the list there would spare no index.
     for (i, &k) in cn.iter().enumerate() {
         w[at + i] = w[k as usize];
     }

@@ -51,7 +51,7 @@ fn listing<'a>(pieces: &'a OutputView) -> Listing<'a>
     }
 }
 
-// a mesh as read: as much of the lists as the counts say. It stands here, since reading and views don't cite each other, and so does `listing`.
+// a mesh as read: as much of the lists as the counts say. It stands here, as `listing` does: the program alone shows a mesh that it has read.
 fn view<'a>(lists: &'a MeshLists, counts: reading::Counts) -> MeshView<'a>
     requires coords { 2 * counts.points ≤ length lists.now.coords.now }
     requires nodes { counts.entries ≤ length lists.now.nodes.now }

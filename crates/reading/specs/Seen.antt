@@ -2,7 +2,7 @@
 use Rattle.std.specs.Prelude.{ℕ, ◌-◌, ◌*◌, ◌≤◌, ◌≡◌, List, [], ◌++◌, length, take, drop, Float, Option, None, Some, option_map}
 use Rattle.lists.specs.Regions.{zeros, fzeros}
 use Rattle.text.specs.Given.{Parsed, ReadMesh, Limits, limits, Given}
-use Rattle.reading_lines.specs.Lines.{Kept}
+use Rattle.views.specs.Same.{SameList}
 use Rattle.reading.specs.declared.Counts.{Counts}
 use Rattle.reading.specs.declared.MeshLists.{MeshLists}
 use Rattle.reading.specs.declared.Input.{Input}
@@ -50,11 +50,11 @@ pub record Within (c : Counts) (l : MeshLists) : Type 0 where
 
 -- the same lists, written or not
 pub record SameLists (l m : MeshLists) : Type 0 where
-  pub coords : Kept l.coords m.coords
-  pub nodes : Kept l.nodes m.nodes
-  pub ends : Kept l.ends m.ends
-  pub kinds : Kept l.kinds m.kinds
-  pub families : Kept l.families m.families
+  pub coords : SameList l.coords m.coords
+  pub nodes : SameList l.nodes m.nodes
+  pub ends : SameList l.ends m.ends
+  pub kinds : SameList l.kinds m.kinds
+  pub families : SameList l.families m.families
 
 -- a list with zeros from n on
 abbrev pub zeroed_from : ℕ → List ℕ → List ℕ

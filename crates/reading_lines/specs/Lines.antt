@@ -1,6 +1,7 @@
 -- The answers of the code that reads words and lines, as what was read and the rest of the text. Assumes nothing.
-use Rattle.std.specs.Prelude.{◌≡◌, ℕ, List, take, [], ◌∷◌, Float, length, Option, option_map}
-use denote.Ref.{Bor, MutBor}
+use Rattle.std.specs.Prelude.{ℕ, List, take, [], ◌∷◌, Float, Option, option_map}
+use denote.Ref.{Bor}
+use Rattle.views.specs.Same.{SameList}
 use Rattle.text.specs.Read.{Heading, Cell}
 use Rattle.text.specs.Given.{Parsed, Cells, First}
 use Rattle.reading_lines.specs.declared.lines.Node.{Node}
@@ -32,16 +33,11 @@ abbrev pub cells_of : CellCounts → CellLists → Cells
 cells_of n l =
     record { nodes = take n.entries l.nodes.now; ends = take n.cells l.ends.now; kinds = take n.cells l.kinds.now; families = take n.cells l.families.now }
 
--- the same list, as long as it was, written or not
-pub record Kept {A : Type 0} (l m : MutBor (List A)) : Type 0 where
-  pub name : l.ghost_name ≡ m.ghost_name
-  pub long : length l.now ≡ length m.now
-
 pub record SameCellLists (l m : CellLists) : Type 0 where
-  pub nodes : Kept l.nodes m.nodes
-  pub ends : Kept l.ends m.ends
-  pub kinds : Kept l.kinds m.kinds
-  pub families : Kept l.families m.families
+  pub nodes : SameList l.nodes m.nodes
+  pub ends : SameList l.ends m.ends
+  pub kinds : SameList l.kinds m.kinds
+  pub families : SameList l.families m.families
 
 abbrev pub first_of : FirstRead → First
 first_of f = record { op = f.op; m = f.m }

@@ -230,7 +230,7 @@ fn number_nodes(coords: &[f64], order: &[u32], cc: &[f64], numbers: &mut [u32])
     ensures { numbers.new ≡ each (length numbers.old) (λ j. number_by coords.now order.now cc.now (get_or numbers.old j 0) j) }
 {
     let nodes = Nodes { coords, order };
-    // By index: after a loop over `iter_mut` a proof knows no element.
+    // By index: after a loop over `iter_mut().enumerate()` a proof knows no element.
     for j in 0..numbers.len() {
         numbers[j] = nodes.number_of(cc, numbers[j], j);
     }
