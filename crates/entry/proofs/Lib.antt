@@ -1,4 +1,5 @@
 pub mod Ends
+pub mod Runs
 pub mod Coord
 pub mod Lowest
 pub mod Passed

@@ -2,3 +2,4 @@ pub mod Search
 pub mod Gather
 pub mod Sort
 pub mod Regions
+pub mod Runs

@@ -1,8 +1,12 @@
-// What every layer does with lent lists: one copied into another, and an element put in.
+// What every layer does with lent lists: one copied into another, an element put in, and one cut into runs.
 #![tactic(auto)]
 
 ghost use Rattle.std.specs.Prelude.{◌≡◌, ◌&&◌, ◌+◌, length, leb, ltb};
 ghost use Rattle.lists.specs.Regions.{copied, insert_at};
+
+mod runs;
+
+pub use runs::Runs;
 
 // Copies src into dst, from `at` on. Answers whether it has its place there; nothing changes where not.
 // The place stands beside the list: lists are fixed memory, filled in part. A bool, as a copy without a place is no fault of its own: the caller
