@@ -83,10 +83,15 @@ chain_end true true true false e z = refl
 chain_end true true true true false z = refl
 chain_end true true true true true z = refl
 
-pub lower_one : (a : ℕ) → 0 < a → a ≡ lower_refusal a 0
+-- beside none
+pub lower_first : (a : ℕ) → lower_refusal a 0 ≡ a
 unfolding lower_refusal
-lower_one zero h = refl
-lower_one (suc n) h = rw (ne_eqb (suc n) 0 (suc-ne-zero n))
+lower_first zero = refl
+lower_first (suc n) = rw (ne_eqb (suc n) 0 (suc-ne-zero n))
+
+pub lower_second : (b : ℕ) → lower_refusal 0 b ≡ b
+unfolding lower_refusal
+lower_second b = refl
 
 -- the lower of two refusals by their own order
 pub lower_two : {t : Refusal} (r s : Refusal) → t ≡ ord_min (order.ghosts).cmp r s → number t ≡ lower_refusal (number r) (number s)
@@ -119,17 +124,20 @@ module _ (op m : ℕ) (s c : Mesh) (w : ℕ) where
       (sym (lower_chain (shape_ok s) (coords_ok s.coords) (kinds_ok false s.kinds s.ends) (nodes_ok s.nodes (node_count s)) (cells_ok s.nodes s.ends)
       (shape_ok c) (coords_ok c.coords) (kinds_ok (eqb op 5) c.kinds c.ends) (nodes_ok c.nodes (node_count c)) (cells_ok c.nodes c.ends))))
 
-  pub at_call : call_ok op m ≡ false → 1 ≡ entry_of op m s c w
-  at_call h = sym (by_mesh ∙ rw h)
+  -- the lower of what the two meshes are refused for
+  abbrev pub of_meshes : ℕ
+  of_meshes = lower_refusal (mesh_refusal false s) (mesh_refusal (eqb op 5) c)
 
-  module _ (r : ℕ) (call : call_ok op m ≡ true) (e : r ≡ lower_refusal (mesh_refusal false s) (mesh_refusal (eqb op 5) c)) where
-    pub at_mesh : (r ≡ 0 → ⊥) → r ≡ entry_of op m s c w
-    at_mesh h = sym (by_mesh ∙ rw (call, ← e, ne_eqb r 0 h))
+  pub at_call : call_ok op m ≡ false → entry_of op m s c w ≡ 1
+  at_call h = by_mesh ∙ rw h
 
-    pub at_work : r ≡ 0 → w < 16 * ((node_count s + node_count c) + (length s.nodes + length c.nodes) + m) + 64 → 7 ≡ entry_of op m s c w
-    unfolding work_ok
-    at_work h l = sym (by_mesh ∙ rw (call, ← e, eq-eqb r 0 h, lt-leb (16 * ((node_count s + node_count c) + (length s.nodes + length c.nodes) + m) + 64) w l))
+  pub at_mesh : call_ok op m ≡ true → (of_meshes ≡ 0 → ⊥) → entry_of op m s c w ≡ of_meshes
+  at_mesh call h = by_mesh ∙ rw (call, ne_eqb of_meshes 0 h)
 
-    pub at_end_lem : r ≡ 0 → 16 * ((node_count s + node_count c) + (length s.nodes + length c.nodes) + m) + 64 ≤ w → 0 ≡ entry_of op m s c w
-    unfolding work_ok
-    at_end_lem h l = sym (by_mesh ∙ rw (call, ← e, eq-eqb r 0 h, le-leb (16 * ((node_count s + node_count c) + (length s.nodes + length c.nodes) + m) + 64) w l))
+  pub at_work : call_ok op m ≡ true → of_meshes ≡ 0 → w < 16 * ((node_count s + node_count c) + (length s.nodes + length c.nodes) + m) + 64 → entry_of op m s c w ≡ 7
+  unfolding work_ok
+  at_work call h l = by_mesh ∙ rw (call, eq-eqb of_meshes 0 h, lt-leb (16 * ((node_count s + node_count c) + (length s.nodes + length c.nodes) + m) + 64) w l)
+
+  pub passed_all : call_ok op m ≡ true → of_meshes ≡ 0 → 16 * ((node_count s + node_count c) + (length s.nodes + length c.nodes) + m) + 64 ≤ w → entry_of op m s c w ≡ 0
+  unfolding work_ok
+  passed_all call h l = by_mesh ∙ rw (call, eq-eqb of_meshes 0 h, le-leb (16 * ((node_count s + node_count c) + (length s.nodes + length c.nodes) + m) + 64) w l)

@@ -226,18 +226,13 @@ pub call_unnamed : (op m : ℕ) → 5 < op → call_ok op m ≡ false
 unfolding call_ok
 call_unnamed op m h = rw (lt-leb op 5 h)
 
-pub call_beyond : (op m : ℕ) → (m < 1) ⊎ ((1 ≤ m) × (65536 < m)) → call_ok op m ≡ false
+pub call_below : (op m : ℕ) → m < 1 → call_ok op m ≡ false
 unfolding call_ok
-call_beyond op m (inl h) = rw (lt-leb 1 m h, and-false)
-call_beyond op m (inr h) = rw (lt-leb m 65536 h.1, and-false)
+call_below op m h = rw (lt-leb 1 m h, and-false)
 
--- the numbers of two meshes that pass are far from wrapping
-pub room_most : (op m : ℕ) (s c : Mesh) (lines : Bool) → call_ok op m ≡ true → mesh_refusal false s ≡ 0 → mesh_refusal lines c ≡ 0
-    → 16 * ((node_count s + node_count c) + (length s.nodes + length c.nodes) + m) + 64 ≤ 3670080
-room_most op m s c lines call a b =
-    let p = mesh_sound false s a in
-    let q = mesh_sound lines c b in
-    omega (arith, (call_parts op m call).2, p.most_nodes, p.most_entries, q.most_nodes, q.most_entries)
+pub call_beyond : (op m : ℕ) → 65536 < m → call_ok op m ≡ false
+unfolding call_ok
+call_beyond op m h = rw (lt-leb m 65536 h, and-false)
 
 pub passed : (op m : ℕ) (s c : Mesh) (w : ℕ) → entry_of op m s c w ≡ 0 → Passed op m s c w
 unfolding entry_of work_ok

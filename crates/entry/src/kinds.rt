@@ -3,6 +3,8 @@ ghost use Rattle.std.specs.Prelude.{◌≡◌, true, length};
 ghost use Rattle.entry.specs.Named.{NamesKind};
 ghost use Rattle.entry.specs.Refused.{ends_ok, kind_ok, kinds_ok};
 
+use lists::Runs;
+
 // A line; a triangle, a quadrilateral, a polygon.
 #[derive(Clone, Copy, Debug, PartialEq, Eq, PartialOrd, Ord)]
 pub(crate) enum Kind {
@@ -48,22 +50,15 @@ fn kind_ok(lines: bool, kind: u8, n: usize) -> bool
     }
 }
 
-pub(crate) fn kinds_ok(lines: bool, kinds: &[u8], ends: &[u32], n: usize) -> bool
-    requires { (length kinds.now ≡ length ends.now) × (ends_ok ends.now n ≡ true) }
+// A cell has as many nodes as its run is long.
+pub(crate) fn kinds_ok(lines: bool, kinds: &[u8], nodes: &[u32], ends: &[u32]) -> bool
+    requires as_many { length kinds.now ≡ length ends.now }
+    requires ends { ends_ok ends.now (length nodes.now) ≡ true }
     ensures { result ≡ kinds_ok lines kinds.now ends.now }
 {
-    let mut start = 0;
-    let mut last = 0;
-    for (i, &end) in ends.iter().enumerate() {
-        let kind = kinds[i];
-        if kind < last {
-            return false;
-        }
-        if !kind_ok(lines, kind, (end - start) as usize) {
-            return false;
-        }
-        start = end;
-        last = kind;
-    }
-    true
+    kinds.is_sorted()
+        && kinds
+            .iter()
+            .zip(Runs::new(nodes, ends))
+            .all(|(kind, cell)| kind_ok(lines, *kind, cell.len()))
 }

@@ -1,5 +1,5 @@
 // The lowest refusal of both meshes.
-ghost use Rattle.std.specs.Prelude.{◌≡◌, IfOk};
+ghost use Rattle.std.specs.Prelude.{◌≡◌, IfOk, false, eqb};
 ghost use Rattle.refusals.specs.Numbers.{number, refused_with};
 ghost use Rattle.entry.specs.Mesh.{mesh_of};
 ghost use Rattle.entry.specs.Named.{op_number};
@@ -15,7 +15,7 @@ use refusals::Refusal;
 use views::MeshView;
 
 // Whether a mesh, of lines or of cells, passes 2 to 6.
-#[tactic(auto, unfolding(crate::specs::ByMesh::mesh_refusal), using(crate::proofs::Passed::shape_parts))]
+#[tactic(auto, unfolding(crate::specs::ByMesh::mesh_refusal))]
 fn check(lines: bool, mesh: &MeshView) -> Result<(), Refusal>
     ensures { refused_with result ≡ mesh_refusal lines (mesh_of mesh.now) }
 {
@@ -25,7 +25,7 @@ fn check(lines: bool, mesh: &MeshView) -> Result<(), Refusal>
     if !coords_ok(mesh.coords) {
         return Err(Refusal::Coordinates);
     }
-    if !kinds_ok(lines, mesh.kinds, mesh.ends, mesh.nodes.len()) {
+    if !kinds_ok(lines, mesh.kinds, mesh.nodes, mesh.ends) {
         return Err(Refusal::Kinds);
     }
     if !nodes_ok(mesh.nodes, mesh.coords.len() / 2) {
@@ -46,6 +46,7 @@ fn lower(a: Refusal, b: Refusal) -> Refusal
 }
 
 // The refusal of one of two checks, the lower one where both refuse.
+#[tactic(auto, using(crate::proofs::Lowest::lower_first, crate::proofs::Lowest::lower_second))]
 fn both(a: Result<(), Refusal>, b: Result<(), Refusal>) -> Result<(), Refusal>
     ensures { refused_with result ≡ lower_refusal (refused_with a) (refused_with b) }
 {
@@ -56,8 +57,20 @@ fn both(a: Result<(), Refusal>, b: Result<(), Refusal>) -> Result<(), Refusal>
     }
 }
 
+// Whether both meshes of an overlay pass: the subject's cells, and the cutter's cells or lines.
+fn check_both(operation: Operation, subject: &MeshView, cutter: &MeshView) -> Result<(), Refusal>
+    ensures { refused_with result
+        ≡ lower_refusal (mesh_refusal false (mesh_of subject.now)) (mesh_refusal (eqb (op_number operation) 5) (mesh_of cutter.now)) }
+{
+    both(
+        check(false, subject),
+        check(operation.takes_lines(), cutter),
+    )
+}
+
 // The operation with that number, which C or the text hands over, where nothing is refused because of the input; M is the limit of meetings, `work` the
 // length of the working list.
+#[tactic(auto, using(crate::proofs::Calls::entry_steps))]
 pub fn entry(
     op: u32,
     m: u32,
@@ -72,10 +85,7 @@ pub fn entry(
     if m < 1 || 65536 < m {
         return Err(Refusal::Call);
     }
-    both(
-        check(false, subject),
-        check(operation.takes_lines(), cutter),
-    )?;
+    check_both(operation, subject, cutter)?;
     let nodes = subject.coords.len() / 2 + cutter.coords.len() / 2;
     let entries = subject.nodes.len() + cutter.nodes.len();
     if work < 16 * (nodes + entries + m as usize) + 64 {

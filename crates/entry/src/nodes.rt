@@ -1,6 +1,8 @@
 // Refusals 5 and 6: the node numbers, and no node twice in one cell or line.
-ghost use Rattle.std.specs.Prelude.{◌≡◌, true, length};
-ghost use Rattle.entry.specs.Refused.{ends_ok, nodes_ok, cells_ok, cell_ok};
+ghost use Rattle.std.specs.Prelude.{◌≡◌};
+ghost use Rattle.entry.specs.Refused.{nodes_ok, cells_ok, cell_ok};
+
+use lists::Runs;
 
 #[tactic(auto, unfolding(crate::specs::Refused::nodes_ok))]
 pub(crate) fn nodes_ok(nodes: &[u32], n: usize) -> bool
@@ -20,18 +22,8 @@ fn cell_ok(cell: &[u32]) -> bool
     true
 }
 
-#[tactic(auto, using(crate::proofs::Ends::end_at))]
 pub(crate) fn cells_ok(nodes: &[u32], ends: &[u32]) -> bool
-    requires { ends_ok ends.now (length nodes.now) ≡ true }
     ensures { result ≡ cells_ok nodes.now ends.now }
 {
-    let mut start = 0;
-    for &end in ends {
-        let end = end as usize;
-        if !cell_ok(&nodes[start..end]) {
-            return false;
-        }
-        start = end;
-    }
-    true
+    Runs::new(nodes, ends).all(cell_ok)
 }

@@ -1,6 +1,6 @@
 -- What the words of the library say of lists by element is what this crate's say by index: for code that goes by `all`, `any`, `position`, `filter`.
 -- Assumes nothing.
-use mathlib.Core.Path.{◌≡◌, refl, sym, ap, ◌∙◌}
+use mathlib.Core.Path.{◌≡◌, refl, sym, ap, ap₂, ◌∙◌}
 use mathlib.Core.Bool.{Bool, true, false, cond, not, ◌&&◌, ◌||◌}
 use mathlib.Core.List.{List, [], ◌∷◌, map}
 use Prim.Native.Nat.{ℕ, zero, suc, ◌+◌}
@@ -10,7 +10,7 @@ use lib.Dec.{ltb}
 use lib.ListN.{length, get_or}
 use borrow.Author.Tests.{lt-ltb, le-ltb}
 use Rattle.std.proofs.lemmas.List.Sums.{length-filter}
-use Rattle.std.specs.List.{list_all, list_any, filter, count_by, position_or_len}
+use Rattle.std.specs.List.{list_all, list_any, filter, count_by, position_or_len, zip}
 use Rattle.lists.specs.Search.{first, has, every}
 use Rattle.lists.specs.Gather.{gathered, each, all, passing, tally}
 use Rattle.lists.proofs.Search.{first_here, first_shift, first_end_lem}
@@ -98,3 +98,16 @@ module _ {A : Type 0} where
   unfolding gathered
   each_map f [] d = refl
   each_map f (x ∷ xs) d = each_head (length xs) (λ i. f (get_or (x ∷ xs) i d)) ∙ ap (λ (l : List _). f x ∷ l) (each_map f xs d)
+
+  pub every_each : (p : A → Bool) (n : ℕ) (f : ℕ → A) → every n (λ i. p (f i)) ≡ list_all p (each n f)
+  unfolding every gathered
+  every_each p zero f = refl
+  every_each p (suc n) f =
+      every_head (λ i. p (f i)) n ∙ ap (λ (t : Bool). p (f zero) && t) (every_each p n (λ i. f (suc i))) ∙ ap (list_all p) (sym (each_head n f))
+
+  pub zip_each : {B : Type 0} (n : ℕ) (f : ℕ → A) (g : ℕ → B) → zip (each n f) (each n g) ≡ each n (λ i. (f i, g i))
+  unfolding gathered
+  zip_each zero f g = refl
+  zip_each {B} (suc n) f g =
+      ap₂ (λ (xs : List A) (ys : List B). zip xs ys) (each_head n f) (each_head n g) ∙ ap (λ (l : List (A × B)). (f zero, g zero) ∷ l) (zip_each n (λ i. f (suc i)) (λ i. g (suc i)))
+      ∙ sym (each_head n (λ i. (f i, g i)))

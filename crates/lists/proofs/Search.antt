@@ -273,6 +273,23 @@ unfolding every
 every_all p zero h = refl
 every_all p (suc n) h = rw (every_all p n (λ i l. h i (omega (arith, l))), h n (omega arith))
 
+-- only the indices below the end count
+pub every_ext : (n : ℕ) (p q : ℕ → Bool) → ((i : ℕ) → i < n → p i ≡ q i) → every n p ≡ every n q
+unfolding every
+every_ext zero p q h = refl
+every_ext (suc n) p q h = ap₂ (λ s t. s && t) (every_ext n p q (λ i l. h i (omega (arith, l)))) (h n (omega arith))
+
+-- two tests of every index
+pub every_both : (p q : ℕ → Bool) (n : ℕ) → every n p && every n q ≡ every n (λ i. p i && q i)
+unfolding every
+every_both p q zero = refl
+every_both p q (suc n) = go (every n p) (every n q) (p n) (q n) (every_both p q n)
+  where
+    go : (a b c d : Bool) → (a && b ≡ every n (λ i. p i && q i)) → (a && c) && (b && d) ≡ every n (λ i. p i && q i) && (c && d)
+    go true b true d e = ap (λ (t : Bool). t && d) e
+    go true b false d e = sym (and-false (every n (λ i. p i && q i)))
+    go false b c d e = ap (λ (t : Bool). t && (c && d)) e
+
 -- where not every index passes, one fails
 pub every_some : (p : ℕ → Bool) (n : ℕ) → every n p ≡ false → (i : ℕ) × (i < n) × (p i ≡ false)
 unfolding every
