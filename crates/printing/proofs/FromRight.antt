@@ -32,13 +32,14 @@ pub decimal_printed : (n : ℕ) → n < 2 ^ 32 → printed n ≡ decimal n
 unfolding decimal
 decimal_printed n h = let s : decimal_to 10 n ≡ printed n = decimal_from_appends decimal_to last_digit 10 n (omega arith) (length-decimal-le 10 n (omega arith) (omega arith) (omega arith)) in rw s
 
-pub hex_start : (n : ℕ) (a : List ℕ) → drop 16 a ≡ [] → hex_to 16 n ++ drop 16 a ≡ hex n
+-- the first turn begins with no digit, the last leaves all
+pub hex_start : (n : ℕ) → hex_to 16 n ++ [] ≡ hex n
 unfolding hex
-hex_start n a l = rw l (append-nil (hex_to 16 n))
+hex_start n = append-nil (hex_to 16 n)
 
-pub hex_end : (n i v : ℕ) (a : List ℕ) → i ≡ 0 → hex_to i v ++ drop i a ≡ hex n → a ≡ hex n
+pub hex_end : (v i : ℕ) (a : List ℕ) → i ≡ 0 → hex_to i v ++ drop i a ≡ a
 unfolding hex_to
-hex_end n i v a z h = rw z at h
+hex_end v i a z = rw z
 
 -- the bits that are printed of a NaN
 pub nan_bits : (x : Float) → is_nan x ≡ true → 9221120237041090560 ≡ to_bits binary64 x

@@ -17,7 +17,7 @@ use Rattle.lists.proofs.Regions.{copied_fits, copied_not}
 use Rattle.printing.specs.declared.Full.{Full}
 use Rattle.printing.specs.declared.writer.Writer.{Writer}
 use Rattle.printing.specs.Written.{page_of, Wrote}
-use Rattle.printing.specs.Page.{Place, full, Prints, Page, page, byte, page_with, room_for, laid_over}
+use Rattle.printing.specs.Page.{Place, full, Page, page, byte, page_with, room_for, laid_over}
 
 -- a text after a text
 pub written_append : (g : Page) (t u : List ℕ) → page_with g (t ++ u) ≡ page_with (page_with g t) u
@@ -34,6 +34,9 @@ pub written_full : (o t : List ℕ) → page_with (page full o) t ≡ page full 
 unfolding page_with page byte
 written_full o [] = refl
 written_full o (b ∷ t) = written_full o t
+
+pub written_refused : (e : Full) (o t : List ℕ) → page_with (page (Err e) o) t ≡ page (Err e) o
+written_refused e o t = written_full o t
 
 -- a byte, and the rest of the text
 module _ (o : List ℕ) (p b : ℕ) (t : List ℕ) where
@@ -148,39 +151,11 @@ pub parts : {p q : Place} {o u : List ℕ} → page p o ≡ page q u → (p ≡ 
 unfolding page
 parts e = (ap (λ (g : Page). g.place) e, ap (λ (g : Page). g.bytes) e)
 
--- what a call leaves that writes the text t from the first place on
-pub printed : {v w : Writer} {t : List ℕ} → Wrote v w t → v.place ≡ Ok 0 → Prints w.place v.bytes.now w.bytes.now t
-printed {v} {w} {t} h e =
-    let (p, b) = parts (h.text ∙ ap (λ (x : Place). page_with (page x v.bytes.now) t) e ∙ whole v.bytes.now t) in
-    record { place = p; bytes = b }
-
--- one text, then another
-pub then : {u v w : Writer} {s t : List ℕ} → Wrote u v s → Wrote v w t → Wrote u w (s ++ t)
-then {u} {s = s} {t} g h =
-    record { text = h.text ∙ ap (λ (x : Page). page_with x t) g.text ∙ sym (written_append (page_of u) s t); list = h.list ∙ g.list }
-
 -- ---- a loop that writes: u began to write the text t, v has `rest` of it left
 pub record Left (u v : Writer) (rest t : List ℕ) : Type 0 where
   pub text : page_with (page_of v) rest ≡ page_with (page_of u) t
   pub list : v.bytes.ghost_name ≡ u.bytes.ghost_name
 
-pub start : {u : Writer} {rest t : List ℕ} → rest ≡ t → Left u u rest t
-start {u} e = record { text = ap (page_with (page_of u)) e; list = refl }
-
 -- what is left begins with s
 pub turn : {u v w : Writer} {s rest rest₁ t : List ℕ} → Left u v rest t → rest ≡ s ++ rest₁ → Wrote v w s → Left u w rest₁ t
 turn {v = v} {s = s} {rest₁ = rest₁} l e h = record { text = rw (h.text, ← written_append (page_of v) s rest₁, ← e) l.text; list = h.list ∙ l.list }
-
-pub ended : {u v : Writer} {rest t : List ℕ} → Left u v rest t → rest ≡ [] → Wrote u v t
-ended {v = v} l e = record { text = sym (written_nil (page_of v)) ∙ ap (page_with (page_of v)) (sym e) ∙ l.text; list = l.list }
-
--- a full list takes nothing more
-pub refused : {v : Writer} {e : Full} (t : List ℕ) → v.place ≡ Err e → Wrote v v t
-refused {v} t h =
-    let o = v.bytes.now in
-    record { text = ap (λ p. page p o) h ∙ sym (written_full o t) ∙ ap (λ p. page_with (page p o) t) (sym h); list = refl }
-
--- a list that has taken all so far
-pub taken : {v w : Writer} {p : ℕ} (t : List ℕ) → v.place ≡ Ok p → page_of w ≡ page_with (page (Ok p) v.bytes.now) t → w.bytes.ghost_name ≡ v.bytes.ghost_name
-    → Wrote v w t
-taken {v} t h e same = record { text = e ∙ ap (λ p. page_with (page p v.bytes.now) t) (sym h); list = same }

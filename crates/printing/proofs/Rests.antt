@@ -1,5 +1,5 @@
 -- What is left to print, at each turn of the loops. Assumes nothing.
-use mathlib.Core.Path.{◌≡◌, refl}
+use mathlib.Core.Path.{◌≡◌, refl, ap, ◌∙◌}
 use mathlib.Core.List.{List, [], ◌∷◌, ◌++◌, append_assoc}
 use Prim.Native.Nat.{ℕ, ◌+◌, ◌-◌, ◌≤◌, ◌<◌}
 use native.Mathlib.Nat.{not-suc-le-zero, le_of_suc-le-suc}
@@ -11,6 +11,7 @@ use lib.ListN.{length, get_or, take, drop, drop_of_length-le}
 use lib.Ieee.{Float, nan, to_bits, binary64}
 use Rattle.std.specs.Prelude.{Option, Some, None}
 use denote.Ref.{Bor}
+use Rattle.std.specs.Iterator.{YieldsFirstRef}
 use Rattle.std.specs.declared.slice.Iter.{Iter}
 use Rattle.std.specs.declared.iter.Zip.{Zip}
 use Rattle.std.specs.Slice.Iter.{iter_rest}
@@ -18,10 +19,14 @@ use Rattle.std.specs.Iterator.Adapters.{zip_first, zip_second}
 use Rattle.std.proofs.iter.Yields.{fronts}
 use Rattle.std.proofs.lemmas.Iterator.{zips}
 use Rattle.std.proofs.lemmas.Slice.Zip.{either_empty_from_Zip}
-use Rattle.std.proofs.lemmas.List.{nil_from_length}
+use Rattle.lists.specs.Regions.{run}
+use Rattle.lists.specs.Runs.{runs_from, runs_left}
+use Rattle.lists.specs.declared.runs.Runs.{Runs}
 use Rattle.text.specs.Text.{bytes, space, close, decimal, listing_word, PieceLine, piece_lines}
 use Rattle.text.specs.Text.{node_text, nodes_text, numbers_text, cell_text, piece_text, pieces_text, count_text, refused_text, listing_text}
+use Rattle.printing.specs.Page.{Page, page_with}
 use Rattle.printing.specs.Told.{bits}
+use Rattle.printing.proofs.Pages.{written_append, written_nil}
 
 -- l begins with the pair x
 pub nodes_next : (l x rest : List Float) → l ≡ x ++ rest → length x ≡ 2
@@ -37,6 +42,8 @@ unfolding nodes_text bits
 nodes_short [] h = refl
 nodes_short (x ∷ []) h = refl
 nodes_short (x ∷ y ∷ l) h = absurd (not-suc-le-zero (le_of_suc-le-suc (le_of_suc-le-suc h)))
+
+pub ruleset nodes_steps = (written_append, written_nil, nodes_next, nodes_short)
 
 -- a piece's line: a word, numbers, the corners
 pub piece_parts : (p : PieceLine) → piece_text p ≡ bytes "(cell" ++ (numbers_text (p.kind ∷ p.family ∷ p.mesh ∷ p.cell ∷ []) ++ (numbers_text p.nodes ++ close))
@@ -61,52 +68,79 @@ module _ (ns : List ℕ) (k : ℕ) where
   unfolding numbers_text
   numbers_turn h = rw (drop-cons ns k 0 h, add-one)
 
-none_left : (from : ℕ) (ns es ks fs ms is : List ℕ) → (es ≡ []) ⊎ (((ks ≡ []) ⊎ (fs ≡ [])) ⊎ ((ms ≡ []) ⊎ (is ≡ []))) → piece_lines from ns es ks fs ms is ≡ []
-unfolding piece_lines
-none_left from ns [] ks fs ms is h = refl
-none_left from ns (e ∷ es) [] fs ms is h = refl
-none_left from ns (e ∷ es) (k ∷ ks) [] ms is h = refl
-none_left from ns (e ∷ es) (k ∷ ks) (f ∷ fs) [] is h = refl
-none_left from ns (e ∷ es) (k ∷ ks) (f ∷ fs) (m ∷ ms) [] h = refl
-none_left from ns (e ∷ es) (k ∷ ks) (f ∷ fs) (m ∷ ms) (i ∷ is) h = absurd (never h)
+  pub numbers_put : (g : Page) → k < length ns → page_with g (numbers_text (drop k ns)) ≡ page_with (page_with g (space ++ decimal (get_or ns k 0))) (numbers_text (drop (k + 1) ns))
+  numbers_put g h = ap (page_with g) (numbers_turn h) ∙ written_append g (space ++ decimal (get_or ns k 0)) (numbers_text (drop (k + 1) ns))
+
+pub ruleset numbers_steps = (written_append, written_nil, numbers_end, numbers_put)
+
+-- ---- the pieces by their runs
+
+-- as many as there are of each
+unfoldable pub lines_by : (rs : List (List ℕ)) (ks fs ms is : List ℕ) → List PieceLine
+lines_by [] ks fs ms is = []
+lines_by (r ∷ rs) [] fs ms is = []
+lines_by (r ∷ rs) (k ∷ ks) [] ms is = []
+lines_by (r ∷ rs) (k ∷ ks) (f ∷ fs) [] is = []
+lines_by (r ∷ rs) (k ∷ ks) (f ∷ fs) (m ∷ ms) [] = []
+lines_by (r ∷ rs) (k ∷ ks) (f ∷ fs) (m ∷ ms) (i ∷ is) = record { kind = k; family = f; mesh = m; cell = i; nodes = r } ∷ lines_by rs ks fs ms is
+
+pub lines_from : (from : ℕ) (ns es ks fs ms is : List ℕ) → lines_by (runs_from from ns es) ks fs ms is ≡ piece_lines from ns es ks fs ms is
+unfolding piece_lines lines_by runs_from run
+lines_from from ns [] ks fs ms is = refl
+lines_from from ns (e ∷ es) [] fs ms is = refl
+lines_from from ns (e ∷ es) (k ∷ ks) [] ms is = refl
+lines_from from ns (e ∷ es) (k ∷ ks) (f ∷ fs) [] is = refl
+lines_from from ns (e ∷ es) (k ∷ ks) (f ∷ fs) (m ∷ ms) [] = refl
+lines_from from ns (e ∷ es) (k ∷ ks) (f ∷ fs) (m ∷ ms) (i ∷ is) =
+    ap (λ l. record { kind = k; family = f; mesh = m; cell = i; nodes = take (e - from) (drop from ns) } ∷ l) (lines_from e ns es ks fs ms is)
+
+none_left : (rs : List (List ℕ)) (ks fs ms is : List ℕ) → (rs ≡ []) ⊎ (((ks ≡ []) ⊎ (fs ≡ [])) ⊎ ((ms ≡ []) ⊎ (is ≡ []))) → lines_by rs ks fs ms is ≡ []
+unfolding lines_by
+none_left [] ks fs ms is h = refl
+none_left (r ∷ rs) [] fs ms is h = refl
+none_left (r ∷ rs) (k ∷ ks) [] ms is h = refl
+none_left (r ∷ rs) (k ∷ ks) (f ∷ fs) [] is h = refl
+none_left (r ∷ rs) (k ∷ ks) (f ∷ fs) (m ∷ ms) [] h = refl
+none_left (r ∷ rs) (k ∷ ks) (f ∷ fs) (m ∷ ms) (i ∷ is) h = absurd (never h)
   where
-    no : (x : ℕ) (l : List ℕ) → x ∷ l ≡ [] → ⊥
+    no : {A : Type 0} (x : A) (l : List A) → x ∷ l ≡ [] → ⊥
     no x l e = cc
 
-    never : (e ∷ es ≡ []) ⊎ (((k ∷ ks ≡ []) ⊎ (f ∷ fs ≡ [])) ⊎ ((m ∷ ms ≡ []) ⊎ (i ∷ is ≡ []))) → ⊥
+    never : (r ∷ rs ≡ []) ⊎ (((k ∷ ks ≡ []) ⊎ (f ∷ fs ≡ [])) ⊎ ((m ∷ ms ≡ []) ⊎ (i ∷ is ≡ []))) → ⊥
     never (inl p) = no _ _ p
     never (inr (inl (inl p))) = no _ _ p
     never (inr (inl (inr p))) = no _ _ p
     never (inr (inr (inl p))) = no _ _ p
     never (inr (inr (inr p))) = no _ _ p
 
--- ends beside (kinds, families) and (meshes, cells)
+-- runs beside (kinds, families) and (meshes, cells)
 abbrev pub Columns : Type 0
-Columns = Zip (Iter ℕ) (Zip (Zip (Iter ℕ) (Iter ℕ)) (Zip (Iter ℕ) (Iter ℕ)))
+Columns = Zip Runs (Zip (Zip (Iter ℕ) (Iter ℕ)) (Zip (Iter ℕ) (Iter ℕ)))
 
-abbrev steps : Columns → Option (Bor ℕ × ((Bor ℕ × Bor ℕ) × (Bor ℕ × Bor ℕ))) → Columns → Type 0
-steps = zips fronts (zips (zips fronts fronts) (zips fronts fronts))
+abbrev steps : Columns → Option (Bor (List ℕ) × ((Bor ℕ × Bor ℕ) × (Bor ℕ × Bor ℕ))) → Columns → Type 0
+steps = zips (YieldsFirstRef runs_left) (zips (zips fronts fronts) (zips fronts fronts))
 
-module _ (from : ℕ) (ns : List ℕ) (s : Columns) where
-  -- the pieces that are left
-  abbrev pub lines_left : List PieceLine
-  lines_left =
-      let marks = zip_first (zip_second s) in
-      let parents = zip_second (zip_second s) in
-      piece_lines from ns (iter_rest (zip_first s)) (iter_rest (zip_first marks)) (iter_rest (zip_second marks)) (iter_rest (zip_first parents)) (iter_rest (zip_second parents))
+-- the pieces that are left
+abbrev pub lines_left : Columns → List PieceLine
+lines_left s =
+    let marks = zip_first (zip_second s) in
+    let parents = zip_second (zip_second s) in
+    lines_by (runs_left (zip_first s)) (iter_rest (zip_first marks)) (iter_rest (zip_second marks)) (iter_rest (zip_first parents)) (iter_rest (zip_second parents))
 
-module _ (from : ℕ) (ns : List ℕ) (s t : Columns) where
-  pub pieces_next : (e k f m i : Bor ℕ) → steps s (Some (e, ((k, f), (m, i)))) t → pieces_text (lines_left from ns s)
-      ≡ piece_text (record { kind = k.now; family = f.now; mesh = m.now; cell = i.now; nodes = take (e.now - from) (drop from ns) }) ++ pieces_text (lines_left e.now ns t)
-  unfolding piece_lines pieces_text
-  pieces_next e k f m i (a, ((b, c), (d, g))) = rw (a, b, c, d, g) refl
+module _ (s t : Columns) where
+  pub pieces_next : (r : Bor (List ℕ)) (k f m i : Bor ℕ) → steps s (Some (r, ((k, f), (m, i)))) t
+      → pieces_text (lines_left s) ≡ piece_text (record { kind = k.now; family = f.now; mesh = m.now; cell = i.now; nodes = r.now }) ++ pieces_text (lines_left t)
+  unfolding lines_by pieces_text
+  pieces_next r k f m i (a, ((b, c), (d, g))) = rw (a, b, c, d, g) refl
 
-  pub pieces_end : steps s None t → pieces_text (lines_left from ns s) ≡ []
+  pub pieces_end : steps s None t → pieces_text (lines_left s) ≡ []
   unfolding pieces_text
-  pieces_end h = rw (none_left from ns _ _ _ _ _ (by h)) refl
+  pieces_end h = rw (none_left _ _ _ _ _ (by h)) refl
     where
-      by : steps s None t → (iter_rest (zip_first s) ≡ []) ⊎ (((iter_rest (zip_first (zip_first (zip_second s))) ≡ []) ⊎ (iter_rest (zip_second (zip_first (zip_second s))) ≡ []))
+      by : steps s None t → (runs_left (zip_first s) ≡ []) ⊎ (((iter_rest (zip_first (zip_first (zip_second s))) ≡ []) ⊎ (iter_rest (zip_second (zip_first (zip_second s))) ≡ []))
           ⊎ ((iter_rest (zip_first (zip_second (zip_second s))) ≡ []) ⊎ (iter_rest (zip_second (zip_second (zip_second s))) ≡ [])))
-      by (inl (u, z)) = inl (nil_from_length _ z.0)
+      by (inl (u, z)) = inl z.0
       by (inr (u, inl (v, z))) = inr (inl (either_empty_from_Zip _ v None refl z))
       by (inr (u, inr (v, z))) = inr (inr (either_empty_from_Zip _ v None refl z))
+
+pub ruleset pieces_steps = (written_append, written_nil, lines_from, pieces_next, pieces_end)

@@ -12,6 +12,7 @@ fn glyph_of(d: u8) -> u8
     if d < 10 { b'0' + d } else { b'a' + (d - 10) }
 }
 
+#[tactic(auto, using(crate::proofs::FromRight::hex_start, crate::proofs::FromRight::hex_end))]
 pub(crate) fn hex_digits(n: u64) -> [u8; 16]
     ensures { result ≡ hex n }
 {
@@ -26,6 +27,7 @@ pub(crate) fn hex_digits(n: u64) -> [u8; 16]
 }
 
 // a NaN is printed as 7ff8000000000000
+#[tactic(auto, using(crate::proofs::FromRight::nan_bits))]
 pub(crate) fn bits_of(x: f64) -> u64
     ensures { result ≡ to_bits binary64 x }
 {

@@ -46,6 +46,7 @@ pub struct Listing<'a> {
 }
 
 impl<'a> Writer<'a> {
+    #[tactic(auto, unfolding(crate::specs::Page::page_with), using(crate::proofs::Pages::written_append, crate::proofs::Rests::listing_parts))]
     fn put_listing(&mut self, lists: &Listing, counts: Counts)
         ensures { Wrote self.old self.new (listing_text (bits lists.now.coords.now)
             (lines_of lists.now) counts.pieces counts.points counts.doubled) }
@@ -58,6 +59,7 @@ impl<'a> Writer<'a> {
         self.put(b")\n");
     }
 
+    #[tactic(auto, using(crate::proofs::Answers::told_steps))]
     fn put_answer(&mut self, answer: Answer, lists: &Listing)
         ensures { Wrote self.old self.new (answer_text (told answer lists.now)) }
     {
@@ -79,6 +81,7 @@ impl<'a> Writer<'a> {
 }
 
 // The text of an answer, from the list's first place on: the place after it.
+#[tactic(auto, using(crate::proofs::Pages::whole, crate::proofs::Pages::parts))]
 pub fn print_answer(out: &mut [u8], answer: Answer, lists: &Listing) -> Result<usize, Full>
     ensures { Prints result out.old out.new (answer_text (told answer lists.now)) }
 {

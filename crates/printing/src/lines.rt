@@ -1,5 +1,5 @@
 // Lines, each written after what stands in the list.
-ghost use Rattle.std.specs.Prelude.{◌≡◌, ◌++◌, ◌-◌, take, drop};
+ghost use Rattle.std.specs.Prelude.{◌≡◌, ◌++◌};
 ghost use Rattle.std.specs.Float.Ieee.{to_bits};
 ghost use Rattle.std.specs.Float.{binary64};
 ghost use Rattle.text.specs.Text.{space, close, decimal, hex, node_text, nodes_text, numbers_text, piece_text, pieces_text};
@@ -9,6 +9,7 @@ ghost use Rattle.printing.specs.Written.{line_of, Wrote};
 use crate::Listing;
 use crate::digits::{bits_of, hex_digits};
 use crate::writer::Writer;
+use lists::Runs;
 
 // a piece and its corners
 #[derive(Clone, Copy)]
@@ -20,14 +21,8 @@ pub(crate) struct Piece<'a> {
     nodes: &'a [u32],
 }
 
-// the numbers from `from` up to `end`, as far as there are
-fn corners(nodes: &[u32], from: usize, end: usize) -> &[u32]
-    ensures { result.now ≡ take (end - from) (drop from nodes.now) }
-{
-    nodes.get(from..nodes.len().min(end)).unwrap_or(&[])
-}
-
 impl<'a> Writer<'a> {
+    #[tactic(auto, unfolding(crate::specs::Page::page_with), using(crate::proofs::FromRight::decimal_printed))]
     fn put_number(&mut self, n: u32)
         ensures { Wrote self.old self.new (space ++ decimal n) }
     {
@@ -37,6 +32,7 @@ impl<'a> Writer<'a> {
     }
 
     // a space and the number, for each
+    #[tactic(auto, using(crate::proofs::Rests::numbers_steps))]
     fn put_numbers(&mut self, numbers: &[u32])
         ensures { Wrote self.old self.new (numbers_text numbers.now) }
     {
@@ -46,6 +42,7 @@ impl<'a> Writer<'a> {
     }
 
     // a word, numbers and the closing parenthesis
+    #[tactic(auto, using(crate::proofs::Pages::written_append))]
     pub(crate) fn put_line(&mut self, word: &[u8], numbers: &[u32])
         ensures { Wrote self.old self.new (word.now ++ (numbers_text numbers.now ++ close)) }
     {
@@ -60,6 +57,7 @@ impl<'a> Writer<'a> {
         self.put(&hex_digits(bits_of(x)));
     }
 
+    #[tactic(auto, unfolding(crate::specs::Page::page_with, text::specs::Text::node_text), using(crate::proofs::Pages::written_append))]
     fn put_node(&mut self, x: f64, y: f64)
         ensures { Wrote self.old self.new (node_text (to_bits binary64 x) (to_bits binary64 y)) }
     {
@@ -70,6 +68,7 @@ impl<'a> Writer<'a> {
         self.put(b")\n");
     }
 
+    #[tactic(auto, using(crate::proofs::Rests::nodes_steps))]
     pub(crate) fn put_nodes(&mut self, coords: &[f64])
         ensures { Wrote self.old self.new (nodes_text (bits coords.now)) }
     {
@@ -78,6 +77,7 @@ impl<'a> Writer<'a> {
         }
     }
 
+    #[tactic(auto, unfolding(crate::specs::Page::page_with), using(crate::proofs::Pages::written_append, crate::proofs::Rests::piece_parts))]
     fn put_piece(&mut self, piece: Piece)
         ensures { Wrote self.old self.new (piece_text (line_of piece.entry)) }
     {
@@ -88,22 +88,21 @@ impl<'a> Writer<'a> {
         self.put(b")\n");
     }
 
+    #[tactic(auto, using(crate::proofs::Rests::pieces_steps))]
     pub(crate) fn put_pieces(&mut self, lists: &Listing)
         ensures { Wrote self.old self.new (pieces_text (lines_of lists.now)) }
     {
-        let mut from = 0;
         let marks = lists.kinds.iter().zip(lists.families);
         let parents = lists.meshes.iter().zip(lists.cells);
-        for (end, ((kind, family), (mesh, cell))) in lists.ends.iter().zip(marks.zip(parents)) {
-            let end = *end as usize;
+        let pieces = Runs::new(lists.nodes, lists.ends).zip(marks.zip(parents));
+        for (nodes, ((kind, family), (mesh, cell))) in pieces {
             self.put_piece(Piece {
                 kind: *kind,
                 family: *family,
                 mesh: *mesh,
                 cell: *cell,
-                nodes: corners(lists.nodes, from, end),
+                nodes,
             });
-            from = end;
         }
     }
 }

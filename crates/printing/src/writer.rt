@@ -29,6 +29,7 @@ fn put_at(out: &mut [u8], at: usize, text: &[u8]) -> Result<usize, Full>
 }
 
 impl<'a> Writer<'a> {
+    #[tactic(auto, using(crate::proofs::Pages::written_refused))]
     pub(crate) fn put(&mut self, text: &[u8])
         ensures { Wrote self.old self.new text.now }
     {

@@ -5,8 +5,8 @@ use Rattle.printing.proofs.Pages.{Left}
 use Rattle.printing.proofs.Rests.{lines_left}
 use Rattle.printing.proofs.writer.Writer.put_pieces.Given as goal
 
-abbrev pub invariant-loop-end : goal.invariant-loop-end
-invariant-loop-end l =
-    (goal.iterator-loop-end).can_next l.end-iterator ×
-    (goal.iterator-loop-end).is_finite l.end-iterator ×
-    Left l.initial.self l.self (pieces_text (lines_left l.from l.lists.nodes.now l.end-iterator)) (pieces_text (lines_of l.lists))
+abbrev pub invariant-loop-nodes : goal.invariant-loop-nodes
+invariant-loop-nodes l =
+    (goal.iterator-loop-nodes).can_next l.nodes-iterator ×
+    (goal.iterator-loop-nodes).is_finite l.nodes-iterator ×
+    Left l.initial.self l.self (pieces_text (lines_left l.nodes-iterator)) (pieces_text (lines_of l.lists))
