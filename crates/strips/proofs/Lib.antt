@@ -14,3 +14,4 @@ pub mod Reached
 pub mod Complete
 pub mod Searching
 pub mod Uses
+pub mod Rounds

@@ -5,3 +5,4 @@ pub mod Meeting
 pub mod Gathering
 pub mod Lent
 pub mod Search
+pub mod Near

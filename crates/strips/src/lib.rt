@@ -4,9 +4,11 @@
 
 mod building;
 mod gathering;
+mod near;
 mod squares;
 mod things;
 
 pub use building::index_size;
 pub use gathering::Index;
+pub use near::Near;
 pub use things::Things;
