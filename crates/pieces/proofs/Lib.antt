@@ -1,6 +1,5 @@
 pub mod Room
 pub mod Runs
-pub mod Rounds
 pub mod Inside
 pub mod Kept
 pub mod Placing

@@ -1,22 +1,22 @@
 -- The turns of `place_run`, over plain values. Assumes nothing.
 use mathlib.Core.Path.{◌≡◌, refl, sym, ap, ◌∙◌}
 use mathlib.Core.Bool.{Bool, true, false}
-use mathlib.Core.List.{List, [], ◌∷◌, ◌++◌, append-nil}
-use Prim.Native.Nat.{ℕ, ◌+◌, ◌-◌, ◌≤◌, ◌<◌}
-use native.Mathlib.Nat.{le_antisymm}
+use mathlib.Core.List.{List, [], ◌∷◌, ◌++◌, append-nil, append_assoc}
+use Prim.Native.Nat.{ℕ, ◌+◌}
 use native.Mathlib.Omega.{arith}
-use lib.ListN.{length, get_or, take, drop}
+use lib.ListN.{length, length-append}
 use Rattle.std.specs.Prelude.{Result, Ok, Err, is_ok}
-use Rattle.lists.specs.Gather.{gathered, passing}
-use Rattle.entry.specs.Mesh.{prior, Rising}
-use Rattle.entry.proofs.Ends.{prior_more}
-use Rattle.rules.specs.Mesh.{cells_of}
+use Rattle.lists.specs.Gather.{passing}
+use Rattle.lists.proofs.Gather.{passing_append}
+use Rattle.cutting.specs.Outcome.{flat}
+use Rattle.entry.specs.Mesh.{Rising}
 use Rattle.refusals.specs.declared.Refusal.{Refusal}
 use Rattle.refusals.specs.Numbers.{number}
 use Rattle.pieces.specs.declared.Listed.{Listed}
 use Rattle.pieces.specs.declared.PieceLists.{PieceLists}
 use Rattle.pieces.specs.Pieces.{runs_of, Yield, tagged, Space, Placing, left, left_by, refused_in, placed_in, BeforeZeroing, SameLists}
-use Rattle.pieces.proofs.Runs.{part_is, kept_to, kept_more, kept_behind, length_cell, kept_short}
+use Rattle.pieces.proofs.Room.{flat_append}
+use Rattle.pieces.proofs.Runs.{flat_passing, runs_short}
 use Rattle.pieces.proofs.Piece.{kept_yes, kept_no}
 use Rattle.pieces.proofs.Placing.{steady_tagged, tagged_both, all_placed, fit, placed_nothing, refused_first, placed_behind_lem, zeroed}
 
@@ -32,94 +32,90 @@ same_both l m n s t =
       tags = record { name = s.tags.name ∙ t.tags.name; long = s.tags.long ∙ t.tags.long };
     }
 
--- of the first i runs those that are kept are placed
-pub record Going (f : List ℕ → Bool) (runs ends : List ℕ) (p : Listed) (t : ℕ) (l l' : PieceLists) (q : Listed) (start i : ℕ) : Type 0 where
-  pub within : i ≤ length ends
-  pub starts : start ≡ prior ends i
+-- of the pieces ps those in `rest` are left, and of the others those that are kept are placed
+pub record Going (f : List ℕ → Bool) (ps : List (List ℕ)) (p : Listed) (t : ℕ) (l l' : PieceLists) (q : Listed) (rest : List (List ℕ)) : Type 0 where
+  pub done : List (List ℕ)
+  pub all : ps ≡ done ++ rest
   pub same : SameLists l' l
-  pub placed : left (Ok q) l' ≡ placed_in p (tagged t (kept_to f runs ends i)) l
+  pub placed : left (Ok q) l' ≡ placed_in p (tagged t (passing f done)) l
 
 module _ (f : List ℕ → Bool) (runs ends : List ℕ) (up : Rising ends (length runs)) (p : Listed) (t : ℕ) (l : PieceLists) (space : Space p (length runs) l) where
-  pub start₀ : Going f runs ends p t l l p 0 0
-  unfolding prior gathered passing
-  start₀ =
-      record {
-        within = omega arith;
-        starts = refl;
-        same = same_none l;
-        placed = sym (placed_nothing p l.corners.now l.ends.now l.tags.now);
-      }
+  abbrev ps : List (List ℕ)
+  ps = runs_of runs ends
 
-  module _ (l' : PieceLists) (q : Listed) (start i : ℕ) (inv : Going f runs ends p t l l' q start i) where
-    pub end : length ends ≤ i → left (Ok q) l' ≡ placed_in p (tagged t (passing f (runs_of runs ends))) l
-    unfolding cells_of
-    end h =
-        let e : length ends ≡ i = le_antisymm h inv.within in
-        rw e inv.placed
+  pub begin : (rest : List (List ℕ)) → rest ≡ runs_of runs ends → Going f (runs_of runs ends) p t l l p rest
+  unfolding passing
+  begin rest e = record { done = []; all = sym e; same = same_none l; placed = sym (placed_nothing p l.corners.now l.ends.now l.tags.now) }
 
-    module _ (more : i < length ends) where
-      abbrev piece : List ℕ
-      piece = take (get_or ends i 0 - start) (drop start runs)
+  module _ (l' : PieceLists) (q : Listed) (rest : List (List ℕ)) (inv : Going f (runs_of runs ends) p t l l' q rest) where
+    abbrev kept : List (List ℕ)
+    kept = passing f inv.done
+
+    pub end : rest ≡ [] → left (Ok q) l' ≡ placed_in p (tagged t (passing f (runs_of runs ends))) l
+    end none =
+        inv.placed ∙ ap (λ (ks : List (List ℕ)). placed_in p (tagged t (passing f ks)) l)
+        (sym (inv.all ∙ ap (λ (ks : List (List ℕ)). inv.done ++ ks) none ∙ append-nil inv.done))
+
+    -- piece x is the next
+    module _ (x : List ℕ) (ys : List (List ℕ)) (here : rest ≡ x ∷ ys) where
+      all_with : ps ≡ (inv.done ++ x ∷ []) ++ ys
+      all_with = inv.all ∙ ap (λ (ks : List (List ℕ)). inv.done ++ ks) here ∙ sym (append_assoc inv.done (x ∷ []) ys)
+
+      kept_with : (ks : List (List ℕ)) → passing f (x ∷ []) ≡ ks → passing f (inv.done ++ x ∷ []) ≡ kept ++ ks
+      kept_with ks e = passing_append f inv.done (x ∷ []) ∙ ap (λ (m : List (List ℕ)). kept ++ m) e
 
       -- there is space for it
-      pub next_space : Space q (length (take (get_or ends i 0 - start) (drop start runs))) l'
+      pub next_space : Space q (length x) l'
+      unfolding flat
       next_space =
-          let b = up i more in
-          let long : length piece ≡ get_or ends i 0 - prior ends i = ap length (part_is runs ends start i inv.starts) ∙ length_cell runs ends i b.0 b.1 in
-          let a = all_placed p (tagged t (kept_to f runs ends i)) l.corners.now l.ends.now l.tags.now q l'.corners.now l'.ends.now l'.tags.now inv.placed in
-          let k = fit p (tagged t (kept_to f runs ends i)) l.corners.now l.ends.now l.tags.now q l'.corners.now l'.ends.now l'.tags.now inv.placed
-          (steady_tagged t (kept_to f runs ends i)) space.counted space.corners in
+          let a = all_placed p (tagged t kept) l.corners.now l.ends.now l.tags.now q l'.corners.now l'.ends.now l'.tags.now inv.placed in
+          let k = fit p (tagged t kept) l.corners.now l.ends.now l.tags.now q l'.corners.now l'.ends.now l'.tags.now inv.placed
+          (steady_tagged t kept) space.counted space.corners in
+          let long : length (flat ps) ≡ length (flat inv.done) + (length x + length (flat ys)) =
+          omega (
+            arith,
+            ap (λ (ks : List (List ℕ)). length (flat ks)) (inv.all ∙ ap (λ (ks : List (List ℕ)). inv.done ++ ks) here),
+            ap length (flat_append inv.done (x ∷ ys)),
+            length-append (flat inv.done) (flat (x ∷ ys)),
+            length-append x (flat ys),
+          ) in
           record {
             counted = omega (arith, k.0, inv.same.ends.long);
             tags = omega (arith, space.tags, inv.same.ends.long, inv.same.tags.long);
             corners = omega (arith, k.1, inv.same.corners.long);
-            short = rw long (omega (arith, space.short, b.0, b.1, a.entered, kept_short f runs ends up i inv.within));
+            short = omega (arith, space.short, runs_short runs ends up, long, a.entered, flat_passing f inv.done);
           }
 
-      next : kept_to f runs ends (i + 1) ≡ kept_to f runs ends i ++ passing f (piece ∷ [])
-      next = kept_more f runs ends i ∙ ap (λ (c : List ℕ). kept_to f runs ends i ++ passing f (c ∷ [])) (sym (part_is runs ends start i inv.starts))
-
       -- it isn't kept
-      pub skipped : f (take (get_or ends i 0 - start) (drop start runs)) ≡ false → Going f runs ends p t l l' q (get_or ends i 0) (i + 1)
+      pub skipped : f x ≡ false → Going f (runs_of runs ends) p t l l' q ys
       skipped n =
-          let none : kept_to f runs ends (i + 1) ≡ kept_to f runs ends i =
-          next ∙ ap (λ (ks : List (List ℕ)). kept_to f runs ends i ++ ks) (kept_no f piece n) ∙ append-nil (kept_to f runs ends i) in
           record {
-            within = omega (arith, more);
-            starts = sym (prior_more ends i);
+            done = inv.done ++ x ∷ [];
+            all = all_with;
             same = inv.same;
-            placed = inv.placed ∙ ap (λ (ks : List (List ℕ)). placed_in p (tagged t ks) l) (sym none);
+            placed = inv.placed ∙ ap (λ (ks : List (List ℕ)). placed_in p (tagged t ks) l) (sym (kept_with [] (kept_no f x n) ∙ append-nil kept));
           }
 
       -- it is kept
-      module _ (y : f (take (get_or ends i 0 - start) (drop start runs)) ≡ true) where
-        step : placed_in p (tagged t (kept_to f runs ends (i + 1))) l ≡ placed_in q (tagged t (piece ∷ [])) l'
+      module _ (y : f x ≡ true) where
+        step : placed_in p (tagged t (passing f (inv.done ++ x ∷ []))) l ≡ placed_in q (tagged t (x ∷ [])) l'
         step =
-            let one : kept_to f runs ends (i + 1) ≡ kept_to f runs ends i ++ piece ∷ [] =
-            next ∙ ap (λ (ks : List (List ℕ)). kept_to f runs ends i ++ ks) (kept_yes f piece y) in
-            ap (λ (ks : List (List ℕ)). placed_in p (tagged t ks) l) one
-            ∙ ap (λ (z : Yield). placed_in p z l) (tagged_both t (kept_to f runs ends i) (piece ∷ []))
-            ∙ placed_behind_lem p (tagged t (kept_to f runs ends i)) (tagged t (piece ∷ [])) l.corners.now l.ends.now l.tags.now
-            (steady_tagged t (kept_to f runs ends i)) space.counted space.tags space.corners q l'.corners.now l'.ends.now l'.tags.now inv.placed
+            ap (λ (ks : List (List ℕ)). placed_in p (tagged t ks) l) (kept_with (x ∷ []) (kept_yes f x y))
+            ∙ ap (λ (z : Yield). placed_in p z l) (tagged_both t kept (x ∷ []))
+            ∙ placed_behind_lem p (tagged t kept) (tagged t (x ∷ [])) l.corners.now l.ends.now l.tags.now
+            (steady_tagged t kept) space.counted space.tags space.corners q l'.corners.now l'.ends.now l'.tags.now inv.placed
 
-        pub laid : (r : Listed) (l'' : PieceLists) → left (Ok r) l'' ≡ placed_in q (tagged t (take (get_or ends i 0 - start) (drop start runs) ∷ [])) l'
-            → SameLists l'' l' → Going f runs ends p t l l'' r (get_or ends i 0) (i + 1)
-        laid r l'' got s =
-            record {
-              within = omega (arith, more);
-              starts = sym (prior_more ends i);
-              same = same_both l l' l'' s inv.same;
-              placed = got ∙ sym step;
-            }
+        pub laid : (r : Listed) (l'' : PieceLists) → left (Ok r) l'' ≡ placed_in q (tagged t (x ∷ [])) l' → SameLists l'' l' → Going f (runs_of runs ends) p t l l'' r ys
+        laid r l'' got s = record { done = inv.done ++ x ∷ []; all = all_with; same = same_both l l' l'' s inv.same; placed = got ∙ sym step }
 
-        pub unlaid : (e : Refusal) → Err (number e) ≡ (placed_in q (tagged t (take (get_or ends i 0 - start) (drop start runs) ∷ [])) l').answer
-            → Err (number e) ≡ (placed_in p (tagged t (passing f (runs_of runs ends))) l).answer
+        pub unlaid : (e : Refusal) → Err (number e) ≡ (placed_in q (tagged t (x ∷ [])) l').answer → Err (number e) ≡ (placed_in p (tagged t (passing f (runs_of runs ends))) l).answer
         unlaid e got =
-            let b = kept_behind f runs ends (i + 1) (omega (arith, more)) in
-            let met : Err (number e) ≡ (placed_in p (tagged t (kept_to f runs ends (i + 1))) l).answer = got ∙ sym (ap (λ (g : Placing). g.answer) step) in
-            met ∙ sym (ap (λ (g : Placing). g.answer) (ap (λ (ks : List (List ℕ)). placed_in p (tagged t ks) l) b.1
-            ∙ ap (λ (z : Yield). placed_in p z l) (tagged_both t (kept_to f runs ends (i + 1)) b.0)
-            ∙ refused_first p (tagged t (kept_to f runs ends (i + 1))) (tagged t b.0) l.corners.now l.ends.now l.tags.now e met))
+            let ks : List (List ℕ) = passing f (inv.done ++ x ∷ []) in
+            let met : Err (number e) ≡ (placed_in p (tagged t ks) l).answer = got ∙ sym (ap (λ (g : Placing). g.answer) step) in
+            met ∙ sym (ap (λ (g : Placing). g.answer)
+            (ap (λ (ms : List (List ℕ)). placed_in p (tagged t ms) l) (ap (passing f) all_with ∙ passing_append f (inv.done ++ x ∷ []) ys)
+            ∙ ap (λ (z : Yield). placed_in p z l) (tagged_both t ks (passing f ys))
+            ∙ refused_first p (tagged t ks) (tagged t (passing f ys)) l.corners.now l.ends.now l.tags.now e met))
 
 -- ---- behind the last piece, or the lists cleared where one had no place
 

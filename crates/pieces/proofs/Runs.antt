@@ -1,24 +1,22 @@
--- Runs of a flat list by their ends: the part that is lent, pieces read back, and those of the first i that are kept. Assumes nothing.
+-- Runs of a flat list by their ends: the list of them, one by one and by number, pieces read back, and the room that they take up. Assumes nothing.
 use mathlib.Core.Path.{◌≡◌, refl, sym, ap, ap₂, ◌∙◌}
 use mathlib.Core.Bool.{Bool, true, false}
-use mathlib.Core.List.{List, [], ◌∷◌, ◌++◌, append-nil, append_assoc}
+use mathlib.Core.List.{List, [], ◌∷◌, ◌++◌, append_assoc}
 use Prim.Native.Nat.{ℕ, zero, suc, ◌+◌, ◌-◌, ◌≤◌, ◌<◌}
-use native.Mathlib.Nat.{le_trans, zero-add, suc-add}
-use native.Mathlib.Numerals.{add-one}
+use native.Mathlib.Nat.{le_trans}
 use native.Mathlib.Omega.{arith}
 use lib.ListN.{length, get_or, take, drop, length-append}
-use lib.Seq.{take_at, drop-append-add}
-use Rattle.lists.specs.Gather.{gathered, each, passing}
+use lib.Seq.{take_at, drop_at}
+use Rattle.lists.specs.Gather.{passing}
 use Rattle.lists.specs.Regions.{run}
-use Rattle.lists.proofs.Gather.{each_more, length_each, get_or_each, passing_append, each_ext, each_get_or}
+use Rattle.lists.specs.Runs.{runs_from, runs}
+use Rattle.lists.proofs.Gather.{length_each, get_or_each}
 use Rattle.lists.proofs.Regions.{length_run}
 use Rattle.cutting.specs.Outcome.{flat, stops}
-use Rattle.cutting.proofs.Runs.{stops_length}
 use Rattle.entry.specs.Mesh.{mesh, prior, Rising}
-use Rattle.entry.proofs.Ends.{prior_more}
+use Rattle.entry.proofs.Runs.{runs_are}
 use Rattle.rules.specs.Mesh.{cell_at, cells_of}
 use Rattle.pieces.specs.Pieces.{runs_of}
-use Rattle.pieces.proofs.Room.{flat_append}
 
 pub length_runs : (nodes ends : List ℕ) → length (runs_of nodes ends) ≡ length ends
 unfolding cells_of
@@ -28,142 +26,85 @@ pub run_at : (nodes ends : List ℕ) (i : ℕ) → i < length ends → get_or (r
 unfolding cells_of
 run_at nodes ends i h = get_or_each (length ends) (cell_at (mesh [] nodes ends [] [])) i [] h
 
--- the part that is lent is run i
-pub part_is : (nodes ends : List ℕ) (start i : ℕ) → start ≡ prior ends i → take (get_or ends i 0 - start) (drop start nodes) ≡ cell_at (mesh [] nodes ends [] []) i
-unfolding cell_at run
-part_is nodes ends start i e = ap (λ (s : ℕ). take (get_or ends i 0 - s) (drop s nodes)) e
+-- one by one
+pub runs_one_by_one : (nodes ends : List ℕ) → runs nodes ends ≡ runs_of nodes ends
+unfolding cells_of cell_at
+runs_one_by_one nodes ends = runs_are nodes ends
 
 -- ---- pieces read back
+
+-- behind others
+back_from : (before : List ℕ) (ps : List (List ℕ)) (k : ℕ) → k ≡ length before → runs_from k (before ++ flat ps) (stops k ps) ≡ ps
+unfolding runs_from run stops flat
+back_from before [] k e = refl
+back_from before (p ∷ ps) k e =
+    let n : k + length p - k ≡ length p = omega arith in
+    let here : drop k (before ++ (p ++ flat ps)) ≡ p ++ flat ps = drop_at before (p ++ flat ps) k (sym e) in
+    let long : k + length p ≡ length (before ++ p) = omega (arith, e, length-append before p) in
+    ap₂ (λ (x : List ℕ) (l : List (List ℕ)). x ∷ l) (ap₂ take n here ∙ take_at p (flat ps) (length p) refl)
+    (ap (λ (xs : List ℕ). runs_from (k + length p) xs (stops (k + length p) ps)) (sym (append_assoc before p (flat ps))) ∙ back_from (before ++ p) ps (k + length p) long)
+
+pub read_back : (ps : List (List ℕ)) → runs_of (flat ps) (stops 0 ps) ≡ ps
+read_back ps = sym (runs_one_by_one (flat ps) (stops 0 ps)) ∙ back_from [] ps 0 refl
+
+-- ---- they rise
 
 -- where run j starts, the first at k
 abbrev start : ℕ → List ℕ → ℕ → ℕ
 start k es zero = k
 start k es (suc j) = get_or es j 0
 
-start_shift : (k k' : ℕ) (es : List ℕ) (j : ℕ) → start k (k' ∷ es) (suc j) ≡ start k' es j
-start_shift k k' es zero = refl
-start_shift k k' es (suc j) = refl
+start_later : (k e : ℕ) (es : List ℕ) (j : ℕ) → start k (e ∷ es) (suc j) ≡ start e es j
+start_later k e es zero = refl
+start_later k e es (suc j) = refl
 
-prior_start : (es : List ℕ) (j : ℕ) → prior es j ≡ start 0 es j
+prior_is : (es : List ℕ) (j : ℕ) → prior es j ≡ start 0 es j
 unfolding prior
-prior_start es zero = refl
-prior_start es (suc j) = refl
+prior_is es zero = refl
+prior_is es (suc j) = refl
 
--- run j: its start, its end, its corners
-stops_at : (k : ℕ) (ps : List (List ℕ)) (j : ℕ) → j < length ps
-    → (k ≤ start k (stops k ps) j) × (get_or (stops k ps) j 0 ≡ start k (stops k ps) j + length (get_or ps j [])) × (get_or (stops k ps) j 0 ≤ k + length (flat ps))
-    × (take (length (get_or ps j [])) (drop (start k (stops k ps) j - k) (flat ps)) ≡ get_or ps j [])
+-- the first starts at k, and they end within n numbers
+abbrev Up : ℕ → List ℕ → ℕ → Type 0
+Up k ends n = (j : ℕ) → j < length ends → (start k ends j ≤ get_or ends j 0) × (get_or ends j 0 ≤ n)
+
+up_later : (k e : ℕ) (ends : List ℕ) (n : ℕ) → Up k (e ∷ ends) n → Up e ends n
+up_later k e ends n up j h = let u = up (suc j) (omega (arith, h)) in (omega (arith, u.0, start_later k e ends j), u.1)
+
+stops_up : (k : ℕ) (ps : List (List ℕ)) → Up k (stops k ps) (k + length (flat ps))
 unfolding stops flat
-stops_at k [] j h = absurd (omega (arith, h))
-stops_at k (p ∷ ps) zero h =
-    let none : k - k ≡ 0 = omega arith in
-    (omega arith, refl, omega (arith, length-append p (flat ps)), ap (λ (a : ℕ). take (length p) (drop a (p ++ flat ps))) none ∙ take_at p (flat ps) (length p) refl)
-stops_at k (p ∷ ps) (suc j) h =
-    let k' : ℕ = k + length p in
-    let ih = stops_at k' ps j (omega (arith, h)) in
-    let at : start k (k' ∷ stops k' ps) (suc j) ≡ start k' (stops k' ps) j = start_shift k k' (stops k' ps) j in
-    let off : start k (k' ∷ stops k' ps) (suc j) - k ≡ length p + (start k' (stops k' ps) j - k') = omega (arith, at, ih.0) in (
-      omega (arith, at, ih.0),
-      ih.1 ∙ ap (λ (a : ℕ). a + length (get_or ps j [])) (sym at),
-      omega (arith, ih.2, length-append p (flat ps)),
-      ap (λ (a : ℕ). take (length (get_or ps j [])) (drop a (p ++ flat ps))) off ∙ ap (take (length (get_or ps j [])))
-          (drop-append-add p (flat ps) (start k' (stops k' ps) j - k')) ∙ ih.3,
-    )
-
-cell_back : (ps : List (List ℕ)) (j : ℕ) → j < length ps → cell_at (mesh [] (flat ps) (stops 0 ps) [] []) j ≡ get_or ps j []
-unfolding cell_at run
-cell_back ps j h =
-    let r = stops_at 0 ps j h in
-    let s : ℕ = start 0 (stops 0 ps) j in
-    let size : get_or (stops 0 ps) j 0 - s ≡ length (get_or ps j []) = omega (arith, r.1) in
-    let off : s ≡ s - 0 = omega arith in
-    ap (λ (a : ℕ). take (get_or (stops 0 ps) j 0 - a) (drop a (flat ps))) (prior_start (stops 0 ps) j) ∙ ap₂ (λ (a b : ℕ). take a (drop b (flat ps))) size off ∙ r.3
-
-pub read_back : (ps : List (List ℕ)) → runs_of (flat ps) (stops 0 ps) ≡ ps
-unfolding cells_of
-read_back ps =
-    ap (λ (n : ℕ). each n (cell_at (mesh [] (flat ps) (stops 0 ps) [] []))) (stops_length 0 ps)
-    ∙ each_ext (length ps) (cell_at (mesh [] (flat ps) (stops 0 ps) [] [])) (λ j. get_or ps j []) (cell_back ps) ∙ each_get_or ps []
+stops_up k [] j h = absurd (omega (arith, h))
+stops_up k (p ∷ ps) zero h = (omega arith, omega (arith, length-append p (flat ps)))
+stops_up k (p ∷ ps) (suc j) h =
+    let u = stops_up (k + length p) ps j (omega (arith, h)) in
+    (omega (arith, u.0, start_later k (k + length p) (stops (k + length p) ps) j), omega (arith, u.1, length-append p (flat ps)))
 
 pub stops_rise : (ps : List (List ℕ)) → Rising (stops 0 ps) (length (flat ps))
-stops_rise ps j h =
-    let r = stops_at 0 ps j (omega (arith, h, stops_length 0 ps)) in
-    (omega (arith, r.1, prior_start (stops 0 ps) j), omega (arith, r.2))
+stops_rise ps j h = let u = stops_up 0 ps j h in (omega (arith, u.0, prior_is (stops 0 ps) j), omega (arith, u.1))
 
--- ---- kept
+-- ---- their room
 
--- those of the first i runs that are kept
-abbrev pub kept_to : (List ℕ → Bool) → List ℕ → List ℕ → ℕ → List (List ℕ)
-kept_to f runs ends i = passing f (each i (cell_at (mesh [] runs ends [] [])))
+short_from : (k : ℕ) (xs ends : List ℕ) → k ≤ length xs → Up k ends (length xs) → k + length (flat (runs_from k xs ends)) ≤ length xs
+unfolding runs_from flat
+short_from k xs [] h up = omega (arith, h)
+short_from k xs (e ∷ ends) h up =
+    let u = up 0 (omega arith) in
+    let r : List ℕ = run xs k (e - k) in
+    omega (arith, u.0, length_run xs k (e - k) (omega (arith, u.0, u.1)), length-append r (flat (runs_from e xs ends)), short_from e xs ends u.1 (up_later k e ends (length xs) up))
 
-pub kept_more : (f : List ℕ → Bool) (runs ends : List ℕ) (i : ℕ) → kept_to f runs ends (i + 1) ≡ kept_to f runs ends i ++ passing f (cell_at (mesh [] runs ends [] []) i ∷ [])
-kept_more f runs ends i =
-    ap (passing f) (each_more i (cell_at (mesh [] runs ends [] []))) ∙ passing_append f (each i (cell_at (mesh [] runs ends [] []))) (cell_at (mesh [] runs ends [] []) i ∷ [])
+pub runs_short : (xs ends : List ℕ) → Rising ends (length xs) → length (flat (runs_of xs ends)) ≤ length xs
+runs_short xs ends up =
+    omega (arith, ap (λ (ps : List (List ℕ)). length (flat ps)) (runs_one_by_one xs ends), short_from 0 xs ends (omega arith) (λ j h. let u = up j h in (omega (arith, u.0, prior_is ends j), u.1)))
 
--- the first n stand before the others
-each_behind : {A : Type 0} (g : ℕ → A) (n k : ℕ) → (more : List A) × (each (k + n) g ≡ each n g ++ more)
-unfolding gathered
-each_behind g n zero = rw zero-add ([], sym (append-nil (each n g)))
-each_behind g n (suc k) =
-    let h = each_behind g n k in
-    rw suc-add (h.0 ++ g (k + n) ∷ [], ap (λ (l : List _). l ++ g (k + n) ∷ []) h.1 ∙ append_assoc (each n g) h.0 (g (k + n) ∷ []))
-
-pub kept_behind : (f : List ℕ → Bool) (runs ends : List ℕ) (i : ℕ) → i ≤ length ends → (more : List (List ℕ)) × (passing f (runs_of runs ends) ≡ kept_to f runs ends i ++ more)
-unfolding cells_of
-kept_behind f runs ends i h =
-    let g : ℕ → List ℕ = cell_at (mesh [] runs ends [] []) in
-    let n : length ends - i + i ≡ length ends = omega (arith, h) in
-    let b = each_behind g i (length ends - i) in
-    (passing f b.0, ap (λ (k : ℕ). passing f (each k g)) (sym n) ∙ ap (passing f) b.1 ∙ passing_append f (each i g) b.0)
-
-flat_passing : (f : List ℕ → Bool) (q : List ℕ) → length (flat (passing f (q ∷ []))) ≤ length q
+pub flat_passing : (f : List ℕ → Bool) (ps : List (List ℕ)) → length (flat (passing f ps)) ≤ length (flat ps)
 unfolding flat passing
-flat_passing f q = go (f q)
+flat_passing f [] = omega arith
+flat_passing f (p ∷ ps) = go (f p) (flat_passing f ps)
   where
-    go : (t : Bool) → (let l : List (List ℕ) = elim t [ true ↦ q ∷ [] | false ↦ [] ] in length (flat l) ≤ length q)
-    go true = omega (arith, length-append q [])
-    go false = omega arith
+    go : (t : Bool) → length (flat (passing f ps)) ≤ length (flat ps)
+        → (let l : List (List ℕ) = elim t [ true ↦ p ∷ passing f ps | false ↦ passing f ps ] in length (flat l) ≤ length (p ++ flat ps))
+    go true h = omega (arith, h, length-append p (flat (passing f ps)), length-append p (flat ps))
+    go false h = omega (arith, h, length-append p (flat ps))
 
-pub length_cell : (runs ends : List ℕ) (i : ℕ) → prior ends i ≤ get_or ends i 0 → get_or ends i 0 ≤ length runs
-    → length (cell_at (mesh [] runs ends [] []) i) ≡ get_or ends i 0 - prior ends i
-unfolding cell_at
-length_cell runs ends i h k = length_run runs (prior ends i) (get_or ends i 0 - prior ends i) (omega (arith, h, k))
-
-module _ (f : List ℕ → Bool) (runs ends : List ℕ) (up : Rising ends (length runs)) where
-  short_none : length (flat (kept_to f runs ends 0)) ≤ prior ends 0
-  unfolding gathered flat passing prior
-  short_none = omega arith
-
-  short_more : (i : ℕ) → i < length ends → length (flat (kept_to f runs ends i)) ≤ prior ends i → length (flat (kept_to f runs ends (i + 1))) ≤ prior ends (i + 1)
-  short_more i h ih =
-      let cell : List ℕ = cell_at (mesh [] runs ends [] []) i in
-      let b = up i h in
-      let s : flat (kept_to f runs ends (i + 1)) ≡ flat (kept_to f runs ends i) ++ flat (passing f (cell ∷ [])) =
-      ap flat (kept_more f runs ends i) ∙ flat_append (kept_to f runs ends i) (passing f (cell ∷ [])) in
-      omega (
-        arith,
-        ih,
-        b.0,
-        ap length s,
-        length-append (flat (kept_to f runs ends i)) (flat (passing f (cell ∷ []))),
-        flat_passing f cell,
-        length_cell runs ends i b.0 b.1,
-        prior_more ends i,
-      )
-
-  zero_prior : prior ends 0 ≤ length runs
-  unfolding prior
-  zero_prior = omega arith
-
-  -- what is kept of the first i runs has no more corners than they
-  pub kept_short : (i : ℕ) → i ≤ length ends → length (flat (kept_to f runs ends i)) ≤ prior ends i
-  kept_short zero h = short_none
-  kept_short (suc i) h = rw (← add-one i) (short_more i (omega (arith, h)) (kept_short i (omega (arith, h))))
-
-  pub kept_within : length (flat (passing f (runs_of runs ends))) ≤ length runs
-  unfolding cells_of
-  kept_within = le_trans (kept_short (length ends) (omega arith)) (last (length ends) (omega arith))
-    where
-      last : (n : ℕ) → n ≤ length ends → prior ends n ≤ length runs
-      last zero h = zero_prior
-      last (suc i) h = rw (← add-one i) (rw prior_more (up i (omega (arith, h))).1)
+-- what is kept of them has no more corners than they
+pub kept_within : (f : List ℕ → Bool) (runs ends : List ℕ) → Rising ends (length runs) → length (flat (passing f (runs_of runs ends))) ≤ length runs
+kept_within f runs ends up = le_trans (flat_passing f (runs_of runs ends)) (runs_short runs ends up)

@@ -1,9 +1,7 @@
 -- Which pieces are kept, and where they are placed. Assumes nothing.
-use Rattle.std.specs.Prelude.{◌≡◌, Bool, true, false, cond, Result, Ok, Err, List, [], ◌++◌, map, ℕ, zero, suc, ◌+◌, ◌-◌, ◌^◌, ◌≤◌, ◌<◌, eqb, length, get_or, replicate, Float, MatchResult}
+use Rattle.std.specs.Prelude.{◌≡◌, Bool, true, false, cond, Result, Ok, Err, List, [], ◌++◌, map, ℕ, zero, suc, ◌+◌, ◌-◌, ◌^◌, ◌≤◌, ◌<◌, eqb, length, replicate, Float, MatchResult}
 use Rattle.lists.specs.Regions.{put, zeros}
-use Rattle.plane.specs.declared.Point.{Point}
 use Rattle.views.specs.Same.{SameList}
-use Rattle.insides.specs.Inside.{inside}
 use Rattle.cutting.specs.Outcome.{flat, stops}
 use Rattle.entry.specs.Mesh.{mesh}
 use Rattle.rules.specs.Mesh.{cells_of, Side, the_subject, the_cutter}
@@ -128,10 +126,3 @@ BeforeZeroing g r l = MatchResult r (λ x. left (Ok x) l ≡ g) (λ e. Err (numb
 -- the cells of the other mesh
 abbrev pub cells_in : Things → List (List ℕ)
 cells_in t = runs_of t.nodes.now t.ends.now
-
-abbrev pub cell_at : Things → ℕ → List ℕ
-cell_at t j = get_or (cells_in t) j []
-
--- cell j contains p
-abbrev pub cell_contains : Things → Point → ℕ → Bool
-cell_contains t p j = inside t.coords.now (cell_at t j) p

@@ -6,71 +6,28 @@ ghost use Rattle.std.specs.List.{All, list_any};
 ghost use Rattle.lists.specs.Gather.{passing};
 ghost use Rattle.entry.specs.Mesh.{prior, Rising};
 ghost use Rattle.rules.specs.Inside.{some_holds, point_inside};
-ghost use Rattle.pieces.specs.Pieces.{side_of, runs_of, cells_in, cell_at, cell_contains, keep_of, is_kept, tagged, Space, left, left_by, refused_in, placed_in, BeforeZeroing, SameLists};
+ghost use Rattle.pieces.specs.Pieces.{side_of, runs_of, cells_in, keep_of, is_kept, tagged, Space, left, left_by, refused_in, placed_in, BeforeZeroing, SameLists};
 
 use corners::Ring;
 use entry::Operation;
 use insides::inside;
-use lists::copy_at;
+use lists::{Runs, copy_at};
 use plane::Point;
 use polygons::strict_interior_point;
 use refusals::Refusal;
 use spatial_index::point_bounds;
-use strips::{Index, Things};
+use strips::Index;
 
 // ---- Inside the other mesh or not
 
-// Where cell j starts.
-#[tactic(auto, using(strips::proofs::PairsOrRuns::prior_first, strips::proofs::PairsOrRuns::prior_later))]
-fn start_of(cells: Things, j: usize) -> usize
-    requires { j < length cells.ends.now }
-    ensures { result ≡ prior cells.entry.ends.now j }
-{
-    if j == 0 {
-        return 0;
-    }
-    cells.ends[j - 1] as usize
-}
-
-// The corners of cell j.
-#[tactic(auto, using(crate::proofs::Inside::lent_is))]
-fn cell<'a>(cells: Things<'a>, j: usize) -> &'a [u32]
-    requires { j < length cells.ends.now }
-    ensures { result.now ≡ cell_at cells.entry j }
-{
-    let start = start_of(cells, j);
-    let end = cells.ends[j] as usize;
-    &cells.nodes[start..end]
-}
-
-// Whether one of the cells at these places contains p.
-fn one_contains(cells: Things, js: &[u32], p: Point) -> bool
-    requires { All (λ j. j < length cells.ends.now) js.now }
-    ensures { result ≡ list_any (cell_contains cells.entry p) js.now }
-{
-    js.iter().any(|j| inside(Ring::new(cells.coords, cell(cells, *j as usize)), p))
-}
-
-// Whether some cell holds the point: those whose boxes hold it are asked, 64 at a time. A `while`, since a round begins behind the last cell that the one
-// before it found.
-#[tactic(auto, using(crate::proofs::Inside::places_low, crate::proofs::Inside::last_within, crate::proofs::Inside::none_holds))]
+// Whether some cell holds the point: of those whose boxes hold it some contains it.
 fn some_holds(cells: Index, p: Point) -> bool
     ensures { result ≡ some_holds cells.entry.things.coords.now (cells_in cells.entry.things) (Some p) }
 {
-    let bounds = point_bounds(p);
-    let mut found = [0u32; 64];
-    let mut from: usize = 0;
-    while from < cells.things.ends.len() {
-        let n = cells.gather(bounds, from, &mut found);
-        if one_contains(cells.things, &found[..n], p) {
-            return true;
-        }
-        if n < 64 {
-            return false;
-        }
-        from = found[63] as usize + 1;
-    }
-    false
+    let things = cells.things;
+    cells
+        .near(point_bounds(p))
+        .any(|j| inside(Ring::new(things.coords, things.run(j)), p))
 }
 
 // Whether the piece lies inside the mesh of the given cells.
@@ -164,8 +121,7 @@ impl<'a> PieceLists<'a> {
         })
     }
 
-    // Places the pieces that are kept, one after the other, up to the first that has no place. Each begins where the one before it ends: windows over the
-    // ends have no first run.
+    // Places the pieces that are kept, one after the other, up to the first that has no place.
     fn place_run(
         &mut self,
         keep: Keep,
@@ -182,14 +138,10 @@ impl<'a> PieceLists<'a> {
         ensures same_lists { SameLists self.new self.old }
     {
         let mut placed = p;
-        let mut start: usize = 0;
-        for stop in stops {
-            let end = *stop as usize;
-            let piece = &runs[start..end];
+        for piece in Runs::new(runs, stops) {
             if keep.is_kept(cells, piece) {
                 placed = self.place(placed, piece, tag)?;
             }
-            start = end;
         }
         Ok(placed)
     }

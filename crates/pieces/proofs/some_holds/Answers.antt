@@ -1,26 +1,13 @@
-use mathlib.Core.Path.{◌∙◌}
-use Rattle.pieces.proofs.Inside.{one_holds, passed_all, passed_more}
+use Rattle.std.proofs.Common.{rules}
+use Rattle.std.proofs.lemmas.Iterator.Consumers.{YieldsList-from_first}
+use Rattle.std.proofs.lemmas.Iterator.Search.{any_from_yields_List}
+use Rattle.strips.specs.Near.{near_left}
+use Rattle.pieces.proofs.Inside.{contains, some_contains}
 use Rattle.pieces.proofs.some_holds.Goals as goal
 
-pub returns-then-one_contains : goal.returns-then-one_contains
-returns-then-one_contains c =
-    let l = c.loop-from in
-    let near = rw c.point_bounds-bounds.ensures at c.gather-n.ensures in
-    one_holds _ _ _ _ l.from _ l.found _ c.loop-from-test.true l.invariant.room near _ c.one_contains.ensures c.if-one_contains.true
-
-pub returns-then-n-lt64 : goal.returns-then-n-lt64
-returns-then-n-lt64 c =
-    let l = c.loop-from in
-    let near = rw c.point_bounds-bounds.ensures at c.gather-n.ensures in
-    passed_all _ _ _ _ l.from _ l.found _ c.loop-from-test.true l.invariant.room near _ c.one_contains.ensures c.if-one_contains.false
-    l.invariant.passed c.if-n-lt64.true
-
-pub loop-from-preserved : goal.loop-from-preserved
-loop-from-preserved c =
-    let l = c.loop-from in
-    let near = rw c.point_bounds-bounds.ensures at c.gather-n.ensures in
-    record {
-      room = c.gather-n.auto.found ∙ l.invariant.room;
-      passed = passed_more _ _ _ _ l.from _ l.found _ c.loop-from-test.true l.invariant.room near _ c.one_contains.ensures c.if-one_contains.false
-          l.invariant.passed c.if-n-lt64.false;
-    }
+pub returns : goal.returns
+returns c =
+    let t = c.args.cells.things in
+    some_contains _ _ _ _ _ _ c.point_bounds.ensures
+    (any_from_yields_List (contains t.coords.now t.nodes.now c.args.p t.ends.now) c.any.new.self _ c.any.result c.any.ensures.ran
+    (YieldsList-from_first (λ j. j) near_left _ c.near.ensures) (λ j b q k. search rules))
