@@ -100,6 +100,7 @@ pub struct PieceLists<'a> {
 
 impl<'a> PieceLists<'a> {
     // Places one piece behind those that p counts. Nothing changes where it has no place.
+    #[tactic(auto, using(crate::proofs::Piece::no_end, crate::proofs::Piece::no_corners))]
     fn place(&mut self, p: Listed, piece: &[u32], tag: u32) -> Result<Listed, Refusal>
         requires { Space p (length piece.now) self.old }
         ensures placed { BeforeZeroing (placed_in p (tagged tag (piece.now ∷ [])) self.old) result self.new }
@@ -122,6 +123,7 @@ impl<'a> PieceLists<'a> {
     }
 
     // Places the pieces that are kept, one after the other, up to the first that has no place.
+    #[tactic(auto, using(crate::proofs::Loops::laid, crate::proofs::Loops::end))]
     fn place_run(
         &mut self,
         keep: Keep,
@@ -158,6 +160,7 @@ impl<'a> PieceLists<'a> {
 
     // Places the pieces that are kept behind those that p counts, each with the tag. As many pieces have a place as there is room for ends; a refusal
     // leaves zeros. No `or_else`: its closure would have to be lent the lists, and what it does to them isn't known behind it.
+    #[tactic(auto, using(crate::proofs::Loops::left_ok))]
     pub fn place_pieces(
         &mut self,
         keep: Keep,

@@ -2,7 +2,7 @@ use mathlib.Core.Path.{sym, ap, ◌∙◌}
 use Rattle.refusals.proofs.Residual.{passed_on}
 use Rattle.lists.specs.Runs.{runs_left}
 use Rattle.pieces.proofs.Runs.{runs_one_by_one}
-use Rattle.pieces.proofs.Loops.{begin, next_space, skipped, laid, unlaid, end}
+use Rattle.pieces.proofs.Loops.{begin, next_space, skipped, unlaid}
 use Rattle.pieces.proofs.PieceLists.place_run.Goals as goal
 
 pub loop-piece-init : goal.loop-piece-init
@@ -25,22 +25,9 @@ returns-in_err-placed-clause-placed c =
     (unlaid _ _ _ c.requires.0 a.p a.tag a.self.now c.requires.1 l.self l.placed _ l.invariant _ _ c.in-Some.ensures.steps
     (sym c.is_kept.ensures ∙ c.if-is_kept.true) _ c.in_err-placed.ensures.placed)
 
-pub loop-piece-preserved-then-is_kept : goal.loop-piece-preserved-then-is_kept
-loop-piece-preserved-then-is_kept c =
-    let a = c.args in
-    let l = c.loop-piece in
-    laid _ _ _ c.requires.0 a.p a.tag a.self.now c.requires.1 l.self l.placed _ l.invariant _ _ c.in-Some.ensures.steps
-    (sym c.is_kept.ensures ∙ c.if-is_kept.true) _ c.place.new.self c.in_ok-placed.ensures.placed c.in_ok-placed.ensures.same_lists
-
 pub loop-piece-preserved : goal.loop-piece-preserved
 loop-piece-preserved c =
     let a = c.args in
     let l = c.loop-piece in
     skipped _ _ _ c.requires.0 a.p a.tag a.self.now c.requires.1 l.self l.placed _ l.invariant _ _ c.in-Some.ensures.steps
     (sym c.is_kept.ensures ∙ c.if-is_kept.false)
-
-pub returns-clause-placed : goal.returns-clause-placed
-returns-clause-placed c =
-    let a = c.args in
-    let l = c.loop-piece in
-    end _ _ _ c.requires.0 a.p a.tag a.self.now c.requires.1 l.self l.placed _ l.invariant c.in-None.ensures.steps.0
