@@ -2,7 +2,7 @@
 use mathlib.Core.Path.{◌≡◌, refl, sym, ap, ap₂, ◌∙◌}
 use mathlib.Core.Bool.{Bool, true, false, true≢false, ◌&&◌}
 use mathlib.Core.List.{List, [], ◌∷◌, ◌++◌}
-use Prim.Native.Nat.{ℕ, zero, suc, ◌+◌, ◌/◌, ◌≤◌, ◌<◌}
+use Prim.Native.Nat.{ℕ, zero, suc, ◌+◌, ◌-◌, ◌/◌, ◌≤◌, ◌<◌}
 use native.Mathlib.Numerals.{add-one}
 use native.Mathlib.Decide.{dec_lt, ℕ_discrete}
 use native.Mathlib.Omega.{arith}
@@ -19,7 +19,7 @@ use Rattle.std.proofs.lemmas.List.{get_or_default}
 use Rattle.cutting.proofs.Pairs.{pairs_length}
 use Rattle.cutting.proofs.Chunks.{chunk_at}
 use Rattle.keys.specs.Chains.{edge_chain}
-use Rattle.neighbours.specs.Chains.{last_below, on_chain, Chained, linked}
+use Rattle.neighbours.specs.Chains.{last_below, on_chain, Chained}
 
 -- ---- the last index that passes
 
@@ -98,17 +98,16 @@ module _ (es : List Edge) (f : Edge) where
   snoc_last : edge_at (es ++ f ∷ []) (length es) ≡ f
   snoc_last = ap (edge_at (es ++ f ∷ [])) (sym (omega arith)) ∙ get_or-append-add es (f ∷ []) 0 (0, 0)
 
-pub length_linked : (h : ℕ) (links : List ℕ) (k c : ℕ) → length (linked h links k c) ≡ length links
-unfolding linked
-length_linked h links k c = length-set (set links (h + k) (get_or links c 0)) c (k + 1) ∙ length-set links (h + k) (get_or links c 0)
-
-pub chained_none : (h : ℕ) (links : List ℕ) → ((c : ℕ) → c < h → get_or links c 0 ≡ 0) → Chained h [] links
+pub chained_none : (heads nexts : List ℕ) → ((c : ℕ) → c < length heads → get_or heads c 0 ≡ 0) → Chained [] heads nexts
 unfolding last_below
-chained_none h links zero-there = record { head = zero-there; previous = λ e l. absurd (omega (arith, l)) }
+chained_none heads nexts zero-there = record { head = zero-there; next = λ e l. absurd (omega (arith, l)) }
 
-module _ (h : ℕ) (es : List Edge) (links : List ℕ) (f : Edge) (some : 0 < h) (fits : h + length es < length links) (is : Chained h es links) where
+module _ (es : List Edge) (heads nexts : List ℕ) (f : Edge) (some : 0 < length heads) (fits : length es < length nexts) (is : Chained es heads nexts) where
   abbrev gs : List Edge
   gs = es ++ f ∷ []
+
+  abbrev h : ℕ
+  h = length heads
 
   abbrev k : ℕ
   k = length es
@@ -116,20 +115,17 @@ module _ (h : ℕ) (es : List Edge) (links : List ℕ) (f : Edge) (some : 0 < h)
   abbrev c : ℕ
   c = edge_chain h f
 
-  abbrev ls : List ℕ
-  ls = set links (h + k) (get_or links c 0)
+  abbrev hs : List ℕ
+  hs = set heads c (k + 1)
 
-  abbrev ms : List ℕ
-  ms = set ls c (k + 1)
+  abbrev ns : List ℕ
+  ns = set nexts k (get_or heads c 0)
 
   low : c < h
   low = omega arith
 
   grown : length gs ≡ k + 1
   grown = length-append es (f ∷ [])
-
-  other : (i : ℕ) → (i ≡ h + k → ⊥) → (i ≡ c → ⊥) → get_or ms i 0 ≡ get_or links i 0
-  other i a b = get_or-set_other ls c i (k + 1) 0 b ∙ get_or-set_other links (h + k) i (get_or links c 0) 0 a
 
   -- the others are on a chain as before
   same : (d n : ℕ) → n ≤ k → last_below (on_chain h es d) n ≡ last_below (on_chain h gs d) n
@@ -138,29 +134,28 @@ module _ (h : ℕ) (es : List Edge) (links : List ℕ) (f : Edge) (some : 0 < h)
   at_last : edge_chain h (edge_at gs k) ≡ c
   at_last = ap (edge_chain h) (snoc_last es f)
 
-  head_more : (d : ℕ) → d < h → Dec (d ≡ c) → get_or ms d 0 ≡ last_below (on_chain h gs d) (k + 1)
+  head_more : (d : ℕ) → d < h → Dec (d ≡ c) → get_or hs d 0 ≡ last_below (on_chain h gs d) (k + 1)
   head_more d b (yes e) =
-      ap (λ (j : ℕ). get_or ms j 0) e ∙ get_or-set_same ls c (k + 1) 0 (omega (arith, length-set links (h + k) (get_or links c 0), low))
-      ∙ sym (last_here (on_chain h gs d) k (eq-eqb (edge_chain h (edge_at gs k)) d (at_last ∙ sym e)))
+      ap (λ (j : ℕ). get_or hs j 0) e ∙ get_or-set_same heads c (k + 1) 0 low ∙ sym (last_here (on_chain h gs d) k (eq-eqb (edge_chain h (edge_at gs k)) d (at_last ∙ sym e)))
   head_more d b (no e) =
-      other d (λ z. omega (arith, z)) e ∙ is.head d b ∙ same d k (omega arith)
+      get_or-set_other heads c d (k + 1) 0 e ∙ is.head d b ∙ same d k (omega arith)
       ∙ sym (last_before (on_chain h gs d) k (ne_eqb (edge_chain h (edge_at gs k)) d (λ z. e (sym z ∙ at_last))))
 
-  previous_more : (e : ℕ) → e < k + 1 → Dec (e ≡ k) → get_or ms (h + e) 0 ≡ last_below (on_chain h gs (edge_chain h (edge_at gs e))) e
-  previous_more e b (yes z) =
-      ap (λ (j : ℕ). get_or ms (h + j) 0) z ∙ get_or-set_other ls c (h + k) (k + 1) 0 (λ y. omega (arith, y, low)) ∙ get_or-set_same links (h + k) (get_or links c 0) 0 fits
+  next_more : (e : ℕ) → e < k + 1 → Dec (e ≡ k) → get_or ns e 0 ≡ last_below (on_chain h gs (edge_chain h (edge_at gs e))) e
+  next_more e b (yes z) =
+      ap (λ (j : ℕ). get_or ns j 0) z ∙ get_or-set_same nexts k (get_or heads c 0) 0 fits
       ∙ is.head c low ∙ same c k (omega arith) ∙ ap₂ (λ (d j : ℕ). last_below (on_chain h gs d) j) (sym at_last ∙ ap (λ (j : ℕ). edge_chain h (edge_at gs j)) (sym z)) (sym z)
-  previous_more e b (no z) =
+  next_more e b (no z) =
       let l : e < k = omega (arith, z) in
-      other (h + e) (λ y. z (omega (arith, y))) (λ y. omega (arith, y, low)) ∙ is.previous e l ∙ same (edge_chain h (edge_at es e)) e (omega arith)
+      get_or-set_other nexts k e (get_or heads c 0) 0 z ∙ is.next e l ∙ same (edge_chain h (edge_at es e)) e (omega arith)
       ∙ ap (λ (g : Edge). last_below (on_chain h gs (edge_chain h g)) e) (sym (snoc_before es f e l))
 
-  pub chained_more : Chained h (es ++ f ∷ []) (linked h links (length es) (edge_chain h f))
-  unfolding linked
+  pub chained_more : Chained (es ++ f ∷ []) (set heads (edge_chain (length heads) f) (length es + 1)) (set nexts (length es) (get_or heads (edge_chain (length heads) f) 0))
   chained_more =
+      let lh : length hs ≡ h = length-set heads c (k + 1) in
       record {
-        head = λ d b. head_more d b (ℕ_discrete d c) ∙ ap (last_below (on_chain h gs d)) (sym grown);
-        previous = λ e b. previous_more e (omega (arith, grown)) (ℕ_discrete e k);
+        head = λ d b. rw (lh, grown) (head_more d (omega (arith, b, lh)) (ℕ_discrete d c));
+        next = λ e b. rw lh (next_more e (omega (arith, b, grown)) (ℕ_discrete e k));
       }
 
 -- ---- `has_key`
@@ -186,9 +181,12 @@ abbrev pub Passed : ℕ → List ℕ → ℕ → ℕ → ℕ → Type 0
 Passed h s a b e =
     (e ≤ length s / 2) × (has (key_at s a b) e ≡ has (key_at s a b) (length (pairs s))) × ((i : ℕ) → e ≡ i + 1 → edge_chain h (edge_at (pairs s) i) ≡ edge_chain h (a, b))
 
-module _ (h : ℕ) (s links : List ℕ) (a b : ℕ) (is : Chained h (pairs s) links) where
+module _ (s heads nexts : List ℕ) (a b : ℕ) (is : Chained (pairs s) heads nexts) where
+  abbrev chains : ℕ
+  chains = length heads
+
   abbrev p : ℕ → Bool
-  p = on_chain h (pairs s) (edge_chain h (a, b))
+  p = on_chain chains (pairs s) (edge_chain chains (a, b))
 
   count : length (pairs s) ≡ length s / 2
   count = pairs_length s
@@ -201,37 +199,47 @@ module _ (h : ℕ) (s links : List ℕ) (a b : ℕ) (is : Chained h (pairs s) li
       go false e = e
       go true e =
           let k : (key (edge_at (pairs s) i)).0 ≡ (key (a, b)).0 = eqb-true _ _ (and_true _ _ e).0 in
-          absurd (true≢false (sym (eq-eqb (edge_chain h (edge_at (pairs s) i)) (edge_chain h (a, b)) (omega (arith, k))) ∙ f))
+          absurd (true≢false (sym (eq-eqb (edge_chain chains (edge_at (pairs s) i)) (edge_chain chains (a, b)) (omega (arith, k))) ∙ f))
 
   -- the search goes on at the last one below n that is on the chain
-  step : (n : ℕ) → n ≤ length s / 2 → has (key_at s a b) n ≡ has (key_at s a b) (length (pairs s)) → (e : ℕ) → e ≡ last_below p n → Passed h s a b e
+  step : (n : ℕ) → n ≤ length s / 2 → has (key_at s a b) n ≡ has (key_at s a b) (length (pairs s)) → (e : ℕ) → e ≡ last_below p n → Passed chains s a b e
   step n l so e z = (
     omega (arith, z, last_le p n),
     ap (has (key_at s a b)) z ∙ fewer (key_at s a b) (last_below p n) n (last_le p n) (λ i u v. with_key i (last_none p n i u v)) ∙ so,
-    λ i y. eqb-true (edge_chain h (edge_at (pairs s) i)) (edge_chain h (a, b)) (last_hit p n i (sym z ∙ y)),
+    λ i y. eqb-true (edge_chain chains (edge_at (pairs s) i)) (edge_chain chains (a, b)) (last_hit p n i (sym z ∙ y)),
   )
 
-  pub search_start : (c : ℕ) → (c ≡ edge_chain h (a, b)) × (c < h) → Passed h s a b (get_or links c 0)
+  pub search_start : (c : ℕ) → (c ≡ edge_chain chains (a, b)) × (c < chains) → Passed chains s a b (get_or heads c 0)
   search_start c z =
-      step (length (pairs s)) (omega (arith, count)) refl (get_or links c 0)
-      (is.head c z.1 ∙ ap (λ (d : ℕ). last_below (on_chain h (pairs s) d) (length (pairs s))) z.0)
+      step (length (pairs s)) (omega (arith, count)) refl (get_or heads c 0)
+      (is.head c z.1 ∙ ap (λ (d : ℕ). last_below (on_chain chains (pairs s) d) (length (pairs s))) z.0)
 
-  module _ (e i : ℕ) (inv : Passed h s a b e) (here : e ≡ i + 1) where
-    pub found : key_at s a b i ≡ true → true ≡ has (key_at s a b) (length (pairs s))
-    found y = sym (has_at (key_at s a b) (length (pairs s)) i (omega (arith, inv.0, count)) y)
+  -- edge e - 1 is compared, as it is read from the list in pairs; x and y are the two keys
+  module _ (e : ℕ) (inv : Passed chains s a b e) (some : 0 < e) (chunks : List (List ℕ)) (front : chunks ≡ first_chunks 2 (length s / 2) s) (all : length s / 2 ≡ length chunks)
+      (x y : Edge) (read : x ≡ key (get_or (get_or chunks (e - 1) []) 0 0, get_or (get_or chunks (e - 1) []) 1 0)) (sought : y ≡ key (a, b)) where
+    abbrev i : ℕ
+    i = e - 1
 
-    pub further : key_at s a b i ≡ false → Passed h s a b (get_or links (h + i) 0)
-    further y =
+    seen : key_at s a b i ≡ (eqb x.0 y.0 && eqb x.1 y.1)
+    seen = key_seen s a b i chunks x y front (sym all) (omega (arith, inv.0, some)) read sought
+
+    pub found : true ≡ (eqb x.0 y.0 && eqb x.1 y.1) → true ≡ has (key_at s a b) (length (pairs s))
+    found h = sym (has_at (key_at s a b) (length (pairs s)) i (omega (arith, inv.0, count, some)) (seen ∙ sym h))
+
+    pub further : false ≡ (eqb x.0 y.0 && eqb x.1 y.1) → Passed chains s a b (get_or nexts (e - 1) 0)
+    further h =
+        let here : e ≡ i + 1 = omega (arith, some) in
         let low : has (key_at s a b) i ≡ has (key_at s a b) e =
-        fewer (key_at s a b) i e (omega arith) (λ j u v. let z : j ≡ i = omega arith in ap (key_at s a b) z ∙ y) in
-        step i (omega (arith, inv.0)) (low ∙ inv.1) (get_or links (h + i) 0)
-        (is.previous i (omega (arith, inv.0, count)) ∙ ap (λ (d : ℕ). last_below (on_chain h (pairs s) d) i) (inv.2 i here))
+        fewer (key_at s a b) i e (omega arith) (λ j u v. let z : j ≡ i = omega (arith, u, v) in ap (key_at s a b) z ∙ seen ∙ sym h) in
+        step i (omega (arith, inv.0, some)) (low ∙ inv.1) (get_or nexts i 0)
+        (is.next i (omega (arith, inv.0, count, some)) ∙ ap (λ (d : ℕ). last_below (on_chain chains (pairs s) d) i) (inv.2 i here))
 
-    -- it comes to an earlier edge
-    pub falls : get_or links (h + i) 0 < e
-    falls = omega (arith, is.previous i (omega (arith, inv.0, count)), last_le (on_chain h (pairs s) (edge_chain h (edge_at (pairs s) i))) i)
+  -- the walk comes to an earlier edge
+  pub falls : (e : ℕ) → Passed chains s a b e → 0 < e → get_or nexts (e - 1) 0 < e
+  falls e inv some =
+      omega (arith, some, is.next (e - 1) (omega (arith, inv.0, count, some)), last_le (on_chain chains (pairs s) (edge_chain chains (edge_at (pairs s) (e - 1)))) (e - 1))
 
-  pub none : (e : ℕ) → e ≤ 0 → Passed h s a b e → false ≡ has (key_at s a b) (length (pairs s))
+  pub none : (e : ℕ) → e ≤ 0 → Passed chains s a b e → false ≡ has (key_at s a b) (length (pairs s))
   unfolding first seek
   none e l inv =
       let z : 0 ≡ e = omega (arith, l) in

@@ -2,35 +2,26 @@
 use mathlib.Core.Path.{◌≡◌, refl, sym, ap, ◌∙◌}
 use mathlib.Core.Bool.{Bool, true, false, cond}
 use mathlib.Core.List.{List, [], ◌∷◌, ◌++◌}
-use Prim.Native.Nat.{ℕ, zero, suc, ◌+◌, ◌*◌, ◌≤◌}
+use Prim.Native.Nat.{ℕ, zero, suc, ◌+◌, ◌*◌, ◌-◌, ◌≤◌, ◌<◌}
 use native.Mathlib.Omega.{arith}
-use lib.ListN.{length, length-append}
+use lib.ListN.{length, get_or, drop, length-append, length-take}
+use lib.Seq.{drop-cons}
+use Rattle.std.proofs.lemmas.List.{drop_all}
 use Rattle.lists.specs.Search.{has}
 use Rattle.lists.specs.Gather.{joined}
-use Rattle.lists.proofs.Gather.{each_more, joined_snoc}
+use Rattle.lists.specs.Regions.{run}
+use Rattle.lists.specs.Runs.{runs_from, runs}
+use Rattle.lists.proofs.Gather.{joined_snoc}
 use Rattle.cutting.specs.Edges.{Edge, edge_at, same_key, ring}
 use Rattle.cutting.specs.Lent.{pairs, flat_edges}
-use Rattle.rules.specs.Neighbours.{added, added_all}
-use Rattle.rules.proofs.Rings.{side, sides, ring_each}
+use Rattle.entry.specs.Mesh.{mesh, prior, Rising}
+use Rattle.entry.proofs.Runs.{runs_are}
+use Rattle.rules.specs.Mesh.{cell_at, cells_of}
+use Rattle.rules.specs.Neighbours.{added, added_all, descending_to, compute_descending}
+use Rattle.rules.proofs.Rings.{length_ring}
+use Rattle.neighbours.specs.Chains.{cells_added}
 
 -- ---- edges added
-
-added_all_snoc : (es fs : List Edge) (f : Edge) → added_all es (fs ++ f ∷ []) ≡ added (added_all es fs) f
-unfolding added_all
-added_all_snoc es [] f = refl
-added_all_snoc es (g ∷ gs) f = added_all_snoc (added es g) gs f
-
--- the first i edges of a cell, added to es
-unfoldable pub added_to : ℕ → List ℕ → List Edge → List Edge
-added_to i cs es = added_all es (sides cs i)
-
-pub added_to_more : (i : ℕ) (cs : List ℕ) (es : List Edge) → added_to (i + 1) cs es ≡ added (added_to i cs es) (side cs i)
-unfolding added_to
-added_to_more i cs es = ap (added_all es) (each_more i (side cs)) ∙ added_all_snoc es (sides cs i) (side cs i)
-
-pub added_to_end : (cs : List ℕ) (es : List Edge) → added_to (length cs) cs es ≡ added_all es (ring cs)
-unfolding added_to
-added_to_end cs es = ap (added_all es) (sym (ring_each cs))
 
 -- at most one is added
 pub length_added : (es : List Edge) (e : Edge) → (length es ≤ length (added es e)) × (length (added es e) ≤ length es + 1)
@@ -48,6 +39,60 @@ length_added_all (f ∷ fs) es =
     let a = length_added es f in
     let b = length_added_all fs (added es f) in
     (omega arith, omega arith)
+
+-- how many corners cells have
+unfoldable pub corner_count : List (List ℕ) → ℕ
+corner_count [] = 0
+corner_count (cell ∷ cells) = length cell + corner_count cells
+
+pub corner_count_more : (cell : List ℕ) (cells : List (List ℕ)) → corner_count (cell ∷ cells) ≡ length cell + corner_count cells
+unfolding corner_count
+corner_count_more cell cells = refl
+
+pub length_cells_added : (cells : List (List ℕ)) (es : List Edge) → length (cells_added es cells) ≤ length es + corner_count cells
+unfolding cells_added corner_count
+length_cells_added [] es = omega arith
+length_cells_added (cell ∷ cells) es = omega (arith, length_cells_added cells (added_all es (ring cell)), (length_added_all (ring cell) es).1, length_ring cell)
+
+-- ---- the cells of a mesh
+
+-- ends that rise, from s on
+unfoldable Rises : ℕ → List ℕ → ℕ → Type 0
+Rises s [] n = s ≤ n
+Rises s (e ∷ es) n = (s ≤ e) × Rises e es n
+
+corners_from : (xs : List ℕ) (s n : ℕ) (ends : List ℕ) → Rises s ends n → (corner_count (runs_from s xs ends) + s ≤ n)
+unfolding Rises runs_from run corner_count
+corners_from xs s n [] h = omega (arith, h)
+corners_from xs s n (e ∷ ends) h = omega (arith, corners_from xs e n ends h.1, h.0, length-take (e - s) (drop s xs))
+
+rises : (s n : ℕ) (ends : List ℕ) → s ≤ n → ((i : ℕ) → i < length ends → (get_or (s ∷ ends) i 0 ≤ get_or ends i 0) × (get_or ends i 0 ≤ n)) → Rises s ends n
+unfolding Rises
+rises s n [] h up = h
+rises s n (e ∷ ends) h up = ((up 0 (omega arith)).0, rises e n ends (up 0 (omega arith)).1 (λ i l. up (suc i) (omega (arith, l))))
+
+before : (ends : List ℕ) (i : ℕ) → get_or (0 ∷ ends) i 0 ≡ prior ends i
+unfolding prior
+before ends zero = refl
+before ends (suc i) = refl
+
+-- they have no more corners than there are node numbers
+pub fewer_corners : (nodes ends : List ℕ) → Rising ends (length nodes) → corner_count (runs nodes ends) ≤ length nodes
+fewer_corners nodes ends up =
+    omega (arith, corners_from nodes 0 (length nodes) ends (rises 0 (length nodes) ends (omega arith) (λ i l. rw (before ends i) (up i l))))
+
+-- the edges of the first i cells, and of the others behind them
+added_from : (cells : List (List ℕ)) (k i : ℕ) → i + k ≡ length cells → cells_added (descending_to i cells) (drop i cells) ≡ compute_descending cells
+unfolding cells_added descending_to
+added_from cells zero i h =
+    let e : i ≡ length cells = omega (arith, h) in
+    ap (cells_added (descending_to i cells)) (drop_all i cells (omega (arith, e))) ∙ ap (λ (j : ℕ). descending_to j cells) e
+added_from cells (suc k) i h =
+    ap (cells_added (descending_to i cells)) (drop-cons cells i [] (omega (arith, h))) ∙ added_from cells k (suc i) (omega (arith, h))
+
+pub all_added : (nodes ends : List ℕ) → cells_added [] (runs nodes ends) ≡ compute_descending (cells_of (mesh [] nodes ends [] []))
+unfolding descending_to cells_of cell_at
+all_added nodes ends = rw (sym (runs_are nodes ends)) (added_from (runs nodes ends) (length (runs nodes ends)) 0 (omega arith))
 
 -- ---- flat
 

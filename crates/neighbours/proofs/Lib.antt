@@ -1,4 +1,3 @@
 pub mod Edges
 pub mod Chains
-pub mod Threads
-pub mod Loops
+pub mod Holding

@@ -1,121 +1,132 @@
-// The edges of cells (document 01, module 5), two numbers each. While they are written, they are on chains in a second list, so that one with the same key
-// is found without a scan of all. List and count are no struct: what holds of both can be no ghost field beside a `&mut`.
+// The edges of cells (document 01, module 5), two numbers each. While they are written, they are on chains in two more lists, so that one with the same key
+// is found without a scan of all.
 #![tactic(auto)]
 
-ghost use Rattle.std.specs.Prelude.{◌≡◌, [], ◌+◌, ◌*◌, ◌/◌, ◌≤◌, ◌<◌, length, take};
+ghost use Rattle.std.specs.Prelude.{◌≡◌, [], ◌*◌, ◌≤◌, ◌<◌, length};
 ghost use Rattle.lists.specs.Search.{has};
 ghost use Rattle.lists.specs.Regions.{front, zeros};
+ghost use Rattle.lists.specs.Runs.{runs};
 ghost use Rattle.cutting.specs.Edges.{edge_at, same_key, ring};
-ghost use Rattle.cutting.specs.Lent.{pairs, flat_edges};
+ghost use Rattle.cutting.specs.Lent.{flat_edges};
 ghost use Rattle.entry.specs.Mesh.{mesh, Rising};
 ghost use Rattle.rules.specs.Mesh.{cells_of};
 ghost use Rattle.rules.specs.Neighbours.{added, added_all, compute_descending};
-ghost use Rattle.keys.specs.Chains.{edge_chain};
-ghost use Rattle.neighbours.specs.Chains.{Chained, linked, Threaded};
+ghost use Rattle.neighbours.specs.Chains.{edges_in, Room, Ready, Cleared, Holds, Written, cells_added};
 
 use corners::after;
 use keys::{SortedKey, edge_chain};
+use lists::Runs;
 
-// Whether some pair has the key of the edge a, b: those on its chain are looked at, from the last to the first.
-#[tactic(auto, using(crate::proofs::Chains::falls, crate::proofs::Chains::none))]
-fn has_key(edges: &[u32], links: &[u32], h: usize, a: u32, b: u32) -> bool
-    requires { (0 < h) × (h + length edges.now / 2 ≤ length links.now) × Chained h (pairs edges.now) links.now }
-    ensures { result ≡ has (λ i. same_key (edge_at (pairs edges.now) i) (a, b)) (length (pairs edges.now)) }
-{
-    let key = SortedKey::new(a, b);
-    let pairs = edges.as_chunks::<2>().0;
-    let mut e = links[key.chain(h)] as usize;
-    // A walk along a chain, whose links are numbers: fixed memory, no heap.
-    while 0 < e {
-        let i = e - 1;
-        let [x, y] = pairs[i];
-        if SortedKey::new(x, y) == key {
-            return true;
+// Edges at the front of a list, how many they are, and their chains: the last edge of each, and for each edge the one before it. Links are numbers, 1 and
+// that of an edge or 0 for none: the lists are lent, in fixed memory. What holds of them can be no ghost field beside a `&mut`, so contracts say it (`Ready`).
+#[derive(Drop)]
+struct EdgeLists<'a> {
+    edges: &'a mut [u32],
+    count: usize,
+    heads: &'a mut [u32],
+    nexts: &'a mut [u32],
+}
+
+impl<'a> EdgeLists<'a> {
+    // Whether some edge has the key of the edge a, b: those on its chain are looked at, from the last to the first.
+    #[tactic(auto, using(crate::proofs::Chains::falls, crate::proofs::Chains::none))]
+    fn has_key(&self, a: u32, b: u32) -> bool
+        requires { Ready 0 self.now }
+        ensures { result ≡ has (λ i. same_key (edge_at (edges_in self.now) i) (a, b)) (length (edges_in self.now)) }
+    {
+        let key = SortedKey::new(a, b);
+        let pairs = self.edges[..2 * self.count].as_chunks::<2>().0;
+        let mut e = self.heads[key.chain(self.heads.len())] as usize;
+        // along a chain of lent numbers: no index is counted
+        while 0 < e {
+            let i = e - 1;
+            let [x, y] = pairs[i];
+            if SortedKey::new(x, y) == key {
+                return true;
+            }
+            e = self.nexts[i] as usize;
         }
-        e = links[h + i] as usize;
+        false
     }
-    false
-}
 
-// Edge k, from a to b, becomes the last on its chain.
-#[tactic(auto, unfolding(crate::specs::Chains::linked))]
-fn link_edge(links: &mut [u32], h: usize, k: usize, a: u32, b: u32)
-    requires { (0 < h) × (h + k < length links.old) × (k < 65536) }
-    ensures { links.new ≡ linked h links.old k (edge_chain h (a, b)) }
-{
-    let c = edge_chain(h, a, b);
-    let last = links[c];
-    links[h + k] = last;
-    links[c] = (k + 1) as u32;
-}
-
-// Adds the edge a, b to the k edges at the front of `edges`, unless one has its key. Answers how many there are then.
-#[tactic(auto, using(crate::proofs::Loops::key_ready))]
-fn add_edge(edges: &mut [u32], k: usize, a: u32, b: u32, links: &mut [u32], h: usize) -> usize
-    requires { (2 * k + 2 ≤ length edges.old) × (h + k < length links.old) × (k < 65536) × (0 < h) × Chained h (pairs (take (2 * k) edges.old)) links.old }
-    ensures { (result ≡ length (added (pairs (take (2 * k) edges.old)) (a, b)))
-        × Threaded h edges.old (added (pairs (take (2 * k) edges.old)) (a, b)) edges.new links.new }
-{
-    let e = 2 * k;
-    if has_key(&edges[..e], links, h, a, b) {
-        return k;
+    // Adds the edge a, b, unless one has its key.
+    fn add_edge(&mut self, a: u32, b: u32)
+        requires { Ready 1 self.old }
+        ensures { Holds (added (edges_in self.old) (a, b)) self.old self.new }
+    {
+        if self.has_key(a, b) {
+            return;
+        }
+        let k = self.count;
+        self.edges[2 * k] = a;
+        self.edges[2 * k + 1] = b;
+        let c = edge_chain(self.heads.len(), a, b);
+        self.nexts[k] = self.heads[c];
+        self.heads[c] = (k + 1) as u32;
+        self.count = k + 1;
     }
-    edges[e] = a;
-    edges[e + 1] = b;
-    link_edge(links, h, k, a, b);
-    k + 1
-}
 
-// Adds the edges of a cell to the k edges at the front of `edges`.
-#[tactic(auto, using(corners::proofs::Remainders::after_inside, crate::proofs::Loops::cell_ready))]
-fn add_cell(cell: &[u32], edges: &mut [u32], k: usize, links: &mut [u32], h: usize) -> usize
-    requires { (2 * k + 2 * length cell.now ≤ length edges.old) × (h + (k + length cell.now) ≤ length links.old) × (k + length cell.now ≤ 65536) × (0 < h)
-        × Chained h (pairs (take (2 * k) edges.old)) links.old }
-    ensures { (result ≡ length (added_all (pairs (take (2 * k) edges.old)) (ring cell.now)))
-        × Threaded h edges.old (added_all (pairs (take (2 * k) edges.old)) (ring cell.now)) edges.new links.new }
-{
-    let mut r = k;
-    for (i, a) in cell.iter().enumerate() {
-        let b = cell[after(cell.len(), i)];
-        r = add_edge(edges, r, *a, b, links, h);
+    // Adds the edges of a cell.
+    #[tactic(auto, using(corners::proofs::Remainders::after_inside))]
+    fn add_cell(&mut self, cell: &[u32])
+        requires { Ready (length cell.now) self.old }
+        ensures { Holds (added_all (edges_in self.old) (ring cell.now)) self.old self.new }
+    {
+        for (i, a) in cell.iter().enumerate() {
+            let b = cell[after(cell.len(), i)];
+            self.add_edge(*a, b);
+        }
     }
-    r
-}
 
-// Adds the edges of all cells to none, and their chains over zeros.
-fn add_cells(nodes: &[u32], cells: &[u32], edges: &mut [u32], links: &mut [u32], h: usize) -> usize
-    requires { (2 * length nodes.now ≤ length edges.old) × (h + length nodes.now ≤ length links.old) × (length nodes.now ≤ 65536) × (0 < h)
-        × (Rising cells.now (length nodes.now)) × (links.old ≡ zeros (length links.old)) }
-    ensures { (result ≡ length (compute_descending (cells_of (mesh [] nodes.now cells.now [] []))))
-        × Threaded h edges.old (compute_descending (cells_of (mesh [] nodes.now cells.now [] []))) edges.new links.new × (result ≤ length nodes.now) }
-{
-    let mut k: usize = 0;
-    let mut start: usize = 0;
-    for end in cells {
-        let e = *end as usize;
-        k = add_cell(&nodes[start..e], edges, k, links, h);
-        start = e;
+    // Adds the edges of all cells.
+    fn add_cells(&mut self, nodes: &[u32], cells: &[u32])
+        requires { Ready (length nodes.now) self.old × Rising cells.now (length nodes.now) }
+        ensures { Holds (cells_added (edges_in self.old) (runs nodes.now cells.now)) self.old self.new }
+    {
+        for cell in Runs::new(nodes, cells) {
+            self.add_cell(cell);
+        }
     }
-    k
+
+    fn clear_chains(&mut self)
+        ensures { Cleared self.old self.new }
+    {
+        self.heads.fill(0);
+        self.nexts.fill(0);
+    }
+
+    // Writes the edges of all cells, where there are none yet.
+    fn write(&mut self, nodes: &[u32], cells: &[u32])
+        requires { (self.old.count ≡ 0) × Room (length nodes.now) self.old × Rising cells.now (length nodes.now) }
+        ensures { Written (compute_descending (cells_of (mesh [] nodes.now cells.now [] []))) self.old self.new × (self.new.count ≤ length nodes.now) }
+    {
+        self.clear_chains();
+        self.add_cells(nodes, cells);
+        self.clear_chains();
+    }
 }
 
-// Writes the edges of all cells, whose node numbers are `nodes`, to the front of `edges`. Answers how many there are. `links` is zero then: h chains, one for
-// each node and one, keep the search for a key short, and any other h gives the same edges.
+// Writes the edges of all cells, whose node numbers are `nodes`, to the front of `edges`. Answers how many there are. `heads` and `nexts` are zero then: as
+// many heads as nodes and one keep the search for a key short, and any other number gives the same edges.
 pub fn compute_descending(
     nodes: &[u32],
     cells: &[u32],
     edges: &mut [u32],
-    links: &mut [u32],
-    h: usize,
+    heads: &mut [u32],
+    nexts: &mut [u32],
 ) -> usize
-    requires { (2 * length nodes.now ≤ length edges.old) × (h + length nodes.now ≤ length links.old) × (length nodes.now ≤ 65536) × (0 < h)
+    requires { (2 * length nodes.now ≤ length edges.old) × (length nodes.now ≤ length nexts.old) × (length nodes.now ≤ 65536) × (0 < length heads.old)
         × (Rising cells.now (length nodes.now)) }
     ensures { (result ≡ length (compute_descending (cells_of (mesh [] nodes.now cells.now [] []))))
         × (edges.new ≡ front edges.old (flat_edges (compute_descending (cells_of (mesh [] nodes.now cells.now [] [])))))
-        × (links.new ≡ zeros (length links.old)) × (result ≤ length nodes.now) }
+        × (heads.new ≡ zeros (length heads.old)) × (nexts.new ≡ zeros (length nexts.old)) × (result ≤ length nodes.now) }
 {
-    links.fill(0);
-    let k = add_cells(nodes, cells, edges, links, h);
-    links.fill(0);
-    k
+    let mut lists = EdgeLists {
+        edges,
+        count: 0,
+        heads,
+        nexts,
+    };
+    lists.write(nodes, cells);
+    lists.count
 }
