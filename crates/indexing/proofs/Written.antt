@@ -5,27 +5,20 @@ use Prim.Native.Nat.{ℕ, ◌+◌, ◌-◌, ◌≤◌}
 use native.Mathlib.Nat.{add_assoc}
 use native.Mathlib.Omega.{arith}
 use lib.ListN.{length, take, drop, length-append}
-use lib.Seq.{take-take}
 use lib.Ieee.{Float}
 use Rattle.lists.specs.Regions.{run, front, put}
-use Rattle.lists.proofs.Regions.{length_put, drop_take, run_before, run_put, put_append}
+use Rattle.lists.proofs.Regions.{length_put, run_before, run_put, put_append}
 use Rattle.entry.specs.Mesh.{Rising}
 use Rattle.regions.specs.declared.Run.{Run}
 use Rattle.regions.specs.declared.MeshRuns.{MeshRuns}
 use Rattle.regions.specs.declared.Regions.{Regions}
 use Rattle.regions.specs.declared.MeshIndex.{MeshIndex}
 use Rattle.regions.specs.Runs.{Within, run_in}
+use Rattle.regions.proofs.Parts.{run_of_front, run_kept}
 use Rattle.strips.specs.Things.{thing_count}
 use Rattle.strips.specs.Index.{index_size, index_of, Indexed}
 use Rattle.strips.proofs.IndexAt.{length_index}
 use Rattle.indexing.specs.Indexes.{edge_index, cell_index, mesh_index, mesh_index_at, indexes, indexes_at, MeshIndexed, mesh_size, RunAsks, MeshAsks, Asks}
-
--- ---- regions before what is written
-
--- a run that ends before b
-pub run_kept : (w xs : List ℕ) (b : ℕ) → b ≤ length w → (r : Run) → Within r b → run_in (put w b xs) r ≡ run_in w r
-unfolding run_in
-run_kept w xs b h r i = run_before w b h xs r.from (r.end - r.from) (omega (arith, i.rises, i.fits))
 
 -- what `index_run` leaves
 abbrev pub Built : List Float → List ℕ → Run → List ℕ → ℕ → Run → List ℕ → Type 0
@@ -33,17 +26,17 @@ Built coords w r ends at x w' =
     (x ≡ record { from = at; end = at + length (index_of coords (run_in w r) ends) }) × (w' ≡ put w at (index_of coords (run_in w r) ends))
 
 module _ (coords : List Float) (w : List ℕ) (r : Run) (ends : List ℕ) (at : ℕ) (ok : RunAsks w r ends at) where
+  -- the part before is lent
   pub run_lent : (nodes before : List ℕ) → before ≡ take at w → nodes ≡ run_in before r → nodes ≡ run_in w r
-  unfolding run_in run
-  run_lent nodes before b e =
-      e ∙ ap (λ (u : List ℕ). take (r.end - r.from) (drop r.from u)) b ∙ ap (take (r.end - r.from)) (drop_take w r.from at (omega (arith, ok.lies.rises, ok.lies.fits)) (omega (arith, ok.room)))
-      ∙ take-take (r.end - r.from) (at - r.from) (drop r.from w) (omega (arith, ok.lies.fits))
+  run_lent nodes before b e = e ∙ run_of_front w before at r b (omega (arith, ok.room)) ok.lies
 
-  pub run_written : (nodes before behind ix : List ℕ) → nodes ≡ run_in w r → before ≡ take at w → behind ≡ drop at w → ix ≡ front behind (index_of coords nodes ends)
-      → before ++ ix ≡ put w at (index_of coords (run_in w r) ends)
+  pub run_written : (nodes before behind ix : List ℕ) → nodes ≡ run_in w r → (size : ℕ) → size ≡ index_size (thing_count nodes ends) → before ≡ take at w → behind ≡ drop at w
+      → ix ≡ front behind (index_of coords nodes ends) → Built coords w r ends at (record { from = at; end = at + size }) (before ++ ix)
   unfolding put
-  run_written nodes before behind ix n b e f =
-      ap₂ (λ (u v : List ℕ). u ++ v) b (f ∙ ap₂ (λ (u v : List ℕ). front u (index_of coords v ends)) e n)
+  run_written nodes before behind ix same size n b e f = (
+    ap (λ (k : ℕ). record { from = at; end = at + k }) (n ∙ sym (length_index coords nodes ends) ∙ ap (λ (l : List ℕ). length (index_of coords l ends)) same),
+    ap₂ (λ (u v : List ℕ). u ++ v) b (f ∙ ap₂ (λ (u v : List ℕ). front u (index_of coords v ends)) e same),
+  )
 
 -- ---- `index_mesh`
 

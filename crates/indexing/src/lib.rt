@@ -10,9 +10,9 @@ ghost use Rattle.indexing.specs.Indexes.{mesh_index, mesh_index_at, indexes, ind
 use regions::{Indexes, MeshIndex, MeshRuns, Regions, Run};
 use strips::Things;
 
-// That of the things of a run, which end at `ends`, from `at` on: where it stands. By places of the working list: the cells are told them (`Indexes`), and
-// both meshes' things stand in the part before.
-fn index_run(coords: &[f64], w: &mut [u32], r: Run, ends: &[u32], at: usize) -> Run
+// That of the things of a run, which end at `ends`, from `at` on: where it stands. By places of the working list: its readers are told them (`Indexes`, `NetPlaces`),
+// and the things stand in the part before.
+pub fn index_run(coords: &[f64], w: &mut [u32], r: Run, ends: &[u32], at: usize) -> Run
     requires { RunAsks w.old r ends.now at }
     ensures { (result ≡ record { from = at; end = at + length (index_of coords.now (run_in w.old r) ends.now) })
         × (w.new ≡ put w.old at (index_of coords.now (run_in w.old r) ends.now)) }
