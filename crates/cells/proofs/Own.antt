@@ -68,10 +68,10 @@ module _ (o : OwnEdges) where
       laid_split = sym (map-append laid done (e ∷ rest)) ∙ ap (map laid) (ap (λ (f : Edge). done ++ f ∷ rest) e_is ∙ sides_next cell i h)
 
       module _ (ns : List ℕ) (en : ns ≡ nodes_on o.scene.coords.now o.scene.work.now o.scene.regions (get_or o.cell.now i 0, b)) (r : Result (Unit {0}) Full) (t' : List Slot) (outline' : List ℕ)
-          (lent : table_in r t' ≡ with_darts o.scene.coords.now 1 (own_darts (record { edge = (get_or o.cell.now i 0, b); nodes = ns })) t)
+          (lent : table_in r t' ≡ with_darts o.scene.coords.now true (own_darts (record { edge = (get_or o.cell.now i 0, b); nodes = ns })) t)
           (laid_lent : outline' ≡ outline_with (own_darts (record { edge = (get_or o.cell.now i 0, b); nodes = ns })) (length t) outline) where
-        got : table_in r t' ≡ with_darts coords 1 (own_darts (laid e)) t
-        got = lent ∙ ap (λ (l : List ℕ). with_darts coords 1 (own_darts (record { edge = e; nodes = l })) t) en
+        got : table_in r t' ≡ with_darts coords true (own_darts (laid e)) t
+        got = lent ∙ ap (λ (l : List ℕ). with_darts coords true (own_darts (record { edge = e; nodes = l })) t) en
 
         put_there : outline' ≡ outline_with (own_darts (laid e)) (length t) outline
         put_there = laid_lent ∙ ap (λ (l : List ℕ). outline_with (own_darts (record { edge = e; nodes = l })) (length t) outline) en

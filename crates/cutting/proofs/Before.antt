@@ -37,17 +37,17 @@ first_new t e es once =
     let apart : e.0 ≡ e.1 → ⊥ = λ q. omega (arith, k, s, ap₂ (λ (u v : ℕ). hit u v e.0 e.1) (sym q) q) in
     ap₂ (λ (x y : Bool). not x && y) (ne_eqb e.0 e.1 apart) (eq-eqb (tally (names e.0 e.1) t) 0 (omega (arith, k, s)))
 
-next_once : (t : List Slot) (e : Edge) (es : List Edge) → OnceWith t (e ∷ es) → OnceWith (edge_slots 0 (e ∷ []) ++ t) es
+next_once : (t : List Slot) (e : Edge) (es : List Edge) → OnceWith t (e ∷ es) → OnceWith (edge_slots false (e ∷ []) ++ t) es
 unfolding times
-next_once t e es once a b = omega (arith, once a b, one_named 0 a b e t)
+next_once t e es once a b = omega (arith, once a b, one_named false a b e t)
 
 module _ (outline : List Edge) where
   -- a table that has the outline
   abbrev Has : List Slot → Type 0
   Has t = (a b : ℕ) → tally (names a b) (table outline []) ≤ tally (names a b) t
 
-  has_more : (t : List Slot) (e : Edge) → Has t → Has (edge_slots 0 (e ∷ []) ++ t)
-  has_more t e h a b = omega (arith, h a b, one_named 0 a b e t)
+  has_more : (t : List Slot) (e : Edge) → Has t → Has (edge_slots false (e ∷ []) ++ t)
+  has_more t e h a b = omega (arith, h a b, one_named false a b e t)
 
   -- of some edges those that pass q, then others
   module _ (q : Edge → Bool) (passes : (t : List Slot) → Has t → (e : Edge) → is_new t e ≡ true → q e ≡ true) (fs gs : List Edge)
@@ -56,16 +56,16 @@ module _ (outline : List Edge) where
     unfolding passing new_to
     some_same [] t h once = rest t h once
     some_same (e ∷ es) t h once =
-        go (q e) refl once (λ o. some_same es (edge_slots 0 (e ∷ []) ++ t) (has_more t e h) o) (λ o. some_same es t h o)
+        go (q e) refl once (λ o. some_same es (edge_slots false (e ∷ []) ++ t) (has_more t e h) o) (λ o. some_same es t h o)
       where
         go : (x : Bool) → q e ≡ x → (let l : List Edge = elim x [ true ↦ e ∷ passing q es | false ↦ passing q es ] in OnceWith t (l ++ gs))
-            → (OnceWith (edge_slots 0 (e ∷ []) ++ t) (passing q es ++ gs) → new_to (edge_slots 0 (e ∷ []) ++ t) (es ++ fs) ≡ passing q es ++ gs)
+            → (OnceWith (edge_slots false (e ∷ []) ++ t) (passing q es ++ gs) → new_to (edge_slots false (e ∷ []) ++ t) (es ++ fs) ≡ passing q es ++ gs)
             → (OnceWith t (passing q es ++ gs) → new_to t (es ++ fs) ≡ passing q es ++ gs)
             → let l : List Edge = elim x [ true ↦ e ∷ passing q es | false ↦ passing q es ] in new_to t (e ∷ (es ++ fs)) ≡ l ++ gs
         go true p o ih ih' =
-            ap (λ (y : Bool). elim y [ true ↦ e ∷ new_to (edge_slots 0 (e ∷ []) ++ t) (es ++ fs) | false ↦ new_to t (es ++ fs) ]) (first_new t e (passing q es ++ gs) o)
+            ap (λ (y : Bool). elim y [ true ↦ e ∷ new_to (edge_slots false (e ∷ []) ++ t) (es ++ fs) | false ↦ new_to t (es ++ fs) ]) (first_new t e (passing q es ++ gs) o)
             ∙ ap (λ (l : List Edge). e ∷ l) (ih (next_once t e (passing q es ++ gs) o))
-        go false p o ih ih' = ap (λ (y : Bool). elim y [ true ↦ e ∷ new_to (edge_slots 0 (e ∷ []) ++ t) (es ++ fs) | false ↦ new_to t (es ++ fs) ]) (old (is_new t e) refl) ∙ ih' o
+        go false p o ih ih' = ap (λ (y : Bool). elim y [ true ↦ e ∷ new_to (edge_slots false (e ∷ []) ++ t) (es ++ fs) | false ↦ new_to t (es ++ fs) ]) (old (is_new t e) refl) ∙ ih' o
           where
             old : (y : Bool) → is_new t e ≡ y → is_new t e ≡ false
             old true n = let z : ◌≡◌ {A = ℕ} 1 0 = ap bit (sym (passes t h e n) ∙ p) in absurd (omega arith)

@@ -1,11 +1,12 @@
 -- How often an edge is used. Assumes nothing.
 use mathlib.Core.Path.{◌≡◌, refl, ap}
-use mathlib.Core.Bool.{true, ◌&&◌, and_comm}
+use mathlib.Core.Bool.{Bool, true, false, not, ◌&&◌, and_comm}
 use mathlib.Core.List.{List, [], ◌∷◌, ◌++◌}
 use Prim.Native.Nat.{ℕ, ◌+◌}
 use native.Mathlib.Omega.{arith}
 use lib.Dec.{eqb}
 use borrow.Author.Tests.{eqb-true, eq-eqb}
+use Rattle.std.proofs.lemmas.Bool.{not-true}
 use Rattle.lists.specs.Search.{bit}
 use Rattle.lists.proofs.Search.{and_true}
 use Rattle.cutting.specs.Edges.{Edge, hops, ring, rings, hit, times}
@@ -42,6 +43,10 @@ rings_snoc a b (q ∷ qs) p =
 
 pub both : (x a y b : ℕ) → eqb x a && eqb y b ≡ true → (x ≡ a) × (y ≡ b)
 both x a y b e = let t = and_true (eqb x a) (eqb y b) e in (eqb-true x a t.0, eqb-true y b t.1)
+
+-- an unmarked slot at the node a
+pub open_both : (x a : ℕ) (m : Bool) → eqb x a && not m ≡ true → (x ≡ a) × (m ≡ false)
+open_both x a m e = let t = and_true (eqb x a) (not m) e in (eqb-true x a t.0, not-true m t.1)
 
 pub hit_self : (a b : ℕ) → hit a b a b ≡ 1
 hit_self a b = rw (eq-eqb a a refl, eq-eqb b b refl)

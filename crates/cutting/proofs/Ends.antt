@@ -1,10 +1,9 @@
 -- A cell's walk finds a slot for each dart, and its steps suffice. Assumes nothing.
 use mathlib.Core.Path.{◌≡◌, refl, ap, ap₂, ◌∙◌, subst}
-use mathlib.Core.Bool.{Bool, ◌&&◌}
+use mathlib.Core.Bool.{Bool, ◌&&◌, false, true, not}
 use mathlib.Core.List.{List, [], ◌∷◌}
 use Prim.Native.Nat.{ℕ, suc, ◌+◌, ◌*◌, ◌≤◌, ◌<◌}
 use native.Mathlib.Omega.{arith}
-use lib.Dec.{eqb}
 use lib.ListN.{length, get_or, set, length-set, length-map}
 use borrow.Author.Tests.{eq-eqb}
 use Rattle.lists.specs.Gather.{tally}
@@ -37,11 +36,11 @@ module _ (n : ℕ) (src dst : List ℕ) where
   starts_below [] heap h k = k
   starts_below (e ∷ es) heap h k = starts_below es (slot n src dst e.0 e.1 ∷ heap) (λ a b l. h a b (omega arith)) (h e.0 e.1 (omega (arith, hit_self e.0 e.1)), k)
 
-  abbrev On : List ℕ → Phase → Type 0
+  abbrev On : List Bool → Phase → Type 0
   On marks resting = Unit {0}
-  On marks (on_slot start mid i) = (i < n) × (get_or marks i 0 ≡ 0)
+  On marks (on_slot start mid i) = (i < n) × (get_or marks i false ≡ false)
 
-  record Going (m : ℕ) (marks heap : List ℕ) (phase : Phase) : Type 0 where
+  record Going (m : ℕ) (marks : List Bool) (heap : List ℕ) (phase : Phase) : Type 0 where
     long : n ≤ length marks
     inside : Below heap
     stands : On marks phase
@@ -68,18 +67,18 @@ module _ (n : ℕ) (src dst : List ℕ) where
     step_goes m (begins i< e) k = record { long = k.long; inside = k.inside.1; stands = (i<, e); room = omega arith }
     step_goes m (lost {i = i} h) k = omega (arith, h, back_found i k.stands.0)
     step_goes m (closes {marks = marks} {i = i} r< e) k = record {
-      long = omega (arith, k.long, length-set marks i 1);
+      long = omega (arith, k.long, length-set marks i true);
       inside = (r<, k.inside);
       stands = tt;
       room = omega (arith, k.room, unmarked_mark n marks i k.stands.0 k.long k.stands.1);
     }
     step_goes m (goes {marks = marks} {i = i} r< apart {j = j} found j<) k = record {
-      long = omega (arith, k.long, length-set marks i 1);
+      long = omega (arith, k.long, length-set marks i true);
       inside = (r<, k.inside);
       stands = (
         j<,
-        ap (λ (x : ℕ). get_or (set marks i 1) x 0) found
-            ∙ next_open_open turning n src (set marks i 1) (get_or dst i 0) (reverse_of n src dst i) (subst (λ (x : ℕ). x < n) found j<),
+        ap (λ (x : ℕ). get_or (set marks i true) x false) found
+            ∙ next_open_open turning n src (set marks i true) (get_or dst i 0) (reverse_of n src dst i) (subst (λ (x : ℕ). x < n) found j<),
       );
       room = omega (arith, k.room, unmarked_mark n marks i k.stands.0 k.long k.stands.1);
     }
@@ -96,8 +95,8 @@ walk_ended turning outline inner t sorted =
     let heap = starts n (srcs t) (dsts t) outline [] in
     steps_end n (srcs t) (dsts t) turning (λ a b. omega (arith, named_table outline inner t sorted a b, named_table outline inner t sorted b a))
     (2 * n + length heap + 1) (state (marks_of t) heap [] resting) (record {
-      long = omega (arith, length-map t (λ s. s.mark));
+      long = omega (arith, length-map t (λ s. s.marked));
       inside = starts_below n (srcs t) (dsts t) outline [] (found outline inner t sorted) tt;
       stands = tt;
-      room = omega (arith, many_bound (λ i. eqb (get_or (marks_of t) i 0) 0) n);
+      room = omega (arith, many_bound (λ i. not (get_or (marks_of t) i false)) n);
     })

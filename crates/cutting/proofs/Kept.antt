@@ -2,14 +2,12 @@
 -- once, unless the table names a neighbour twice at a node.
 -- Assumes nothing.
 use mathlib.Core.Path.{◌≡◌, refl, sym, ap, ◌∙◌, subst, ap₂}
-use mathlib.Core.Bool.{Bool, true, false, ◌&&◌, and-true, and-false}
+use mathlib.Core.Bool.{Bool, true, false, ◌&&◌, and-true, and-false, not}
 use mathlib.Core.List.{List, [], ◌∷◌, ◌++◌}
 use Prim.Native.Nat.{ℕ, suc, ◌+◌, ◌≤◌, ◌<◌}
 use native.Mathlib.Omega.{arith}
-use lib.Dec.{eqb}
 use lib.ListN.{length, get_or, set, length-set}
 use lib.Seq.{get_or-set_same, get_or-set_other}
-use borrow.Author.Tests.{ne_eqb}
 use Rattle.lists.specs.Search.{bit, many}
 use Rattle.lists.proofs.Search.{many_change, many_le, many_less, first_hit}
 use Rattle.cutting.specs.Edges.{Edge, hops, ring, rings, hit, times}
@@ -25,8 +23,8 @@ bit_and false t = omega arith
 
 module _ (n : ℕ) (src dst : List ℕ) where
   -- how many unmarked slots lead from a to b
-  unfoldable pub free : ℕ → ℕ → List ℕ → ℕ
-  free a b marks = many (λ i. leads src dst a b i && eqb (get_or marks i 0) 0) n
+  unfoldable pub free : ℕ → ℕ → List Bool → ℕ
+  free a b marks = many (λ i. leads src dst a b i && not (get_or marks i false)) n
 
   -- how many slots lead from a to b
   unfoldable pub named : ℕ → ℕ → ℕ
@@ -38,27 +36,27 @@ module _ (n : ℕ) (src dst : List ℕ) where
   on a b (i ∷ is) = bit (leads src dst a b i) + on a b is
 
   -- marking a slot takes it from the unmarked ones
-  free_mark : (a b : ℕ) (marks : List ℕ) (i : ℕ) → i < n → n ≤ length marks → get_or marks i 0 ≡ 0 → free a b marks ≡ bit (leads src dst a b i) + free a b (set marks i 1)
+  free_mark : (a b : ℕ) (marks : List Bool) (i : ℕ) → i < n → n ≤ length marks → get_or marks i false ≡ false → free a b marks ≡ bit (leads src dst a b i) + free a b (set marks i true)
   unfolding free
   free_mark a b marks i h l e =
-      let gone = many_change (λ k. leads src dst a b k && eqb (get_or marks k 0) 0) (λ k. leads src dst a b k && eqb (get_or (set marks i 1) k 0) 0) i n h
-      (λ k ne. ap (λ (v : ℕ). leads src dst a b k && eqb v 0) (sym (get_or-set_other marks i k 1 0 ne)))
-      (ap (λ (v : ℕ). leads src dst a b i && eqb v 0) (get_or-set_same marks i 1 0 (omega arith)) ∙ and-false (leads src dst a b i)) in
-      omega (arith, ap (λ (v : ℕ). bit (leads src dst a b i && eqb v 0)) e, ap bit (and-true (leads src dst a b i)))
+      let gone = many_change (λ k. leads src dst a b k && not (get_or marks k false)) (λ k. leads src dst a b k && not (get_or (set marks i true) k false)) i n h
+      (λ k ne. ap (λ (v : Bool). leads src dst a b k && not v) (sym (get_or-set_other marks i k true false ne)))
+      (ap (λ (v : Bool). leads src dst a b i && not v) (get_or-set_same marks i true false (omega arith)) ∙ and-false (leads src dst a b i)) in
+      omega (arith, ap (λ (v : Bool). bit (leads src dst a b i && not v)) e, ap bit (and-true (leads src dst a b i)))
 
   -- a marked slot is none of the unmarked ones
-  free_marked : (a b : ℕ) (marks : List ℕ) (i : ℕ) → i < n → eqb (get_or marks i 0) 0 ≡ false → bit (leads src dst a b i) + free a b marks ≤ named a b
+  free_marked : (a b : ℕ) (marks : List Bool) (i : ℕ) → i < n → get_or marks i false ≡ true → bit (leads src dst a b i) + free a b marks ≤ named a b
   unfolding free named
   free_marked a b marks i h e = pick (leads src dst a b i) refl
     where
       open_slot : ℕ → Bool
-      open_slot k = leads src dst a b k && eqb (get_or marks k 0) 0
+      open_slot k = leads src dst a b k && not (get_or marks k false)
 
       less : (k : ℕ) → bit (open_slot k) ≤ bit (leads src dst a b k)
-      less k = bit_and (leads src dst a b k) (eqb (get_or marks k 0) 0)
+      less k = bit_and (leads src dst a b k) (not (get_or marks k false))
 
       pick : (t : Bool) → leads src dst a b i ≡ t → bit t + many open_slot n ≤ many (leads src dst a b) n
-      pick true l = omega (arith, many_less (leads src dst a b) open_slot i n h less (ap (λ (t : Bool). leads src dst a b i && t) e ∙ and-false (leads src dst a b i)) l)
+      pick true l = omega (arith, many_less (leads src dst a b) open_slot i n h less (ap (λ (t : Bool). leads src dst a b i && not t) e ∙ and-false (leads src dst a b i)) l)
       pick false l = omega (arith, many_le (leads src dst a b) open_slot n less)
 
   -- what the search finds
@@ -77,9 +75,9 @@ module _ (n : ℕ) (src dst : List ℕ) where
   due a b heap resting = on a b heap
   due a b heap (on_slot start mid i) = bit (leads src dst a b i) + on a b heap
 
-  abbrev pub Stands : List ℕ → Phase → Type 0
+  abbrev pub Stands : List Bool → Phase → Type 0
   Stands marks resting = Unit {0}
-  Stands marks (on_slot start mid i) = (i < n) × (get_or marks i 0 ≡ 0) × (end start mid ≡ get_or src i 0)
+  Stands marks (on_slot start mid i) = (i < n) × (get_or marks i false ≡ false) × (end start mid ≡ get_or src i 0)
 
   -- the reverse slot leads back
   back_hit : (i r : ℕ) → get_or src r 0 ≡ get_or dst i 0 → get_or dst r 0 ≡ get_or src i 0 → (a b : ℕ) → bit (leads src dst a b r) ≡ bit (leads src dst b a i)
@@ -92,7 +90,7 @@ module _ (n : ℕ) (src dst : List ℕ) where
 
   -- what holds of a walk, for the edge from a to b and its reverse: f and f' are their unmarked slots at start, o and o' how often the outline has them
   module _ (a b f f' o o' : ℕ) where
-    pub record Kept (marks heap : List ℕ) (done : List (List ℕ)) (phase : Phase) : Type 0 where
+    pub record Kept (marks : List Bool) (heap : List ℕ) (done : List (List ℕ)) (phase : Phase) : Type 0 where
       pub long : n ≤ length marks
       pub stands : Stands marks phase
       pub all : free a b marks + walked a b done phase ≡ f
@@ -125,8 +123,8 @@ module _ (n : ℕ) (src dst : List ℕ) where
         stands = tt;
         all = k.all;
         all' = k.all';
-        left = omega (arith, free_marked a b marks i i< (ne_eqb (get_or marks i 0) 0 e));
-        left' = omega (arith, free_marked b a marks i i< (ne_eqb (get_or marks i 0) 0 e));
+        left = omega (arith, free_marked a b marks i i< e);
+        left' = omega (arith, free_marked b a marks i i< e);
       }
       step_keeps m (begins i< e) k = record {
         long = k.long;
@@ -140,7 +138,7 @@ module _ (n : ℕ) (src dst : List ℕ) where
       step_keeps m (closes {marks = marks} {done = done} {start = start} {i = i} {mid = mid} r< back) k =
           let r = reverse_of n src dst i in
           let at = slot_hit (get_or dst i 0) (get_or src i 0) r< in
-          let len = length-set marks i 1 in
+          let len = length-set marks i true in
           let fm = free_mark a b marks i k.stands.0 k.long k.stands.1 in
           let fm' = free_mark b a marks i k.stands.0 k.long k.stands.1 in
           let p = path_hit start mid i start k.stands.2 back a b in
@@ -161,10 +159,10 @@ module _ (n : ℕ) (src dst : List ℕ) where
           let r = reverse_of n src dst i in
           let y = get_or dst i 0 in
           let at = slot_hit y (get_or src i 0) r< in
-          let j<' : next_open turning n src (set marks i 1) y r < n = subst (λ (x : ℕ). x < n) found j< in
-          let open_j : get_or (set marks i 1) j 0 ≡ 0 = ap (λ (x : ℕ). get_or (set marks i 1) x 0) found ∙ next_open_open turning n src (set marks i 1) y r j<' in
-          let at_j : get_or src j 0 ≡ y = ap (λ (x : ℕ). get_or src x 0) found ∙ next_open_at turning n src (set marks i 1) y r at.0 j<' in
-          let len = length-set marks i 1 in
+          let j<' : next_open turning n src (set marks i true) y r < n = subst (λ (x : ℕ). x < n) found j< in
+          let open_j : get_or (set marks i true) j false ≡ false = ap (λ (x : ℕ). get_or (set marks i true) x false) found ∙ next_open_open turning n src (set marks i true) y r j<' in
+          let at_j : get_or src j 0 ≡ y = ap (λ (x : ℕ). get_or src x 0) found ∙ next_open_at turning n src (set marks i true) y r at.0 j<' in
+          let len = length-set marks i true in
           let fm = free_mark a b marks i k.stands.0 k.long k.stands.1 in
           let fm' = free_mark b a marks i k.stands.0 k.long k.stands.1 in
           let p = path_hit start mid i y k.stands.2 refl a b in
@@ -185,7 +183,7 @@ module _ (n : ℕ) (src dst : List ℕ) where
       walk_balances = steps_keep turning n src dst Keeps Comes (λ k s t w h. step_keeps k w h) (λ s k. tt)
 
   -- the theorem for any table: marks stand at the reverses of the outline's edges alone, the heap has a slot for each edge of the outline, and no neighbour is named twice
-  pub close : (turning : Bool) (marks heap : List ℕ) (outline : List Edge) → n ≤ length marks → ((a b : ℕ) → named a b ≤ 1)
+  pub close : (turning : Bool) (marks : List Bool) (heap : List ℕ) (outline : List Edge) → n ≤ length marks → ((a b : ℕ) → named a b ≤ 1)
       → ((a b : ℕ) → free a b marks + times b a outline ≡ named a b) → ((a b : ℕ) → named a b ≡ named b a) → ((a b : ℕ) → on a b heap ≡ times a b outline)
       → (m : ℕ) (ps : List (List ℕ)) → walk_steps turning n src dst m (state marks heap [] resting) ≡ closed ps → (a b : ℕ)
       → (times a b (rings ps) ≤ 1) × (times a b (rings ps) + times b a outline ≡ times b a (rings ps) + times a b outline)

@@ -17,7 +17,6 @@ pub mod Repeats
 pub mod Rounds
 pub mod Runs
 pub mod Sums
-pub mod Tabled
 pub mod Tables
 pub mod Turning
 pub mod Ways

@@ -27,7 +27,7 @@ new_is t e h =
     (λ q. let y : ◌≡◌ {A = ℕ} 0 1 = ap bit (sym (ap not (eq-eqb e.0 e.1 q)) ∙ x.0) in omega arith, eqb-true (tally (names e.0 e.1) t) 0 x.1)
 
 -- both slots of an edge
-pub one_named : (back a b : ℕ) (e : Edge) (t : List Slot) → tally (names a b) (edge_slots back (e ∷ []) ++ t) ≡ hit a b e.0 e.1 + hit b a e.0 e.1 + tally (names a b) t
+pub one_named : (back : Bool) (a b : ℕ) (e : Edge) (t : List Slot) → tally (names a b) (edge_slots back (e ∷ []) ++ t) ≡ hit a b e.0 e.1 + hit b a e.0 e.1 + tally (names a b) t
 unfolding times
 one_named back a b e t = omega (arith, tally_append (names a b) (edge_slots back (e ∷ [])) t, names_edges back a b (e ∷ []))
 
@@ -38,17 +38,17 @@ abbrev Single : List Slot → Type 0
 Single t = (a b : ℕ) → tally (names a b) t ≤ 1
 
 module _ (t : List Slot) (e : Edge) (even : Sym t) where
-  more_even : Sym (edge_slots 0 (e ∷ []) ++ t)
-  more_even a b = omega (arith, one_named 0 a b e t, one_named 0 b a e t, even a b)
+  more_even : Sym (edge_slots false (e ∷ []) ++ t)
+  more_even a b = omega (arith, one_named false a b e t, one_named false b a e t, even a b)
 
-  more_single : Single t → is_new t e ≡ true → Single (edge_slots 0 (e ∷ []) ++ t)
-  more_single once new a b = go (eqb e.0 a && eqb e.1 b) (eqb e.0 b && eqb e.1 a) refl refl (one_named 0 a b e t)
+  more_single : Single t → is_new t e ≡ true → Single (edge_slots false (e ∷ []) ++ t)
+  more_single once new a b = go (eqb e.0 a && eqb e.1 b) (eqb e.0 b && eqb e.1 a) refl refl (one_named false a b e t)
     where
       n : (e.0 ≡ e.1 → ⊥) × (tally (names e.0 e.1) t ≡ 0)
       n = new_is t e new
 
       go : (x y : Bool) → eqb e.0 a && eqb e.1 b ≡ x → eqb e.0 b && eqb e.1 a ≡ y
-          → tally (names a b) (edge_slots 0 (e ∷ []) ++ t) ≡ bit x + bit y + tally (names a b) t → tally (names a b) (edge_slots 0 (e ∷ []) ++ t) ≤ 1
+          → tally (names a b) (edge_slots false (e ∷ []) ++ t) ≡ bit x + bit y + tally (names a b) t → tally (names a b) (edge_slots false (e ∷ []) ++ t) ≤ 1
       go true true p q k =
           let f = both e.0 a e.1 b p in
           let g = both e.0 b e.1 a q in
@@ -65,13 +65,13 @@ new_single : (t : List Slot) (es : List Edge) → Sym t → Single t → (a b : 
 unfolding new_to times
 new_single t [] even once a b = omega (arith, once a b)
 new_single t (e ∷ es) even once a b =
-    go (is_new t e) refl (new_single t es even once a b) (λ new. new_single (edge_slots 0 (e ∷ []) ++ t) es (more_even t e even) (more_single t e even once new) a b)
+    go (is_new t e) refl (new_single t es even once a b) (λ new. new_single (edge_slots false (e ∷ []) ++ t) es (more_even t e even) (more_single t e even once new) a b)
   where
     go : (x : Bool) → is_new t e ≡ x → tally (names a b) t + (times a b (new_to t es) + times b a (new_to t es)) ≤ 1
-        → (is_new t e ≡ true → tally (names a b) (edge_slots 0 (e ∷ []) ++ t) +
-        (times a b (new_to (edge_slots 0 (e ∷ []) ++ t) es) + times b a (new_to (edge_slots 0 (e ∷ []) ++ t) es)) ≤ 1)
-        → let fs : List Edge = elim x [ true ↦ e ∷ new_to (edge_slots 0 (e ∷ []) ++ t) es | false ↦ new_to t es ] in tally (names a b) t + (times a b fs + times b a fs) ≤ 1
-    go true h same more = omega (arith, more h, one_named 0 a b e t)
+        → (is_new t e ≡ true → tally (names a b) (edge_slots false (e ∷ []) ++ t) +
+        (times a b (new_to (edge_slots false (e ∷ []) ++ t) es) + times b a (new_to (edge_slots false (e ∷ []) ++ t) es)) ≤ 1)
+        → let fs : List Edge = elim x [ true ↦ e ∷ new_to (edge_slots false (e ∷ []) ++ t) es | false ↦ new_to t es ] in tally (names a b) t + (times a b fs + times b a fs) ≤ 1
+    go true h same more = omega (arith, more h, one_named false a b e t)
     go false h same more = same
 
 -- ---- the table of a cell
@@ -80,9 +80,9 @@ pub table_named : (outline inside : List Edge) (a b : ℕ) → tally (names a b)
 unfolding table
 table_named outline inside a b = omega (
   arith,
-  tally_append (names a b) (edge_slots reverse_mark outline) (edge_slots 0 inside),
+  tally_append (names a b) (edge_slots reverse_mark outline) (edge_slots false inside),
   names_edges reverse_mark a b outline,
-  names_edges 0 a b inside,
+  names_edges false a b inside,
 )
 
 pub outline_named : (outline : List Edge) (a b : ℕ) → tally (names a b) (table outline []) ≡ times a b outline + times b a outline

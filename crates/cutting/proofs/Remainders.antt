@@ -1,7 +1,7 @@
 -- The step to the next slot goes by one and starts again at the end; the published code's goes by a remainder, in the vector of the node's slots.
 -- Both find the same slot. Assumes nothing.
 use mathlib.Core.Path.{◌≡◌, refl, sym, ap, ◌∙◌}
-use mathlib.Core.Bool.{Bool, true, false, ◌&&◌, true≢false}
+use mathlib.Core.Bool.{Bool, true, false, ◌&&◌, true≢false, not}
 use mathlib.Core.List.{List}
 use Prim.Native.Nat.{ℕ, ◌+◌, ◌-◌, ◌%◌, ◌≤◌, ◌<◌}
 use native.Mathlib.Nat.{mod-eq_of_lt, mod-lt, add-mod_right}
@@ -110,14 +110,14 @@ slots_at n src a = places (λ i. eqb (get_or src i 0) a) n
 
 -- The slot that the published walk finds after the one at place q of that vector: the first unmarked one of the places `(last_opposed_dart_pos + i) % n`,
 -- i in 1..n, with the vector's length for n; where the walk may turn back, also i = n. n, here the table's length, where there is none.
-abbrev pub published_next : Bool → ℕ → List ℕ → List ℕ → ℕ → ℕ → ℕ
+abbrev pub published_next : Bool → ℕ → List ℕ → List Bool → ℕ → ℕ → ℕ
 published_next turning n src marks a q =
     let v = slots_at n src a in
     let end = length v + bit turning in
-    let k = first (λ i. eqb (get_or marks (get_or v ((q + i) % length v) 0) 0) 0) 1 end in
+    let k = first (λ i. not (get_or marks (get_or v ((q + i) % length v) 0) false)) 1 end in
     or_else (ltb k end) (get_or v ((q + k) % length v) 0) n
 
-module _ (n : ℕ) (src marks : List ℕ) (a : ℕ) where
+module _ (n : ℕ) (src : List ℕ) (marks : List Bool) (a : ℕ) where
   abbrev vector : List ℕ
   vector = slots_at n src a
 
@@ -132,7 +132,7 @@ module _ (n : ℕ) (src marks : List ℕ) (a : ℕ) where
 
   -- the slot at place j of the vector is unmarked
   abbrev free : ℕ → Bool
-  free j = eqb (get_or marks (nth j) 0) 0
+  free j = not (get_or marks (nth j) false)
 
   open_at_lem : (j : ℕ) → j < size → is_open (nth j) ≡ free j
   open_at_lem j h = ap (λ (t : Bool). t && free j) (places_at (λ i. eqb (get_or src i 0) a) n j h).1
@@ -169,7 +169,7 @@ module _ (n : ℕ) (src marks : List ℕ) (a : ℕ) where
         go : (t : Bool) → is_open i ≡ t → t ≡ false
         go false e' = refl
         go true e' =
-            let at = places_has (λ s. eqb (get_or src s 0) a) n i (omega (arith, l, v≤y, y≤n)) (and_true (eqb (get_or src i 0) a) (eqb (get_or marks i 0) 0) e').0 in
+            let at = places_has (λ s. eqb (get_or src s 0) a) n i (omega (arith, l, v≤y, y≤n)) (and_true (eqb (get_or src i 0) a) (not (get_or marks i false)) e').0 in
             let j : ℕ = at.0 in
             let b = of_range j at.1 (omega (arith, from, at.2)) (omega (arith, l, v≤y, at.2)) in
             let shut : free j ≡ false = first_none free k e j b.0 b.1 (earlier j at.1 b.0 b.1 (omega (arith, l, at.2))) in
@@ -263,7 +263,7 @@ module _ (n : ℕ) (src marks : List ℕ) (a : ℕ) where
             (le-ltb n n (omega arith)) ∙ go_early (ltb s q) refl
 
 -- the next slot after one of its node's is the one that the published walk finds
-pub next_remainder : (turning : Bool) (n : ℕ) (src marks : List ℕ) (a q : ℕ) → q < length (slots_at n src a)
+pub next_remainder : (turning : Bool) (n : ℕ) (src : List ℕ) (marks : List Bool) (a q : ℕ) → q < length (slots_at n src a)
     → next_open turning n src marks a (get_or (slots_at n src a) q 0) ≡ published_next turning n src marks a q
 next_remainder turning n src marks a q h =
     by_places n src marks a turning q h ∙ ap (slot_of n src marks a turning q h)

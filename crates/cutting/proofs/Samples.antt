@@ -105,11 +105,12 @@ turned = refl
 next : List ℕ
 next =
     let src : List ℕ = 8 ∷ 9 ∷ 8 ∷ 8 ∷ 9 ∷ 8 ∷ [] in
-    let fresh : List ℕ = 0 ∷ 0 ∷ 0 ∷ 0 ∷ 0 ∷ 0 ∷ [] in
-    let walked : List ℕ = 1 ∷ 0 ∷ 0 ∷ 1 ∷ 0 ∷ 1 ∷ [] in
-    next_open true 6 src fresh 8 3 ∷ next_open true 6 src (0 ∷ 0 ∷ 0 ∷ 1 ∷ 0 ∷ 0 ∷ []) 8 2 ∷ next_open true 6 src fresh 8 5
+    let fresh : List Bool = false ∷ false ∷ false ∷ false ∷ false ∷ false ∷ [] in
+    let walked : List Bool = true ∷ false ∷ false ∷ true ∷ false ∷ true ∷ [] in
+    let third : List Bool = false ∷ false ∷ false ∷ true ∷ false ∷ false ∷ [] in
+    next_open true 6 src fresh 8 3 ∷ next_open true 6 src third 8 2 ∷ next_open true 6 src fresh 8 5
     ∷ next_open true 6 src walked 8 2 ∷ next_open false 6 src walked 8 2
-    ∷ published_next true 6 src fresh 8 2 ∷ published_next true 6 src (0 ∷ 0 ∷ 0 ∷ 1 ∷ 0 ∷ 0 ∷ []) 8 1 ∷ published_next true 6 src fresh 8 3
+    ∷ published_next true 6 src fresh 8 2 ∷ published_next true 6 src third 8 1 ∷ published_next true 6 src fresh 8 3
     ∷ published_next true 6 src walked 8 1 ∷ published_next false 6 src walked 8 1
     ∷ slots_at 6 src 8
 

@@ -1,6 +1,6 @@
 -- What a cell's table holds, and its walk: unless it is doubled, the pieces close up to the outline. Assumes nothing.
 use mathlib.Core.Path.{◌≡◌, refl, sym, ap, ap₂}
-use mathlib.Core.Bool.{Bool, true, false, ◌&&◌, ◌||◌, and-false, and-true, true≢false}
+use mathlib.Core.Bool.{Bool, true, false, not, ◌&&◌, ◌||◌, and-false, and-true, true≢false}
 use mathlib.Core.List.{List, [], ◌∷◌}
 use Prim.Native.Nat.{ℕ, ◌+◌, ◌*◌, ◌≤◌, ◌<◌}
 use native.Mathlib.Omega.{arith}
@@ -20,7 +20,7 @@ use Rattle.cutting.proofs.EdgeLaws.{both, hit_back, hit_self}
 use Rattle.cutting.proofs.Kept.{free, named, on, close, slot_hit}
 
 abbrev opens : ℕ → ℕ → Slot → Bool
-opens a b s = names a b s && eqb s.mark 0
+opens a b s = names a b s && not s.marked
 
 named_tally : (a b : ℕ) (t : List Slot) → named (length t) (srcs t) (dsts t) a b ≡ tally (names a b) t
 unfolding named many tally
@@ -32,8 +32,8 @@ unfolding free many tally
 free_tally a b [] = refl
 free_tally a b (s ∷ t) = ap (λ (k : ℕ). bit (opens a b s) + k) (free_tally a b t)
 
--- whatever the second slot's mark is
-pub names_edges : (back a b : ℕ) (es : List Edge) → tally (names a b) (edge_slots back es) ≡ times a b es + times b a es
+-- whether or not the second slot is marked
+pub names_edges : (back : Bool) (a b : ℕ) (es : List Edge) → tally (names a b) (edge_slots back es) ≡ times a b es + times b a es
 unfolding tally edge_slots times
 names_edges back a b [] = omega arith
 names_edges back a b (e ∷ es) = omega (arith, names_edges back a b es, hit_back a b e.1 e.0)
@@ -43,7 +43,7 @@ unfolding tally edge_slots times
 opens_outline a b [] = refl
 opens_outline a b (e ∷ es) = omega (arith, opens_outline a b es, ap bit (and-true (eqb e.0 a && eqb e.1 b)), ap bit (and-false (eqb e.1 a && eqb e.0 b)))
 
-opens_inner : (a b : ℕ) (es : List Edge) → tally (opens a b) (edge_slots 0 es) ≡ times a b es + times b a es
+opens_inner : (a b : ℕ) (es : List Edge) → tally (opens a b) (edge_slots false es) ≡ times a b es + times b a es
 unfolding tally edge_slots times
 opens_inner a b [] = omega arith
 opens_inner a b (e ∷ es) = omega (
@@ -110,9 +110,9 @@ module _ (outline inner : List Edge) (t : List Slot) (sorted : (p : Slot → Boo
     arith,
     named_tally a b t,
     sorted (names a b),
-    tally_append (names a b) (edge_slots reverse_mark outline) (edge_slots 0 inner),
+    tally_append (names a b) (edge_slots reverse_mark outline) (edge_slots false inner),
     names_edges reverse_mark a b outline,
-    names_edges 0 a b inner,
+    names_edges false a b inner,
   )
 
   free_table : (a b : ℕ) → free (length t) (srcs t) (dsts t) a b (marks_of t) ≡ times a b outline + (times a b inner + times b a inner)
@@ -121,7 +121,7 @@ module _ (outline inner : List Edge) (t : List Slot) (sorted : (p : Slot → Boo
     arith,
     free_tally a b t,
     sorted (opens a b),
-    tally_append (opens a b) (edge_slots reverse_mark outline) (edge_slots 0 inner),
+    tally_append (opens a b) (edge_slots reverse_mark outline) (edge_slots false inner),
     opens_outline a b outline,
     opens_inner a b inner,
   )
@@ -134,7 +134,7 @@ module _ (outline inner : List Edge) (t : List Slot) (sorted : (p : Slot → Boo
     unfolding walk_with walk_from on
     even =
         close (length t) (srcs t) (dsts t) turning (marks_of t) (starts (length t) (srcs t) (dsts t) outline []) outline
-        (omega (arith, length-map t (λ s. s.mark))) (λ a b. omega (arith, named_tally a b t, single t clean a b))
+        (omega (arith, length-map t (λ s. s.marked))) (λ a b. omega (arith, named_tally a b t, single t clean a b))
         (λ a b. omega (arith, named_table a b, free_table a b)) (λ a b. omega (arith, named_table a b, named_table b a))
         (λ a b. omega (arith, starts_on (length t) (srcs t) (dsts t) outline [] found a b)) (2 * length t + length (starts (length t) (srcs t) (dsts t) outline []) + 1) ps ends
 

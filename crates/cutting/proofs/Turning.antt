@@ -5,7 +5,7 @@ use mathlib.Core.Bool.{Bool, true, false, cond, not, ◌&&◌}
 use mathlib.Core.List.{List}
 use Prim.Native.Nat.{ℕ, zero, suc, ◌+◌, ◌<◌}
 use native.Mathlib.Omega.{arith}
-use lib.Dec.{eqb, ltb}
+use lib.Dec.{ltb}
 use lib.ListN.{length, get_or, set}
 use Rattle.lists.specs.Search.{first}
 use Rattle.cutting.specs.Edges.{Edge}
@@ -23,7 +23,7 @@ Agrees stuck v = Unit {0}
 Agrees broken v = v ≡ broken
 
 -- a slot found without turning back is found
-pub next_open_same : (n : ℕ) (src marks : List ℕ) (a r : ℕ) → next_open false n src marks a r < n → next_open true n src marks a r ≡ next_open false n src marks a r
+pub next_open_same : (n : ℕ) (src : List ℕ) (marks : List Bool) (a r : ℕ) → next_open false n src marks a r < n → next_open true n src marks a r ≡ next_open false n src marks a r
 unfolding next_open
 next_open_same n src marks a r l = late (ltb (first test (r + 1) n) n) l
   where
@@ -31,7 +31,7 @@ next_open_same n src marks a r l = late (ltb (first test (r + 1) n) n) l
     test = open_at src marks a
 
     last : ℕ
-    last = or_else (eqb (get_or marks r 0) 0) r n
+    last = or_else (not (get_or marks r false)) r n
 
     early : (t : Bool) → or_else t (first test 0 r) n < n → or_else t (first test 0 r) last ≡ or_else t (first test 0 r) n
     early true l = refl
@@ -52,7 +52,7 @@ module _ (n : ℕ) (src dst : List ℕ) where
   step_agrees (lost h) = way_step true n src dst (lost h)
   step_agrees (closes r< back) = way_step true n src dst (closes r< back)
   step_agrees (goes {marks = marks} {i = i} r< apart {j = j} found j<) =
-      let same = next_open_same n src (set marks i 1) (get_or dst i 0) (reverse_of n src dst i) (subst (λ (x : ℕ). x < n) found j<) in
+      let same = next_open_same n src (set marks i true) (get_or dst i 0) (reverse_of n src dst i) (subst (λ (x : ℕ). x < n) found j<) in
       way_step true n src dst (goes r< apart (found ∙ sym same) j<)
   step_agrees (stops r< apart none) = tt
 

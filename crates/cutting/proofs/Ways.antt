@@ -14,24 +14,24 @@ reverse_of n src dst i = slot n src dst (get_or dst i 0) (get_or src i 0)
 
 pub data Way (turning : Bool) (n : ℕ) (src dst : List ℕ) : State → Next → Type 0 where
   -- between two pieces: the heap is empty, or its end is no slot, a marked one, an unmarked one
-  ends : {marks : List ℕ} {done : List (List ℕ)} → Way turning n src dst (state marks [] done resting) (closed done)
-  missing : {marks heap : List ℕ} {done : List (List ℕ)} {i : ℕ} → n ≤ i → Way turning n src dst (state marks (i ∷ heap) done resting) broken
-  passes : {marks heap : List ℕ} {done : List (List ℕ)} {i : ℕ} → i < n → (get_or marks i 0 ≡ 0 → ⊥)
+  ends : {marks : List Bool} {done : List (List ℕ)} → Way turning n src dst (state marks [] done resting) (closed done)
+  missing : {marks : List Bool} {heap : List ℕ} {done : List (List ℕ)} {i : ℕ} → n ≤ i → Way turning n src dst (state marks (i ∷ heap) done resting) broken
+  passes : {marks : List Bool} {heap : List ℕ} {done : List (List ℕ)} {i : ℕ} → i < n → get_or marks i false ≡ true
       → Way turning n src dst (state marks (i ∷ heap) done resting) (more (state marks heap done resting))
-  begins : {marks heap : List ℕ} {done : List (List ℕ)} {i : ℕ} → i < n → get_or marks i 0 ≡ 0
+  begins : {marks : List Bool} {heap : List ℕ} {done : List (List ℕ)} {i : ℕ} → i < n → get_or marks i false ≡ false
       → Way turning n src dst (state marks (i ∷ heap) done resting) (more (state marks heap done (on_slot (get_or src i 0) [] i)))
   -- on a slot: it has no reverse, or the piece closes, goes on, can't go on
-  lost : {marks heap : List ℕ} {done : List (List ℕ)} {start i : ℕ} {mid : List ℕ} → n ≤ reverse_of n src dst i
+  lost : {marks : List Bool} {heap : List ℕ} {done : List (List ℕ)} {start i : ℕ} {mid : List ℕ} → n ≤ reverse_of n src dst i
       → Way turning n src dst (state marks heap done (on_slot start mid i)) broken
-  closes : {marks heap : List ℕ} {done : List (List ℕ)} {start i : ℕ} {mid : List ℕ} → reverse_of n src dst i < n → get_or dst i 0 ≡ start
+  closes : {marks : List Bool} {heap : List ℕ} {done : List (List ℕ)} {start i : ℕ} {mid : List ℕ} → reverse_of n src dst i < n → get_or dst i 0 ≡ start
       → Way turning n src dst (state marks heap done (on_slot start mid i))
-      (more (state (set marks i 1) (reverse_of n src dst i ∷ heap) (done ++ (start ∷ mid) ∷ []) resting))
-  goes : {marks heap : List ℕ} {done : List (List ℕ)} {start i : ℕ} {mid : List ℕ} → reverse_of n src dst i < n → (get_or dst i 0 ≡ start → ⊥) → {j : ℕ}
-      → j ≡ next_open turning n src (set marks i 1) (get_or dst i 0) (reverse_of n src dst i) → j < n
+      (more (state (set marks i true) (reverse_of n src dst i ∷ heap) (done ++ (start ∷ mid) ∷ []) resting))
+  goes : {marks : List Bool} {heap : List ℕ} {done : List (List ℕ)} {start i : ℕ} {mid : List ℕ} → reverse_of n src dst i < n → (get_or dst i 0 ≡ start → ⊥) → {j : ℕ}
+      → j ≡ next_open turning n src (set marks i true) (get_or dst i 0) (reverse_of n src dst i) → j < n
       → Way turning n src dst (state marks heap done (on_slot start mid i))
-      (more (state (set marks i 1) (reverse_of n src dst i ∷ heap) done (on_slot start (mid ++ get_or dst i 0 ∷ []) j)))
-  stops : {marks heap : List ℕ} {done : List (List ℕ)} {start i : ℕ} {mid : List ℕ} → reverse_of n src dst i < n → (get_or dst i 0 ≡ start → ⊥)
-      → n ≤ next_open turning n src (set marks i 1) (get_or dst i 0) (reverse_of n src dst i)
+      (more (state (set marks i true) (reverse_of n src dst i ∷ heap) done (on_slot start (mid ++ get_or dst i 0 ∷ []) j)))
+  stops : {marks : List Bool} {heap : List ℕ} {done : List (List ℕ)} {start i : ℕ} {mid : List ℕ} → reverse_of n src dst i < n → (get_or dst i 0 ≡ start → ⊥)
+      → n ≤ next_open turning n src (set marks i true) (get_or dst i 0) (reverse_of n src dst i)
       → Way turning n src dst (state marks heap done (on_slot start mid i)) stuck
 
 module _ (turning : Bool) (n : ℕ) (src dst : List ℕ) where
@@ -40,19 +40,19 @@ module _ (turning : Bool) (n : ℕ) (src dst : List ℕ) where
   unfolding step rest begin follow arrive onward
   way s = by s.phase s.marks s.heap s.done
     where
-      off : (marks heap : List ℕ) (done : List (List ℕ)) (i : ℕ) → Way turning n src dst (state marks (i ∷ heap) done resting)
+      off : (marks : List Bool) (heap : List ℕ) (done : List (List ℕ)) (i : ℕ) → Way turning n src dst (state marks (i ∷ heap) done resting)
           (begin turning n src dst (state marks heap done resting) i)
-      off marks heap done i = pick (ltb i n) refl (eqb (get_or marks i 0) 0) refl
+      off marks heap done i = pick (ltb i n) refl (get_or marks i false) refl
         where
-          pick : (t : Bool) → ltb i n ≡ t → (u : Bool) → eqb (get_or marks i 0) 0 ≡ u
-              → let from : Phase = elim u [ true ↦ on_slot (get_or src i 0) [] i | false ↦ resting ] in
+          pick : (t : Bool) → ltb i n ≡ t → (u : Bool) → get_or marks i false ≡ u
+              → let from : Phase = elim u [ true ↦ resting | false ↦ on_slot (get_or src i 0) [] i ] in
               let to : Next = elim t [ true ↦ more (state marks heap done from) | false ↦ broken ] in
               Way turning n src dst (state marks (i ∷ heap) done resting) to
-          pick true e true f = begins (ltb-true i n e) (eqb-true (get_or marks i 0) 0 f)
-          pick true e false f = passes (ltb-true i n e) (eqb-false (get_or marks i 0) 0 f)
+          pick true e true f = passes (ltb-true i n e) f
+          pick true e false f = begins (ltb-true i n e) f
           pick false e u f = missing (ltb-false i n e)
 
-      along : (marks heap : List ℕ) (done : List (List ℕ)) (start : ℕ) (mid : List ℕ) (i : ℕ)
+      along : (marks : List Bool) (heap : List ℕ) (done : List (List ℕ)) (start : ℕ) (mid : List ℕ) (i : ℕ)
           → let s = state marks heap done (on_slot start mid i) in Way turning n src dst s (follow turning n src dst s start mid i)
       along marks heap done start mid i = pick (ltb r n) refl (eqb y start) refl (ltb j n) refl
         where
@@ -63,13 +63,13 @@ module _ (turning : Bool) (n : ℕ) (src dst : List ℕ) where
           r = reverse_of n src dst i
 
           j : ℕ
-          j = next_open turning n src (set marks i 1) y r
+          j = next_open turning n src (set marks i true) y r
 
           pick : (t : Bool) → ltb r n ≡ t → (u : Bool) → eqb y start ≡ u → (v : Bool) → ltb j n ≡ v
               → let to : Next = elim t [
                 | true ↦ elim u [
-                  | true ↦ more (state (set marks i 1) (r ∷ heap) (done ++ (start ∷ mid) ∷ []) resting)
-                  | false ↦ elim v [ true ↦ more (state (set marks i 1) (r ∷ heap) done (on_slot start (mid ++ y ∷ []) j)) | false ↦ stuck ]
+                  | true ↦ more (state (set marks i true) (r ∷ heap) (done ++ (start ∷ mid) ∷ []) resting)
+                  | false ↦ elim v [ true ↦ more (state (set marks i true) (r ∷ heap) done (on_slot start (mid ++ y ∷ []) j)) | false ↦ stuck ]
                 ]
                 | false ↦ broken
               ] in
@@ -79,7 +79,7 @@ module _ (turning : Bool) (n : ℕ) (src dst : List ℕ) where
           pick true e false f false g = stops (ltb-true r n e) (eqb-false y start f) (ltb-false j n g)
           pick false e u f v g = lost (ltb-false r n e)
 
-      by : (phase : Phase) (marks heap : List ℕ) (done : List (List ℕ))
+      by : (phase : Phase) (marks : List Bool) (heap : List ℕ) (done : List (List ℕ))
           → Way turning n src dst (state marks heap done phase)
           (step turning n src dst (state marks heap done phase))
       by resting marks [] done = ends
@@ -91,18 +91,18 @@ module _ (turning : Bool) (n : ℕ) (src dst : List ℕ) where
   unfolding step rest begin follow arrive onward
   way_step ends = refl
   way_step (missing {i = i} h) = rw (le-ltb i n h, rest, begin)
-  way_step (passes {marks = marks} {i = i} h e) = rw (lt-ltb i n h, ne_eqb (get_or marks i 0) 0 e, rest, begin)
-  way_step (begins {marks = marks} {i = i} h e) = rw (lt-ltb i n h, eq-eqb (get_or marks i 0) 0 e, rest, begin)
+  way_step (passes {marks = marks} {i = i} h e) = rw (lt-ltb i n h, e, rest, begin)
+  way_step (begins {marks = marks} {i = i} h e) = rw (lt-ltb i n h, e, rest, begin)
   way_step (lost {i = i} h) = rw (le-ltb (reverse_of n src dst i) n h, follow)
   way_step (closes {start = start} {i = i} h e) = rw (lt-ltb (reverse_of n src dst i) n h, eq-eqb (get_or dst i 0) start e, follow, arrive)
   way_step (goes {marks = marks} {heap = heap} {done = done} {start = start} {i = i} {mid = mid} h e {j = j} f l) =
       let y = get_or dst i 0 in
       let r = reverse_of n src dst i in
-      let j' = next_open turning n src (set marks i 1) y r in
+      let j' = next_open turning n src (set marks i true) y r in
       rw (lt-ltb r n h, ne_eqb y start e, lt-ltb j' n (subst (λ (x : ℕ). x < n) f l), follow, arrive, onward)
-      (ap (λ (x : ℕ). more (state (set marks i 1) (r ∷ heap) done (on_slot start (mid ++ y ∷ []) x))) (sym f))
+      (ap (λ (x : ℕ). more (state (set marks i true) (r ∷ heap) done (on_slot start (mid ++ y ∷ []) x))) (sym f))
   way_step (stops {marks = marks} {start = start} {i = i} h e l) =
-      rw (lt-ltb (reverse_of n src dst i) n h, ne_eqb (get_or dst i 0) start e, le-ltb (next_open turning n src (set marks i 1) (get_or dst i 0) (reverse_of n src dst i)) n l, follow, arrive, onward)
+      rw (lt-ltb (reverse_of n src dst i) n h, ne_eqb (get_or dst i 0) start e, le-ltb (next_open turning n src (set marks i true) (get_or dst i 0) (reverse_of n src dst i)) n l, follow, arrive, onward)
 
 -- ---- runs of steps
 

@@ -58,17 +58,17 @@ repeats (e ∷ es) = eqb e.0 e.1 || among e es || repeats es
 
 -- ---- the table
 
--- each edge has an unmarked slot at its first node, and at its second one with the mark `back`
-unfoldable pub edge_slots : ℕ → List Edge → List Slot
+-- each edge has an unmarked slot at its first node, and one at its second, marked if `back` is true
+unfoldable pub edge_slots : Bool → List Edge → List Slot
 edge_slots back [] = []
-edge_slots back (e ∷ es) = record { src = e.0; dst = e.1; mark = 0 } ∷ record { src = e.1; dst = e.0; mark = back } ∷ edge_slots back es
+edge_slots back (e ∷ es) = record { src = e.0; dst = e.1; marked = false } ∷ record { src = e.1; dst = e.0; marked = back } ∷ edge_slots back es
 
 -- the mark of the reverse of an outline dart: never walked
-abbrev pub reverse_mark : ℕ
-reverse_mark = 1
+abbrev pub reverse_mark : Bool
+reverse_mark = true
 
 unfoldable pub table : List Edge → List Edge → List Slot
-table outline inside = edge_slots reverse_mark outline ++ edge_slots 0 inside
+table outline inside = edge_slots reverse_mark outline ++ edge_slots false inside
 
 -- a slot from a to b
 abbrev pub names : ℕ → ℕ → Slot → Bool
@@ -84,7 +84,7 @@ is_new t e = not (eqb e.0 e.1) && eqb (tally (names e.0 e.1) t) 0
 -- those of some edges that a table takes, one after the other
 unfoldable pub new_to : List Slot → List Edge → List Edge
 new_to t [] = []
-new_to t (e ∷ es) = elim (is_new t e) [ true ↦ e ∷ new_to (edge_slots 0 (e ∷ []) ++ t) es | false ↦ new_to t es ]
+new_to t (e ∷ es) = elim (is_new t e) [ true ↦ e ∷ new_to (edge_slots false (e ∷ []) ++ t) es | false ↦ new_to t es ]
 
 -- before W14: the windows that the outline hasn't, and a whole edge always
 abbrev pub unless_outline : List Edge → Edge → List ℕ → List Edge

@@ -115,7 +115,7 @@ module _ (coords : List Float) (inv : Bool) (nodes outline₀ : List ℕ) (t₀ 
 
 -- ---- with more darts
 
-module _ (coords : List Float) (back : ℕ) (es : List Edge) (t : List Slot) where
+module _ (coords : List Float) (back : Bool) (es : List Edge) (t : List Slot) where
   abbrev all : List Slot
   all = sort_onto (stands_before coords) t (edge_slots back es)
 
@@ -175,7 +175,7 @@ module _ (a b : ℕ) where
 
 module _ (coords : List Float) (a b : ℕ) (t : List Slot) where
   abbrev one : Table
-  one = with_darts coords 0 ((a, b) ∷ []) t
+  one = with_darts coords false ((a, b) ∷ []) t
 
   edge_by : (x : Bool) → is_new t (a, b) ≡ x → cond x one (table_in (Ok tt) t) ≡ with_edge coords (a, b) t
   unfolding with_edge

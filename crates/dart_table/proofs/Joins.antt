@@ -71,10 +71,10 @@ module _ (coords : List Float) where
     unfolding cell_table_with table
     cell_length near = omega (
       arith,
-      length_sorted before (edge_slots reverse_mark outline ++ edge_slots 0 (inner outline near)),
-      length-append (edge_slots reverse_mark outline) (edge_slots 0 (inner outline near)),
+      length_sorted before (edge_slots reverse_mark outline ++ edge_slots false (inner outline near)),
+      length-append (edge_slots reverse_mark outline) (edge_slots false (inner outline near)),
       slots_length reverse_mark outline,
-      slots_length 0 (inner outline near),
+      slots_length false (inner outline near),
     )
 
   -- once over 1,024 slots, always over
@@ -130,32 +130,32 @@ one_if true e = e ∷ []
 one_if false e = []
 
 -- one edge more comes last
-new_to_snoc : (t : List Slot) (es : List Edge) (e : Edge) → new_to t (es ++ e ∷ []) ≡ new_to t es ++ one_if (is_new (edge_slots 0 (new_to t es) ++ t) e) e
+new_to_snoc : (t : List Slot) (es : List Edge) (e : Edge) → new_to t (es ++ e ∷ []) ≡ new_to t es ++ one_if (is_new (edge_slots false (new_to t es) ++ t) e) e
 unfolding new_to edge_slots
 new_to_snoc t [] e = go (is_new t e)
   where
     go : (x : Bool) → elim x [ true ↦ e ∷ [] | false ↦ [] ] ≡ one_if x e
     go true = refl
     go false = refl
-new_to_snoc t (d ∷ es) e = go (is_new t d) (new_to_snoc (edge_slots 0 (d ∷ []) ++ t) es e) (new_to_snoc t es e)
+new_to_snoc t (d ∷ es) e = go (is_new t d) (new_to_snoc (edge_slots false (d ∷ []) ++ t) es e) (new_to_snoc t es e)
   where
     t' : List Slot
-    t' = edge_slots 0 (d ∷ []) ++ t
+    t' = edge_slots false (d ∷ []) ++ t
 
-    same : is_new (edge_slots 0 (new_to t' es) ++ t') e ≡ is_new (edge_slots 0 (d ∷ new_to t' es) ++ t) e
-    same = is_new_as (edge_slots 0 (new_to t' es) ++ t') (edge_slots 0 (d ∷ new_to t' es) ++ t) e (λ p. omega (
+    same : is_new (edge_slots false (new_to t' es) ++ t') e ≡ is_new (edge_slots false (d ∷ new_to t' es) ++ t) e
+    same = is_new_as (edge_slots false (new_to t' es) ++ t') (edge_slots false (d ∷ new_to t' es) ++ t) e (λ p. omega (
       arith,
-      tally_append p (edge_slots 0 (new_to t' es)) t',
-      tally_append p (edge_slots 0 (d ∷ [])) t,
-      tally_append p (edge_slots 0 (d ∷ new_to t' es)) t,
-      tally_append p (edge_slots 0 (d ∷ [])) (edge_slots 0 (new_to t' es)),
-      ap (tally p) (slots_append 0 (d ∷ []) (new_to t' es)),
+      tally_append p (edge_slots false (new_to t' es)) t',
+      tally_append p (edge_slots false (d ∷ [])) t,
+      tally_append p (edge_slots false (d ∷ new_to t' es)) t,
+      tally_append p (edge_slots false (d ∷ [])) (edge_slots false (new_to t' es)),
+      ap (tally p) (slots_append false (d ∷ []) (new_to t' es)),
     ))
 
-    go : (x : Bool) → new_to t' (es ++ e ∷ []) ≡ new_to t' es ++ one_if (is_new (edge_slots 0 (new_to t' es) ++ t') e) e
-        → new_to t (es ++ e ∷ []) ≡ new_to t es ++ one_if (is_new (edge_slots 0 (new_to t es) ++ t) e) e
+    go : (x : Bool) → new_to t' (es ++ e ∷ []) ≡ new_to t' es ++ one_if (is_new (edge_slots false (new_to t' es) ++ t') e) e
+        → new_to t (es ++ e ∷ []) ≡ new_to t es ++ one_if (is_new (edge_slots false (new_to t es) ++ t) e) e
         → let all : List Edge = elim x [ true ↦ d ∷ new_to t' (es ++ e ∷ []) | false ↦ new_to t (es ++ e ∷ []) ] in
-        let some : List Edge = elim x [ true ↦ d ∷ new_to t' es | false ↦ new_to t es ] in all ≡ some ++ one_if (is_new (edge_slots 0 some ++ t) e) e
+        let some : List Edge = elim x [ true ↦ d ∷ new_to t' es | false ↦ new_to t es ] in all ≡ some ++ one_if (is_new (edge_slots false some ++ t) e) e
     go true a b = ap (λ (l : List Edge). d ∷ l) (a ∙ ap (λ (x : Bool). new_to t' es ++ one_if x e) same)
     go false a b = b
 
@@ -163,11 +163,11 @@ new_to_snoc t (d ∷ es) e = go (is_new t d) (new_to_snoc (edge_slots 0 (d ∷ [
 new_to_more : (t : List Slot) (es fs : List Edge) → length (new_to t es) ≤ length (new_to t (es ++ fs))
 unfolding new_to
 new_to_more t [] fs = omega arith
-new_to_more t (d ∷ es) fs = go (is_new t d) (new_to_more (edge_slots 0 (d ∷ []) ++ t) es fs) (new_to_more t es fs)
+new_to_more t (d ∷ es) fs = go (is_new t d) (new_to_more (edge_slots false (d ∷ []) ++ t) es fs) (new_to_more t es fs)
   where
-    go : (x : Bool) → length (new_to (edge_slots 0 (d ∷ []) ++ t) es) ≤ length (new_to (edge_slots 0 (d ∷ []) ++ t) (es ++ fs)) → length (new_to t es) ≤ length (new_to t (es ++ fs))
-        → let some : List Edge = elim x [ true ↦ d ∷ new_to (edge_slots 0 (d ∷ []) ++ t) es | false ↦ new_to t es ] in
-        let all : List Edge = elim x [ true ↦ d ∷ new_to (edge_slots 0 (d ∷ []) ++ t) (es ++ fs) | false ↦ new_to t (es ++ fs) ] in length some ≤ length all
+    go : (x : Bool) → length (new_to (edge_slots false (d ∷ []) ++ t) es) ≤ length (new_to (edge_slots false (d ∷ []) ++ t) (es ++ fs)) → length (new_to t es) ≤ length (new_to t (es ++ fs))
+        → let some : List Edge = elim x [ true ↦ d ∷ new_to (edge_slots false (d ∷ []) ++ t) es | false ↦ new_to t es ] in
+        let all : List Edge = elim x [ true ↦ d ∷ new_to (edge_slots false (d ∷ []) ++ t) (es ++ fs) | false ↦ new_to t (es ++ fs) ] in length some ≤ length all
     go true a b = omega (arith, a)
     go false a b = b
 
@@ -188,10 +188,10 @@ module _ (coords : List Float) (outline : List Edge) where
   unfolding table
   table_size inside = omega (
     arith,
-    length_sorted (stands_before coords) (edge_slots reverse_mark outline ++ edge_slots 0 inside),
-    length-append (edge_slots reverse_mark outline) (edge_slots 0 inside),
+    length_sorted (stands_before coords) (edge_slots reverse_mark outline ++ edge_slots false inside),
+    length-append (edge_slots reverse_mark outline) (edge_slots false inside),
     slots_length reverse_mark outline,
-    slots_length 0 inside,
+    slots_length false inside,
   )
 
   holds_size : (ds : List Edge) (t : List Slot) → Holds ds t → length t ≡ size ds
@@ -199,23 +199,23 @@ module _ (coords : List Float) (outline : List Edge) where
 
   -- one edge
   module _ (e : Edge) (ds : List Edge) (t : List Slot) (h : Holds ds t) where
-    same_new : is_new t e ≡ is_new (edge_slots 0 (in_of ds) ++ table outline []) e
+    same_new : is_new t e ≡ is_new (edge_slots false (in_of ds) ++ table outline []) e
     unfolding table edge_slots
-    same_new = ap (λ (u : List Slot). is_new u e) h ∙ is_new_as (sorted (stands_before coords) (table outline (in_of ds))) (edge_slots 0 (in_of ds) ++ table outline []) e (λ p. omega (
+    same_new = ap (λ (u : List Slot). is_new u e) h ∙ is_new_as (sorted (stands_before coords) (table outline (in_of ds))) (edge_slots false (in_of ds) ++ table outline []) e (λ p. omega (
       arith,
       sorted_tally (stands_before coords) p (table outline (in_of ds)),
-      tally_append p (edge_slots reverse_mark outline) (edge_slots 0 (in_of ds)),
-      tally_append p (edge_slots 0 (in_of ds)) (table outline []),
+      tally_append p (edge_slots reverse_mark outline) (edge_slots false (in_of ds)),
+      tally_append p (edge_slots false (in_of ds)) (table outline []),
       ap (tally p) (append-nil (edge_slots reverse_mark outline)),
     ))
 
-    more_table : sort_onto (stands_before coords) t (edge_slots 0 (e ∷ [])) ≡ sorted (stands_before coords) (table outline (in_of ds ++ e ∷ []))
+    more_table : sort_onto (stands_before coords) t (edge_slots false (e ∷ [])) ≡ sorted (stands_before coords) (table outline (in_of ds ++ e ∷ []))
     unfolding table
     more_table =
-        ap (λ (u : List Slot). sort_onto (stands_before coords) u (edge_slots 0 (e ∷ []))) h
-        ∙ sym (sort_onto_append (stands_before coords) [] (edge_slots reverse_mark outline ++ edge_slots 0 (in_of ds)) (edge_slots 0 (e ∷ [])))
-        ∙ ap (sorted (stands_before coords)) (append_assoc (edge_slots reverse_mark outline) (edge_slots 0 (in_of ds)) (edge_slots 0 (e ∷ []))
-        ∙ ap (λ (u : List Slot). edge_slots reverse_mark outline ++ u) (sym (slots_append 0 (in_of ds) (e ∷ []))))
+        ap (λ (u : List Slot). sort_onto (stands_before coords) u (edge_slots false (e ∷ []))) h
+        ∙ sym (sort_onto_append (stands_before coords) [] (edge_slots reverse_mark outline ++ edge_slots false (in_of ds)) (edge_slots false (e ∷ [])))
+        ∙ ap (sorted (stands_before coords)) (append_assoc (edge_slots reverse_mark outline) (edge_slots false (in_of ds)) (edge_slots false (e ∷ []))
+        ∙ ap (λ (u : List Slot). edge_slots reverse_mark outline ++ u) (sym (slots_append false (in_of ds) (e ∷ []))))
 
     all_new : is_new t e ≡ true → in_of (ds ++ e ∷ []) ≡ in_of ds ++ e ∷ []
     all_new q = new_to_snoc (table outline []) ds e ∙ ap (λ (x : Bool). in_of ds ++ one_if x e) (sym same_new ∙ q)
@@ -227,10 +227,10 @@ module _ (coords : List Float) (outline : List Edge) where
     abbrev Step : Table → Type 0
     Step u = (is_err u.answer ≡ false → Holds (ds ++ e ∷ []) u.slots) × (is_err u.answer ≡ true → 1024 < size (ds ++ e ∷ []))
 
-    step_of : (x : Bool) → is_new t e ≡ x → Step (cond x (with_darts coords 0 (e ∷ []) t) (table_in (Ok tt) t))
+    step_of : (x : Bool) → is_new t e ≡ x → Step (cond x (with_darts coords false (e ∷ []) t) (table_in (Ok tt) t))
     step_of true q =
         let all = all_new q in
-        let told = darts_tell coords 0 (e ∷ []) t in (
+        let told = darts_tell coords false (e ∷ []) t in (
           λ fits. (told.0 fits).1 ∙ more_table ∙ ap (λ (es : List Edge). sorted (stands_before coords) (table outline es)) (sym all),
           λ full. omega (arith, told.1 full, holds_size ds t h, ap length all, length-append (in_of ds) (e ∷ [])),
         )

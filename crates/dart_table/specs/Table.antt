@@ -1,5 +1,5 @@
 -- A cell's table and outline, and how they grow. Assumes nothing.
-use Rattle.std.specs.Prelude.{cond, List, [], ◌∷◌, ℕ, ◌+◌, ◌*◌, length, Float, Result, Ok, Err, is_err}
+use Rattle.std.specs.Prelude.{Bool, false, cond, List, [], ◌∷◌, ℕ, ◌+◌, ◌*◌, length, Float, Result, Ok, Err, is_err}
 use Rattle.lists.specs.Sort.{sort_onto}
 use Rattle.lists.specs.Regions.{put}
 use Rattle.dart_table.specs.declared.Full.{Full}
@@ -21,15 +21,15 @@ full n = Err (record { slots = n })
 abbrev pub table_in : Result (Unit {0}) Full → List Slot → Table
 table_in r t = record { answer = r; slots = t }
 
--- The table with more darts, each with a slot at both its ends, the second one with the mark `back`: all slots in the table's order. Over 1,024
+-- The table with more darts, each with a slot at both its ends, the second one marked if `back` is true: all slots in the table's order. Over 1,024
 -- slots are refused (10), with their number, and the table stays as it was.
-unfoldable pub with_darts : List Float → ℕ → List Edge → List Slot → Table
+unfoldable pub with_darts : List Float → Bool → List Edge → List Slot → Table
 with_darts coords back darts t = cond (too_many (length t + 2 * length darts)) (table_in (full (length t + 2 * length darts)) t)
     (table_in (Ok tt) (sort_onto (stands_before coords) t (edge_slots back darts)))
 
 -- the table with an edge near the cell, if that is new to it
 unfoldable pub with_edge : List Float → Edge → List Slot → Table
-with_edge coords e t = cond (is_new t e) (with_darts coords 0 (e ∷ []) t) (table_in (Ok tt) t)
+with_edge coords e t = cond (is_new t e) (with_darts coords false (e ∷ []) t) (table_in (Ok tt) t)
 
 -- with edges one after the other, until one is refused
 unfoldable pub with_edges : List Float → List Edge → List Slot → Table

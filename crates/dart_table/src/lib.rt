@@ -90,7 +90,7 @@ impl DartTable {
         let none = Slot {
             src: 0,
             dst: 0,
-            mark: 0,
+            marked: false,
         };
         DartTable {
             slots: [none; 1024],
@@ -116,21 +116,21 @@ impl DartTable {
         self.count = n + 1;
     }
 
-    // Adds the slot from a to b, and the one from b to a with the mark `back`, a number as a slot has it.
+    // Adds the slot from a to b, and the one from b to a, marked if `back` is true.
     #[tactic(auto, using(lists::proofs::Sort::length_insert), unfolding(lists::specs::Sort::sort_onto, cutting::specs::Cell::edge_slots))]
-    fn add_dart(&mut self, coords: &[f64], a: u32, b: u32, back: u32)
+    fn add_dart(&mut self, coords: &[f64], a: u32, b: u32, back: bool)
         requires { length self.old + 2 ≤ 1024 }
         ensures { self.new ≡ sort_onto (stands_before coords.now) self.old (edge_slots back ((a, b) ∷ [])) }
     {
         let there = Slot {
             src: a,
             dst: b,
-            mark: 0,
+            marked: false,
         };
         let back_again = Slot {
             src: b,
             dst: a,
-            mark: back,
+            marked: back,
         };
         self.insert(coords, there);
         self.insert(coords, back_again);
@@ -148,7 +148,7 @@ impl DartTable {
             let n = self.slots().len();
             outline[n] = a;
             outline[n + 1] = b;
-            self.add_dart(coords, a, b, 1);
+            self.add_dart(coords, a, b, true);
         }
     }
 
@@ -207,7 +207,7 @@ impl DartTable {
         if 1024 < slots {
             return Err(Full { slots });
         }
-        self.add_dart(coords, a, b, 0);
+        self.add_dart(coords, a, b, false);
         Ok(())
     }
 

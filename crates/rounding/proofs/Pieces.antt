@@ -75,7 +75,7 @@ module _ (n : ℕ) (some : 0 < n) where
   abbrev SlotUnder : Slot → Type 0
   SlotUnder s = (s.src < n) × (s.dst < n)
 
-  slots_under : (back : ℕ) (es : List Edge) → Each (Both n) es → Each SlotUnder (edge_slots back es)
+  slots_under : (back : Bool) (es : List Edge) → Each (Both n) es → Each SlotUnder (edge_slots back es)
   unfolding edge_slots
   slots_under back [] h = each_none SlotUnder
   slots_under back (e ∷ es) h =
@@ -86,10 +86,10 @@ module _ (n : ℕ) (some : 0 < n) where
   unfolding new_to
   new_under t [] h = each_none (Both n)
   new_under t (e ∷ es) h =
-      pick (is_new t e) (new_under (edge_slots 0 (e ∷ []) ++ t) es (λ f m. h f (Memᴰ.tail m))) (new_under t es (λ f m. h f (Memᴰ.tail m)))
+      pick (is_new t e) (new_under (edge_slots false (e ∷ []) ++ t) es (λ f m. h f (Memᴰ.tail m))) (new_under t es (λ f m. h f (Memᴰ.tail m)))
     where
-      pick : (b : Bool) → Each (Both n) (new_to (edge_slots 0 (e ∷ []) ++ t) es) → Each (Both n) (new_to t es)
-          → let r : List Edge = elim b [ true ↦ e ∷ new_to (edge_slots 0 (e ∷ []) ++ t) es | false ↦ new_to t es ] in Each (Both n) r
+      pick : (b : Bool) → Each (Both n) (new_to (edge_slots false (e ∷ []) ++ t) es) → Each (Both n) (new_to t es)
+          → let r : List Edge = elim b [ true ↦ e ∷ new_to (edge_slots false (e ∷ []) ++ t) es | false ↦ new_to t es ] in Each (Both n) r
       pick true i j = each_cons e _ (h e (Memᴰ.head refl)) i
       pick false i j = j
 
@@ -98,7 +98,7 @@ module _ (n : ℕ) (some : 0 < n) where
   unfolding cell_table_with inner_with table
   table_under coords outline near h k =
       each_sorted SlotUnder (stands_before coords) [] _ (each_none SlotUnder)
-      (each_join _ _ (slots_under reverse_mark outline h) (slots_under 0 _ (new_under (table outline []) (joined near_darts near) (each_joined (Both n) near_darts near k))))
+      (each_join _ _ (slots_under reverse_mark outline h) (slots_under false _ (new_under (table outline []) (joined near_darts near) (each_joined (Both n) near_darts near k))))
 
   walk_good : (turning : Bool) (outline : List Edge) (t : List Slot) → Each SlotUnder t → Good (walk_with turning outline t)
   unfolding walk_with walk_from

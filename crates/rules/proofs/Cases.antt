@@ -292,10 +292,10 @@ rows =
 
 -- a table of so many slots, and nothing to walk
 abbrev filled : ℕ → List Slot
-filled n = replicate n (record { src = 0; dst = 0; mark = 1 })
+filled n = replicate n (record { src = 0; dst = 0; marked = true })
 
 abbrev slot_to : ℕ → Slot
-slot_to n = record { src = 0; dst = n; mark = 0 }
+slot_to n = record { src = 0; dst = n; marked = false }
 
 abbrev net_of_lem : List Edge → Net
 net_of_lem es = record { cells = []; kinds = []; families = []; edges = es }

@@ -1,5 +1,6 @@
 -- `DartTable::add_edge` meets its contract. Assumes nothing.
 use mathlib.Core.Path.{sym, ap, ◌∙◌}
+use mathlib.Core.Bool.{false}
 use mathlib.Core.List.{[], ◌∷◌}
 use lib.ListN.{length}
 use Rattle.std.specs.List.{position}
@@ -13,12 +14,12 @@ pub returns-then-slots-gt1024 : goal.returns-then-slots-gt1024
 returns-then-slots-gt1024 c =
     let a = c.args in
     let is = c.find_slot.ensures ∙ ap (position (names a.a a.b)) c.slots.ensures.slots in
-    darts_full a.coords.now 0 ((a.a, a.b) ∷ []) a.self.now _ (omega (arith, ap length c.slots-2.ensures.slots)) c.if-slots-gt1024.true
+    darts_full a.coords.now false ((a.a, a.b) ∷ []) a.self.now _ (omega (arith, ap length c.slots-2.ensures.slots)) c.if-slots-gt1024.true
     ∙ edge_new a.coords.now a.a a.b a.self.now c.if-a-b.false (found_not (names a.a a.b) a.self.now _ is (sym c.is_some.ensures ∙ c.if-is_some.false))
 
 pub returns : goal.returns
 returns c =
     let a = c.args in
     let is = c.find_slot.ensures ∙ ap (position (names a.a a.b)) c.slots.ensures.slots in
-    darts_fit a.coords.now 0 ((a.a, a.b) ∷ []) a.self.now _ (omega (arith, ap length c.slots-2.ensures.slots)) c.add_dart.ensures
+    darts_fit a.coords.now false ((a.a, a.b) ∷ []) a.self.now _ (omega (arith, ap length c.slots-2.ensures.slots)) c.add_dart.ensures
     ∙ edge_new a.coords.now a.a a.b a.self.now c.if-a-b.false (found_not (names a.a a.b) a.self.now _ is (sym c.is_some.ensures ∙ c.if-is_some.false))
