@@ -18,7 +18,7 @@ use Rattle.lists.proofs.Gather.{tally_append}
 use Rattle.cutting.specs.Edges.{Edge}
 use Rattle.cutting.specs.Cell.{edge_slots, reverse_mark, table}
 use Rattle.cutting.specs.declared.Slot.{Slot}
-use Rattle.cutting.specs.Walk.{State, Phase, resting, on_slot, Next, more, closed, stuck, broken, or_else, open_at, next_open, srcs, dsts, marks_of, walk_steps, walk_from, walk_with}
+use Rattle.cutting.specs.Walk.{State, Phase, resting, on_slot, Next, more, closed, stuck, broken, or_else, open_at, next_open, srcs, dsts, marks_of, opens_from, walk_steps, walk_from, walk_with}
 use Rattle.cutting.proofs.Ways.{reverse_of, Way, ends, missing, passes, begins, lost, closes, goes, stops, Led, steps_keep}
 use Rattle.cutting.specs.Areas.{leaving, entering}
 use Rattle.cutting.proofs.EdgeLaws.{open_both}
@@ -146,9 +146,6 @@ module _ (n : ℕ) (src dst : List ℕ) where
   steps_free = steps_keep true n src dst Goes Free (λ k s t w h. step_free k w h) (λ s k. tt)
 
 -- ---- a cell's table
-
-abbrev opens_from : ℕ → Slot → Bool
-opens_from a s = eqb s.src a && not s.marked
 
 abbrev opens_to : ℕ → Slot → Bool
 opens_to a s = eqb s.dst a && not s.marked

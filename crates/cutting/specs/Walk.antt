@@ -105,6 +105,10 @@ dsts t = map (λ s. s.dst) t
 abbrev pub marks_of : List Slot → List Bool
 marks_of t = map (λ s. s.marked) t
 
+-- an unmarked slot at the node a
+abbrev pub opens_from : ℕ → Slot → Bool
+opens_from a s = eqb s.src a && not s.marked
+
 -- the walk of a table from the outline's darts, by whether it may turn back
 unfoldable pub walk_with : Bool → List Edge → List Slot → Next
 walk_with turning outline t = walk_from turning (length t) (srcs t) (dsts t) (marks_of t) (starts (length t) (srcs t) (dsts t) outline [])

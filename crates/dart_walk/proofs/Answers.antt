@@ -1,20 +1,45 @@
--- What a walk answers and writes, of a table in three lists. Assumes nothing.
+-- What a walk answers and writes. Assumes nothing.
 use mathlib.Core.Path.{◌≡◌, ap, ◌∙◌, subst}
-use mathlib.Core.List.{List}
-use Prim.Native.Nat.{ℕ}
+use mathlib.Core.List.{List, []}
+use Prim.Native.Nat.{ℕ, ◌≤◌}
+use native.Mathlib.Omega.{arith}
 use lib.ListN.{length}
 use Rattle.lists.specs.Regions.{zeros}
-use Rattle.cutting.specs.Walk.{Next}
+use Rattle.cutting.specs.declared.Slot.{Slot}
+use Rattle.cutting.specs.Walk.{Next, walk_from, walk_with, walk, starts, srcs, dsts, marks_of}
+use Rattle.cutting.specs.Lent.{pairs}
+use Rattle.cutting.proofs.Pairs.{pairs_length}
+use Rattle.dart_walk.proofs.Heaps.{length_starts}
 use Rattle.cutting.specs.Outcome.{Outcome, refusal, pieces, of_walk}
-use Rattle.dart_walk.specs.Answer.{answer, corners_in, ends_in, Written}
+use Rattle.dart_walk.specs.Answer.{Room, answer, walked_from, corners_in, ends_in, Written}
 use Rattle.std.proofs.Common.{true, false, Result, Ok, Err, is_ok}
 use Rattle.refusals.specs.declared.Refusal.{Refusal}
 use Rattle.refusals.specs.Numbers.{by_number}
 use Rattle.dart_walk.specs.declared.Counts.{Counts}
 
-pub walked_as : (r s : Next) (w : Result Counts Refusal) (nodes₀ stops₀ nodes stops' : List ℕ) → r ≡ s
-    → (by_number w ≡ answer (of_walk r)) × Written (of_walk r) nodes₀ stops₀ nodes stops' → (by_number w ≡ answer (of_walk s)) × Written (of_walk s) nodes₀ stops₀ nodes stops'
-walked_as r s w nodes₀ stops₀ nodes stops' e h = subst (λ (t : Next). (by_number w ≡ answer (of_walk t)) × Written (of_walk t) nodes₀ stops₀ nodes stops') e h
+-- ---- the walk of a copy of the slots t, from the heap that the outline's darts make
+
+module _ (t own : List Slot) (copied : own ≡ t) (outline none heap : List ℕ) (empty : none ≡ []) (filled : heap ≡ starts (length t) (srcs t) (dsts t) (pairs outline) none) where
+  pub room_for : (nodes stops₀ : List ℕ) → length t ≤ 1024 → length outline ≤ 2048 → length t ≤ length nodes → length t ≤ length stops₀ → Room (length own) heap nodes stops₀
+  room_for nodes stops₀ small few corners stopped =
+      let size = ap length copied in
+      record {
+        small = omega arith;
+        heaps = omega (arith, ap length filled, length_starts (length t) (srcs t) (dsts t) (pairs outline) none, ap length empty, pairs_length outline);
+        corners = omega arith;
+        stopped = omega arith;
+      }
+
+  same_walk : walk_from true (length own) (srcs own) (dsts own) (marks_of own) heap ≡ walk (pairs outline) t
+  unfolding walk_with
+  same_walk =
+      let full = filled ∙ ap (starts (length t) (srcs t) (dsts t) (pairs outline)) empty in
+      λ u. walk_from true (length (copied u)) (srcs (copied u)) (dsts (copied u)) (marks_of (copied u)) (full u)
+
+  pub walked_as : (w : Result Counts Refusal) (nodes₀ stops₀ nodes stops' : List ℕ)
+      → (by_number w ≡ answer (walked_from own heap)) × Written (walked_from own heap) nodes₀ stops₀ nodes stops'
+      → (by_number w ≡ answer (of_walk (walk (pairs outline) t))) × Written (of_walk (walk (pairs outline) t)) nodes₀ stops₀ nodes stops'
+  walked_as w nodes₀ stops₀ nodes stops' h = subst (λ (u : Next). (by_number w ≡ answer (of_walk u)) × Written (of_walk u) nodes₀ stops₀ nodes stops') same_walk h
 
 -- ---- what the public function makes of the outcome
 

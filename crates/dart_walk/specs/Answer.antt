@@ -1,9 +1,9 @@
 -- What a walk answers, and writes to lent lists. Assumes nothing.
-use Rattle.std.specs.Prelude.{◌≡◌, true, Result, Ok, Err, List, [], ◌∷◌, ℕ, zero, suc, ◌+◌, ◌-◌, ◌≤◌, length, take, drop}
+use Rattle.std.specs.Prelude.{◌≡◌, true, Result, Ok, Err, List, [], ◌∷◌, ℕ, zero, suc, ◌+◌, ◌-◌, ◌≤◌, ◌<◌, length, get_or, set, take, drop}
 use Rattle.lists.specs.Regions.{front, zeros}
 use Rattle.dart_walk.specs.declared.Counts.{Counts}
 use Rattle.cutting.specs.declared.Slot.{Slot}
-use Rattle.cutting.specs.Walk.{walk_from, srcs, dsts}
+use Rattle.cutting.specs.Walk.{walk_from, slot, srcs, dsts, marks_of}
 use Rattle.cutting.specs.Outcome.{Outcome, refusal, pieces, of_walk, flat, stops}
 
 -- for k pieces with m corners in all
@@ -32,15 +32,32 @@ pieces_in from (suc k) nodes (e ∷ stops₀) = take (e - from) nodes ∷ pieces
 
 -- ---- what only inner functions' contracts and laws cite
 
--- what the walk of some slots comes to with these marks, from those on the heap
-abbrev pub walked_from : List Slot → List ℕ → List ℕ → Outcome
-walked_from slots marks heap = of_walk (walk_from true (length slots) (srcs slots) (dsts slots) marks heap)
+-- what the walk of some slots comes to, from those on the heap
+abbrev pub walked_from : List Slot → List ℕ → Outcome
+walked_from slots heap = of_walk (walk_from true (length slots) (srcs slots) (dsts slots) (marks_of slots) heap)
+
+-- the same slots, but that slot i is marked
+pub record Marked (slots : List Slot) (i : ℕ) (slots' : List Slot) : Type 0 where
+  pub from : srcs slots' ≡ srcs slots
+  pub to : dsts slots' ≡ dsts slots
+  pub marks : marks_of slots' ≡ set (marks_of slots) i true
+
+-- the slot that leads back along slot i
+abbrev pub reverse_in : List Slot → ℕ → ℕ
+reverse_in slots i = slot (length slots) (srcs slots) (dsts slots) (get_or (dsts slots) i 0) (get_or (srcs slots) i 0)
+
+-- slot i was gone along, to the node y, with the reverse r
+pub record Followed (slots : List Slot) (heap : List ℕ) (i : ℕ) (slots' : List Slot) (heap' : List ℕ) (y r : ℕ) : Type 0 where
+  pub marked : Marked slots i slots'
+  pub node : y ≡ get_or (dsts slots) i 0
+  pub reverse : r ≡ reverse_in slots i
+  pub within : r < length slots
+  pub pushed : heap' ≡ r ∷ heap
 
 -- there is room for the walk of n slots
-pub record Room (n : ℕ) (heap marks nodes stops : List ℕ) : Type 0 where
+pub record Room (n : ℕ) (heap nodes stops : List ℕ) : Type 0 where
   pub small : n ≤ 1024
   pub heaps : n + length heap ≤ 2048
-  pub marked : n ≤ length marks
   pub corners : n ≤ length nodes
   pub stopped : n ≤ length stops
 

@@ -1,13 +1,13 @@
 // The walk of a cell's table, which is seen as the list of its slots.
 #![tactic(auto)]
 
-ghost use Rattle.std.specs.Prelude.{◌≡◌, true, [], ◌∷◌, List, ℕ, ◌+◌, ◌*◌, ◌≤◌, ◌<◌, length, take, slice_index, unwrap_or, IfSome, MatchOption};
-ghost use Rattle.lists.specs.Search.{first};
-ghost use Rattle.cutting.specs.Walk.{open_at, next_open, starts, walk, slot, srcs, dsts, marks_of};
+ghost use Rattle.std.specs.Prelude.{◌≡◌, true, [], ◌∷◌, List, ℕ, ◌+◌, ◌*◌, ◌≤◌, ◌<◌, length, unwrap_or, IfSome, MatchOption};
+ghost use Rattle.std.specs.List.{position};
+ghost use Rattle.cutting.specs.Walk.{opens_from, next_open, starts, walk, slot, srcs, dsts, marks_of};
 ghost use Rattle.cutting.specs.Outcome.{of_walk};
 ghost use Rattle.cutting.specs.Lent.{pairs, stacked};
 ghost use Rattle.refusals.specs.Numbers.{by_number};
-ghost use Rattle.dart_walk.specs.Answer.{Room, Written, answer, walked_from, corners_in, ends_in};
+ghost use Rattle.dart_walk.specs.Answer.{Followed, reverse_in, Room, Written, answer, walked_from, corners_in, ends_in};
 
 use cutting::Slot;
 use dart_table::find_slot;
@@ -21,14 +21,6 @@ pub struct Counts {
     pub entries: usize,
 }
 
-// The nodes that slot i leads from and to.
-fn ends(slots: &[Slot], i: usize) -> (u32, u32)
-    requires { i < length slots.now }
-    ensures { (result.0 ≡ slice_index (srcs slots.now) i) × (result.1 ≡ slice_index (dsts slots.now) i) }
-{
-    (slots[i].src, slots[i].dst)
-}
-
 // The first slot that leads from a to b, by the walk's lists.
 fn find(slots: &[Slot], a: u32, b: u32) -> Option<usize>
     ensures within { IfSome result (λ i. i < length slots.now) }
@@ -37,38 +29,28 @@ fn find(slots: &[Slot], a: u32, b: u32) -> Option<usize>
     find_slot(slots, a, b)
 }
 
-// The first unmarked slot of the node a from k on, below n. By index: tried by `zip` and `position`, and the proof didn't close.
-#[tactic(auto, using(lists::proofs::Search::first_on, lists::proofs::Search::first_here, lists::proofs::Search::first_end_lem, lists::proofs::Search::right_false))]
-fn first_open(slots: &[Slot], marks: &[u32], a: u32, k: usize, n: usize) -> Option<usize>
-    requires { (k ≤ n) × (n ≤ length slots.now) × (n ≤ length marks.now) }
-    ensures within { IfSome result (λ i. i < n) }
-    ensures found { unwrap_or result n ≡ first (open_at (srcs slots.now) marks.now a) k n }
+// The first unmarked slot of the node a.
+fn first_open(slots: &[Slot], a: u32) -> Option<usize>
+    ensures { result ≡ position (opens_from a) slots.now }
 {
-    for i in k..n {
-        if ends(slots, i).0 == a && marks[i] == 0 {
-            return Some(i);
-        }
-    }
-    None
+    slots.iter().position(|s| s.src == a && !s.marked)
 }
 
 // The first unmarked slot of the node a after its slot r, going round, r itself last. Tried by `or_else`, and the proof didn't close: what its closures
 // promise isn't known behind them.
-#[tactic(auto, using(cutting::proofs::Rounds::next_open_late, cutting::proofs::Rounds::next_open_early, cutting::proofs::Rounds::next_open_back, cutting::proofs::Rounds::next_open_none))]
-fn next_open(slots: &[Slot], marks: &[u32], a: u32, r: usize) -> Option<usize>
-    requires { (r < length slots.now) × (length slots.now ≤ length marks.now) }
+#[tactic(auto, using(crate::proofs::Slots::late_next, crate::proofs::Slots::early_next, crate::proofs::Slots::back_next, crate::proofs::Slots::none_next))]
+fn next_open(slots: &[Slot], a: u32, r: usize) -> Option<usize>
+    requires { r < length slots.now }
     ensures within { IfSome result (λ i. i < length slots.now) }
-    ensures found { unwrap_or result (length slots.now) ≡ next_open true (length slots.now) (srcs slots.now) marks.now a r }
+    ensures found { unwrap_or result (length slots.now) ≡ next_open true (length slots.now) (srcs slots.now) (marks_of slots.now) a r }
 {
-    let late = first_open(slots, marks, a, r + 1, slots.len());
-    if late.is_some() {
-        return late;
+    if let Some(k) = first_open(&slots[r + 1..], a) {
+        return Some(r + 1 + k);
     }
-    let early = first_open(slots, marks, a, 0, r);
-    if early.is_some() {
-        return early;
+    if let Some(k) = first_open(&slots[..r], a) {
+        return Some(k);
     }
-    if marks[r] == 0 { Some(r) } else { None }
+    if slots[r].marked { None } else { Some(r) }
 }
 
 // The slots that pieces may begin at, the one put on last first. At most 2,048: memory is fixed, so it is an array and a count. The definition's word.
@@ -131,29 +113,31 @@ impl Heap {
     }
 }
 
-// Copies the slots' marks. By index, since what a loop over a zipped `iter_mut` writes isn't known behind it.
-fn copy_marks(slots: &[Slot], marks: &mut [u32])
-    requires { length slots.now ≤ length marks.old }
-    ensures { take (length slots.now) marks.new ≡ marks_of slots.now }
+// Goes along slot i: marks it, and puts its reverse onto the heap. Answers the node that it leads to, and the reverse.
+#[tactic(auto, using(crate::proofs::Slots::none_there))]
+fn follow(slots: &mut [Slot], heap: &mut Heap, i: usize) -> Option<(u32, usize)>
+    requires { (i < length slots.old) × (length slots.old ≤ 1024) × (length heap.old < 2048) }
+    ensures { MatchOption result (length slots.old ≤ reverse_in slots.old i) (λ p. Followed slots.old heap.old i slots.new heap.new p.0 p.1) }
 {
-    for (i, slot) in slots.iter().enumerate() {
-        marks[i] = slot.mark;
-    }
+    let Slot { src, dst, .. } = slots[i];
+    slots[i].marked = true;
+    let back = find(slots, dst, src)?;
+    heap.push(back);
+    Some((dst, back))
 }
 
 // Walks the slots from those on the heap: each that is unmarked begins a piece, which goes on until it is back at its first node. A turn of a loop is a
-// step of the definition. Slots and marks are two parameters as in its state, since the slots stay as they are and the marks don't; a struct of both would
-// be taken apart in each contract. `nodes` and `stops` are filled in part, which no ghost field beside a `&mut` can say.
+// step of the definition. `nodes` and `stops` are filled in part, which no ghost field beside a `&mut` can say.
+#[tactic(auto, using(crate::proofs::Turns::turn_skip, crate::proofs::Turns::turn_open))]
 fn walk_on(
-    slots: &[Slot],
+    slots: &mut [Slot],
     heap: &mut Heap,
-    marks: &mut [u32],
     nodes: &mut [u32],
     stops: &mut [u32],
 ) -> Result<Counts, Refusal>
-    requires { Room (length slots.now) heap.old marks.old nodes.old stops.old }
-    ensures { (by_number result ≡ answer (walked_from slots.now marks.old heap.old))
-        × Written (walked_from slots.now marks.old heap.old) nodes.old stops.old nodes.new stops.new }
+    requires { Room (length slots.old) heap.old nodes.old stops.old }
+    ensures { (by_number result ≡ answer (walked_from slots.old heap.old))
+        × Written (walked_from slots.old heap.old) nodes.old stops.old nodes.new stops.new }
 {
     let mut pieces: usize = 0;
     let mut entries: usize = 0;
@@ -161,20 +145,22 @@ fn walk_on(
         if slots.len() <= first {
             return Err(Refusal::OpenWalk);
         }
-        if marks[first] == 0 {
-            let start = ends(slots, first).0;
+        if !slots[first].marked {
+            let start = slots[first].src;
             nodes[entries] = start;
             entries += 1;
             let mut at = first;
             loop {
-                marks[at] = 1;
-                let (x, y) = ends(slots, at);
-                let back = find(slots, y, x).ok_or(Refusal::OpenWalk)?;
-                heap.push(back);
+                let Some((y, back)) = follow(slots, heap, at) else {
+                    return Err(Refusal::OpenWalk);
+                };
                 if y == start {
                     break;
                 }
-                at = next_open(slots, marks, y, back).ok_or(Refusal::OpenWalk)?;
+                let Some(next) = next_open(slots, y, back) else {
+                    return Err(Refusal::OpenWalk);
+                };
+                at = next;
                 nodes[entries] = y;
                 entries += 1;
             }
@@ -185,8 +171,8 @@ fn walk_on(
     Ok(Counts { pieces, entries })
 }
 
-// Walks the slots with marks and a heap of its own. Slots, outline, nodes and stops are four lists, each with its own length.
-#[tactic(auto, using(crate::proofs::Answers::walked_as), unfolding(cutting::specs::Walk::walk_with))]
+// Walks a copy of the slots, which takes the marks, with a heap of its own. Slots, outline, nodes and stops are four lists, each with its own length.
+#[tactic(auto, using(crate::proofs::Answers::room_for))]
 fn walk_table(
     slots: &[Slot],
     outline: &[u32],
@@ -197,11 +183,17 @@ fn walk_table(
     ensures { (by_number result ≡ answer (of_walk (walk (pairs outline.now) slots.now)))
         × Written (of_walk (walk (pairs outline.now) slots.now)) nodes.old stops.old nodes.new stops.new }
 {
-    let mut marks = [0u32; 1024];
+    let none = Slot {
+        src: 0,
+        dst: 0,
+        marked: false,
+    };
+    let mut own = [none; 1024];
+    let own = &mut own[..slots.len()];
+    own.copy_from_slice(slots);
     let mut heap = Heap::new();
-    copy_marks(slots, &mut marks);
     heap.fill(slots, outline);
-    walk_on(slots, &mut heap, &mut marks[..slots.len()], nodes, stops)
+    walk_on(own, &mut heap, nodes, stops)
 }
 
 // Walks the slots of a table from the outline's darts, a flat list of pairs. The corners of the pieces go to the front of `nodes`, one piece after the

@@ -3,24 +3,24 @@
 use mathlib.Core.Bool.{true}
 use Prim.Native.Nat.{◌+◌, ◌*◌, ◌≤◌}
 use lib.ListN.{length}
-use Rattle.cutting.specs.Walk.{resting, walk_from, srcs, dsts}
+use Rattle.cutting.specs.Walk.{resting, walk_from, srcs, dsts, marks_of}
 use Rattle.cutting.proofs.Rounds.{unmarked}
 use Rattle.dart_walk.proofs.Turns.{Inv, Inside}
 use Rattle.dart_walk.proofs.walk_on.Given as goal
 
 abbrev pub invariant-loop-first : goal.invariant-loop-first
 invariant-loop-first l =
-    Inv (length l.slots) (srcs l.slots) (dsts l.slots) (walk_from true (length l.slots) (srcs l.slots) (dsts l.slots) l.fn.marks l.fn.heap)
-    l.fn.marks l.fn.heap l.fn.nodes l.fn.stops l.marks l.heap l.nodes l.stops l.entries l.pieces resting
+    Inv (length l.fn.slots) (srcs l.fn.slots) (dsts l.fn.slots) (walk_from true (length l.fn.slots) (srcs l.fn.slots) (dsts l.fn.slots) (marks_of l.fn.slots) l.fn.heap)
+    l.fn.heap l.fn.nodes l.fn.stops l.slots l.heap l.nodes l.stops l.entries l.pieces resting
 
 abbrev pub decreases-loop-first : goal.decreases-loop-first
-decreases-loop-first l = 2 * unmarked (length l.slots) l.marks + length l.heap
+decreases-loop-first l = 2 * unmarked (length l.fn.slots) (marks_of l.slots) + length l.heap
 
-abbrev pub invariant-loop-back : goal.invariant-loop-back
-invariant-loop-back l =
-    Inside (length l.slots) (srcs l.slots) (dsts l.slots) (walk_from true (length l.slots) (srcs l.slots) (dsts l.slots) l.fn.marks l.fn.heap)
-    l.fn.marks l.fn.heap l.fn.nodes l.fn.stops l.marks l.heap l.nodes l.stops l.entries l.pieces l.start l.at
-    × (2 * unmarked (length l.slots) l.marks + length l.heap ≤ 2 * unmarked (length l.slots) l.initial.marks + length l.initial.heap)
+abbrev pub invariant-loop-y : goal.invariant-loop-y
+invariant-loop-y l =
+    Inside (length l.fn.slots) (srcs l.fn.slots) (dsts l.fn.slots) (walk_from true (length l.fn.slots) (srcs l.fn.slots) (dsts l.fn.slots) (marks_of l.fn.slots) l.fn.heap)
+    l.fn.heap l.fn.nodes l.fn.stops l.slots l.heap l.nodes l.stops l.entries l.pieces l.start l.at
+    × (2 * unmarked (length l.fn.slots) (marks_of l.slots) + length l.heap ≤ 2 * unmarked (length l.fn.slots) (marks_of l.initial.slots) + length l.initial.heap)
 
-abbrev pub decreases-loop-back : goal.decreases-loop-back
-decreases-loop-back l = 2 * unmarked (length l.slots) l.marks + length l.heap
+abbrev pub decreases-loop-y : goal.decreases-loop-y
+decreases-loop-y l = 2 * unmarked (length l.fn.slots) (marks_of l.slots) + length l.heap
