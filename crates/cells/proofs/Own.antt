@@ -11,7 +11,7 @@ use Rattle.lists.specs.Sort.{sort_onto, sorted}
 use Rattle.lists.proofs.Gather.{each_more}
 use Rattle.corners.specs.Corners.{next_corner}
 use Rattle.cutting.specs.Edges.{Edge, ring}
-use Rattle.cutting.specs.Cell.{Laid, own_darts, outline_darts, edge_slots, stands_before, cell_table}
+use Rattle.cutting.specs.Cell.{Laid, own_darts, outline_darts, edge_slots, reverse_mark, stands_before, cell_table}
 use Rattle.std.proofs.Common.{true, false, Result, is_err}
 use Rattle.dart_table.specs.declared.Full.{Full}
 use Rattle.cutting.specs.declared.Slot.{Slot}
@@ -28,7 +28,7 @@ use Rattle.cells.specs.Near.{outline_of}
 pub record Outlining (o : OwnEdges) (outline : List ℕ) (t : List Slot) (i : ℕ) : Type 0 where
   pub low : i ≤ length o.cell.now
   pub outlined : take (length t) outline ≡ flat_edges (outline_darts (map (laid_in o.scene.coords.now o.scene.work.now o.scene.regions) (sides o.cell.now i)))
-  pub held : t ≡ sorted (stands_before o.scene.coords.now) (edge_slots 1 (outline_darts (map (laid_in o.scene.coords.now o.scene.work.now o.scene.regions) (sides o.cell.now i))))
+  pub held : t ≡ sorted (stands_before o.scene.coords.now) (edge_slots reverse_mark (outline_darts (map (laid_in o.scene.coords.now o.scene.work.now o.scene.regions) (sides o.cell.now i))))
 
 module _ (o : OwnEdges) where
   abbrev coords : List Float
@@ -86,7 +86,7 @@ module _ (o : OwnEdges) where
               low = omega arith;
               outlined = ap (λ (k : ℕ). take k outline') size ∙ own_outline coords ls (laid e) t r t' got v.held outline outline' fits wide v.outlined put_there
                   ∙ ap (λ (l : List Laid). flat_edges (outline_darts l)) (sym more);
-              held = turn ∙ ap (λ (l : List Laid). sorted (stands_before coords) (edge_slots 1 (outline_darts l))) (sym more);
+              held = turn ∙ ap (λ (l : List Laid). sorted (stands_before coords) (edge_slots reverse_mark (outline_darts l))) (sym more);
             }
 
         -- too many at this edge are too many in all
@@ -104,7 +104,7 @@ module _ (o : OwnEdges) where
     outline_end past =
         let at : i ≡ length cell = le_antisymm v.low past in
         let all : done ≡ ring cell = ap (sides cell) at ∙ sym (ring_each cell) in (
-          v.held ∙ ap (λ (es : List Edge). sorted (stands_before coords) (edge_slots 1 (outline_darts (map laid es)))) all ∙ none_near coords
+          v.held ∙ ap (λ (es : List Edge). sorted (stands_before coords) (edge_slots reverse_mark (outline_darts (map laid es)))) all ∙ none_near coords
               (outline_darts (map laid (ring cell))),
           v.outlined ∙ ap (λ (es : List Edge). flat_edges (outline_darts (map laid es))) all,
         )
