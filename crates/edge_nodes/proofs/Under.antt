@@ -3,11 +3,11 @@ use mathlib.Core.Path.{◌≡◌, refl, sym, ap, ap₂, ◌∙◌}
 use mathlib.Core.Bool.{Bool, true, false, cond, ◌&&◌}
 use mathlib.Core.List.{List, [], ◌∷◌, ◌++◌, map}
 use Prim.Native.Nat.{ℕ, zero, suc, ◌+◌, ◌*◌, ◌-◌, ◌/◌, ◌≤◌, ◌<◌, min, max}
-use native.Mathlib.Nat.{le_antisymm}
 use native.Mathlib.Omega.{arith}
 use lib.Dec.{eqb}
 use lib.ListN.{length, get_or, take, drop, length-append, length-map}
 use lib.Seq.{drop-cons}
+use Rattle.std.specs.List.{concat}
 use Rattle.lists.specs.Gather.{gathered}
 use Rattle.lists.specs.Sort.{sort_onto}
 use Rattle.lists.proofs.Gather.{gathered_more}
@@ -84,59 +84,27 @@ module _ (es : List Edge) (met : List ℕ) (which : ℕ) (e : Edge) where
   pub length_under : (q : ℕ) → length (under (q + 1) es met which e) ≡ length (under q es met which e) + length (under_at es met which e q)
   length_under q = ap length (under_more q) ∙ length-append (under q es met which e) (under_at es met which e q)
 
-  further : (k q : ℕ) → length (under q es met which e) ≤ length (under (k + q) es met which e)
-  further zero q = let z : 0 + q ≡ q = omega arith in omega (arith, ap (λ (i : ℕ). length (under i es met which e)) z)
-  further (suc k) q =
-      let z : suc k + q ≡ k + q + 1 = omega arith in
-      omega (arith, further k q, length_under (k + q), ap (λ (i : ℕ). length (under i es met which e)) z)
-
-  -- the nodes of fewer meetings are no more
-  pub under_le : (q n : ℕ) → q ≤ n → length (under q es met which e) ≤ length (under n es met which e)
-  under_le q n h =
-      let z : n - q + q ≡ n = omega arith in
-      omega (arith, further (n - q) q, ap (λ (i : ℕ). length (under i es met which e)) z)
+  -- they are two for each meeting at most
+  pub under_bound : (n : ℕ) → length (under n es met which e) ≤ 2 * n
+  unfolding under gathered
+  under_bound zero = omega arith
+  under_bound (suc n) = omega (arith, length-append (under n es met which e) (under_at es met which e n), under_bound n, under_few es met which e n)
 
 pub map_append : {A B : Type 0} (f : A → B) (xs ys : List A) → map f (xs ++ ys) ≡ map f xs ++ map f ys
 map_append f [] ys = refl
 map_append f (x ∷ xs) ys = ap (λ l. f x ∷ l) (map_append f xs ys)
 
--- what has been collected of the first q meetings, among those that stood there
-abbrev pub Collected : (ℕ → Placed) → List Edge → List ℕ → ℕ → Edge → List Placed → ℕ → List Placed → Type 0
-Collected f es met which e xs q ys = (q ≤ length met / 5) × (ys ≡ sort_onto stands_before xs (map f (under q es met which e)))
+-- ---- one list after the other
 
-module _ (f : ℕ → Placed) (es : List Edge) (met : List ℕ) (which : ℕ) (e : Edge) (xs : List Placed) where
-  pub collect_start : Collected f es met which e xs 0 xs
-  unfolding under gathered sort_onto
-  collect_start = (omega arith, refl)
+module _ (f : ℕ → Placed) (part : List ℕ) (before after : List (List ℕ)) (ys zs : List Placed) (e : before ≡ part ∷ after) (z : zs ≡ sort_onto stands_before ys (map f part)) where
+  pub part_put_in : sort_onto stands_before zs (map f (concat after)) ≡ sort_onto stands_before ys (map f (concat before))
+  part_put_in =
+      rw e (ap (λ (l : List Placed). sort_onto stands_before l (map f (concat after))) z ∙ sym (sort_onto_append stands_before ys (map f part) (map f (concat after)))
+      ∙ sym (ap (sort_onto stands_before ys) (map_append f part (concat after))))
 
-  pub collect_turn : (q : ℕ) (ys zs : List Placed) → Collected f es met which e xs q ys → q < length met / 5
-      → zs ≡ sort_onto stands_before ys (map f (under_at es met which e q)) → Collected f es met which e xs (q + 1) zs
-  collect_turn q ys zs inv h got = (
-    omega arith,
-    got ∙ ap (λ (l : List Placed). sort_onto stands_before l (map f (under_at es met which e q))) inv.1
-        ∙ sym (sort_onto_append stands_before xs (map f (under q es met which e)) (map f (under_at es met which e q)))
-        ∙ sym (ap (sort_onto stands_before xs) (ap (map f) (under_more es met which e q) ∙ map_append f (under q es met which e) (under_at es met which e q))),
-  )
+  pub part_counted : length zs + length (concat after) ≡ length ys + length (concat before)
+  part_counted = rw e (omega (arith, ap length z ∙ length_sort_onto stands_before ys (map f part), length-map part f, length-append part (concat after)))
 
-  -- no nodes were left out
-  pub collect_moved : (k q : ℕ) (ys : List Placed) → Collected f es met which e xs k ys → q ≤ length met / 5 → under q es met which e ≡ under k es met which e
-      → Collected f es met which e xs q ys
-  collect_moved k q ys inv l z = (l, inv.1 ∙ ap (λ (us : List ℕ). sort_onto stands_before xs (map f us)) (sym z))
-
-  pub collect_end : (q : ℕ) (ys : List Placed) → Collected f es met which e xs q ys → length met / 5 ≤ q
-      → ys ≡ sort_onto stands_before xs (map f (under (length met / 5) es met which e))
-  collect_end q ys inv h =
-      let z : q ≡ length met / 5 = le_antisymm inv.0 h in
-      inv.1 ∙ ap (λ (k : ℕ). sort_onto stands_before xs (map f (under k es met which e))) z
-
-  -- the nodes of meeting q have their place
-  pub collect_room : (q : ℕ) (ys : List Placed) → Collected f es met which e xs q ys → q < length met / 5
-      → (room : ℕ) → length xs + length (under (length met / 5) es met which e) ≤ room → length ys + length (under_at es met which e q) ≤ room
-  collect_room q ys inv h room fits =
-      omega (
-        arith,
-        length_under es met which e q,
-        under_le es met which e (q + 1) (length met / 5) (omega arith),
-        ap length inv.1 ∙ length_sort_onto stands_before xs (map f (under q es met which e)),
-        length-map (under q es met which e) f,
-      )
+pub no_part_left : (f : ℕ → Placed) (rest : List (List ℕ)) (ys : List Placed) → rest ≡ [] → sort_onto stands_before ys (map f (concat rest)) ≡ ys
+unfolding sort_onto
+no_part_left f rest ys e = rw e

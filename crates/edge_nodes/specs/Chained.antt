@@ -4,7 +4,7 @@ use Rattle.lists.specs.Gather.{each}
 use Rattle.cutting.specs.Edges.{Edge}
 use Rattle.cutting.specs.Lent.{pairs}
 use Rattle.keys.specs.declared.SortedKey.{SortedKey}
-use Rattle.edge_nodes.specs.Links.{head_at, next_at}
+use Rattle.edge_nodes.specs.Links.{chain_at, head_at, next_at}
 use Rattle.edge_nodes.specs.declared.sides.Side.{Side}
 use Rattle.edge_nodes.specs.declared.sides.Side.TheVariants.{Subject, Cutter}
 use Rattle.edge_nodes.specs.declared.sides.Meetings.{Meetings}
@@ -25,3 +25,7 @@ heads_in h m = each h (head_at h (pairs m.edges.now) m.met.now (number m.side))
 -- for each meeting the next one on its chain
 abbrev pub nexts_in : ℕ → Meetings → List ℕ
 nexts_in h m = each (length m.met.now / 5) (next_at h (pairs m.edges.now) m.met.now (number m.side))
+
+-- the chain of each meeting
+abbrev pub chain_in : ℕ → Meetings → ℕ → ℕ
+chain_in h m = chain_at h (pairs m.edges.now) m.met.now (number m.side)

@@ -2,9 +2,11 @@
 ghost use Rattle.std.specs.Prelude.{◌≡◌, ◌+◌, ◌*◌, ◌/◌, ◌≤◌, ◌<◌, length};
 ghost use Rattle.cutting.specs.Lent.{pairs};
 ghost use Rattle.edge_nodes.specs.Links.{links_of, Linked};
-ghost use Rattle.edge_nodes.specs.Chained.{heads_in, nexts_in};
+ghost use Rattle.edge_nodes.specs.Chained.{heads_in, nexts_in, chain_in};
+ghost use Rattle.keys.specs.Chains.{chain_of};
 
 use crate::sides::{Meetings, Side};
+use keys::SortedKey;
 
 // They are chained: the first meeting of each chain, and for each meeting the next one. Where a chain ends the number of meetings stands: links are
 // numbers of the working list, which has no other word for none.
@@ -16,6 +18,15 @@ pub(crate) struct Chains<'a> {
     ghost some: { 0 < length heads.now },
     ghost heads_are: { heads.now ≡ heads_in (length heads.now) meetings },
     ghost nexts_are: { nexts.now ≡ nexts_in (length heads.now) meetings },
+}
+
+// The meetings on a key's chain that are still to come, each as the nodes that it collects under the key.
+#[derive(Drop)]
+pub(crate) struct Chain<'a> {
+    chains: Chains<'a>,
+    key: SortedKey,
+    at: usize,
+    ghost on: { at < length chains.nexts.now → chain_in (length chains.heads.now) chains.meetings at ≡ chain_of (length chains.heads.now) key.first },
 }
 
 // The edges of both meshes, their meetings and the links of these.
@@ -83,5 +94,45 @@ impl<'a> LinkedMeetings<'a> {
             nexts: cutter_nexts,
         };
         (by_subject, by_cutter)
+    }
+}
+
+impl<'a> Chains<'a> {
+    ghost use Rattle.std.specs.List.{concat};
+    ghost use Rattle.edge_nodes.specs.Chained.{edge_of};
+    ghost use Rattle.edge_nodes.specs.Lent.{under_in};
+    ghost use Rattle.edge_nodes.specs.Chain.{chain_left};
+
+    // The meetings on the key's chain: no others have nodes under it.
+    #[tactic(auto, using(crate::proofs::Walk::starts_on, crate::proofs::Walk::starts_with_all))]
+    pub(crate) fn under(&self, key: SortedKey) -> Chain<'a>
+        ensures { concat (chain_left result) ≡ under_in self.now.meetings (edge_of key) }
+    {
+        Chain {
+            chains: *self,
+            key,
+            at: self.heads[key.chain(self.heads.len())] as usize,
+        }
+    }
+}
+
+impl<'a> Iterator for Chain<'a> {
+    ghost use Rattle.std.specs.Iterator.{YieldsFirstRef, item_count};
+    ghost use Rattle.edge_nodes.specs.Chain.{chain_left};
+
+    type Item = &'a [u32];
+
+    ghost next_gives = { YieldsFirstRef chain_left };
+
+    ghost remaining = { item_count chain_left };
+
+    #[tactic(auto, using(crate::proofs::Walk::stays_on, crate::proofs::Walk::one_given, crate::proofs::Walk::chain_end, crate::proofs::Walk::nexts_long))]
+    fn next(&mut self) -> Option<&'a [u32]> {
+        let q = self.at;
+        if q < self.chains.nexts.len() {
+            self.at = self.chains.nexts[q] as usize;
+            return Some(self.chains.meetings.under(self.key, q));
+        }
+        None
     }
 }

@@ -23,32 +23,25 @@ use regions::Regions;
 
 impl<'a> Chains<'a> {
     // Puts the nodes that the meetings collect under the key in their places.
+    #[tactic(auto, using(crate::proofs::Under::part_put_in, crate::proofs::Under::part_counted, crate::proofs::Under::no_part_left))]
     fn collect(&self, coords: &[f64], key: SortedKey, nodes: &mut Nodes)
         requires { length nodes.old + length (under_in self.now.meetings (edge_of key)) ≤ 257 }
         ensures { nodes.new ≡ sort_onto stands_before nodes.old (map (placed coords.now (edge_of key)) (under_in self.now.meetings (edge_of key))) }
     {
-        let nexts = self.nexts;
-        let mut q = self.heads[key.chain(self.heads.len())] as usize;
-        // along a chain of lent numbers: no index is counted
-        while q < nexts.len() {
-            nodes.insert_all(coords, key, self.meetings.under(key, q));
-            q = nexts[q] as usize;
+        for part in self.under(key) {
+            nodes.insert_all(coords, key, part);
         }
     }
 
     // How many they are. The limit of meetings is asked where they are counted: as a ghost field it would be asked of `nodes_on` too.
-    #[tactic(auto, using(crate::proofs::Under::under_few, crate::proofs::Count::count_end_lem, crate::proofs::Walk::nexts_long))]
+    #[tactic(auto, using(crate::proofs::Count::under_small))]
     fn count(&self, key: SortedKey) -> usize
         requires { length self.now.meetings.met.now ≤ 327680 }
         ensures { (result ≡ length (under_in self.now.meetings (edge_of key))) × (result ≤ 131072) }
     {
-        let nexts = self.nexts;
         let mut n: usize = 0;
-        let mut q = self.heads[key.chain(self.heads.len())] as usize;
-        // as in `collect`: what the two have in common is this one step
-        while q < nexts.len() {
-            n += self.meetings.under(key, q).len();
-            q = nexts[q] as usize;
+        for part in self.under(key) {
+            n += part.len();
         }
         n
     }

@@ -1,17 +1,17 @@
-use Prim.Native.Nat.{◌-◌}
+use mathlib.Core.Path.{◌≡◌}
+use mathlib.Core.List.{map}
+use Prim.Native.Nat.{◌+◌, ◌≤◌}
 use lib.ListN.{length}
-use Rattle.cutting.specs.Lent.{pairs}
-use Rattle.edge_nodes.specs.Chained.{number, edge_of}
-use Rattle.edge_nodes.specs.Lent.{placed}
-use Rattle.edge_nodes.proofs.Under.{Collected}
-use Rattle.edge_nodes.proofs.Walk.{OnWay}
+use Rattle.std.specs.List.{concat}
+use Rattle.lists.specs.Sort.{sort_onto}
+use Rattle.edge_nodes.specs.Chain.{chain_left}
+use Rattle.edge_nodes.specs.Chained.{edge_of}
+use Rattle.edge_nodes.specs.Lent.{placed, stands_before, under_in}
 use Rattle.edge_nodes.proofs.chains.Chains.collect.Given as goal
 
-abbrev pub invariant-loop-q : goal.invariant-loop-q
-invariant-loop-q l =
-    let m = l.self.meetings in
-    OnWay (length l.self.heads.now) (pairs m.edges.now) m.met.now (number m.side) (edge_of l.key) l.q
-    × Collected (placed l.coords (edge_of l.key)) (pairs m.edges.now) m.met.now (number m.side) (edge_of l.key) l.initial.nodes l.q l.nodes
-
-abbrev pub decreases-loop-q : goal.decreases-loop-q
-decreases-loop-q l = length l.nexts - l.q
+abbrev pub invariant-loop-part : goal.invariant-loop-part
+invariant-loop-part l =
+    let f = placed l.coords (edge_of l.key) in
+    let rest = concat (chain_left l.part-iterator) in
+    (length l.nodes + length rest ≤ 257)
+    × (sort_onto stands_before l.nodes (map f rest) ≡ sort_onto stands_before l.initial.nodes (map f (under_in l.self.meetings (edge_of l.key))))
