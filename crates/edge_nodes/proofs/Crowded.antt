@@ -25,8 +25,8 @@ module _ (subject cutter : List Edge) (met : List ℕ) where
   by_keys (x ∷ es) =
       ap₂ (λ (s t : Bool). s || t) (ap (λ (ns : List ℕ). ltb most_nodes (length ns)) (key_collected subject cutter met (pair_of x))) (by_keys es)
 
-  pub crowded_pairs : (edges : List ℕ) (es : List (List ℕ)) → es ≡ first_chunks 2 (length edges / 2) edges
-      → list_any (λ x. ltb most_nodes (length (collected_in subject cutter met (key (pair_of x))))) es ≡ has (crowded_at (pairs edges) subject cutter met) (length edges / 2)
-  crowded_pairs edges es e =
-      by_keys es ∙ ap (list_any crowded) (ap (map pair_of) e ∙ chunked edges) ∙ sym (has_list crowded (pairs edges) (0, 0))
+  pub crowded_pairs : (r : Bool) (edges : List ℕ) (es : List (List ℕ)) → es ≡ first_chunks 2 (length edges / 2) edges
+      → r ≡ list_any (λ x. ltb most_nodes (length (collected_in subject cutter met (key (pair_of x))))) es → r ≡ has (crowded_at (pairs edges) subject cutter met) (length edges / 2)
+  crowded_pairs r edges es e is =
+      is ∙ by_keys es ∙ ap (list_any crowded) (ap (map pair_of) e ∙ chunked edges) ∙ sym (has_list crowded (pairs edges) (0, 0))
       ∙ ap (has (crowded_at (pairs edges) subject cutter met)) (pairs_length edges)

@@ -35,21 +35,22 @@ module _ (subject cutter : List Edge) (met : List ℕ) (e : Edge) where
       go [] = refl
       go (n ∷ ns) = ap (λ (k : Edge). along_edge coords k (n ∷ ns)) (key_again e)
 
-module _ (g : Regions) (w : List ℕ) (e : Edge) {subject cutter met : List ℕ} (s : subject ≡ run_in w g.subject.edges)
-    (c : cutter ≡ run_in w g.cutter.edges) (m : met ≡ run_in w g.met) where
-  pub lists_linked : {links : List ℕ} → links ≡ run_in w g.links → Few w g e → Linked (pairs subject) (pairs cutter) met links
-  lists_linked l h = rw (s, c, m, l) h.linked
+module _ (g : Regions) (w : List ℕ) (e k : Edge) (subject cutter met : List ℕ) where
+  pub lists_linked : (links : List ℕ) → Few w g e → subject ≡ run_in w g.subject.edges → cutter ≡ run_in w g.cutter.edges → met ≡ run_in w g.met → links ≡ run_in w g.links
+      → Linked (pairs subject) (pairs cutter) met links
+  lists_linked links h s c m l = rw (s, c, m, l) h.linked
 
-  pub lists_few : (k : Edge) → k ≡ key e → Few w g e → length (collected_in (pairs subject) (pairs cutter) met k) ≤ 256
-  lists_few k k-is h =
+  pub lists_few : Few w g e → subject ≡ run_in w g.subject.edges → cutter ≡ run_in w g.cutter.edges → met ≡ run_in w g.met → k ≡ key e
+      → length (collected_in (pairs subject) (pairs cutter) met k) ≤ 256
+  lists_few h s c m k-is =
       let same : collected_in (pairs subject) (pairs cutter) met k ≡ collected_in (pairs subject) (pairs cutter) met e =
       ap (collected_in (pairs subject) (pairs cutter) met) k-is ∙ key_collected (pairs subject) (pairs cutter) met e in
       let few : length (collected_in (pairs subject) (pairs cutter) met e) ≤ 256 = rw (s, c, m) h.few in
       omega (arith, ap length same, few)
 
-  pub read_nodes : (coords : List Float) (k : Edge) (out : List ℕ) (r : ℕ) (out' : List ℕ) → k ≡ key e → FrontIs (sorted_in coords (pairs subject) (pairs cutter) met k) out r out'
-      → FrontIs (nodes_on coords w g e) out r out'
-  read_nodes coords k out r out' k-is h =
+  pub read_nodes : (coords : List Float) (out : List ℕ) (r : ℕ) (out' : List ℕ) → FrontIs (sorted_in coords (pairs subject) (pairs cutter) met k) out r out'
+      → subject ≡ run_in w g.subject.edges → cutter ≡ run_in w g.cutter.edges → met ≡ run_in w g.met → k ≡ key e → FrontIs (nodes_on coords w g e) out r out'
+  read_nodes coords out r out' h s c m k-is =
       let same : sorted_in coords (pairs subject) (pairs cutter) met k ≡ sorted_in coords (pairs subject) (pairs cutter) met e =
       ap (sorted_in coords (pairs subject) (pairs cutter) met) k-is ∙ key_sorted (pairs subject) (pairs cutter) met e coords in
       let here : FrontIs (sorted_in coords (pairs subject) (pairs cutter) met e) out r out' = subst (λ (xs : List ℕ). FrontIs xs out r out') same h in

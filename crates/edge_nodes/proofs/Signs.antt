@@ -1,5 +1,5 @@
 -- Floats compared, and their signs. Assumes nothing.
-use mathlib.Core.Path.{◌≡◌, refl, sym, ap₂, ◌∙◌}
+use mathlib.Core.Path.{◌≡◌, refl, sym, ap, ap₂, ◌∙◌}
 use mathlib.Core.Bool.{Bool, true, false, true≢false, not, ◌&&◌, ◌||◌}
 use lib.Ieee.{Float, nan, inf, fin, lt, eq}
 use Rattle.std.specs.Float.{NotNan}
@@ -25,7 +25,14 @@ sign_is (inf s) = refl
 sign_is (fin s m e) = refl
 
 -- equal ones are told apart by their signs
-pub by_signs : (x y : Float) (a b : Bool) → lt x y ≡ false → eq x y ≡ true → a ≡ F.is_sign_negative x → b ≡ F.is_sign_negative y → (a && not b) ≡ total_before x y
-by_signs x y a b l e p q =
-    ap₂ (λ (s t : Bool). s && not t) (p ∙ sign_is x) (q ∙ sign_is y)
-    ∙ ap₂ (λ (s t : Bool). s || (t && (sign_bit x && not (sign_bit y)))) (sym l) (sym e)
+module _ (x y : Float) (l : lt x y ≡ false) (e : eq x y ≡ true) where
+  by_signs : total_before x y ≡ (F.is_sign_negative x && not (F.is_sign_negative y))
+  by_signs =
+      ap₂ (λ (s t : Bool). s || (t && (sign_bit x && not (sign_bit y)))) l e
+      ∙ sym (ap₂ (λ (s t : Bool). s && not t) (sign_is x) (sign_is y))
+
+  pub below_zero : F.is_sign_negative x ≡ true → total_before x y ≡ not (F.is_sign_negative y)
+  below_zero t = by_signs ∙ ap (λ (s : Bool). s && not (F.is_sign_negative y)) t
+
+  pub not_below_zero : F.is_sign_negative x ≡ false → total_before x y ≡ false
+  not_below_zero t = by_signs ∙ ap (λ (s : Bool). s && not (F.is_sign_negative y)) t

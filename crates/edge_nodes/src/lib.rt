@@ -87,6 +87,7 @@ impl<'a> LinkedMeetings<'a> {
     }
 
     // The same of a flat list of edges (refusal 9).
+    #[tactic(auto, using(crate::proofs::Crowded::crowded_pairs))]
     pub fn overfull(&self, edges: &[u32]) -> bool
         requires { length self.now.met.now ≤ 327680 }
         ensures { result ≡ has (crowded_at (pairs edges.now) (pairs self.now.subject.now) (pairs self.now.cutter.now) self.now.met.now) (length edges.now / 2) }
@@ -105,6 +106,7 @@ pub struct SceneLists<'a> {
 
 impl<'a> SceneLists<'a> {
     // Writes the sorted nodes of the key of a, b to the front of `out`. Answers how many they are.
+    #[tactic(auto, using(crate::proofs::InRegions::lists_few))]
     pub fn nodes_on(&self, a: u32, b: u32, out: &mut [u32]) -> usize
         requires { Few self.now.work.now self.now.regions (a, b) × (258 ≤ length out.old) }
         ensures { FrontIs (nodes_on self.now.coords.now self.now.work.now self.now.regions (a, b)) out.old result out.new }

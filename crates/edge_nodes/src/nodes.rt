@@ -3,7 +3,6 @@ ghost use Rattle.std.specs.Prelude.{◌≡◌, [], ◌∷◌, ◌++◌, map, Lis
 ghost use Rattle.std.specs.List.{position};
 ghost use Rattle.lists.specs.Gather.{slim};
 ghost use Rattle.lists.specs.Sort.{insert, sort_onto};
-ghost use Rattle.lists.specs.Regions.{front};
 ghost use Rattle.rules.specs.Nodes.{total_before};
 ghost use Rattle.edge_nodes.specs.declared.nodes.Placed.{Placed};
 ghost use Rattle.edge_nodes.specs.Chained.{edge_of};
@@ -37,6 +36,7 @@ impl Model for Nodes {
 }
 
 // Total order, -0 before +0. No `total_cmp`: it asks for numbers, and coordinates may be any.
+#[tactic(auto, using(crate::proofs::Signs::numbers, crate::proofs::Signs::below_zero, crate::proofs::Signs::not_below_zero))]
 fn total_before(x: f64, y: f64) -> bool
     ensures { result ≡ total_before x y }
 {
@@ -98,6 +98,7 @@ impl Nodes {
     }
 
     // Puts nodes in their places along the key.
+    #[tactic(auto, using(crate::proofs::Sorted::one_on, crate::proofs::Sorted::none_left, lists::proofs::Sort::length_insert))]
     pub(crate) fn insert_all(&mut self, coords: &[f64], key: SortedKey, nodes: &[u32])
         requires { length self.old + length nodes.now ≤ 257 }
         ensures { self.new ≡ sort_onto stands_before self.old (map (placed coords.now (edge_of key)) nodes.now) }
@@ -109,15 +110,12 @@ impl Nodes {
 }
 
 // Puts v behind the first k, unless it equals the last of them. List and count are no struct: what holds of both can be no ghost field beside a `&mut`.
+#[tactic(auto, using(crate::proofs::Slim::same_count, crate::proofs::Slim::same_held, crate::proofs::Slim::more_count, crate::proofs::Slim::more_held))]
 fn push(out: &mut [u32], k: usize, v: u32) -> usize
     requires { k < length out.old }
-    ensures { (result ≡ length (pushed (take k out.old) v)) × (out.new ≡ front out.old (pushed (take k out.old) v)) }
+    ensures { FrontIs (pushed (take k out.old) v) out.old result out.new }
 {
-    if k == 0 {
-        out[k] = v;
-        return 1;
-    }
-    if out[k - 1] == v {
+    if out[..k].ends_with(&[v]) {
         return k;
     }
     out[k] = v;

@@ -45,6 +45,7 @@ impl<'a> Meetings<'a> {
     }
 
     // Its nodes: one or two, or none.
+    #[tactic(auto, using(crate::proofs::Under::nodes_read))]
     fn nodes(&self, q: usize) -> &'a [u32]
         requires { q < length self.now.met.now / 5 }
         ensures { result.now ≡ met_nodes self.now.met.now q }
@@ -57,6 +58,7 @@ impl<'a> Meetings<'a> {
     }
 
     // The nodes that meeting q collects under a key: its own where its edge has this key.
+    #[tactic(auto, using(crate::proofs::Under::keys_compared, crate::proofs::Under::under_it, crate::proofs::Under::not_under))]
     pub(crate) fn under(&self, key: SortedKey, q: usize) -> &'a [u32]
         requires { q < length self.now.met.now / 5 }
         ensures { result.now ≡ under_at (pairs self.now.edges.now) self.now.met.now (number self.now.side) (edge_of key) q }
