@@ -1,10 +1,11 @@
 -- Meetings put on chains, the last one first, and the links made of both kinds of chains. Assumes nothing.
-use mathlib.Core.Path.{◌≡◌, refl, sym, ap, ap₂, ◌∙◌}
+use mathlib.Core.Path.{◌≡◌, refl, sym, ap, ap₂, subst, ◌∙◌}
 use mathlib.Core.List.{List, ◌++◌, append_assoc}
-use Prim.Native.Nat.{ℕ, ◌+◌, ◌*◌, ◌/◌, ◌≤◌, ◌<◌}
+use Prim.Native.Nat.{ℕ, ◌+◌, ◌*◌, ◌-◌, ◌/◌, ◌≤◌, ◌<◌}
 use native.Mathlib.Decide.{ℕ_discrete}
+use Rattle.std.proofs.Math.Arith.{le-zero}
 use native.Mathlib.Omega.{arith}
-use lib.ListN.{length, get_or, set, take, drop, length-set, replicate}
+use lib.ListN.{length, get_or, set, take, drop, length-set, replicate, length-replicate}
 use lib.Seq.{ext_get_or, get_or-set_same, get_or-set_other, take_at, drop_at}
 use Rattle.std.proofs.lemmas.List.{get_or-replicate}
 use borrow.Author.Tests.{eq-eqb, ne_eqb}
@@ -15,14 +16,13 @@ use Rattle.lists.proofs.Gather.{length_each, get_or_each}
 use Rattle.cutting.specs.Edges.{Edge, edge_at, key}
 use Rattle.keys.specs.declared.SortedKey.{SortedKey}
 use Rattle.keys.specs.Chains.{chain_of}
-use Rattle.edge_nodes.specs.Links.{chain_at, on_chain, head_at, next_at, links_of}
+use Rattle.edge_nodes.specs.Links.{chain_at, on_chain, head_at, next_at, links_of, Linked}
 use Rattle.edge_nodes.specs.Chained.{edge_of}
 
--- what `fill` leaves
-pub filled : (h n : ℕ) (heads : List ℕ) → heads ≡ replicate h n → length heads ≡ h → (c : ℕ) → c < length heads → get_or heads c 0 ≡ n
-filled h n heads e l c b = ap (λ (u : List ℕ). get_or u c 0) e ∙ get_or-replicate h c n 0 (omega (arith, l))
+module _ (h : ℕ) (es : List Edge) (met : List ℕ) (which : ℕ) where
+  abbrev n : ℕ
+  n = length met / 5
 
-module _ (h : ℕ) (es : List Edge) (met : List ℕ) (which n : ℕ) where
   -- the meetings from q on are on chains
   pub record Linking (q : ℕ) (heads nexts : List ℕ) : Type 0 where
     pub wide : length heads ≡ h
@@ -31,19 +31,16 @@ module _ (h : ℕ) (es : List Edge) (met : List ℕ) (which n : ℕ) where
     pub next : (p : ℕ) → q ≤ p → p < n → get_or nexts p 0 ≡ first (on_chain h es met which (chain_at h es met which p)) (p + 1) n
 
   -- no meeting is on a chain yet
-  pub link_start : (heads nexts : List ℕ) → length heads ≡ h → length nexts ≡ n → ((c : ℕ) → c < length heads → get_or heads c 0 ≡ n) → Linking n heads nexts
-  link_start heads nexts wide long none =
+  pub link_start : (q : ℕ) (heads nexts : List ℕ) → heads ≡ replicate h q → length nexts ≡ q → q ≡ n → Linking q heads nexts
+  link_start q heads nexts filled long all =
+      let wide : length heads ≡ h = ap length filled ∙ length-replicate h q in
       record {
         wide = wide;
-        long = long;
-        head = λ c b. none c (omega (arith, wide, b)) ∙ sym (first_end_lem (on_chain h es met which c) n n (omega arith));
-        next = λ p a b. absurd (omega arith);
+        long = long ∙ all;
+        head = λ c b.
+            ap (λ (l : List ℕ). get_or l c 0) filled ∙ get_or-replicate h c q 0 b ∙ sym (first_end_lem (on_chain h es met which c) q n (omega (arith, all)));
+        next = λ p a b. absurd (omega (arith, a, b, all));
       }
-
-  -- the chain of meeting q, by the key that was read
-  pub chain_is : (q c : ℕ) (k : SortedKey) → edge_of k ≡ key (edge_at es (get_or met (5 * q + which) 0)) → c ≡ chain_of h k.first → c ≡ chain_at h es met which q
-  unfolding chain_at
-  chain_is q c k e f = f ∙ ap (λ (x : Edge). chain_of h x.0) e
 
   -- meeting q goes before those on its chain
   module _ (q c : ℕ) (heads nexts : List ℕ) (c-is : c ≡ chain_at h es met which q) (low : c < h) (l : q < n) (inv : Linking (q + 1) heads nexts) where
@@ -60,8 +57,8 @@ module _ (h : ℕ) (es : List Edge) (met : List ℕ) (which n : ℕ) where
         ∙ inv.head c low ∙ ap₂ (λ (k j : ℕ). first (on_chain h es met which k) (j + 1) n) (c-is ∙ ap (chain_at h es met which) (sym e)) (sym e)
     next_turn p a b (no e) = get_or-set_other nexts q p (get_or heads c 0) 0 e ∙ inv.next p (omega (arith, e, a)) b
 
-    pub link_turn : Linking q (set heads c q) (set nexts q (get_or heads c 0))
-    link_turn =
+    linked_one : Linking q (set heads c q) (set nexts q (get_or heads c 0))
+    linked_one =
         record {
           wide = length-set heads c q ∙ inv.wide;
           long = length-set nexts q (get_or heads c 0) ∙ inv.long;
@@ -69,19 +66,30 @@ module _ (h : ℕ) (es : List Edge) (met : List ℕ) (which n : ℕ) where
           next = λ p a b. next_turn p a b (ℕ_discrete p q);
         }
 
--- all are
-module _ (h : ℕ) (es : List Edge) (met : List ℕ) (which : ℕ) (heads nexts : List ℕ) (inv : Linking h es met which (length met / 5) 0 heads nexts) where
-  pub link_heads : heads ≡ each h (head_at h es met which)
-  unfolding head_at
-  link_heads =
-      ext_get_or 0 heads (each h (head_at h es met which)) (inv.wide ∙ sym (length_each h (head_at h es met which)))
-      (λ i l. inv.head i (omega (arith, inv.wide, l)) ∙ sym (get_or_each h (head_at h es met which) i 0 (omega (arith, inv.wide, l))))
+  module _ (q : ℕ) (heads nexts : List ℕ) (inv : Linking q heads nexts) where
+    -- the one before q, on the chain of the key that was read
+    pub link_turn : (c : ℕ) (k : SortedKey) → edge_of k ≡ key (edge_at es (get_or met (5 * (q - 1) + which) 0)) → c ≡ chain_of (length heads) k.first → c < length heads
+        → 0 < q → q ≤ length nexts → Linking (q - 1) (set heads c (q - 1)) (set nexts (q - 1) (get_or heads c 0))
+    unfolding chain_at
+    link_turn c k e c-is low some most =
+        let back : q ≡ q - 1 + 1 = omega arith in
+        linked_one (q - 1) c heads nexts (c-is ∙ ap (λ (l : ℕ). chain_of l k.first) inv.wide ∙ ap (λ (x : Edge). chain_of h x.0) e) (omega (arith, low, inv.wide))
+        (omega (arith, some, most, inv.long)) (subst (λ (i : ℕ). Linking i heads nexts) back inv)
 
-  pub link_nexts : nexts ≡ each (length met / 5) (next_at h es met which)
-  unfolding next_at
-  link_nexts =
-      ext_get_or 0 nexts (each (length met / 5) (next_at h es met which)) (inv.long ∙ sym (length_each (length met / 5) (next_at h es met which)))
-      (λ i l. inv.next i (omega arith) (omega (arith, inv.long, l)) ∙ sym (get_or_each (length met / 5) (next_at h es met which) i 0 (omega (arith, inv.long, l))))
+    -- all are
+    pub link_heads : q ≤ 0 → heads ≡ each h (head_at h es met which)
+    unfolding head_at
+    link_heads none =
+        ext_get_or 0 heads (each h (head_at h es met which)) (inv.wide ∙ sym (length_each h (head_at h es met which)))
+        (λ i l. inv.head i (omega (arith, inv.wide, l)) ∙ ap (λ (k : ℕ). first (on_chain h es met which i) k n) (le-zero none)
+        ∙ sym (get_or_each h (head_at h es met which) i 0 (omega (arith, inv.wide, l))))
+
+    pub link_nexts : q ≤ 0 → nexts ≡ each (length met / 5) (next_at h es met which)
+    unfolding next_at
+    link_nexts none =
+        ext_get_or 0 nexts (each (length met / 5) (next_at h es met which)) (inv.long ∙ sym (length_each (length met / 5) (next_at h es met which)))
+        (λ i l. inv.next i (omega (arith, none)) (omega (arith, inv.long, l))
+        ∙ sym (get_or_each (length met / 5) (next_at h es met which) i 0 (omega (arith, inv.long, l))))
 
 -- ---- both kinds
 
@@ -93,9 +101,10 @@ links_made h subject cutter met a b c d ea eb ec ed =
     ∙ ap₂ (λ (x y : List ℕ). x ++ y) (ap₂ (λ (x y : List ℕ). x ++ y) (ap₂ (λ (x y : List ℕ). x ++ y) ea eb) ec) ed
 
 -- the links taken apart
-module _ (h : ℕ) (subject cutter : List Edge) (met links a r b s c d : List ℕ) (are : links ≡ links_of h subject cutter met)
-    (a-is : a ≡ take h links) (r-is : r ≡ drop h links) (b-is : b ≡ take h r) (s-is : s ≡ drop h r)
-    (c-is : c ≡ take (length met / 5) s) (d-is : d ≡ drop (length met / 5) s) where
+module _ (subject cutter : List Edge) (met links : List ℕ) (whole : Linked subject cutter met links) where
+  abbrev h : ℕ
+  h = length links / 2 - length met / 5
+
   abbrev A : List ℕ
   A = each h (head_at h subject met 0)
 
@@ -109,31 +118,48 @@ module _ (h : ℕ) (subject cutter : List Edge) (met links a r b s c d : List �
   D = each (length met / 5) (next_at h cutter met 1)
 
   apart : links ≡ A ++ (B ++ (C ++ D))
-  apart = are ∙ sym (links_made h subject cutter met A B C D refl refl refl refl)
+  apart = whole.are ∙ sym (links_made h subject cutter met A B C D refl refl refl refl)
 
-  la : length A ≡ h
-  la = length_each h (head_at h subject met 0)
+  module _ (a : List ℕ) (a-is : a ≡ take (length links / 2 - length met / 5) links) where
+    heads : a ≡ A
+    heads = a-is ∙ ap (take h) apart ∙ take_at A (B ++ (C ++ D)) h (length_each h (head_at h subject met 0))
 
-  lb : length B ≡ h
-  lb = length_each h (head_at h cutter met 1)
+    wide : length a ≡ h
+    wide = ap length heads ∙ length_each h (head_at h subject met 0)
 
-  lc : length C ≡ length met / 5
-  lc = length_each (length met / 5) (next_at h subject met 0)
+    pub subject_some : 0 < length a
+    subject_some = omega (arith, wide, whole.some)
 
-  rest : r ≡ B ++ (C ++ D)
-  rest = r-is ∙ ap (drop h) apart ∙ drop_at A (B ++ (C ++ D)) h la
+    pub subject_heads : a ≡ each (length a) (head_at (length a) subject met 0)
+    subject_heads = heads ∙ ap (λ (k : ℕ). each k (head_at k subject met 0)) (sym wide)
 
-  nexts : s ≡ C ++ D
-  nexts = s-is ∙ ap (drop h) rest ∙ drop_at B (C ++ D) h lb
+  module _ (r : List ℕ) (r-is : r ≡ drop (length links / 2 - length met / 5) links) where
+    rest : r ≡ B ++ (C ++ D)
+    rest = r-is ∙ ap (drop h) apart ∙ drop_at A (B ++ (C ++ D)) h (length_each h (head_at h subject met 0))
 
-  pub subject_heads : a ≡ each h (head_at h subject met 0)
-  subject_heads = a-is ∙ ap (take h) apart ∙ take_at A (B ++ (C ++ D)) h la
+    module _ (b : List ℕ) (b-is : b ≡ take (length links / 2 - length met / 5) r) where
+      b_heads : b ≡ B
+      b_heads = b-is ∙ ap (take h) rest ∙ take_at B (C ++ D) h (length_each h (head_at h cutter met 1))
 
-  pub cutter_heads : b ≡ each h (head_at h cutter met 1)
-  cutter_heads = b-is ∙ ap (take h) rest ∙ take_at B (C ++ D) h lb
+      b_wide : length b ≡ h
+      b_wide = ap length b_heads ∙ length_each h (head_at h cutter met 1)
 
-  pub subject_nexts : c ≡ each (length met / 5) (next_at h subject met 0)
-  subject_nexts = c-is ∙ ap (take (length met / 5)) nexts ∙ take_at C D (length met / 5) lc
+      pub cutter_some : 0 < length b
+      cutter_some = omega (arith, b_wide, whole.some)
 
-  pub cutter_nexts : d ≡ each (length met / 5) (next_at h cutter met 1)
-  cutter_nexts = d-is ∙ ap (drop (length met / 5)) nexts ∙ drop_at C D (length met / 5) lc
+      pub cutter_heads : b ≡ each (length b) (head_at (length b) cutter met 1)
+      cutter_heads = b_heads ∙ ap (λ (k : ℕ). each k (head_at k cutter met 1)) (sym b_wide)
+
+    module _ (s : List ℕ) (s-is : s ≡ drop (length links / 2 - length met / 5) r) (k : ℕ) (k-is : k ≡ length links / 2 - length met / 5) where
+      nexts : s ≡ C ++ D
+      nexts = s-is ∙ ap (drop h) rest ∙ drop_at B (C ++ D) h (length_each h (head_at h cutter met 1))
+
+      pub subject_nexts : (c : List ℕ) → c ≡ take (length met / 5) s → c ≡ each (length met / 5) (next_at k subject met 0)
+      subject_nexts c e =
+          e ∙ ap (take (length met / 5)) nexts ∙ take_at C D (length met / 5) (length_each (length met / 5) (next_at h subject met 0))
+          ∙ ap (λ (j : ℕ). each (length met / 5) (next_at j subject met 0)) (sym k-is)
+
+      pub cutter_nexts : (d : List ℕ) → d ≡ drop (length met / 5) s → d ≡ each (length met / 5) (next_at k cutter met 1)
+      cutter_nexts d e =
+          e ∙ ap (drop (length met / 5)) nexts ∙ drop_at C D (length met / 5) (length_each (length met / 5) (next_at h subject met 0))
+          ∙ ap (λ (j : ℕ). each (length met / 5) (next_at j cutter met 1)) (sym k-is)

@@ -9,13 +9,13 @@ use lib.Dec.{eqb}
 use lib.Pointwise.{pointwise}
 use lib.ListN.{length, get_or, set, take, drop, length-append, length-map}
 use Rattle.std.proofs.lemmas.List.{get_or-map, drop_all}
-use lib.Seq.{drop-cons, length-take-le, get_or-take, take-suc, take_all}
+use lib.Seq.{drop-cons, length-take-le, take-suc, take_all}
 use borrow.Author.Tests.{eq-eqb, ne_eqb, eqb-true}
 use Rattle.std.specs.List.{ends_with}
 use Rattle.lists.specs.Gather.{slim, slim_after}
 use Rattle.lists.specs.Regions.{front}
 use Rattle.lists.proofs.Gather.{slim_snoc, slim_some, length_slim}
-use Rattle.lists.proofs.Regions.{front_take, front_store, front_front, take_front_of, length_front}
+use Rattle.lists.proofs.Regions.{front_take, front_store, front_front, take_front_of}
 use Rattle.edge_nodes.specs.Lent.{node_of, pushed, FrontIs}
 use Rattle.edge_nodes.specs.declared.nodes.Placed.{Placed}
 

@@ -6,21 +6,41 @@ use Prim.Native.Nat.{ℕ, suc, ◌+◌, ◌/◌, ◌≤◌, ◌<◌}
 use native.Mathlib.Numerals.{add-one}
 use native.Mathlib.Omega.{arith}
 use lib.Dec.{eqb}
-use lib.ListN.{length, get_or, drop, length-map}
-use lib.Seq.{drop-cons}
+use lib.ListN.{length, get_or, take, drop, length-map}
+use lib.Seq.{drop-cons, length-take-le}
+use Rattle.std.proofs.Common.{Option, unwrap_or}
+use Rattle.std.specs.List.{position, position_or_len}
+use Rattle.lists.specs.Regions.{insert_at}
+use Rattle.lists.proofs.InPlace.{put_there, place_is}
 use Rattle.std.proofs.lemmas.List.{drop_all}
 use lib.Ieee.{Float}
 use Rattle.lists.specs.Gather.{slim}
 use Rattle.lists.specs.Sort.{insert, sort_onto, sorted}
 use Rattle.lists.specs.Regions.{front}
-use Rattle.lists.proofs.Sort.{sort_onto_append, length_sort_onto}
+use Rattle.lists.proofs.Sort.{length_insert, sort_onto_append, length_sort_onto}
 use Rattle.cutting.specs.Edges.{Edge, key}
 use Rattle.keys.specs.declared.SortedKey.{SortedKey}
 use Rattle.rules.specs.Nodes.{Projected, projected, by_projection, along_edge}
 use Rattle.edge_nodes.specs.declared.nodes.Placed.{Placed}
 use Rattle.edge_nodes.specs.Chained.{edge_of}
-use Rattle.edge_nodes.specs.Lent.{placed, stands_before, node_of, under, collected_in, unless_none, sorted_in, FrontIs}
+use Rattle.edge_nodes.specs.Lent.{placed, stands_before, node_of, under, under_in, collected_in, unless_none, sorted_in, FrontIs}
+use Rattle.cutting.specs.Lent.{pairs}
+use Rattle.edge_nodes.specs.declared.sides.Meetings.{Meetings}
+use Rattle.edge_nodes.specs.declared.chains.LinkedMeetings.{LinkedMeetings}
+use Rattle.edge_nodes.specs.Sides.{subject_meetings, cutter_meetings}
+use Rattle.edge_nodes.proofs.Count.{length_collected}
 use Rattle.edge_nodes.proofs.Under.{map_append, sorted_key}
+
+-- ---- one put in its place
+
+-- among the first n of a list, which are t
+pub put_among : (x : Placed) (w w' t : List Placed) (n k : ℕ) (p : Option ℕ) → take n w ≡ t → n ≤ length w → length t < length w → p ≡ position (stands_before x) (take n w)
+    → k ≡ unwrap_or p n → w' ≡ insert_at w n k x → take (n + 1) w' ≡ insert stands_before x t
+put_among x w w' t n k p t-is low room p-is k-is e =
+    let count : n ≡ length (take n w) = sym (length-take-le n w low) in
+    let at : k ≡ position_or_len (stands_before x) (take n w) =
+    k-is ∙ ap₂ unwrap_or p-is count ∙ place_is (stands_before x) (take n w) in
+    put_there stands_before x w w' n k (omega (arith, count, ap length t-is, room)) at e ∙ ap (insert stands_before x) t-is
 
 -- ---- one after the other
 
@@ -116,3 +136,36 @@ module _ (coords : List Float) (subject cutter : List Edge) (met : List ℕ) (k 
         ∙ ap (map (λ (p : Projected). p.node)) (map_sort coords e [] (k.first ∷ ns)) in
         ap (λ (l : List ℕ). slim eqb (l ++ k.second ∷ [])) nodes ∙ sym (ap (λ (f : Edge). along_edge coords f ns) (sorted_key k))
         ∙ some_in coords e ns more
+
+-- ---- as they were put in, by one mesh and then by the other
+
+module _ (t : LinkedMeetings) (coords : List Float) (k : SortedKey) (none xs ys : List Placed) (p : Placed) (a b : Meetings) (none-is : none ≡ []) (p-is : p ≡ placed coords (edge_of k) k.first)
+    (x-is : xs ≡ insert stands_before p none) (a-is : a ≡ subject_meetings t) (b-is : b ≡ cutter_meetings t)
+    (y-is : ys ≡ sort_onto stands_before xs (map (placed coords (edge_of k)) (under_in a (edge_of k)))) where
+  abbrev all : List ℕ
+  all = collected_in (pairs t.subject.now) (pairs t.cutter.now) t.met.now (edge_of k)
+
+  first_in : xs ≡ insert stands_before (placed coords (edge_of k) k.first) []
+  first_in = x-is ∙ ap₂ (insert stands_before) p-is none-is
+
+  subject_in : ys ≡ sort_onto stands_before xs (map (placed coords (edge_of k)) (under_in (subject_meetings t) (edge_of k)))
+  subject_in = y-is ∙ ap (λ (m : Meetings). sort_onto stands_before xs (map (placed coords (edge_of k)) (under_in m (edge_of k)))) a-is
+
+  -- those of the cutter's edges have their places too
+  pub second_fits : length (collected_in (pairs t.subject.now) (pairs t.cutter.now) t.met.now (edge_of k)) ≤ 256 → length ys + length (under_in b (edge_of k)) ≤ 257
+  second_fits few =
+      omega (
+        arith,
+        few,
+        ap length first_in ∙ length_insert stands_before (placed coords (edge_of k) k.first) [],
+        ap length subject_in ∙ length_sort_onto stands_before xs (map (placed coords (edge_of k)) (under_in (subject_meetings t) (edge_of k))),
+        length-map (under_in (subject_meetings t) (edge_of k)) (placed coords (edge_of k)),
+        ap (λ (m : Meetings). length (under_in m (edge_of k))) b-is,
+        length_collected (pairs t.subject.now) (pairs t.cutter.now) t.met.now (edge_of k),
+      )
+
+  pub only_first : (zs items : List Placed) → zs ≡ sort_onto stands_before ys (map (placed coords (edge_of k)) (under_in b (edge_of k))) → items ≡ zs → length items ≡ 1
+      → (out : List ℕ) → FrontIs (sorted_in coords (pairs t.subject.now) (pairs t.cutter.now) t.met.now (edge_of k)) out 0 out
+  only_first zs items z-is same one out =
+      no_nodes coords (pairs t.subject.now) (pairs t.cutter.now) t.met.now k xs ys zs first_in subject_in
+      (z-is ∙ ap (λ (m : Meetings). sort_onto stands_before ys (map (placed coords (edge_of k)) (under_in m (edge_of k)))) b-is) (sym (ap length same) ∙ one) out

@@ -49,7 +49,7 @@ impl<'a> Chains<'a> {
 
 impl<'a> LinkedMeetings<'a> {
     // Writes the sorted nodes of the key to the front of `out`. Answers how many they are.
-    #[tactic(auto, using(lists::proofs::Sort::length_insert, crate::proofs::Count::length_collected, crate::proofs::Sorted::some_nodes))]
+    #[tactic(auto, using(lists::proofs::Sort::length_insert, crate::proofs::Count::length_collected, crate::proofs::Sorted::some_nodes, crate::proofs::Sorted::second_fits))]
     fn sorted_nodes(&self, coords: &[f64], key: SortedKey, out: &mut [u32]) -> usize
         requires { (length (collected_in (pairs self.now.subject.now) (pairs self.now.cutter.now) self.now.met.now (edge_of key)) ≤ 256) × (258 ≤ length out.old) }
         ensures { FrontIs (sorted_in coords.now (pairs self.now.subject.now) (pairs self.now.cutter.now) self.now.met.now (edge_of key)) out.old result out.new }

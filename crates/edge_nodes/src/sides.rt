@@ -71,6 +71,7 @@ impl<'a> Meetings<'a> {
     }
 
     // Puts all meetings on chains, each before those behind it.
+    #[tactic(auto, using(crate::proofs::Linking::link_turn, crate::proofs::Linking::link_heads, crate::proofs::Linking::link_nexts))]
     pub(crate) fn link(&self, heads: &mut [u32], nexts: &mut [u32])
         requires { (0 < length heads.old) × (length nexts.old ≡ length self.now.met.now / 5) × (length nexts.old ≤ 65536) }
         ensures head { heads.new ≡ heads_in (length heads.old) self.now }
