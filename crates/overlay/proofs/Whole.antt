@@ -12,9 +12,6 @@ use lib.Ieee.{Float}
 use Rattle.lists.specs.Gather.{gathered}
 use Rattle.lists.specs.Regions.{front, zeros}
 use Rattle.lists.proofs.Regions.{front_put, take_front_of}
-use Rattle.refusals.specs.declared.Refusal.{Refusal}
-use Rattle.refusals.specs.Numbers.{number}
-use Rattle.refusals.proofs.Numbers.{some_not_zero}
 use Rattle.cutting.specs.Outcome.{Outcome, refusal, pieces, flat, stops}
 use Rattle.cutting.proofs.Runs.{stops_length}
 use Rattle.entry.specs.Mesh.{Mesh}
@@ -120,10 +117,10 @@ module _ (op : ℕ) (s c : Mesh) where
 
   module _ (m p q n : ℕ) where
     -- one met before the cells
-    pub refused_before : (r : Refusal) → ((q n : ℕ) → number r ≡ first_refusal m p q n (found_events op s c)) → number r ≡ first_refusal m p q n (course op s c)
-    refused_before r e =
-        refused (number r) (found_events op s c) (over_both op sc₀ (cell_events op sc₀)) m p q n (some_not_zero r) (e q n)
-        ∙ ap (first_refusal m p q n) (sym (course_is op s c))
+    pub refused_before : (first_refusal m p q n (found_events op s c) ≡ 0 → ⊥) → first_refusal m p q n (course op s c) ≡ first_refusal m p q n (found_events op s c)
+    refused_before h =
+        ap (first_refusal m p q n) (course_is op s c)
+        ∙ sym (refused (first_refusal m p q n (found_events op s c)) (found_events op s c) (over_both op sc₀ (cell_events op sc₀)) m p q n h refl)
 
     -- where none is met before, the cells' is the first
     pub cells_met : (x : ℕ) (es : List Event) → ((q n : ℕ) → 0 ≡ first_refusal m p q n (found_events op s c))
@@ -194,17 +191,19 @@ module _ (op : ℕ) (s c : Mesh) where
 
 -- ---- the answer
 
+in_ends : (l : Lists) (room : ℕ) → room ≡ piece_room l → length (take room l.ends) ≡ room
+in_ends l room most = length-take-le room l.ends (omega (arith, most))
+
+-- the pieces' room is that of the ends lent
+pub state_is : (op m : ℕ) (s c : Mesh) (l : Lists)
+    → state_of op m s c l ≡ first_refusal m (length l.coords / 2) (length (take (piece_room l) l.ends)) (length l.nodes) (course op s c)
+unfolding state_with
+state_is op m s c l = ap (λ (q : ℕ). first_refusal m (length l.coords / 2) q (length l.nodes) (course op s c)) (sym (in_ends l (piece_room l) refl))
+
 module _ (op : ℕ) (s c : Mesh) (l : Lists) (room : ℕ) (most : room ≡ piece_room l) where
-  in_ends : length (take room l.ends) ≡ room
-  in_ends = length-take-le room l.ends (omega (arith, most))
-
-  pub state_is : (m n : ℕ) → n ≡ first_refusal m (length l.coords / 2) (length (take room l.ends)) (length l.nodes) (course op s c) → n ≡ state_of op m s c l
-  unfolding state_with
-  state_is m n e = e ∙ ap (λ (q : ℕ). first_refusal m (length l.coords / 2) q (length l.nodes) (course op s c)) (in_ends ∙ most)
-
   module _ (k : Counts) (oc : List Float) (on oe ot : List ℕ) (h : PlacedIn op s c k l.coords l.nodes (take room l.ends) (take room l.families) oc on oe ot) where
     few : k.pieces ≤ room
-    few = omega (arith, h.room, in_ends)
+    few = omega (arith, h.room, in_ends l room most)
 
     -- a number of each piece, as many as there are
     long : (f : Piece → ℕ) → length (map f (listing op s c)) ≡ k.pieces

@@ -66,6 +66,7 @@ fn prepare(
 
 // Places all pieces that the operation keeps, each with its tag; as many have a place as there is room for ends.
 // The lists come one by one: a struct of parts of a lent struct's lists isn't covered by the borrow checker.
+#[tactic(auto, using(crate::proofs::Whole::refused_before, refusals::proofs::Numbers::number_positive))]
 fn place(
     operation: Operation,
     m: u32,
@@ -117,6 +118,7 @@ fn piece_room(out: &OutputView) -> usize
 
 // What stands behind the entry. The pieces' tags come into the list of families; kinds, parents and families are written by them. Where a stage
 // refuses, the lists are to be cleared.
+#[tactic(auto, using(crate::proofs::Whole::state_is))]
 fn run(
     operation: Operation,
     m: u32,
@@ -148,12 +150,13 @@ fn run(
     let tags = &mut tags[..counts.pieces as usize];
     write_kinds(tags, subject.kinds, cutter.kinds, out.kinds);
     let meshes = &mut *out.meshes;
-    write_parents(tags, subject.ends.len() as u32, meshes, out.cells);
+    write_parents(tags, subject.ends.len(), meshes, out.cells);
     write_families(subject.families, cutter.families, tags);
     Ok(counts)
 }
 
 // Operation, meeting limit M, subject, cutter, output lists, working list. The operation by its number: any number is answered.
+#[tactic(auto, using(rules::proofs::Endings::input_refused, refusals::proofs::Numbers::number_positive))]
 pub fn overlay(
     op: u32,
     m: u32,

@@ -13,7 +13,7 @@ const PGON: u8 = 11;
 // families take its place: the lists hold the number, and each function reads it here.
 #[derive(Clone, Copy)]
 struct Tag {
-    cell: u32,
+    cell: usize,
     cut: bool,
 }
 
@@ -26,7 +26,7 @@ impl From<u32> for Tag {
     {
         let cell = n / 2;
         Tag {
-            cell,
+            cell: cell as usize,
             cut: 2 * cell != n,
         }
     }
@@ -50,7 +50,7 @@ fn kind_by(subject: &[u8], cutter: &[u8], tag: u32) -> u8
     if cut {
         PGON
     } else {
-        entry_at(subject, cutter, cell as usize, 0)
+        entry_at(subject, cutter, cell, 0)
     }
 }
 
@@ -58,22 +58,22 @@ fn kind_by(subject: &[u8], cutter: &[u8], tag: u32) -> u8
 fn family_by(subject: &[u32], cutter: &[u32], tag: u32) -> u32
     ensures { result ≡ family_by subject.now cutter.now tag }
 {
-    entry_at(subject, cutter, Tag::from(tag).cell as usize, 0)
+    entry_at(subject, cutter, Tag::from(tag).cell, 0)
 }
 
 // The mesh of the piece's cell, 0 the subject or 1 the cutter, as the output lists number them. The subject has n cells.
-fn mesh_by(n: u32, tag: u32) -> u32
+fn mesh_by(n: usize, tag: u32) -> u32
     ensures { result ≡ mesh_by n tag }
 {
     u32::from(n <= Tag::from(tag).cell)
 }
 
 // The number of the piece's cell in its mesh. The subject has n cells.
-fn cell_by(n: u32, tag: u32) -> u32
+fn cell_by(n: usize, tag: u32) -> u32
     ensures { result ≡ cell_by n tag }
 {
     let k = Tag::from(tag).cell;
-    if k < n { k } else { k - n }
+    (if k < n { k } else { k - n }) as u32
 }
 
 // The kinds of the pieces with these tags, to the front of a list, by those of the subject's and the cutter's cells.
@@ -88,7 +88,7 @@ pub fn write_kinds(tags: &[u32], subject: &[u8], cutter: &[u8], kinds: &mut [u8]
 }
 
 // The parents of the pieces with these tags, their meshes and their cells there, to the fronts of two lists; the subject has n cells.
-pub fn write_parents(tags: &[u32], n: u32, meshes: &mut [u32], cells: &mut [u32])
+pub fn write_parents(tags: &[u32], n: usize, meshes: &mut [u32], cells: &mut [u32])
     requires { (length tags.now ≤ length meshes.old) × (length tags.now ≤ length cells.old) }
     ensures { (meshes.new ≡ front meshes.old (map (mesh_by n) tags.now))
         × (cells.new ≡ front cells.old (map (cell_by n) tags.now)) }

@@ -1,23 +1,17 @@
 -- `overlay::place` meets its contract. Assumes nothing.
 use Rattle.std.proofs.Common.{arith, Ok, Err}
-use Rattle.std.proofs.lemmas.Result.{err_from_is_err_and}
+use Rattle.refusals.proofs.Residual.{passed_on}
 use Rattle.entry.proofs.Passed.{passed}
 use Rattle.pieces.proofs.Placing.{code_met, all_placed, fit}
 use Rattle.cutting_cells.proofs.Meshes.{meshes_steady}
-use Rattle.overlay.proofs.Whole.{refused_before, cells_met, yielded_events, placed_in}
+use Rattle.overlay.proofs.Whole.{cells_met, yielded_events, placed_in}
 use Rattle.overlay.proofs.place.Goals as goal
-
-pub returns-in_err-p-clause-refusal : goal.returns-in_err-p-clause-refusal
-returns-in_err-p-clause-refusal c =
-    let p = err_from_is_err_and c.from_residual.result c.from_residual.ensures.1 in
-    rw (p.1, p.2) (refused_before _ _ _ _ _ _ _ _ c.in_err-p.ensures.refusal)
 
 pub returns-in_err-listed-clause-refusal : goal.returns-in_err-listed-clause-refusal
 returns-in_err-listed-clause-refusal c =
     let ready = c.in_ok-p.ensures in
     let told = rw c.from.ensures at c.in_err-listed.ensures.placed in
-    let p = err_from_is_err_and c.from_residual-in_err-listed.result c.from_residual-in_err-listed.ensures.1 in
-    rw (p.1, p.2)
+    rw (passed_on _ _ c.from_residual-in_err-listed.ensures.1)
     (cells_met _ _ _ _ _ _ _ _ _ ready.refusal (yielded_events _ _ _ _ _ _ _ ready.prepared) (code_met _ _ _ _ _ (Err _) _ _ _ told))
 
 pub returns-clause-refusal : goal.returns-clause-refusal

@@ -1,6 +1,6 @@
 -- `overlay::prepare` meets its contract. Assumes nothing.
 use Rattle.std.proofs.Common.{◌*◌, sym, arith, Ok, Err}
-use Rattle.std.proofs.lemmas.Result.{err_from_is_err_and}
+use Rattle.refusals.proofs.Residual.{passed_on}
 use lib.Seq.{length-take-le}
 use Rattle.overlay.proofs.Found.{find_asked, refusal_is, index_asked, points_fit, next_most, prepared}
 use Rattle.overlay.proofs.prepare.Goals as goal
@@ -10,8 +10,7 @@ find-requires c = rw c.from.ensures (find_asked _ _ _ _ _ c.requires)
 
 pub returns-in_err-found-clause-refusal : goal.returns-in_err-found-clause-refusal
 returns-in_err-found-clause-refusal c =
-    let p = err_from_is_err_and c.from_residual.result c.from_residual.ensures.1 in
-    rw (p.1, p.2) (refusal_is _ _ _ _ _ c.requires _ _ _ (Err _) (rw c.from.ensures at c.in_err-found.ensures))
+    rw (passed_on _ _ c.from_residual.ensures.1) (refusal_is _ _ _ _ _ c.requires _ _ _ (Err _) (rw c.from.ensures at c.in_err-found.ensures))
 
 pub overflow_mul-points : goal.overflow_mul-points
 overflow_mul-points c = omega (arith, next_most _ _ _ _ _ c.requires _ _ _ _ (rw c.from.ensures at c.in_ok-found.ensures))
