@@ -18,7 +18,7 @@ use corners::next_corner;
 use dart_walk::Counts;
 use edge_nodes::SceneLists;
 use entry::Operation;
-use lists::copy_at;
+use lists::{Runs, copy_at};
 use outlines::edges_repeat;
 use pieces::{Keep, Listed, PieceLists, keep_of};
 use refusals::Refusal;
@@ -153,6 +153,7 @@ impl<'a> Treatment<'a> {
     }
 
     // Places the kept pieces of the cell with that number behind what p counts; `found` is room for the places of the other mesh's edges.
+    #[tactic(auto, using(crate::proofs::Cell::pieces_yielded))]
     fn overlay_cell(
         &self,
         number: usize,
@@ -189,7 +190,6 @@ impl<'a> Treatment<'a> {
     }
 
     // Cuts all cells of a mesh, runs of `own` by `stops`, the first of them with the number `first`, and places their kept pieces behind what p counts.
-    // Each begins where the one before it ends: windows over the ends have no first cell.
     fn cut_cells(
         &self,
         own: &[u32],
@@ -205,12 +205,8 @@ impl<'a> Treatment<'a> {
     {
         let mut found = [0u32; 65536];
         let mut placed = p;
-        let mut start: usize = 0;
-        for (i, stop) in stops.iter().enumerate() {
-            let end = *stop as usize;
-            let cell = &own[start..end];
+        for (i, cell) in Runs::new(own, stops).enumerate() {
             placed = self.overlay_cell(first + i, cell, &mut found, lists, placed)?;
-            start = end;
         }
         Ok(placed)
     }

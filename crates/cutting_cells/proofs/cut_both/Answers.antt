@@ -1,5 +1,5 @@
 use mathlib.Core.Path.{refl, sym, ◌∙◌}
-use Rattle.std.proofs.lemmas.Result.{err_from_is_err_and}
+use Rattle.refusals.proofs.Residual.{passed_on}
 use Rattle.cutting_cells.proofs.Meshes.{asks_first, first_refused, first_only, asks_second, both_placed}
 use Rattle.cutting_cells.proofs.cut_both.Goals as goal
 
@@ -11,8 +11,7 @@ cut_cells-requires c =
 pub returns-in_err-placed-clause-placed : goal.returns-in_err-placed-clause-placed
 returns-in_err-placed-clause-placed c =
     let a = c.args in
-    let p = err_from_is_err_and c.from_residual.result c.from_residual.ensures.1 in
-    rw (p.1, p.2)
+    rw (passed_on c.from_residual.result _ c.from_residual.ensures.1)
     (first_refused _ _ _ _ a.x _ _ a.lists.now c.requires.0 c.requires.1 _ _ c.keep_of.ensures c.part-own.ensures c.cut_cells.new.lists _ c.in_err-placed.ensures.placed)
 
 pub returns-then-not-cuts_both-clause-placed : goal.returns-then-not-cuts_both-clause-placed

@@ -5,14 +5,6 @@ use Rattle.pieces.specs.Pieces.{placed_in}
 use Rattle.cutting_cells.proofs.Cell.{cell_refused, pieces_yielded, pieces_few}
 use Rattle.cutting_cells.proofs.Treatment.overlay_cell.Goals as goal
 
-pub returns-in-Ok-clause-placed : goal.returns-in-Ok-clause-placed
-returns-in-Ok-clause-placed c =
-    let a = c.args in
-    let n = c.near-n in
-    c.place_pieces.ensures.placed ∙ ap (λ y. placed_in a.p y a.lists.now)
-    (pieces_yielded a.self.now a.cell.now _ n.ensures.held _ _ _ _ c.in-Ok.counts c.in-Ok.ensures.comes_to c.cells.result.things c.cells.ensures n.result
-    (sym (length-take-le _ _ n.ensures.fits)) a.number _ c.tag_of-tag.ensures)
-
 pub returns-in-Ok-clause-few : goal.returns-in-Ok-clause-few
 returns-in-Ok-clause-few c =
     pieces_few c.in-Ok.counts _ _ c.in-Ok.ensures.readable c.outcome.array_long c.outcome.array_long2 _ c.tag_of-tag.result c.args.p c.place_pieces.result _ _ _ _ _ _ c.place_pieces.ensures.placed
