@@ -1,5 +1,5 @@
 pub mod Copy
 pub mod Near
-pub mod Cell
+pub mod Outcomes
 pub mod Loop
 pub mod Meshes

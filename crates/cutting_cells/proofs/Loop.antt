@@ -1,5 +1,5 @@
 -- `cut_cells`: the cells one after the other. Assumes nothing.
-use mathlib.Core.Path.{◌≡◌, refl, sym, ap, ap₂, ◌∙◌, subst}
+use mathlib.Core.Path.{◌≡◌, sym, ap, ap₂, ◌∙◌, subst}
 use mathlib.Core.List.{List, [], ◌∷◌}
 use Prim.Native.Nat.{ℕ, zero, suc, ◌+◌, ◌-◌, ◌^◌, ◌≤◌, ◌<◌}
 use native.Mathlib.Nat.{le_antisymm}
@@ -22,7 +22,7 @@ use Rattle.pieces.proofs.Placing.{Steady, steady_all, all_of_more, all_of_behind
 use Rattle.cutting_cells.specs.declared.Treatment.{Treatment}
 use Rattle.cutting_cells.specs.Yields.{Few}
 use Rattle.cutting_cells.specs.Treated.{yield_for, all_yield, CellsAsk}
-use Rattle.cutting_cells.proofs.Cell.{yield_steady}
+use Rattle.cutting_cells.proofs.Outcomes.{yield_steady}
 
 -- ---- what is left of a list
 
@@ -107,9 +107,12 @@ module _ (t : Treatment) (own stops : List ℕ) (from : ℕ) (p : Listed) (l : P
             short = omega (arith, space.short, inv.few.corners, more);
           }
 
-      -- it can be placed
-      pub next_asks : AllFew t.scene.work.now t.scene.regions (ring x) × (length x ≤ 256) × Space q 1024 l' × (from + k < 2 ^ 31)
-      next_asks = (next_few, next_short, next_space, omega (arith, at, more, asks.most))
+      -- it is short, and it can be placed
+      pub next_cell : (from + k < 2 ^ 31) × (length x ≤ 256)
+      next_cell = (omega (arith, at, more, asks.most), next_short)
+
+      pub next_asks : AllFew t.scene.work.now t.scene.regions (ring x) × Space q 1024 l'
+      next_asks = (next_few, next_space)
 
       step : placed_in p (all_of (i + 1) f) l ≡ placed_in q (yield_for t (from + k) x) l'
       step =

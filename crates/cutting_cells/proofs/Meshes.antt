@@ -21,7 +21,7 @@ use Rattle.pieces.proofs.Placing.{Steady, steady_nothing, steady_both, steady_al
 use Rattle.cutting_cells.specs.declared.Treatment.{Treatment}
 use Rattle.cutting_cells.specs.Yields.{yield_of, runs_on, numbered_from, cells_yield, meshes_yield, none_yet, Few, MeshesReady}
 use Rattle.cutting_cells.specs.Treated.{CellsAsk}
-use Rattle.cutting_cells.proofs.Cell.{yield_steady}
+use Rattle.cutting_cells.proofs.Outcomes.{yield_steady}
 
 -- ---- the cells of one mesh
 

@@ -26,53 +26,58 @@ use regions::{Indexes, MeshIndex, MeshRuns};
 use spatial_index::bounds2;
 use strips::{Index, Things};
 
-// ---- A cell that is copied
+// ---- A cell
 
-// Whether the cell's own edges pass between the same two nodes twice or from a node to itself.
-#[tactic(auto, using(crate::proofs::Copy::sided_none, crate::proofs::Copy::sided_all))]
-fn copy_repeats(cell: &[u32]) -> bool
-    requires { length cell.now ≤ 256 }
-    ensures { result ≡ repeats (ring cell.now) }
-{
-    let mut sides = [0u32; 512];
-    // written by index: of a list written through `chunks_exact_mut` a proof knows the length alone
-    for (i, a) in cell.iter().enumerate() {
-        sides[2 * i] = *a;
-        sides[2 * i + 1] = next_corner(cell, i);
+// A cell of a mesh: its number among those of both, and its corners.
+#[derive(Clone, Copy)]
+struct Cell<'a> {
+    number: usize,
+    corners: &'a [u32],
+    ghost numbered: { number < 2 ^ 31 },
+    ghost short: { length corners.now ≤ 256 },
+}
+
+impl<'a> Cell<'a> {
+    // Whether its own edges pass between the same two nodes twice or from a node to itself.
+    #[tactic(auto, using(crate::proofs::Copy::sided_none, crate::proofs::Copy::sided_all))]
+    fn repeats(&self) -> bool
+        ensures { result ≡ repeats (ring self.now.corners.now) }
+    {
+        let corners = self.corners;
+        let mut sides = [0u32; 512];
+        // written by index: of a list written through `chunks_exact_mut` a proof knows the length alone
+        for (i, a) in corners.iter().enumerate() {
+            sides[2 * i] = *a;
+            sides[2 * i + 1] = next_corner(corners, i);
+        }
+        edges_repeat(&sides[..2 * corners.len()])
     }
-    edges_repeat(&sides[..2 * cell.len()])
-}
 
-// The cell itself as its one piece, unless its own edges repeat (19).
-fn copy_cell(
-    cell: &[u32],
-    runs: &mut [u32; 1024],
-    stops: &mut [u32; 1024],
-) -> Result<Counts, Refusal>
-    requires { length cell.now ≤ 256 }
-    ensures { cut result runs.new stops.new ≡ cut_as (copied_outcome cell.now) runs.old stops.old }
-{
-    if copy_repeats(cell) {
-        cells::clear(runs, stops);
-        return Err(Refusal::RepeatedEdge);
+    // The cell itself as its one piece, unless its own edges repeat (19).
+    fn copy(&self, runs: &mut [u32; 1024], stops: &mut [u32; 1024]) -> Result<Counts, Refusal>
+        ensures { cut result runs.new stops.new ≡ cut_as (copied_outcome self.now.corners.now) runs.old stops.old }
+    {
+        if self.repeats() {
+            cells::clear(runs, stops);
+            return Err(Refusal::RepeatedEdge);
+        }
+        copy_at(runs, 0, self.corners);
+        stops[0] = self.corners.len() as u32;
+        Ok(Counts {
+            pieces: 1,
+            entries: self.corners.len(),
+        })
     }
-    copy_at(runs, 0, cell);
-    stops[0] = cell.len() as u32;
-    Ok(Counts {
-        pieces: 1,
-        entries: cell.len(),
-    })
+
+    // The tag of its pieces.
+    fn tag(&self, cut: bool) -> u32
+        ensures { result ≡ 2 * self.now.number + bit cut }
+    {
+        (2 * self.number + usize::from(cut)) as u32
+    }
 }
 
-// ---- Any cell
-
-// The tag of the pieces of the cell with that number.
-fn tag_of(number: usize, cut: bool) -> u32
-    requires { number < 2 ^ 31 }
-    ensures { result ≡ 2 * number + bit cut }
-{
-    (2 * number + usize::from(cut)) as u32
-}
+// ---- Cells of a mesh
 
 // How the cells of a mesh are treated: which pieces are kept, and the other mesh by which they are cut, as it stands in the working list with its
 // indexes; `ends` is where its cells end.
@@ -133,46 +138,45 @@ impl<'a> Treatment<'a> {
     }
 
     // What a cell comes to by those of the edges that stand at the places js. A cell near which there is none is copied.
-    #[tactic(auto, using(crate::proofs::Copy::out_copied, crate::proofs::Copy::out_cut, crate::proofs::Cell::readable, crate::proofs::Cell::outcome_sound))]
+    #[tactic(auto, using(crate::proofs::Copy::out_copied, crate::proofs::Copy::out_cut, crate::proofs::Outcomes::readable, crate::proofs::Outcomes::outcome_sound))]
     fn outcome(
         &self,
         js: &[u32],
-        cell: &[u32],
+        cell: Cell,
         runs: &mut [u32; 1024],
         stops: &mut [u32; 1024],
     ) -> Result<Counts, Refusal>
-        requires { AllFew self.now.scene.work.now self.now.scene.regions (ring cell.now) × Places js.now (edges_in self.now.scene.work.now self.now.other.edges)
-            × (length cell.now ≤ 256) }
-        ensures comes_to { cut result runs.new stops.new ≡ cut_as (outcome_of self.now js.now cell.now) runs.old stops.old }
+        requires { AllFew self.now.scene.work.now self.now.scene.regions (ring cell.corners.now)
+            × Places js.now (edges_in self.now.scene.work.now self.now.other.edges) }
+        ensures comes_to { cut result runs.new stops.new ≡ cut_as (outcome_of self.now js.now cell.entry.corners.now) runs.old stops.old }
         ensures readable { IfOk result (λ k. Readable k runs.new stops.new) }
     {
         if js.is_empty() {
-            return copy_cell(cell, runs, stops);
+            return cell.copy(runs, stops);
         }
-        cut_cell(self.scene, self.other.edges, js, cell, runs, stops)
+        cut_cell(self.scene, self.other.edges, js, cell.corners, runs, stops)
     }
 
-    // Places the kept pieces of the cell with that number behind what p counts; `found` is room for the places of the other mesh's edges.
-    #[tactic(auto, using(crate::proofs::Cell::pieces_yielded))]
+    // Places the kept pieces of a cell behind what p counts; `found` is room for the places of the other mesh's edges.
+    #[tactic(auto, using(crate::proofs::Outcomes::pieces_yielded))]
     fn overlay_cell(
         &self,
-        number: usize,
-        cell: &[u32],
+        cell: Cell,
         found: &mut [u32; 65536],
         lists: &mut PieceLists,
         p: Listed,
     ) -> Result<Listed, Refusal>
-        requires { AllFew self.now.scene.work.now self.now.scene.regions (ring cell.now) × (length cell.now ≤ 256) × Space p 1024 lists.old × (number < 2 ^ 31) }
-        ensures placed { left result lists.new ≡ placed_in p (yield_for self.now number cell.now) lists.old }
+        requires { AllFew self.now.scene.work.now self.now.scene.regions (ring cell.corners.now) × Space p 1024 lists.old }
+        ensures placed { left result lists.new ≡ placed_in p (yield_for self.now cell.entry.number cell.entry.corners.now) lists.old }
         ensures few { IfOk result (λ r. Few 1 p r) }
         ensures same_lists { SameLists lists.new lists.old }
     {
-        let n = self.near(cell, found);
+        let n = self.near(cell.corners, found);
         let mut runs = [0u32; 1024];
         let mut stops = [0u32; 1024];
         match self.outcome(&found[..n], cell, &mut runs, &mut stops) {
             Ok(counts) => {
-                let tag = tag_of(number, 0 < n);
+                let tag = cell.tag(0 < n);
                 lists.place_pieces(
                     self.keep,
                     self.cells(),
@@ -205,8 +209,12 @@ impl<'a> Treatment<'a> {
     {
         let mut found = [0u32; 65536];
         let mut placed = p;
-        for (i, cell) in Runs::new(own, stops).enumerate() {
-            placed = self.overlay_cell(first + i, cell, &mut found, lists, placed)?;
+        for (i, corners) in Runs::new(own, stops).enumerate() {
+            let cell = Cell {
+                number: first + i,
+                corners,
+            };
+            placed = self.overlay_cell(cell, &mut found, lists, placed)?;
         }
         Ok(placed)
     }

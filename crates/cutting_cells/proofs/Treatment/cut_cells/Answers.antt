@@ -6,7 +6,7 @@ use Rattle.refusals.proofs.Residual.{passed_on}
 use Rattle.lists.specs.Runs.{runs_left}
 use Rattle.pieces.specs.Pieces.{runs_of}
 use Rattle.pieces.proofs.Runs.{length_runs, runs_one_by_one}
-use Rattle.cutting_cells.proofs.Loop.{begin, next_asks, turn, stopped, end}
+use Rattle.cutting_cells.proofs.Loop.{begin, next_cell, next_asks, turn, stopped, end}
 use Rattle.cutting_cells.proofs.Treatment.cut_cells.Goals as goal
 
 -- at first all cells are left
@@ -34,6 +34,13 @@ loop-i-init-derived c = (
   ),
   tt,
 )
+
+pub invariant_of-cell : goal.invariant_of-cell
+invariant_of-cell c =
+    let l = c.loop-i in
+    let s = c.in-Some.ensures.steps in
+    let n = next_cell _ _ _ _ _ _ c.requires l.lists l.placed _ _ l.invariant _ _ s.0 _ s.1 in
+    record { numbered = n.0; short = n.1 }
 
 pub overlay_cell-requires : goal.overlay_cell-requires
 overlay_cell-requires c =

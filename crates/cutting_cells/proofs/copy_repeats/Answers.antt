@@ -1,7 +1,0 @@
-use Rattle.cutting_cells.proofs.Copy.{sided_more}
-use Rattle.cutting_cells.proofs.copy_repeats.Goals as goal
-
-pub loop-i-preserved : goal.loop-i-preserved
-loop-i-preserved c =
-    let l = c.loop-i in
-    sided_more _ l.sides l.i _ c.requires l.invariant c.loop-i-test.true c.next_corner.ensures
