@@ -1,13 +1,16 @@
 -- The candidates as a search that is repeated. Assumes nothing.
 use mathlib.Core.Path.{◌≡◌, refl, sym, ap, ap₂, ◌∙◌}
-use mathlib.Core.Bool.{Bool, true, false, cond}
+use mathlib.Core.Bool.{Bool, true, false, cond, ◌&&◌, ◌||◌}
 use mathlib.Core.List.{List, [], ◌∷◌, ◌++◌}
 use Prim.Native.Nat.{ℕ, zero, suc, ◌+◌, ◌-◌, ◌≤◌, ◌<◌}
 use native.Mathlib.Nat.{zero-add}
 use native.Mathlib.Omega.{arith}
+use lib.Dec.{ltb}
 use lib.ListN.{length}
 use lib.Ieee.{Float}
-use Rattle.lists.specs.Search.{seek, first}
+use borrow.Author.Tests.{lt-ltb, le-ltb}
+use Rattle.std.specs.List.{list_any}
+use Rattle.lists.specs.Search.{seek, first, has}
 use Rattle.lists.specs.Gather.{gathered, places}
 use Rattle.lists.proofs.Search.{seek_range}
 use Rattle.lists.proofs.Gather.{gathered_ext, gathered_head}
@@ -73,6 +76,32 @@ among_none p k (suc m) h = go (p k) (λ l. among_none p (suc k) m l) h
 pub places_end : (p : ℕ → Bool) (k n : ℕ) → n ≤ first p k n → places_from p k n ≡ []
 unfolding first
 places_end p k n h = among_none p k (n - k) (omega (arith, seek_range p k (n - k)))
+
+-- ---- one of those that pass
+
+any_among : (p q : ℕ → Bool) (k m : ℕ) → list_any q (places_among p k m) ≡ ltb (seek (λ i. p i && q i) k m) (k + m)
+unfolding places_among seek
+any_among p q k zero = sym (le-ltb k (k + zero) (omega arith))
+any_among p q k (suc m) = go (p k) (q k) refl (any_among p q (suc k) m)
+  where
+    r : ℕ
+    r = seek (λ i. p i && q i) (suc k) m
+
+    on : (b : Bool) → b ≡ ltb r (suc k + m) → b ≡ ltb r (k + suc m)
+    on b e = let z : suc k + m ≡ k + suc m = omega arith in e ∙ ap (ltb r) z
+
+    go : (a b : Bool) → q k ≡ b → list_any q (places_among p (suc k) m) ≡ ltb r (suc k + m)
+        → list_any q (cond a (k ∷ []) [] ++ places_among p (suc k) m) ≡ ltb (elim (a && b) [ true ↦ k | false ↦ r ]) (k + suc m)
+    go true true e ih = ap (λ (t : Bool). t || list_any q (places_among p (suc k) m)) e ∙ sym (lt-ltb k (k + suc m) (omega arith))
+    go true false e ih = ap (λ (t : Bool). t || list_any q (places_among p (suc k) m)) e ∙ on _ ih
+    go false b e ih = on _ ih
+
+-- some number that passes p passes q too
+pub any_from : (p q : ℕ → Bool) (n : ℕ) → list_any q (places_from p 0 n) ≡ has (λ i. p i && q i) n
+unfolding first
+any_from p q n =
+    let whole : 0 + (n - 0) ≡ n = omega arith in
+    any_among p q 0 (n - 0) ∙ ap (ltb (seek (λ i. p i && q i) 0 (n - 0))) whole
 
 -- ---- the candidates of a box
 

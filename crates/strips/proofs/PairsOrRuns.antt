@@ -3,11 +3,11 @@ use mathlib.Core.Path.{◌≡◌, refl, sym, ap, ◌∙◌}
 use mathlib.Core.List.{List, [], ◌∷◌}
 use Prim.Native.Nat.{ℕ, zero, suc, ◌+◌, ◌*◌, ◌-◌, ◌/◌, ◌<◌}
 use native.Mathlib.Omega.{arith}
-use lib.ListN.{length, get_or, take, drop}
+use lib.ListN.{length, get_or}
 use lib.Ieee.{Float}
 use Rattle.lists.specs.Regions.{run}
 use Rattle.cutting.proofs.Pairs.{pairs_at}
-use Rattle.entry.specs.Mesh.{prior}
+use Rattle.entry.specs.Mesh.{prior, cell_size}
 use Rattle.rules.specs.declared.Bounds.{Bounds}
 use Rattle.rules.specs.SpatialIndex.{box_of, edge_box}
 use Rattle.strips.specs.Things.{thing_count, start_of, thing_box}
@@ -53,11 +53,11 @@ module _ (nodes : List ℕ) where
   count_runs [] e = absurd (e refl)
   count_runs (x ∷ ends) e = refl
 
-  pub box_runs : (coords : List Float) (ends : List ℕ) (j s : ℕ) (r : Bounds) → (length ends ≡ 0 → ⊥) → s ≡ prior ends j
-      → r ≡ box_of coords (take (get_or ends j 0 - s) (drop s nodes)) → r ≡ thing_box coords nodes ends j
-  unfolding thing_box run
-  box_runs coords [] j s r e at is = absurd (e refl)
-  box_runs coords (x ∷ ends) j s r e at is = is ∙ ap (λ (i : ℕ). box_of coords (take (get_or (x ∷ ends) j 0 - i) (drop i nodes))) at
+  pub box_runs : (coords : List Float) (ends : List ℕ) (j : ℕ) → (length ends ≡ 0 → ⊥)
+      → box_of coords (run nodes (prior ends j) (cell_size ends j)) ≡ thing_box coords nodes ends j
+  unfolding thing_box
+  box_runs coords [] j e = absurd (e refl)
+  box_runs coords (x ∷ ends) j e = refl
 
 pub start_runs : (ends : List ℕ) (j r : ℕ) → (length ends ≡ 0 → ⊥) → r ≡ prior ends j → r ≡ start_of ends j
 unfolding start_of

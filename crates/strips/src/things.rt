@@ -1,7 +1,8 @@
 // The things: runs of a list of node numbers, by their ends, or pairs where there are no ends. Pairs are no `Option` of ends: a mesh without cells is such
 // a list too, and the definitions take one (`thing_count`), so that it would be a second word for an empty list.
 ghost use Rattle.std.specs.Prelude.{◌≡◌, ◌≤◌, ◌<◌, length, get_or};
-ghost use Rattle.entry.specs.Mesh.{prior, Rising};
+ghost use Rattle.lists.specs.Regions.{run};
+ghost use Rattle.entry.specs.Mesh.{prior, cell_size, Rising};
 ghost use Rattle.strips.specs.Things.{thing_count, start_of, thing_box};
 
 use rules::Bounds;
@@ -61,6 +62,15 @@ impl<'a> Things<'a> {
         }
     }
 
+    // The node numbers of run j; none where there is no such run.
+    #[tactic(auto, unfolding(lists::specs::Regions::run))]
+    pub fn run(&self, j: usize) -> &'a [u32]
+        ensures { result.now ≡ run self.now.nodes.now (prior self.now.ends.now j) (cell_size self.now.ends.now j) }
+    {
+        let end = number_at(self.ends, j) as usize;
+        self.nodes.get(self.prior(j)..end).unwrap_or(&[])
+    }
+
     // The box of thing j.
     #[tactic(auto, using(crate::proofs::PairsOrRuns::count_pairs, crate::proofs::PairsOrRuns::count_runs, crate::proofs::PairsOrRuns::box_pairs, crate::proofs::PairsOrRuns::box_runs))]
     pub(crate) fn bounds(&self, j: usize) -> Bounds
@@ -71,8 +81,6 @@ impl<'a> Things<'a> {
         if self.ends.is_empty() {
             return edge_bounds(self.coords, nodes[2 * j], nodes[2 * j + 1]);
         }
-        let s = self.prior(j);
-        let e = self.ends[j] as usize;
-        bounds2(self.coords, &nodes[s..e])
+        bounds2(self.coords, self.run(j))
     }
 }
