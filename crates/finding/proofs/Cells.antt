@@ -7,16 +7,14 @@ use lib.ListN.{length, get_or, take, drop}
 use lib.Ieee.{Float}
 use Rattle.lists.specs.Gather.{gathered, each}
 use Rattle.lists.specs.Regions.{run}
-use Rattle.lists.proofs.Gather.{each_ext, length_each, get_or_each, each_get_or}
-use Rattle.lists.proofs.Regions.{length_run, get_or_run}
-use Rattle.cutting.specs.Edges.{edge_at, ring}
+use Rattle.lists.proofs.Gather.{each_ext, each_get_or}
+use Rattle.lists.proofs.Regions.{get_or_run}
+use Rattle.cutting.specs.Edges.{edge_at}
 use Rattle.cutting.specs.Lent.{pairs}
 use Rattle.cutting.proofs.Pairs.{pairs_length, pairs_at}
-use Rattle.entry.specs.Mesh.{mesh, prior, cell_size, Rising}
+use Rattle.entry.specs.Mesh.{mesh, prior, cell_size}
 use Rattle.rules.specs.Mesh.{cell_at, cells_of}
-use Rattle.rules.specs.Neighbours.{descending_to, compute_descending, line_edges}
-use Rattle.rules.proofs.Rings.{length_ring}
-use Rattle.neighbours.proofs.Edges.{length_added_all}
+use Rattle.rules.specs.Neighbours.{line_edges}
 
 abbrev pub cells_in : List ℕ → List ℕ → List (List ℕ)
 cells_in nodes ends = cells_of (mesh [] nodes ends [] [])
@@ -52,29 +50,6 @@ pub cells_renumbered : (f : ℕ → ℕ) (nodes ends : List ℕ) → cells_in (m
 unfolding cells_of cell_at
 cells_renumbered f nodes ends =
     each_ext (length ends) _ _ (λ i h. sym (map_run f nodes (prior ends i) (cell_size ends i))) ∙ sym (map_each (map f) (length ends) (cell_at (mesh [] nodes ends [] [])))
-
--- ---- at most one edge for each entry
-
-module _ (nodes ends : List ℕ) (up : Rising ends (length nodes)) where
-  cell_size_lem : (i : ℕ) → i < length ends → length (ring (get_or (cells_in nodes ends) i [])) ≡ cell_size ends i
-  unfolding cells_of cell_at
-  cell_size_lem i h =
-      let cell : List ℕ = get_or (cells_in nodes ends) i [] in
-      length_ring cell ∙ ap length (get_or_each (length ends) (cell_at (mesh [] nodes ends [] [])) i [] h)
-      ∙ length_run nodes (prior ends i) (cell_size ends i) (omega (arith, up i h))
-
-  few_to : (i : ℕ) → i ≤ length ends → length (descending_to i (cells_in nodes ends)) ≤ prior ends i
-  unfolding descending_to prior
-  few_to zero h = omega arith
-  few_to (suc i) h =
-      let a = length_added_all (ring (get_or (cells_in nodes ends) i [])) (descending_to i (cells_in nodes ends)) in
-      omega (arith, a.1, few_to i (omega (arith, h)), cell_size_lem i (omega (arith, h)), up i (omega (arith, h)))
-
-  pub few_edges_lem : prior ends (length ends) ≡ length nodes → length (compute_descending (cells_in nodes ends)) ≤ length nodes
-  unfolding cells_of
-  few_edges_lem last =
-      let n : length (cells_in nodes ends) ≡ length ends = length_each (length ends) (cell_at (mesh [] nodes ends [] [])) in
-      omega (arith, few_to (length ends) (omega arith), ap (λ (k : ℕ). length (descending_to k (cells_in nodes ends))) n, last)
 
 -- ---- lines: two entries each
 

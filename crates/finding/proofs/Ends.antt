@@ -1,5 +1,5 @@
 -- How `place_coords`, `crowded` and `find` end, over plain variables. Assumes nothing.
-use mathlib.Core.Path.{◌≡◌, refl, sym, ap, ap₂, ◌∙◌, subst}
+use mathlib.Core.Path.{◌≡◌, refl, sym, ap, ap₂, ◌∙◌}
 use mathlib.Core.Bool.{Bool, true, false, cond, not, ◌||◌, true≢false}
 use mathlib.Core.List.{List, [], ◌++◌, append-nil}
 use Prim.Native.Nat.{ℕ, ◌+◌, ◌*◌, ◌-◌, ◌/◌, ◌≤◌}
@@ -30,7 +30,8 @@ use Rattle.snap.proofs.Places.{put_front}
 use Rattle.regions.specs.declared.Regions.{Regions}
 use Rattle.regions.specs.Runs.{run_in}
 use Rattle.meetings.specs.declared.Found.{Found as MeetFound}
-use Rattle.meetings.specs.Booked.{booked, net_on}
+use Rattle.regions.proofs.Parts.{run_long}
+use Rattle.meetings.specs.Booked.{booked, net_on, meetings_of}
 use Rattle.meetings.proofs.Early.{early_met}
 use Rattle.meetings.proofs.Reading.{length_booked, booked_at, meetings_fit, by_edges}
 use Rattle.edge_nodes.specs.Links.{links_of, Linked}
@@ -42,7 +43,7 @@ use Rattle.finding.specs.declared.numbering.NetPlaces.{NetPlaces}
 use Rattle.finding.specs.Nets.{Fit, NetRoom, FindAsks, subject_at, cutter_at, index_at, met_at, nets_of, netted}
 use Rattle.finding.specs.Found.{found_events, found_as, regions_by, chains, links_in, worked, refused_lists, found_of}
 use Rattle.finding.specs.Found.{both_full, LinkedIn, MeetingsRoom, CutterIndexed, met_in, MetWritten, LinkRoom, linked_by, StagesGive}
-use Rattle.strips.specs.Index.{index_size, Indexed}
+use Rattle.strips.specs.Index.{index_size}
 use Rattle.finding.proofs.Whole.{subjects_before, cutters_before}
 use Rattle.finding.proofs.Netted.{length_held, subjects_held, cutters_held, index_fits_lem, cutters_indexed}
 use Rattle.finding.proofs.Held.{Holds, holds_linked, with, subjects_found, cutters_found, met_found, worked_holds}
@@ -194,10 +195,10 @@ module _ (op m : ℕ) (sc cc : List Float) (sn se cn ce : List ℕ) (w₀ : List
           placed_fits = omega (arith, fits, length_placed);
           placed_even = omega (arith, fs.even, fc.even);
           placed_most = omega (arith, fs.even, fc.even, fs.most_nodes, fc.most_nodes);
-          subject_fits = omega (arith, a.0);
-          subject_most = a.1;
-          cutter_fits = omega (arith, b.0);
-          cutter_most = b.1;
+          subject = record { rises = omega arith; fits = omega (arith, a.0) };
+          subject_most = omega (arith, a.1);
+          cutter = record { rises = omega arith; fits = omega (arith, b.0) };
+          cutter_most = omega (arith, b.1);
           met_fits = omega (arith, ok.room, length_work);
           met_most = ok.most;
         }
@@ -206,41 +207,42 @@ module _ (op m : ℕ) (sc cc : List Float) (sn se cn ce : List ℕ) (w₀ : List
     pub asked : MeetingsRoom r (length oc₁) (length w₁) placed m
     asked = rw re asked_of
 
-    -- the index of the cutter's edges
-    indexed_of : ((nets_of lines s c).index + index_size (nets_of lines s c).cutter ≤ (nets_of lines s c).base)
-        × Indexed (take placed oc₁) (run w₁ (nets_of lines s c).at (2 * (nets_of lines s c).cutter)) [] (run w₁ (nets_of lines s c).index (index_size (nets_of lines s c).cutter))
+    -- the edges and the index of the cutter's, as they are read
+    subjects_read : run_in w₁ (nets_of lines s c).subject.edges ≡ flat_edges subjects
     unfolding nets_of
-    indexed_of = (
-      index_fits_lem lines sc cc sn se cn ce fs fc w₀ room₀,
-      subst (λ (l : List Float). Indexed l (run w₁ (cond lines (length cc / 2) (cutter_at s c)) (2 * length cutters)) [] (run w₁ (index_at s c) (index_size (length cutters))))
-          (sym (ap (take placed) oe ∙ take_front_of oc (sc ++ cc) placed len))
-          (subst (λ (w : List ℕ). Indexed (sc ++ cc) (run w (cond lines (length cc / 2) (cutter_at s c)) (2 * length cutters)) [] (run w (index_at s c) (index_size (length cutters))))
-          (sym we) (cutters_indexed lines sc cc sn se cn ce fs fc w₀ room₀)),
-    )
+    subjects_read =
+        ap (λ (w : List ℕ). run_in w (nets_of lines s c).subject.edges) we ∙ run_long (netted lines s c w₀) (subject_at s c) (2 * length subjects)
+        ∙ subjects_held lines sc cc sn se cn ce fs fc w₀ room₀
+
+    cutters_read : run_in w₁ (nets_of lines s c).cutter.edges ≡ flat_edges cutters
+    unfolding nets_of
+    cutters_read =
+        ap (λ (w : List ℕ). run_in w (nets_of lines s c).cutter.edges) we ∙ run_long (netted lines s c w₀) (cond lines (length cc / 2) (cutter_at s c)) (2 * length cutters)
+        ∙ cutters_held lines sc cc sn se cn ce fs fc w₀ room₀
+
+    coords_read : take placed oc₁ ≡ sc ++ cc
+    coords_read = ap (take placed) oe ∙ take_front_of oc (sc ++ cc) placed len
+
+    indexed_of : CutterIndexed (nets_of lines s c) (take placed oc₁) w₁
+    unfolding nets_of
+    indexed_of =
+        record {
+          index = record { rises = omega arith; fits = index_fits_lem lines sc cc sn se cn ce fs fc w₀ room₀ };
+          indexed = rw (coords_read, we, run_long (netted lines s c w₀) (cond lines (length cc / 2) (cutter_at s c)) (2 * length cutters), run_long (netted lines s c w₀) (index_at s c) (index_size (length cutters))) (cutters_indexed lines sc cc sn se cn ce fs fc w₀ room₀);
+        }
 
     pub indexed : CutterIndexed r (take placed oc₁) w₁
-    indexed = rw re (record { index_fits = indexed_of.0; indexed = indexed_of.1 })
+    indexed = rw re indexed_of
 
     abbrev found : List Met
     found = met_in r placed oc₁ w₁
 
-    subjects_read : pairs (run w₁ (subject_at s c) (2 * length subjects)) ≡ subjects
-    subjects_read =
-        ap (λ (w : List ℕ). pairs (run w (subject_at s c) (2 * length subjects))) we ∙ ap pairs (subjects_held lines sc cc sn se cn ce fs fc w₀ room₀) ∙ pairs_ends subjects
-
-    cutters_read : pairs (run w₁ (cond lines (length cc / 2) (cutter_at s c)) (2 * length cutters)) ≡ cutters
-    cutters_read =
-        ap (λ (w : List ℕ). pairs (run w (cond lines (length cc / 2) (cutter_at s c)) (2 * length cutters))) we
-        ∙ ap pairs (cutters_held lines sc cc sn se cn ce fs fc w₀ room₀) ∙ pairs_ends cutters
-
     met_are : found ≡ scene.met
-    unfolding nets_of scene_of
+    unfolding scene_of
     met_are =
         ap (λ (x : NetPlaces). met_in x placed oc₁ w₁) re
-        ∙ ap (λ (l : List Float). meetings l (net_on (pairs (run w₁ (subject_at s c) (2 * length subjects))))
-        (net_on (pairs (run w₁ (cond lines (length cc / 2) (cutter_at s c)) (2 * length cutters)))))
-        (ap (take placed) oe ∙ take_front_of oc (sc ++ cc) placed len)
-        ∙ ap₂ (λ (es fs : List Edge). meetings (sc ++ cc) (net_on es) (net_on fs)) subjects_read cutters_read
+        ∙ ap₂ (λ (es fs : List ℕ). meetings_of (take placed oc₁) es fs) subjects_read cutters_read ∙ ap (λ (l : List Float). meetings_of l (flat_edges subjects) (flat_edges cutters)) coords_read
+        ∙ ap₂ (λ (es fs : List Edge). meetings (sc ++ cc) (net_on es) (net_on fs)) (pairs_ends subjects) (pairs_ends cutters)
         ∙ sym (by_edges (sc ++ cc) (subject_net s) (cutter_net lines s c))
 
     points_fit : points ≤ length oc / 2
@@ -297,8 +299,8 @@ module _ (op m : ℕ) (sc cc : List Float) (sn se cn ce : List ℕ) (w₀ : List
         unfolding nets_of
         link_asked_of h e =
             record {
-              subject_fits = omega (arith, (subjects_before lines sc cc sn se cn ce fs fc w₀ room₀).0);
-              cutter_fits = omega (arith, (cutters_before lines sc cc sn se cn ce fs fc w₀ room₀).0);
+              subject = record { rises = omega arith; fits = omega (arith, (subjects_before lines sc cc sn se cn ce fs fc w₀ room₀).0) };
+              cutter = record { rises = omega arith; fits = omega (arith, (cutters_before lines sc cc sn se cn ce fs fc w₀ room₀).0) };
               links_fit = omega (arith, e, ok.room, few, fs.even, fc.even);
               some = omega (arith, e);
               few = omega (arith, few, ok.most);
@@ -312,8 +314,8 @@ module _ (op m : ℕ) (sc cc : List Float) (sn se cn ce : List ℕ) (w₀ : List
         work_then : w₂ ≡ with op sc cc sn se cn ce fs fc w₀ room₀ []
         unfolding nets_of
         work_then =
-            all.work ∙ ap₂ (λ (w : List ℕ) (ms : List Met). put w r.base (booked ms)) we met_are
-            ∙ ap (λ (x : NetPlaces). put (netted lines s c w₀) x.base (booked scene.met)) re
+            all.work ∙ ap₂ (λ (w : List ℕ) (ms : List Met). put w r.behind (booked ms)) we met_are
+            ∙ ap (λ (x : NetPlaces). put (netted lines s c w₀) x.behind (booked scene.met)) re
             ∙ ap (put (netted lines s c w₀) (met_at s c)) (sym (append-nil (booked scene.met)))
 
         linked_is : linked_by (nets_of lines s c) (length scene.met) (chains s c) (with op sc cc sn se cn ce fs fc w₀ room₀ []) ≡ worked op s c w₀
@@ -325,7 +327,8 @@ module _ (op m : ℕ) (sc cc : List Float) (sn se cn ce : List ℕ) (w₀ : List
             let fit : met_at s c + length (booked scene.met) ≤ length (netted lines s c w₀) = omega
             (arith, length_booked scene.met, few, ok.room, length_held lines sc cc sn se cn ce fs fc w₀ room₀) in
             ap₂ (λ (es fs : List ℕ). put w (met_at s c + 5 * length scene.met) (links_of (chains s c) (pairs es) (pairs fs) (run w (met_at s c) (5 * length scene.met))))
-            (subjects_found op sc cc sn se cn ce fs fc w₀ room₀ []) (cutters_found op sc cc sn se cn ce fs fc w₀ room₀ [])
+            (run_long w (subject_at s c) (2 * length subjects) ∙ subjects_found op sc cc sn se cn ce fs fc w₀ room₀ [])
+            (run_long w (cond lines (length cc / 2) (cutter_at s c)) (2 * length cutters) ∙ cutters_found op sc cc sn se cn ce fs fc w₀ room₀ [])
             ∙ ap₂ (λ (es fs : List Edge). put w (met_at s c + 5 * length scene.met) (links_of (chains s c) es fs (run w (met_at s c) (5 * length scene.met))))
             (pairs_ends subjects) (pairs_ends cutters)
             ∙ ap₂ (λ (i : ℕ) (ms : List ℕ). put w i (links_of (chains s c) subjects cutters ms)) end (met_found op sc cc sn se cn ce fs fc w₀ room₀ [])

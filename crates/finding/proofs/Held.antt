@@ -2,7 +2,7 @@
 use mathlib.Core.Path.{◌≡◌, refl, sym, ap, ◌∙◌}
 use mathlib.Core.Bool.{Bool, false, cond}
 use mathlib.Core.List.{List, [], ◌++◌, append_assoc}
-use Prim.Native.Nat.{ℕ, ◌+◌, ◌*◌, ◌-◌, ◌≤◌}
+use Prim.Native.Nat.{ℕ, ◌+◌, ◌*◌, ◌≤◌}
 use native.Mathlib.Omega.{arith}
 use lib.Dec.{eqb}
 use lib.ListN.{length, take, drop, length-append}
@@ -22,7 +22,8 @@ use Rattle.edge_nodes.proofs.Linked.{linked, length_links}
 use Rattle.meetings.specs.Booked.{booked}
 use Rattle.meetings.proofs.Reading.{length_booked}
 use Rattle.finding.specs.Nets.{Fit, NetRoom, cutter_entries, copied_at, subject_at, cutter_at, met_at, nets_of, netted}
-use Rattle.finding.specs.Found.{chains, between, regions_by, found_as, links_in, worked, LinkedIn}
+use Rattle.regions.proofs.Parts.{run_long}
+use Rattle.finding.specs.Found.{chains, regions_by, found_as, links_in, worked, LinkedIn}
 use Rattle.finding.proofs.Whole.{subjects_before, cutters_before}
 use Rattle.finding.proofs.Netted.{length_held, entries_held, copied_held, subjects_held, cutters_held}
 
@@ -74,10 +75,6 @@ pub record Low (op m : ℕ) (s c : Mesh) (g : Regions) : Type 0 where
   pub end : g.links.end ≤ 3 * (node_count s + node_count c) + 3 * (length s.nodes + length c.nodes) + 4 * length c.nodes + 7 * m + 14
   pub subjects : length (scene_for op s c).subject.edges ≤ length s.nodes
   pub cutters : length (scene_for op s c).cutter.edges ≤ length c.nodes
-
-pub run_between : (w : List ℕ) (a n : ℕ) → run_in w (between a (a + n)) ≡ run w a n
-unfolding run_in
-run_between w a n = let e : a + n - a ≡ n = omega arith in ap (run w a) e
 
 -- ---- the regions, with zs behind the meetings
 
@@ -180,11 +177,11 @@ module _ (op : ℕ) (sc cc : List Float) (sn se cn ce : List ℕ) (fs : Fit fals
         let w = worked op s c w₀ in
         record {
           lies = rw length_worked regions_lie;
-          subject_edges_lem = run_between w (subject_at s c) (2 * length (subject_net s).edges) ∙ subjects_found zs;
-          subject_entries_lem = run_between w (copied_at s c) (length sn) ∙ copied_found zs;
-          cutter_edges_lem = run_between w (cond lines (node_count c) (cutter_at s c)) (2 * length (cutter_net lines s c).edges) ∙ cutters_found zs;
-          cutter_entries_lem = run_between w (node_count c) (length cn) ∙ entries_found zs;
-          met = run_between w (met_at s c) (5 * length met) ∙ met_found zs;
-          links = run_between w (met_at s c + 5 * length met) (2 * (chains s c + length met)) ∙ ap (run w (met_at s c + 5 * length met)) (sym links_long) ∙ behind_found zs;
+          subject_edges_lem = run_long w (subject_at s c) (2 * length (subject_net s).edges) ∙ subjects_found zs;
+          subject_entries_lem = run_long w (copied_at s c) (length sn) ∙ copied_found zs;
+          cutter_edges_lem = run_long w (cond lines (node_count c) (cutter_at s c)) (2 * length (cutter_net lines s c).edges) ∙ cutters_found zs;
+          cutter_entries_lem = run_long w (node_count c) (length cn) ∙ entries_found zs;
+          met = run_long w (met_at s c) (5 * length met) ∙ met_found zs;
+          links = run_long w (met_at s c + 5 * length met) (2 * (chains s c + length met)) ∙ ap (run w (met_at s c + 5 * length met)) (sym links_long) ∙ behind_found zs;
           few = omega (arith, few, most);
         }

@@ -1,19 +1,19 @@
 -- The meetings written behind the coordinates and the nets, where both lists are split. Assumes nothing.
 use mathlib.Core.Path.{◌≡◌, refl, sym, ap, ap₂, ◌∙◌}
 use mathlib.Core.List.{List, [], ◌++◌, append_assoc}
-use Prim.Native.Nat.{ℕ, ◌+◌, ◌*◌, ◌-◌, ◌/◌, ◌≤◌}
+use Prim.Native.Nat.{ℕ, ◌*◌, ◌-◌, ◌/◌, ◌≤◌}
 use native.Mathlib.Omega.{arith}
 use lib.ListN.{length, take, drop, length-drop, take-append-drop}
 use lib.Seq.{length-take-le, drop-append-le}
 use lib.Ieee.{Float}
 use Rattle.std.specs.Prelude.{Result, Ok, Err, IfOk}
 use Rattle.lists.specs.Gather.{joined}
-use Rattle.lists.specs.Regions.{run, front, put}
+use Rattle.lists.specs.Regions.{front, put}
 use Rattle.refusals.specs.declared.Refusal.{Refusal}
 use Rattle.refusals.specs.Numbers.{by_number, refused_with}
 use Rattle.rules.specs.Meetings.{Met, added_by}
 use Rattle.rules.specs.Refusals.{of_meeting, first_refusal}
-use Rattle.strips.specs.Index.{index_size, Indexed}
+use Rattle.strips.specs.Index.{Indexed}
 use Rattle.meetings.specs.declared.Found.{Found}
 use Rattle.meetings.specs.Booked.{booked, meetings_of}
 use Rattle.meetings.specs.MeetingsFound.{MeetingsFound, meetings_found}
@@ -22,7 +22,9 @@ use Rattle.meetings.proofs.Settled.{code_of, found_in, leaves, all_left, code_le
 use Rattle.finding.specs.declared.numbering.NetPlaces.{NetPlaces}
 use Rattle.finding.specs.Found.{MeetingsRoom, CutterIndexed, met_in, MetWritten}
 use Rattle.finding.proofs.Events.{few_met}
-use Rattle.finding.proofs.Links.{part_of}
+use Rattle.regions.specs.Runs.{run_in}
+use Rattle.regions.proofs.Parts.{run_of_front}
+use Rattle.lists.proofs.Regions.{length_run}
 
 -- the number of the meetings' refusal is that of their answer by numbers
 met_number : (a : Result Found Refusal) → refused_with a ≡ code_of (by_number a)
@@ -38,39 +40,40 @@ front_part l xs k h fits =
     (sym (drop-append-le (length xs) (take k l) (drop k l) (omega (arith, fits, length-take-le k l h))) ∙ ap (drop (length xs)) (take-append-drop k l))
 
 module _ (n : NetPlaces) (placed m : ℕ) (oc : List Float) (w : List ℕ) (room : MeetingsRoom n (length oc) (length w) placed m) where
-  -- the lists are split
-  module _ (cs ps : List Float) (nets rest met behind : List ℕ) (cs-is : cs ≡ take placed oc) (ps-is : ps ≡ drop placed oc) (nets-is : nets ≡ take n.base w)
-      (rest-is : rest ≡ drop n.base w) (met-is : met ≡ take (5 * m) rest) (behind-is : behind ≡ drop (5 * m) rest) where
-    base_in : n.base ≤ length w
-    base_in = omega (arith, room.met_fits)
+  base_in : n.behind ≤ length w
+  base_in = omega (arith, room.met_fits)
 
-    abbrev subject_part : List ℕ
-    subject_part = take (n.from + 2 * n.subject - n.from) (drop n.from nets)
+  -- the nets are lent
+  module _ (nets : List ℕ) (nets-is : nets ≡ take n.behind w) where
+    subject_lent : (es : List ℕ) → es ≡ run_in nets n.subject.edges → es ≡ run_in w n.subject.edges
+    subject_lent es e = e ∙ run_of_front w nets n.behind n.subject.edges nets-is base_in room.subject
 
-    abbrev cutter_part : List ℕ
-    cutter_part = take (n.at + 2 * n.cutter - n.at) (drop n.at nets)
+    cutter_lent : (fs : List ℕ) → fs ≡ run_in nets n.cutter.edges → fs ≡ run_in w n.cutter.edges
+    cutter_lent fs e = e ∙ run_of_front w nets n.behind n.cutter.edges nets-is base_in room.cutter
 
-    subject_is : subject_part ≡ run w n.from (2 * n.subject)
-    subject_is = part_of w nets n.base n.from (n.from + 2 * n.subject - n.from) (2 * n.subject) nets-is base_in room.subject_fits (omega arith)
-
-    cutter_is : cutter_part ≡ run w n.at (2 * n.cutter)
-    cutter_is = part_of w nets n.base n.at (n.at + 2 * n.cutter - n.at) (2 * n.cutter) nets-is base_in room.cutter_fits (omega arith)
+    pub few_lent : (es : List ℕ) → es ≡ run_in nets n.subject.edges → length es ≤ 131072
+    unfolding run_in
+    few_lent es e =
+        let r = n.subject.edges in
+        let i = room.subject in
+        omega (arith, ap length (subject_lent es e), length_run w r.from (r.end - r.from) (omega (arith, i.rises, i.fits, base_in)), room.subject_most)
 
     -- the index is that of the edges as they are lent
-    pub index_lent : (r : ℕ) → r ≡ index_size n.cutter → CutterIndexed n (take placed oc) w
-        → Indexed cs cutter_part [] (take (n.index + r - n.index) (drop n.index nets))
-    index_lent r e ix =
-        let part = part_of w nets n.base n.index (n.index + r - n.index) (index_size n.cutter) nets-is base_in ix.index_fits (omega (arith, e)) in
-        rw (cs-is, cutter_is, part) ix.indexed
+    pub index_lent : CutterIndexed n (take placed oc) w → (cs : List Float) → cs ≡ take placed oc → (fs : List ℕ) → fs ≡ run_in nets n.cutter.edges → Indexed cs fs [] (run_in nets n.index)
+    index_lent ix cs cs-is fs e = rw (cs-is, cutter_lent fs e, run_of_front w nets n.behind n.index nets-is base_in ix.index) ix.indexed
 
+  -- the lists are split, and the edges lent
+  module _ (cs ps : List Float) (nets rest met behind : List ℕ) (cs-is : cs ≡ take placed oc) (ps-is : ps ≡ drop placed oc) (nets-is : nets ≡ take n.behind w)
+      (rest-is : rest ≡ drop n.behind w) (met-is : met ≡ take (5 * m) rest) (behind-is : behind ≡ drop (5 * m) rest) (es fs : List ℕ)
+      (es-are : es ≡ run_in nets n.subject.edges) (fs-are : fs ≡ run_in nets n.cutter.edges) where
     abbrev ms : List Met
     ms = met_in n placed oc w
 
-    ms_lent : meetings_of cs subject_part cutter_part ≡ ms
-    ms_lent = ap₂ (λ (es fs : List ℕ). meetings_of cs es fs) subject_is cutter_is ∙ ap (λ (l : List Float). meetings_of l (run w n.from (2 * n.subject)) (run w n.at (2 * n.cutter))) cs-is
+    ms_lent : meetings_of cs es fs ≡ ms
+    ms_lent = ap₂ (λ (x y : List ℕ). meetings_of cs x y) (subject_lent nets nets-is es es-are) (cutter_lent nets nets-is fs fs-are) ∙ ap (λ (l : List Float). meetings_of l (run_in w n.subject.edges) (run_in w n.cutter.edges)) cs-is
 
-    length_rest : length rest ≡ length w - n.base
-    length_rest = ap length rest-is ∙ length-drop n.base w
+    length_rest : length rest ≡ length w - n.behind
+    length_rest = ap length rest-is ∙ length-drop n.behind w
 
     length_met : length met ≡ 5 * m
     length_met = ap length met-is ∙ length-take-le (5 * m) rest (omega (arith, length_rest, room.met_fits))
@@ -78,7 +81,7 @@ module _ (n : NetPlaces) (placed m : ℕ) (oc : List Float) (w : List ℕ) (room
     length_new : length ps ≡ length oc - placed
     length_new = ap length ps-is ∙ length-drop placed oc
 
-    module _ (a : Result Found Refusal) (ps' : List Float) (met' : List ℕ) (told : leaves (by_number a) ps' met' ≡ meetings_found (meetings_of cs subject_part cutter_part) ps met) where
+    module _ (a : Result Found Refusal) (ps' : List Float) (met' : List ℕ) (told : leaves (by_number a) ps' met' ≡ meetings_found (meetings_of cs es fs) ps met) where
       told_all : leaves (by_number a) ps' met' ≡ meetings_found ms ps met
       told_all = told ∙ ap (λ (x : List Met). meetings_found x ps met) ms_lent
 

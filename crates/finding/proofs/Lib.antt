@@ -1,3 +1,5 @@
+pub mod Edged
+pub mod Joined
 pub mod Passed
 pub mod Cells
 pub mod Layers

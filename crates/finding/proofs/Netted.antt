@@ -2,13 +2,12 @@
 use mathlib.Core.Path.{◌≡◌, sym, ap, ap₂, ◌∙◌}
 use mathlib.Core.Bool.{Bool, false, cond}
 use mathlib.Core.List.{List, [], ◌++◌}
-use Prim.Native.Nat.{ℕ, ◌+◌, ◌*◌, ◌-◌, ◌≤◌}
+use Prim.Native.Nat.{ℕ, ◌+◌, ◌*◌, ◌≤◌}
 use native.Mathlib.Omega.{arith}
-use lib.ListN.{length, take, drop}
-use lib.Seq.{take-take}
+use lib.ListN.{length}
 use lib.Ieee.{Float}
-use Rattle.lists.specs.Regions.{run, front, put}
-use Rattle.lists.proofs.Regions.{drop_take, length_put, run_before, run_put}
+use Rattle.lists.specs.Regions.{run, put}
+use Rattle.lists.proofs.Regions.{length_put, run_before, run_put}
 use Rattle.cutting.specs.Edges.{Edge}
 use Rattle.cutting.specs.Lent.{flat_edges}
 use Rattle.cutting.proofs.Pairs.{ends_length}
@@ -19,7 +18,12 @@ use Rattle.strips.specs.Index.{index_size, index_of, Indexed}
 use Rattle.strips.proofs.Sizes.{size_low}
 use Rattle.strips.proofs.IndexAt.{length_index}
 use Rattle.finding.specs.declared.numbering.NetPlaces.{NetPlaces}
-use Rattle.finding.specs.Nets.{Fit, NetRoom, cutter_entries, copied_at, subject_at, cutter_at, index_at, met_at, nets_of, edged, netted}
+use Rattle.regions.specs.declared.Run.{Run}
+use Rattle.regions.specs.Runs.{Within, run_in}
+use Rattle.regions.proofs.Parts.{run_long}
+use Rattle.indexing.specs.Indexes.{RunAsks}
+use Rattle.indexing.proofs.Written.{Built}
+use Rattle.finding.specs.Nets.{Fit, NetRoom, cutter_entries, copied_at, subject_at, cutter_at, index_at, met_at, between, edges_of, nets_of, edged, netted}
 use Rattle.finding.proofs.Whole.{length_edged, entries_edged, copied_edged, subjects_edged, cutters_edged, subjects_before, cutters_before}
 
 module _ (lines : Bool) (sc cc : List Float) (sn se cn ce : List ℕ) (fs : Fit false (mesh sc sn se [] [])) (fc : Fit lines (mesh cc cn ce [] [])) (w₀ : List ℕ)
@@ -94,72 +98,42 @@ module _ (lines : Bool) (sc cc : List Float) (sn se cn ce : List ℕ) (fs : Fit 
 
   -- ---- `nets`
 
-  module _ (coords : List Float) (is : coords ≡ sc ++ cc) (r : NetPlaces) (w₁ : List ℕ) (got : (r ≡ nets_of lines s c) × (w₁ ≡ edged lines s c w₀)) where
-    from_is : r.at ≡ cond lines (node_count c) (cutter_at s c)
-    unfolding nets_of
-    from_is = ap (λ (x : NetPlaces). x.at) got.0
+  module _ (r : NetPlaces) (w₁ : List ℕ) (got : (r ≡ edges_of lines s c) × (w₁ ≡ edged lines s c w₀)) where
+    lent : run_in w₁ r.cutter.edges ≡ flat_edges cutters
+    unfolding edges_of
+    lent =
+        ap₂ (λ (w : List ℕ) (x : NetPlaces). run_in w x.cutter.edges) got.1 got.0
+        ∙ run_long (edged lines s c w₀) (cond lines (node_count c) (cutter_at s c)) (2 * length cutters) ∙ cutters_edged lines sc cc sn se cn ce fs fc w₀ room
 
-    count_is : r.cutter ≡ length cutters
-    unfolding nets_of
-    count_is = ap (λ (x : NetPlaces). x.cutter) got.0
+    count_lent : thing_count (run_in w₁ r.cutter.edges) [] ≡ length cutters
+    count_lent = ap (λ (l : List ℕ). thing_count l []) lent ∙ things
 
-    at_is : r.index ≡ index_at s c
-    unfolding nets_of
-    at_is = ap (λ (x : NetPlaces). x.index) got.0
+    from_is : r.index.from ≡ index_at s c
+    unfolding edges_of
+    from_is = ap (λ (x : NetPlaces). x.index.from) got.0
 
-    edges_read : run w₁ r.at (2 * length cutters) ≡ flat_edges cutters
-    edges_read =
-        ap₂ (λ (w : List ℕ) (a : ℕ). run w a (2 * length cutters)) got.1 from_is ∙ cutters_edged lines sc cc sn se cn ce fs fc w₀ room
+    before_index : Within r.cutter.edges r.index.from
+    unfolding edges_of
+    before_index = rw got.0 (record { rises = omega arith; fits = (cutters_before lines sc cc sn se cn ce fs fc w₀ room).0 })
 
-    -- no number of them is large
-    pub places_low : r.at + 2 * r.cutter ≤ length w₀
-    places_low = omega (arith, from_is, count_is, room, (cutters_before lines sc cc sn se cn ce fs fc w₀ room).0)
+    -- what `index_run` asks
+    pub index_asked : RunAsks w₁ r.cutter.edges [] r.index.from
+    index_asked =
+        record {
+          lies = before_index;
+          rising = λ i h. absurd (omega (arith, h));
+          few = omega (arith, count_lent, (cutters_before lines sc cc sn se cn ce fs fc w₀ room).1);
+          room = omega (arith, ap index_size count_lent, from_is, index_fits_lem, room, ap length got.1, length_edged lines sc cc sn se cn ce fs fc w₀ room);
+        }
 
-    module _ (end : ℕ) (end_is : end ≡ r.at + 2 * r.cutter) where
-      span : end - r.at ≡ 2 * length cutters
-      span = omega (arith, end_is, count_is)
-
-      lent : run w₁ r.at (end - r.at) ≡ flat_edges cutters
-      lent = ap (run w₁ r.at) span ∙ edges_read
-
-      count_lent : thing_count (run w₁ r.at (end - r.at)) [] ≡ length cutters
-      count_lent = ap (λ (l : List ℕ). thing_count l []) lent ∙ things
-
-      -- what `build` asks
-      pub build_asked : (r.at ≤ end) × (end ≤ r.index) × (r.index + index_size (thing_count (run w₁ r.at (end - r.at)) []) ≤ length w₁)
-          × (thing_count (run w₁ r.at (end - r.at)) [] ≤ 65536)
-      build_asked =
-          let b = cutters_before lines sc cc sn se cn ce fs fc w₀ room in (
-            omega (arith, end_is),
-            omega (arith, end_is, count_is, at_is, from_is, b.0),
-            omega (arith, ap index_size count_lent, at_is, index_fits_lem, room, ap length got.1, length_edged lines sc cc sn se cn ce fs fc w₀ room),
-            omega (arith, count_lent, b.1),
-          )
-
-      nets_end : (w₂ : List ℕ) → w₂ ≡ put w₁ r.index (index_of coords (run w₁ r.at (end - r.at)) []) → (r ≡ nets_of lines s c) × (w₂ ≡ netted lines s c w₀)
-      unfolding netted
-      nets_end w₂ d = (
-        got.0,
-        d ∙ (λ i. put (got.1 i) (at_is i) (index_of (is i) (lent i) [])),
-      )
-
-      -- the edges as they are lent, before the index, and the room for it
-      module _ (before behind : List ℕ) (b_is : before ≡ take r.index w₁) (room_is : length behind + r.index ≡ length w₁) where
-        part_lent : take (end - r.at) (drop r.at before) ≡ run w₁ r.at (end - r.at)
-        unfolding run
-        part_lent =
-            ap (λ (u : List ℕ). take (end - r.at) (drop r.at u)) b_is
-            ∙ ap (take (end - r.at)) (drop_take w₁ r.at r.index (omega (arith, build_asked.0, build_asked.1)) (omega (arith, build_asked.2)))
-            ∙ take-take (end - r.at) (r.index - r.at) (drop r.at w₁) (omega (arith, build_asked.1))
-
-        pub few_lent : thing_count (take (end - r.at) (drop r.at before)) [] ≤ 65536
-        few_lent = omega (arith, build_asked.3, ap (λ (l : List ℕ). thing_count l []) part_lent)
-
-        pub room_lent : index_size (thing_count (take (end - r.at) (drop r.at before)) []) ≤ length behind
-        room_lent = omega (arith, build_asked.2, room_is, ap (λ (l : List ℕ). index_size (thing_count l [])) part_lent)
-
-        pub nets_written : (made : List ℕ) → behind ≡ drop r.index w₁ → made ≡ front behind (index_of coords (take (end - r.at) (drop r.at before)) [])
-            → (r ≡ nets_of lines s c) × (before ++ made ≡ netted lines s c w₀)
-        unfolding put
-        nets_written made e f =
-            nets_end (before ++ made) (ap₂ (λ (u v : List ℕ). u ++ v) b_is (f ∙ ap₂ (λ (u v : List ℕ). front u (index_of coords v [])) e part_lent))
+    pub nets_end : (coords : List Float) → coords ≡ sc ++ cc → (x : Run) (w₂ : List ℕ) → Built coords w₁ r.cutter.edges [] r.index.from x w₂
+        → (record { subject = r.subject; cutter = r.cutter; index = x; behind = r.behind } ≡ nets_of lines s c) × (w₂ ≡ netted lines s c w₀)
+    unfolding edges_of nets_of netted
+    nets_end coords is x w₂ made =
+        let size : length (index_of coords (run_in w₁ r.cutter.edges) []) ≡ index_size (length cutters) =
+        length_index coords (run_in w₁ r.cutter.edges) [] ∙ ap index_size count_lent in
+        let x_is : x ≡ between (index_at s c) (index_at s c + index_size (length cutters)) =
+        made.0 ∙ ap₂ (λ (a n : ℕ). between a (a + n)) from_is size in (
+          (λ i. record { subject = (got.0 i).subject; cutter = (got.0 i).cutter; index = x_is i; behind = (got.0 i).behind }),
+          made.1 ∙ (λ i. put (got.1 i) (from_is i) (index_of (is i) (lent i) [])),
+        )

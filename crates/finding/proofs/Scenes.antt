@@ -2,7 +2,7 @@
 use mathlib.Core.Path.{◌≡◌, refl, sym, ap, ap₂, ◌∙◌}
 use mathlib.Core.Bool.{Bool, cond}
 use mathlib.Core.List.{List, [], ◌∷◌, ◌++◌, map}
-use Prim.Native.Nat.{ℕ, ◌/◌}
+use Prim.Native.Nat.{◌+◌, ℕ, ◌/◌}
 use lib.Dec.{eqb}
 use native.Mathlib.Omega.{arith}
 use lib.ListN.{length, get_or, replicate}
@@ -27,7 +27,8 @@ use Rattle.meetings.proofs.Reading.{by_edges}
 use Rattle.edge_nodes.specs.Links.{links_of}
 use Rattle.finding.specs.declared.numbering.NetPlaces.{NetPlaces}
 use Rattle.finding.specs.declared.stages.Found.{Found}
-use Rattle.finding.specs.Nets.{copied_at, subject_at, cutter_at, index_at, met_at, nets_of, edged, netted}
+use Rattle.strips.specs.Index.{index_size}
+use Rattle.finding.specs.Nets.{between, with_edges, copied_at, subject_at, cutter_at, index_at, met_at, nets_of, edged, netted}
 use Rattle.finding.specs.Found.{found_events, chains, regions_by, found_as, links_in, worked}
 use Rattle.finding.proofs.Passed.{bare}
 use Rattle.finding.proofs.Held.{Holds, Low}
@@ -58,14 +59,10 @@ module _ (lines : Bool) (s c : Mesh) where
   unfolding nets_of
   places_bare =
       ap₂ (λ (es fs : List Edge). record {
-        entries = node_count c;
-        copied = copied_at s c;
-        from = subject_at s c;
-        subject = length es;
-        at = cond lines (node_count c) (cutter_at s c);
-        cutter = length fs;
-        index = index_at s c;
-        base = met_at s c;
+        subject = with_edges (between (copied_at s c) (subject_at s c)) (subject_at s c) es;
+        cutter = with_edges (between (node_count c) (copied_at s c)) (cond lines (node_count c) (cutter_at s c)) fs;
+        index = between (index_at s c) (index_at s c + index_size (length fs));
+        behind = met_at s c;
       })
       subjects_bare cutters_bare
 

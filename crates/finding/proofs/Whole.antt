@@ -4,28 +4,27 @@ use mathlib.Core.Bool.{Bool, true, false, cond}
 use mathlib.Core.List.{List, [], ◌++◌, map}
 use Prim.Native.Nat.{ℕ, ◌+◌, ◌*◌, ◌/◌, ◌≤◌}
 use native.Mathlib.Omega.{arith}
-use lib.ListN.{length, get_or, length-append, length-map, length-replicate}
+use lib.ListN.{length, get_or, take, drop, length-append, length-map, length-replicate, take-append-drop}
+use lib.Seq.{length-take-le}
 use lib.Ieee.{Float}
 use Rattle.lists.specs.Regions.{run, front, put, copied, zeros}
-use Rattle.lists.proofs.Regions.{length_front, length_put, put_put, put_none, run_before, copied_fits}
+use Rattle.lists.proofs.Regions.{length_front, length_put, run_before, copied_fits}
 use Rattle.cutting.specs.Edges.{Edge}
 use Rattle.cutting.specs.Lent.{flat_edges, pairs}
 use Rattle.cutting.proofs.Pairs.{pairs_length, ends_length}
 use Rattle.entry.specs.Mesh.{Mesh, mesh, node_count, Rising}
-use Rattle.rules.specs.Mesh.{cells_of}
 use Rattle.rules.specs.Snap.{weld}
 use Rattle.rules.specs.Neighbours.{compute_descending, line_edges, subject_net, cutter_net}
 use Rattle.snap.proofs.Welds.{weld_lists, length_weld}
-use Rattle.neighbours.proofs.Edges.{ends_pairs}
-use Rattle.neighbours.proofs.Threads.{put_swap}
-use Rattle.finding.specs.declared.numbering.NetPlaces.{NetPlaces}
-use Rattle.finding.specs.Nets.{Fit, NetRoom, cutter_entries, copied_at, subject_at, cutter_at, index_at, met_at, chain_room, nets_of, edged}
-use Rattle.finding.proofs.Cells.{cells_in, cells_lists, cells_renumbered, few_edges_lem, prior_two, line_pairs}
+use Rattle.neighbours.proofs.Edges.{ends_pairs, few_edges}
+use Rattle.regions.specs.declared.MeshRuns.{MeshRuns}
+use Rattle.regions.specs.Runs.{run_in}
+use Rattle.regions.proofs.Parts.{run_of_front, run_kept, run_long}
+use Rattle.finding.specs.Nets.{Fit, NetRoom, cutter_entries, copied_at, subject_at, cutter_at, index_at, met_at, chain_room, between, with_edges, subject_runs, cutter_runs, edges_of, edged, edges_from, EdgesAsk}
+use Rattle.finding.proofs.Cells.{cells_in, cells_lists, cells_renumbered, prior_two, line_pairs}
 use Rattle.finding.proofs.Layers as layers
 use Rattle.finding.proofs.Welded.{numbers_read}
-
-abbrev places_with : ℕ → ℕ → ℕ → ℕ → ℕ → ℕ → ℕ → ℕ → NetPlaces
-places_with e t f s a c i b = record { entries = e; copied = t; from = f; subject = s; at = a; cutter = c; index = i; base = b }
+use Rattle.finding.proofs.Joined.{put_left, put_right, zeros_apart}
 
 -- ends of a mesh that fits
 pub rising : (lines : Bool) (m : Mesh) → Fit lines m → Rising m.ends (length m.nodes)
@@ -72,7 +71,7 @@ module _ (lines : Bool) (sc cc : List Float) (sn se cn ce : List ℕ) where
 
   module _ (fs : Fit false s) (fc : Fit lines c) where
     few_subjects : length subjects ≤ length sn
-    few_subjects = omega (arith, ap length subjects_are, few_edges_lem sn se (rising false s fs) fs.last)
+    few_subjects = omega (arith, ap length subjects_are, few_edges sn se (rising false s fs))
 
     -- lines have two entries each
     line_count : lines ≡ true → length entries ≡ 2 * length ce
@@ -84,15 +83,15 @@ module _ (lines : Bool) (sc cc : List Float) (sn se cn ce : List ℕ) where
         let cells : List (List ℕ) = (cutter_net lines s c).cells in
         ap (λ (t : Bool). cond t (line_edges cells) (compute_descending cells)) e ∙ ap line_edges cutter_cells_lem ∙ line_pairs entries ce fc.rises (fc.two e) (line_count e)
 
+    up : Rising ce (length entries)
+    up i h = (omega (arith, fc.rises i h), omega (arith, fc.within i h, length_entries))
+
     few_cutters : length cutters ≤ length cn
     few_cutters = go lines refl
       where
-        up : Rising ce (length entries)
-        up i h = (omega (arith, fc.rises i h), omega (arith, fc.within i h, length_entries))
-
         go : (t : Bool) → lines ≡ t → length cutters ≤ length cn
         go true e = omega (arith, ap length (cutters_lines e), pairs_length entries, length_entries)
-        go false e = omega (arith, ap length (cutters_cells e), few_edges_lem entries ce up (omega (arith, fc.last, length_entries)), length_entries)
+        go false e = omega (arith, ap length (cutters_cells e), few_edges entries ce up, length_entries)
 
     -- ---- from call to call
 
@@ -142,11 +141,8 @@ module _ (lines : Bool) (sc cc : List Float) (sn se cn ce : List ℕ) where
       length_three = layers.length_three numbers entries sn (flat_edges subjects) behind (node_count c) (copied_at s c) (subject_at s c) (cutter_at s c) h₁ (omega arith)
           h₃ (h₄ behind few_behind) ∙ length_numbers
 
-      module _ (w₁ w₂ w₃ w₄ : List ℕ) (k : ℕ) (d₁ : w₁ ≡ front w₀ (weld (mesh sc sn [] [] []) (mesh cc cn [] [] []) ++ zeros (length sc / 2)))
-          (d₂ : w₂ ≡ put w₁ (node_count c) (map (λ n. get_or w₁ n 0) cn)) (d₃ : w₃ ≡ copied w₂ (copied_at s c) sn)
-          (d₄ : (k ≡ length (compute_descending (cells_of (mesh [] (run w₃ (copied_at s c) (length sn)) se [] []))))
-          × (w₄ ≡ put (put w₃ (subject_at s c) (flat_edges (compute_descending (cells_of (mesh [] (run w₃ (copied_at s c) (length sn)) se [] []))))) (met_at s c)
-          (zeros (chain_room s c)))) where
+      module _ (w₁ w₂ w₃ : List ℕ) (d₁ : w₁ ≡ front w₀ (weld (mesh sc sn [] [] []) (mesh cc cn [] [] []) ++ zeros (length sc / 2)))
+          (d₂ : w₂ ≡ put w₁ (node_count c) (map (λ n. get_or w₁ n 0) cn)) (d₃ : w₃ ≡ copied w₂ (copied_at s c) sn) where
         one_is : w₁ ≡ numbers
         one_is = d₁ ∙ ap (λ (l : List ℕ). front w₀ (l ++ zeros (node_count s))) (sym (weld_lists sc cc sn cn se ce [] [] [] []))
 
@@ -162,66 +158,144 @@ module _ (lines : Bool) (sc cc : List Float) (sn se cn ce : List ℕ) where
             d₃ ∙ ap (λ (w : List ℕ). copied w (copied_at s c) sn) two_is ∙ copied_fits (put numbers (node_count c) entries) (copied_at s c) sn
             (omega (arith, len, room, length_numbers))
 
-        subject_read : run w₃ (copied_at s c) (length sn) ≡ sn
-        subject_read =
-            ap (λ (w : List ℕ). run w (copied_at s c) (length sn)) three_is
-            ∙ layers.second_two numbers entries sn (flat_edges subjects) behind (node_count c) (copied_at s c) (subject_at s c) (cutter_at s c) h₁ (omega arith) h₃
-            (h₄ behind few_behind)
+        length_two : length w₃ ≡ length w₀
+        length_two =
+            ap length three_is
+            ∙ layers.length_two numbers entries sn (flat_edges subjects) behind (node_count c) (copied_at s c) (subject_at s c) (cutter_at s c) h₁ (omega arith) h₃ (h₄ behind few_behind)
+            ∙ length_numbers
 
-        found_are : compute_descending (cells_of (mesh [] (run w₃ (copied_at s c) (length sn)) se [] [])) ≡ subjects
-        found_are = ap (λ (ns : List ℕ). compute_descending (cells_in ns se)) subject_read ∙ sym subjects_are
+        low : met_at s c ≤ length w₃
+        low = omega (arith, room, length_two)
 
-        k_is : k ≡ length subjects
-        k_is = d₄.0 ∙ ap length found_are
+        -- the nets are lent, before their chains
+        module _ (nets rest : List ℕ) (nets-is : nets ≡ take (met_at s c) w₃) (rest-is : rest ≡ drop (met_at s c) w₃) where
+          long : length nets ≡ met_at s c
+          long = ap length nets-is ∙ length-take-le (met_at s c) w₃ low
 
-        four_is : w₄ ≡ put three (met_at s c) clear
-        four_is = d₄.1 ∙ ap₂ (λ (w : List ℕ) (es : List Edge). put (put w (subject_at s c) (flat_edges es)) (met_at s c) clear) three_is found_are
+          subject_read : run_in nets (between (copied_at s c) (subject_at s c)) ≡ sn
+          subject_read =
+              run_of_front w₃ nets (met_at s c) (between (copied_at s c) (subject_at s c)) nets-is low (record { rises = omega arith; fits = omega arith })
+              ∙ run_long w₃ (copied_at s c) (length sn) ∙ ap (λ (w : List ℕ). run w (copied_at s c) (length sn)) three_is
+              ∙ layers.second_two numbers entries sn (flat_edges subjects) behind (node_count c) (copied_at s c) (subject_at s c) (cutter_at s c) h₁ (omega arith) h₃
+              (h₄ behind few_behind)
 
-        places_are : (a l : ℕ) → a ≡ cond lines (node_count c) (cutter_at s c) → l ≡ length cutters
-            → places_with (node_count c) (copied_at s c) (subject_at s c) k a l (index_at s c) (met_at s c) ≡ nets_of lines s c
-        unfolding nets_of
-        places_are a l p q =
-            ap (λ (i : ℕ). places_with (node_count c) (copied_at s c) (subject_at s c) i a l (index_at s c) (met_at s c)) k_is
-            ∙ ap₂ (λ (i j : ℕ). places_with (node_count c) (copied_at s c) (subject_at s c) (length subjects) i j (index_at s c) (met_at s c)) p q
+          cutter_read : run_in nets (between (node_count c) (copied_at s c)) ≡ entries
+          cutter_read =
+              run_of_front w₃ nets (met_at s c) (between (node_count c) (copied_at s c)) nets-is low (record { rises = omega arith; fits = omega arith })
+              ∙ run_long w₃ (node_count c) (length cn) ∙ ap₂ (λ (w : List ℕ) (n : ℕ). run w (node_count c) n) three_is (sym length_entries)
+              ∙ layers.first_two numbers entries sn (flat_edges subjects) behind (node_count c) (copied_at s c) (subject_at s c) (cutter_at s c) h₁ (omega arith) h₃
+              (h₄ behind few_behind)
 
-        -- the zeros again
-        again : put (put (put three (met_at s c) clear) (cutter_at s c) (flat_edges cutters)) (met_at s c) clear ≡ put (put three (cutter_at s c) (flat_edges cutters)) (met_at s c) clear
-        again =
-            let few : cutter_at s c + length (flat_edges cutters) ≤ met_at s c = omega (arith, ends_length cutters, few_cutters) in
-            let long : length (put three (cutter_at s c) (flat_edges cutters)) ≡ length w₀ = length_put three (cutter_at s c) (omega (arith, room, length_three))
-            (flat_edges cutters) (omega (arith, few, room, length_three)) ∙ length_three in
-            ap (λ (w : List ℕ). put w (met_at s c) clear) (put_swap three (cutter_at s c) (met_at s c) (flat_edges cutters) clear few (omega (arith, room, length_three, length_clear)))
-            ∙ put_put (put three (cutter_at s c) (flat_edges cutters)) (met_at s c) (omega (arith, room, long)) clear clear (omega arith)
+          subjects_found : edges_from nets se (between (copied_at s c) (subject_at s c)) ≡ subjects
+          subjects_found = ap (λ (ns : List ℕ). compute_descending (cells_in ns se)) subject_read ∙ sym subjects_are
 
-        -- of lines
-        pub lines_end : lines ≡ true
-            → (places_with (node_count c) (copied_at s c) (subject_at s c) k (node_count c) (length cn / 2) (index_at s c) (met_at s c) ≡ nets_of lines s c) × (w₄ ≡ edged lines s c w₀)
-        unfolding edged
-        lines_end e = (
-          places_are (node_count c) (length cn / 2) (sym (ap (λ (t : Bool). cond t (node_count c) (cutter_at s c)) e))
-              (omega (arith, ap length (cutters_lines e), pairs_length entries, length_entries)),
-          four_is ∙ ap (λ (w : List ℕ). put w (met_at s c) clear) (sym (put_none three (cutter_at s c)) ∙ ap
-              (λ (t : Bool). put three (cutter_at s c) (cond t [] (flat_edges cutters))) (sym e)),
-        )
+          -- what `mesh_edges` asks
+          pub subject_asks : (h n : ℕ) → h ≡ node_count s + node_count c + 1 → n ≡ length sn + length cn
+              → EdgesAsk nets se (between (copied_at s c) (subject_at s c)) (subject_at s c) h n
+          subject_asks h n a b =
+              let m = ap length subject_read in
+              record {
+                before = record { rises = omega arith; fits = omega arith };
+                room = omega (arith, long, m);
+                rising = rw subject_read (rising false s fs);
+                most = omega (arith, m, fs.most_entries);
+                some = omega (arith, a);
+                links = omega (arith, b, m);
+              }
 
-        -- of cells
-        pub cells_end_lem : lines ≡ false → (w₅ : List ℕ) (l : ℕ)
-            → (l ≡ length (compute_descending (cells_of (mesh [] (run w₄ (node_count c) (length cn)) ce [] []))))
-            × (w₅ ≡ put (put w₄ (cutter_at s c) (flat_edges (compute_descending (cells_of (mesh [] (run w₄ (node_count c) (length cn)) ce [] []))))) (met_at s c) (zeros (chain_room s c)))
-            → (places_with (node_count c) (copied_at s c) (subject_at s c) k (cutter_at s c) l (index_at s c) (met_at s c) ≡ nets_of lines s c) × (w₅ ≡ edged lines s c w₀)
-        unfolding edged
-        cells_end_lem e w₅ l d₅ =
-            let read : run w₄ (node_count c) (length cn) ≡ entries =
-            ap₂ (λ (w : List ℕ) (n : ℕ). run w (node_count c) n) four_is (sym length_entries)
-            ∙ run_before three (met_at s c) (omega (arith, room, length_three)) clear (node_count c) (length entries) (omega (arith, length_entries))
-            ∙ layers.first_three numbers entries sn (flat_edges subjects) behind (node_count c) (copied_at s c) (subject_at s c) (cutter_at s c) h₁ (omega arith) h₃
-            (h₄ behind few_behind) in
-            let are : compute_descending (cells_of (mesh [] (run w₄ (node_count c) (length cn)) ce [] [])) ≡ cutters =
-            ap (λ (ns : List ℕ). compute_descending (cells_in ns ce)) read ∙ sym (cutters_cells e) in (
-              places_are (cutter_at s c) l (sym (ap (λ (t : Bool). cond t (node_count c) (cutter_at s c)) e)) (d₅.0 ∙ ap length are),
-              d₅.1 ∙ ap₂ (λ (w : List ℕ) (es : List Edge). put (put w (cutter_at s c) (flat_edges es)) (met_at s c) clear) four_is are ∙ again
-                  ∙ ap (λ (t : Bool). put (put three (cutter_at s c) (cond t [] (flat_edges cutters))) (met_at s c) clear) (sym e),
-            )
+          -- the subject's edges are written
+          module _ (g₁ : MeshRuns) (nets₁ heads nexts heads₁ nexts₁ : List ℕ)
+              (d₄ : (g₁ ≡ with_edges (between (copied_at s c) (subject_at s c)) (subject_at s c) (edges_from nets se (between (copied_at s c) (subject_at s c))))
+              × (nets₁ ≡ put nets (subject_at s c) (flat_edges (edges_from nets se (between (copied_at s c) (subject_at s c)))))
+              × (heads₁ ≡ zeros (length heads)) × (nexts₁ ≡ zeros (length nexts))) where
+            nets₁_is : nets₁ ≡ put nets (subject_at s c) (flat_edges subjects)
+            nets₁_is = d₄.1 ∙ ap (λ (es : List Edge). put nets (subject_at s c) (flat_edges es)) subjects_found
+
+            long₁ : length nets₁ ≡ met_at s c
+            long₁ = ap length nets₁_is ∙ length_put nets (subject_at s c) (omega (arith, long)) (flat_edges subjects) (omega (arith, h₃, long)) ∙ long
+
+            cutter_kept : run_in nets₁ (between (node_count c) (copied_at s c)) ≡ entries
+            cutter_kept =
+                ap (λ (w : List ℕ). run_in w (between (node_count c) (copied_at s c))) nets₁_is
+                ∙ run_kept nets (flat_edges subjects) (subject_at s c) (omega (arith, long)) (between (node_count c) (copied_at s c)) (record { rises = omega arith; fits = omega arith })
+                ∙ cutter_read
+
+            -- what `cutter_edges` asks
+            pub cutter_asks : (h n : ℕ) → h ≡ node_count s + node_count c + 1 → n ≡ length sn + length cn
+                → EdgesAsk nets₁ ce (between (node_count c) (copied_at s c)) (cutter_at s c) h n
+            cutter_asks h n a b =
+                let m : length (run_in nets₁ (between (node_count c) (copied_at s c))) ≡ length cn = ap length cutter_kept ∙ length_entries in
+                record {
+                  before = record { rises = omega arith; fits = omega arith };
+                  room = omega (arith, long₁, m);
+                  rising = rw cutter_kept up;
+                  most = omega (arith, m, fc.most_entries);
+                  some = omega (arith, a);
+                  links = omega (arith, b, m);
+                }
+
+            cutters_found : lines ≡ false → edges_from nets₁ ce (between (node_count c) (copied_at s c)) ≡ cutters
+            cutters_found e = ap (λ (ns : List ℕ). compute_descending (cells_in ns ce)) cutter_kept ∙ sym (cutters_cells e)
+
+            -- both are
+            module _ (g₂ : MeshRuns) (nets₂ heads₂ nexts₂ : List ℕ)
+                (d₅ : (g₂ ≡ cond lines (record { edges = between (node_count c) (copied_at s c); entries = between (node_count c) (copied_at s c) })
+                (with_edges (between (node_count c) (copied_at s c)) (cutter_at s c) (edges_from nets₁ ce (between (node_count c) (copied_at s c)))))
+                × (nets₂ ≡ put nets₁ (cutter_at s c) (cond lines [] (flat_edges (edges_from nets₁ ce (between (node_count c) (copied_at s c))))))
+                × (heads₂ ≡ zeros (length heads₁)) × (nexts₂ ≡ zeros (length nexts₁))) where
+              runs_are : g₂ ≡ cutter_runs lines s c
+              runs_are = d₅.0 ∙ go lines refl
+                where
+                  go : (t : Bool) → lines ≡ t
+                      → cond t (record { edges = between (node_count c) (copied_at s c); entries = between (node_count c) (copied_at s c) })
+                      (with_edges (between (node_count c) (copied_at s c)) (cutter_at s c) (edges_from nets₁ ce (between (node_count c) (copied_at s c))))
+                      ≡ with_edges (between (node_count c) (copied_at s c)) (cond t (node_count c) (cutter_at s c)) cutters
+                  go true e =
+                      let n : copied_at s c ≡ node_count c + 2 * length cutters = omega (arith, ap length (cutters_lines e), pairs_length entries, length_entries, line_count e) in
+                      ap (λ (k : ℕ). record { edges = between (node_count c) k; entries = between (node_count c) (copied_at s c) }) n
+                  go false e = ap (with_edges (between (node_count c) (copied_at s c)) (cutter_at s c)) (cutters_found e)
+
+              behind_are : cond lines [] (flat_edges (edges_from nets₁ ce (between (node_count c) (copied_at s c)))) ≡ behind
+              behind_are = go lines refl
+                where
+                  go : (t : Bool) → lines ≡ t → cond t [] (flat_edges (edges_from nets₁ ce (between (node_count c) (copied_at s c)))) ≡ cond t [] (flat_edges cutters)
+                  go true e = refl
+                  go false e = ap flat_edges (cutters_found e)
+
+              nets₂_is : nets₂ ≡ put (put nets (subject_at s c) (flat_edges subjects)) (cutter_at s c) behind
+              nets₂_is = d₅.1 ∙ ap₂ (λ (w xs : List ℕ). put w (cutter_at s c) xs) nets₁_is behind_are
+
+              long₂ : length nets₂ ≡ met_at s c
+              long₂ =
+                  ap length nets₂_is ∙ ap (λ (w : List ℕ). length (put w (cutter_at s c) behind)) (sym nets₁_is)
+                  ∙ length_put nets₁ (cutter_at s c) (omega (arith, long₁)) behind (omega (arith, few_behind, long₁)) ∙ long₁
+
+              -- they stand before the chains as in the whole list
+              whole₂ : nets₂ ++ rest ≡ put (put w₃ (subject_at s c) (flat_edges subjects)) (cutter_at s c) behind
+              whole₂ =
+                  let all : w₃ ≡ nets ++ rest = sym (take-append-drop (met_at s c) w₃) ∙ ap₂ (λ (u v : List ℕ). u ++ v) (sym nets-is) (sym rest-is) in
+                  let one : put w₃ (subject_at s c) (flat_edges subjects) ≡ nets₁ ++ rest =
+                  ap (λ (w : List ℕ). put w (subject_at s c) (flat_edges subjects)) all
+                  ∙ put_left nets rest (subject_at s c) (flat_edges subjects) (omega (arith, h₃, long)) ∙ ap (λ (u : List ℕ). u ++ rest) (sym nets₁_is) in
+                  sym (ap (λ (w : List ℕ). put w (cutter_at s c) behind) one ∙ put_left nets₁ rest (cutter_at s c) behind (omega (arith, few_behind, long₁))
+                  ∙ ap (λ (w : List ℕ). put w (cutter_at s c) behind ++ rest) nets₁_is ∙ ap (λ (u : List ℕ). u ++ rest) (sym nets₂_is))
+
+              pub edges_end : (rest₂ : List ℕ) → (h n : ℕ) → length heads ≡ h → length nexts ≡ n → h ≡ node_count s + node_count c + 1 → n ≡ length sn + length cn
+                  → rest₂ ≡ drop n (drop h rest)
+                  → (record { subject = g₁; cutter = g₂; index = between (index_at s c) (met_at s c); behind = met_at s c } ≡ edges_of lines s c)
+                  × (nets₂ ++ (heads₂ ++ (nexts₂ ++ rest₂)) ≡ edged lines s c w₀)
+              unfolding edges_of edged
+              edges_end rest₂ h n lh ln he ne r₂ =
+                  let hs : heads₂ ≡ zeros h = d₅.2 ∙ ap zeros (ap length d₄.2 ∙ length-replicate (length heads) 0 ∙ lh) in
+                  let ns : nexts₂ ≡ zeros n = d₅.3 ∙ ap zeros (ap length d₄.3 ∙ length-replicate (length nexts) 0 ∙ ln) in
+                  let size : h + n ≡ chain_room s c = omega (arith, he, ne) in
+                  let g₁_is : g₁ ≡ subject_runs s c = d₄.0 ∙ ap (with_edges (between (copied_at s c) (subject_at s c)) (subject_at s c)) subjects_found in (
+                    (λ i. record { subject = g₁_is i; cutter = runs_are i; index = between (index_at s c) (met_at s c); behind = met_at s c }),
+                    ap₂ (λ (u v : List ℕ). nets₂ ++ (u ++ v)) hs (ap₂ (λ (u v : List ℕ). u ++ v) ns r₂)
+                        ∙ ap (λ (v : List ℕ). nets₂ ++ v) (zeros_apart rest h n) ∙ sym (put_right nets₂ rest (met_at s c) (zeros (h + n)) long₂)
+                        ∙ ap₂ (λ (w : List ℕ) (k : ℕ). put w (met_at s c) (zeros k)) whole₂ size
+                        ∙ ap (λ (w : List ℕ). put (put (put w (subject_at s c) (flat_edges subjects)) (cutter_at s c) behind) (met_at s c) clear) three_is,
+                  )
 
       -- ---- what the regions hold
 

@@ -9,10 +9,9 @@ use Rattle.rules.specs.Meetings.{Met, added_by}
 use Rattle.rules.specs.Nodes.{crowded}
 use Rattle.rules.specs.Operations.{scene_for}
 use Rattle.rules.specs.Refusals.{Event, point, stop, of_meeting, first_refusal}
-use Rattle.regions.specs.declared.Run.{Run}
 use Rattle.regions.specs.declared.Regions.{Regions}
-use Rattle.regions.specs.Runs.{run_in, Lies, mesh_edges}
-use Rattle.strips.specs.Index.{index_size, Indexed}
+use Rattle.regions.specs.Runs.{Within, run_in, Lies, mesh_edges}
+use Rattle.strips.specs.Index.{Indexed}
 use Rattle.refusals.specs.declared.Refusal.{Refusal}
 use Rattle.refusals.specs.Numbers.{number}
 use Rattle.meetings.specs.declared.Found.{Found as MeetFound}
@@ -21,7 +20,7 @@ use Rattle.edge_nodes.specs.Links.{links_of, Linked}
 use Rattle.edge_nodes.specs.Lent.{crowded_at}
 use Rattle.finding.specs.declared.numbering.NetPlaces.{NetPlaces}
 use Rattle.finding.specs.declared.stages.Found.{Found}
-use Rattle.finding.specs.Nets.{nets_of, netted, met_at}
+use Rattle.finding.specs.Nets.{between, nets_of, netted, met_at}
 
 -- `course` up to the cells: both meshes' coordinates, the meetings, and 9
 unfoldable pub found_events : ℕ → Mesh → Mesh → List Event
@@ -33,18 +32,14 @@ found_events op s c =
 abbrev pub chains : Mesh → Mesh → ℕ
 chains s c = node_count s + node_count c + 1
 
--- from a up to e
-abbrev pub between : ℕ → ℕ → Run
-between a e = record { from = a; end = e }
-
 -- the regions of the working list, with `met` meetings behind the nets n and the links of h chains behind these
 unfoldable pub regions_by : NetPlaces → (met h : ℕ) → Regions
 regions_by n met h =
-    let end = n.base + 5 * met in
+    let end = n.behind + 5 * met in
     record {
-      subject = record { edges = between n.from (n.from + 2 * n.subject); entries = between n.copied n.from };
-      cutter = record { edges = between n.at (n.at + 2 * n.cutter); entries = between n.entries n.copied };
-      met = between n.base end;
+      subject = n.subject;
+      cutter = n.cutter;
+      met = between n.behind end;
       links = between end (end + 2 * (h + met));
     }
 
@@ -95,40 +90,40 @@ pub record MeetingsRoom (n : NetPlaces) (coords work placed m : ℕ) : Type 0 wh
   pub placed_fits : placed ≤ coords
   pub placed_even : 2 * (placed / 2) ≡ placed
   pub placed_most : placed ≤ 65536
-  pub subject_fits : n.from + 2 * n.subject ≤ n.base
-  pub subject_most : n.subject ≤ 65536
-  pub cutter_fits : n.at + 2 * n.cutter ≤ n.base
-  pub cutter_most : n.cutter ≤ 65536
-  pub met_fits : n.base + 5 * m ≤ work
+  pub subject : Within n.subject.edges n.behind
+  pub subject_most : n.subject.edges.end ≤ n.subject.edges.from + 131072
+  pub cutter : Within n.cutter.edges n.behind
+  pub cutter_most : n.cutter.edges.end ≤ n.cutter.edges.from + 131072
+  pub met_fits : n.behind + 5 * m ≤ work
   pub met_most : m ≤ 65536
 
 -- the index of the cutter's edges stands before the meetings
 pub record CutterIndexed (n : NetPlaces) (coords : List Float) (work : List ℕ) : Type 0 where
-  pub index_fits : n.index + index_size n.cutter ≤ n.base
-  pub indexed : Indexed coords (run work n.at (2 * n.cutter)) [] (run work n.index (index_size n.cutter))
+  pub index : Within n.index n.behind
+  pub indexed : Indexed coords (run_in work n.cutter.edges) [] (run_in work n.index)
 
 -- the meetings of the edges that n names, over the first `placed` coordinates
 abbrev pub met_in : NetPlaces → ℕ → List Float → List ℕ → List Met
-met_in n placed oc w = meetings_of (take placed oc) (run w n.from (2 * n.subject)) (run w n.at (2 * n.cutter))
+met_in n placed oc w = meetings_of (take placed oc) (run_in w n.subject.edges) (run_in w n.cutter.edges)
 
 -- they are written: new points behind these coordinates, their numbers behind the nets
 pub record MetWritten (n : NetPlaces) (placed : ℕ) (oc : List Float) (w : List ℕ) (oc' : List Float) (w' : List ℕ) (f : MeetFound) : Type 0 where
   pub found : f ≡ record { met = length (met_in n placed oc w); points = length (added_by (met_in n placed oc w)) / 2 }
   pub coords : oc' ≡ put oc placed (added_by (met_in n placed oc w))
-  pub work : w' ≡ put w n.base (booked (met_in n placed oc w))
+  pub work : w' ≡ put w n.behind (booked (met_in n placed oc w))
 
 -- room for the links in a working list of `work` numbers
 pub record LinkRoom (n : NetPlaces) (met h work : ℕ) : Type 0 where
-  pub subject_fits : n.from + 2 * n.subject ≤ n.base
-  pub cutter_fits : n.at + 2 * n.cutter ≤ n.base
-  pub links_fit : n.base + 5 * met + 2 * (h + met) ≤ work
+  pub subject : Within n.subject.edges n.behind
+  pub cutter : Within n.cutter.edges n.behind
+  pub links_fit : n.behind + 5 * met + 2 * (h + met) ≤ work
   pub some : 0 < h
   pub few : met ≤ 65536
 
 -- w with them
 unfoldable pub linked_by : NetPlaces → (met h : ℕ) → List ℕ → List ℕ
 linked_by n met h w =
-    put w (n.base + 5 * met) (links_of h (pairs (run w n.from (2 * n.subject))) (pairs (run w n.at (2 * n.cutter))) (run w n.base (5 * met)))
+    put w (n.behind + 5 * met) (links_of h (pairs (run_in w n.subject.edges)) (pairs (run_in w n.cutter.edges)) (run w n.behind (5 * met)))
 
 -- what the stages leave: all that is found, or a refusal that is yet to clear the lists
 abbrev pub StagesGive : (op m : ℕ) → Mesh → Mesh → List Float → List ℕ → List Float → List ℕ → Result Found Refusal → Type 0

@@ -1,13 +1,18 @@
 -- Both meshes under one numbering, in the working list. Assumes nothing.
 use Rattle.std.specs.Prelude.{◌≡◌, Bool, true, false, cond, List, [], ◌++◌, map, ℕ, ◌+◌, ◌*◌, ◌≤◌, ◌<◌, eqb, length, get_or, Float}
 use Rattle.lists.specs.Regions.{front, put, zeros}
+use Rattle.cutting.specs.Edges.{Edge}
 use Rattle.cutting.specs.Lent.{flat_edges}
 use Rattle.views.specs.declared.MeshView.{MeshView}
-use Rattle.entry.specs.Mesh.{Mesh, mesh, node_count, prior, cell_size}
+use Rattle.entry.specs.Mesh.{Mesh, mesh, node_count, prior, cell_size, Rising}
 use Rattle.rules.specs.Snap.{weld}
 use Rattle.snap.specs.Steps.{AllPlaced}
-use Rattle.rules.specs.Neighbours.{subject_net, cutter_net}
-use Rattle.strips.specs.Index.{index_of}
+use Rattle.rules.specs.Mesh.{cells_of}
+use Rattle.rules.specs.Neighbours.{compute_descending, subject_net, cutter_net}
+use Rattle.regions.specs.declared.Run.{Run}
+use Rattle.regions.specs.declared.MeshRuns.{MeshRuns}
+use Rattle.regions.specs.Runs.{Within, run_in}
+use Rattle.strips.specs.Index.{index_size, index_of}
 use Rattle.finding.specs.declared.numbering.NetPlaces.{NetPlaces}
 
 -- a mesh without its kinds and families, at which nothing here looks (proofs/Scenes.antt)
@@ -69,19 +74,30 @@ module _ (s c : Mesh) where
   abbrev pub chain_room : ℕ
   chain_room = node_count s + node_count c + 1 + (length s.nodes + length c.nodes)
 
--- where they begin, and how many edges there are; the edges of lines are the cutter's entries
+-- from a up to e
+abbrev pub between : ℕ → ℕ → Run
+between a e = record { from = a; end = e }
+
+-- a mesh whose edges es stand from `from` on, and its entries
+abbrev pub with_edges : Run → ℕ → List Edge → MeshRuns
+with_edges entries from es = record { edges = between from (from + 2 * length es); entries = entries }
+
+abbrev pub subject_runs : Mesh → Mesh → MeshRuns
+subject_runs s c = with_edges (between (copied_at s c) (subject_at s c)) (subject_at s c) (subject_net s).edges
+
+-- the edges of lines are their entries
+abbrev pub cutter_runs : Bool → Mesh → Mesh → MeshRuns
+cutter_runs lines s c = with_edges (between (node_count c) (copied_at s c)) (cond lines (node_count c) (cutter_at s c)) (cutter_net lines s c).edges
+
+-- where both stand, and the index up to `end`
+abbrev pub places_with : Bool → Mesh → Mesh → ℕ → NetPlaces
+places_with lines s c end = record { subject = subject_runs s c; cutter = cutter_runs lines s c; index = between (index_at s c) end; behind = met_at s c }
+
+unfoldable pub edges_of : Bool → Mesh → Mesh → NetPlaces
+edges_of lines s c = places_with lines s c (met_at s c)
+
 unfoldable pub nets_of : Bool → Mesh → Mesh → NetPlaces
-nets_of lines s c =
-    record {
-      entries = node_count c;
-      copied = copied_at s c;
-      from = subject_at s c;
-      subject = length (subject_net s).edges;
-      at = cond lines (node_count c) (cutter_at s c);
-      cutter = length (cutter_net lines s c).edges;
-      index = index_at s c;
-      base = met_at s c;
-    }
+nets_of lines s c = places_with lines s c (index_at s c + index_size (length (cutter_net lines s c).edges))
 
 -- the working list w then: the numbers of the cutter's nodes (zeros behind them, which the entries overwrite), both meshes' entries, the edges, and zeros
 unfoldable pub edged : Bool → Mesh → Mesh → List ℕ → List ℕ
@@ -94,3 +110,18 @@ edged lines s c w =
 -- with the index of the cutter's edges
 unfoldable pub netted : Bool → Mesh → Mesh → List ℕ → List ℕ
 netted lines s c w = put (edged lines s c w) (index_at s c) (index_of (s.coords ++ c.coords) (flat_edges (cutter_net lines s c).edges) [])
+
+-- ---- what only an inner function's contract cites
+
+-- the edges of the cells that end at `ends`, whose entries stand in the list
+abbrev pub edges_from : List ℕ → List ℕ → Run → List Edge
+edges_from w ends entries = compute_descending (cells_of (mesh [] (run_in w entries) ends [] []))
+
+-- what writing them from `from` on asks: entries before, room for two numbers each, h chains and links for n edges
+pub record EdgesAsk (w ends : List ℕ) (entries : Run) (from h n : ℕ) : Type 0 where
+  pub before : Within entries from
+  pub room : from + 2 * length (run_in w entries) ≤ length w
+  pub rising : Rising ends (length (run_in w entries))
+  pub most : length (run_in w entries) ≤ 65536
+  pub some : 0 < h
+  pub links : length (run_in w entries) ≤ n

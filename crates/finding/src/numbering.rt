@@ -1,33 +1,27 @@
 // Both meshes under one numbering, in the working list (document 01, modules 4 and 5). Regions, one behind the other: the numbers of the cutter's
 // nodes; the cutter's node entries under those numbers; the subject's node entries; the subject's edges, with room for two numbers an entry; the
 // cutter's edges, likewise; their index; zeros, where the edges had their chains. Lines are edges as they are: theirs are the cutter's entries.
-ghost use Rattle.std.specs.Prelude.{◌≡◌, false, [], ◌++◌, map, ◌+◌, ◌*◌, ◌≤◌, ◌<◌, length, get_or};
-ghost use Rattle.lists.specs.Regions.{run, put, zeros};
+ghost use Rattle.std.specs.Prelude.{◌≡◌, false, [], ◌++◌, cond, map, ◌+◌, ◌≤◌, length, get_or};
+ghost use Rattle.lists.specs.Regions.{put, zeros};
 ghost use Rattle.cutting.specs.Lent.{flat_edges};
-ghost use Rattle.entry.specs.Mesh.{mesh, Rising};
-ghost use Rattle.rules.specs.Mesh.{cells_of};
-ghost use Rattle.rules.specs.Neighbours.{compute_descending};
 ghost use Rattle.snap.specs.Steps.{Below};
-ghost use Rattle.finding.specs.Nets.{plain_of, Fit, NetRoom, nets_of, edged, netted};
+ghost use Rattle.finding.specs.Nets.{plain_of, Fit, NetRoom, EdgesAsk, edges_from, with_edges, edges_of, nets_of, edged, netted};
 
+use indexing::index_run;
 use lists::copy_at;
 use neighbours::compute_descending;
+use regions::{MeshRuns, Run};
 use snap::duplicates_from;
-use strips::Things;
 use views::MeshView;
 
-// Where the cutter's entries begin, then the subject's; where the subject's edges begin and how many there are; the same of the cutter's; where the index
-// of these begins; where there is room behind it. Places, not slices: the list is still written where they are used, and the cells are told them (`Regions`).
+// Where the edges and the node entries of both meshes stand, and the index of the cutter's edges; where there is room behind them. Runs, not slices: the list is
+// still written where they are used, and the cells are told them (`Regions`).
 #[derive(Clone, Copy)]
 pub struct NetPlaces {
-    pub entries: usize,
-    pub copied: usize,
-    pub from: usize,
-    pub subject: usize,
-    pub at: usize,
-    pub cutter: usize,
-    pub index: usize,
-    pub base: usize,
+    pub subject: MeshRuns,
+    pub cutter: MeshRuns,
+    pub index: Run,
+    pub behind: usize,
 }
 
 // The entries under the numbers that w begins with, from `at` on.
@@ -42,79 +36,94 @@ fn renumber(cn: &[u32], w: &mut [u32], at: usize)
     }
 }
 
-// Writes the edges of a mesh from `base` on: its cells' node numbers are the `total` numbers at `at`. Answers how many there are. The h + n numbers at
-// `scratch` are zero then. By places in the working list: `edges` tells them to others (`NetPlaces`) as it is, and cut into its parts there, the two equations
-// of this contract would be one of all parts.
+// Writes the edges of the cells that end at `cells`, whose node numbers are the entries, from `from` on. Answers where they stand. Heads and nexts are zero then.
 fn mesh_edges(
     w: &mut [u32],
     cells: &[u32],
-    at: usize,
-    total: usize,
-    base: usize,
-    scratch: usize,
-    h: usize,
-    n: usize,
-) -> usize
-    requires { (at + total ≤ base) × (base + 2 * total ≤ scratch) × (scratch + (h + n) ≤ length w.old) × (total ≤ n) × (total ≤ 65536) × (0 < h) × (Rising cells.now total) }
-    ensures { (result ≡ length (compute_descending (cells_of (mesh [] (run w.old at total) cells.now [] []))))
-        × (w.new ≡ put (put w.old base (flat_edges (compute_descending (cells_of (mesh [] (run w.old at total) cells.now [] [])))))
-        scratch (zeros (h + n))) }
+    entries: Run,
+    from: usize,
+    heads: &mut [u32],
+    nexts: &mut [u32],
+) -> MeshRuns
+    requires { EdgesAsk w.old cells.now entries from (length heads.old) (length nexts.old) }
+    ensures { (result ≡ with_edges entries from (edges_from w.old cells.now entries)) × (w.new ≡ put w.old from (flat_edges (edges_from w.old cells.now entries)))
+        × (heads.new ≡ zeros (length heads.old)) × (nexts.new ≡ zeros (length nexts.old)) }
 {
-    let (front, behind) = w.split_at_mut(scratch);
-    let (before, edges) = front.split_at_mut(base);
-    compute_descending(
-        &before[at..at + total],
-        cells,
-        edges,
-        &mut behind[..h + n],
-        h,
-    )
+    let (before, edges) = w.split_at_mut(from);
+    let count = compute_descending(entries.part(before), cells, edges, heads, nexts);
+    let end = from + 2 * count;
+    MeshRuns {
+        edges: Run { from, end },
+        entries,
+    }
 }
 
-// All but the index.
-#[tactic(auto, using(crate::proofs::Whole::rising))]
+// The same of the cutter; lines are edges as they are.
+fn cutter_edges(
+    lines: bool,
+    w: &mut [u32],
+    cells: &[u32],
+    entries: Run,
+    from: usize,
+    heads: &mut [u32],
+    nexts: &mut [u32],
+) -> MeshRuns
+    requires { EdgesAsk w.old cells.now entries from (length heads.old) (length nexts.old) × (heads.old ≡ zeros (length heads.old)) × (nexts.old ≡ zeros (length nexts.old)) }
+    ensures { (result ≡ cond lines (record { edges = entries; entries = entries }) (with_edges entries from (edges_from w.old cells.now entries)))
+        × (w.new ≡ put w.old from (cond lines [] (flat_edges (edges_from w.old cells.now entries))))
+        × (heads.new ≡ zeros (length heads.old)) × (nexts.new ≡ zeros (length nexts.old)) }
+{
+    if lines {
+        return MeshRuns {
+            edges: entries,
+            entries,
+        };
+    }
+    mesh_edges(w, cells, entries, from, heads, nexts)
+}
+
+// All but the index, which has its room yet.
 fn edges(lines: bool, s: &MeshView, c: &MeshView, w: &mut [u32]) -> NetPlaces
     requires { Fit false (plain_of s.now) × Fit lines (plain_of c.now)
         × NetRoom 0 (plain_of s.now) (plain_of c.now) (length w.old) }
-    ensures { (result ≡ nets_of lines (plain_of s.now) (plain_of c.now))
+    ensures { (result ≡ edges_of lines (plain_of s.now) (plain_of c.now))
         × (w.new ≡ edged lines (plain_of s.now) (plain_of c.now) w.old) }
 {
-    let entries = c.coords.len() / 2;
-    let copied = entries + c.nodes.len();
+    let nodes = c.coords.len() / 2;
+    let copied = nodes + c.nodes.len();
     let from = copied + s.nodes.len();
     let at = from + 2 * s.nodes.len();
     let index = at + 2 * c.nodes.len();
-    let base = index + (4 * c.nodes.len() + 12);
-    // The edges are on h chains while they are written, where the meetings will stand.
-    let h = s.coords.len() / 2 + entries + 1;
-    let n = s.nodes.len() + c.nodes.len();
+    let behind = index + (4 * c.nodes.len() + 12);
     duplicates_from(s, c, w);
-    renumber(c.nodes, w, entries);
+    renumber(c.nodes, w, nodes);
     copy_at(w, copied, s.nodes);
-    let subject = mesh_edges(w, s.ends, copied, s.nodes.len(), from, base, h, n);
-    let places = NetPlaces {
-        entries,
-        copied,
-        from,
-        subject,
-        at: entries,
-        cutter: c.nodes.len() / 2,
-        index,
-        base,
+    // The edges are on chains while they are written, where the meetings will stand.
+    let (nets, rest) = w.split_at_mut(behind);
+    let (heads, rest) = rest.split_at_mut(s.coords.len() / 2 + nodes + 1);
+    let (nexts, _) = rest.split_at_mut(s.nodes.len() + c.nodes.len());
+    let entries = Run {
+        from: copied,
+        end: from,
     };
-    if lines {
-        return places;
-    }
-    let cutter = mesh_edges(w, c.ends, entries, c.nodes.len(), at, base, h, n);
+    let subject = mesh_edges(nets, s.ends, entries, from, heads, nexts);
+    let entries = Run {
+        from: nodes,
+        end: copied,
+    };
+    let cutter = cutter_edges(lines, nets, c.ends, entries, at, heads, nexts);
     NetPlaces {
-        at,
+        subject,
         cutter,
-        ..places
+        index: Run {
+            from: index,
+            end: behind,
+        },
+        behind,
     }
 }
 
 // The regions of both meshes. `coords` are the coordinates of both.
-#[tactic(auto, using(crate::proofs::Netted::nets_written))]
 pub(crate) fn nets(
     lines: bool,
     coords: &[f64],
@@ -128,15 +137,6 @@ pub(crate) fn nets(
         × (w.new ≡ netted lines (plain_of s.now) (plain_of c.now) w.old) }
 {
     let n = edges(lines, s, c, w);
-    let from = n.at;
-    let end = from + 2 * n.cutter;
-    let (before, ix) = w.split_at_mut(n.index);
-    let before: &[u32] = before;
-    let things = Things {
-        coords,
-        nodes: &before[from..end],
-        ends: &s.nodes[..0],
-    };
-    things.build(ix);
-    n
+    let index = index_run(coords, w, n.cutter.edges, &[], n.index.from);
+    NetPlaces { index, ..n }
 }

@@ -6,7 +6,7 @@ ghost use Rattle.refusals.specs.Numbers.{by_number, refused_with};
 ghost use Rattle.rules.specs.Refusals.{of_meeting, first_refusal};
 ghost use Rattle.regions.specs.Runs.{run_in};
 ghost use Rattle.finding.specs.Nets.{plain_of, FindAsks};
-ghost use Rattle.finding.specs.Found.{between, regions_by, found_of, both_full, LinkedIn, MeetingsRoom, CutterIndexed, met_in, MetWritten, LinkRoom, linked_by, StagesGive};
+ghost use Rattle.finding.specs.Found.{regions_by, found_of, both_full, LinkedIn, MeetingsRoom, CutterIndexed, met_in, MetWritten, LinkRoom, linked_by, StagesGive};
 
 use crate::numbering::{NetPlaces, nets};
 use edge_nodes::{LinkedMeetings, link_meetings};
@@ -14,8 +14,8 @@ use entry::Operation;
 use lists::copy_at;
 use meetings::Edges;
 use refusals::Refusal;
-use regions::{MeshRuns, Regions, Run};
-use strips::{Index, Things, index_size};
+use regions::{Regions, Run};
+use strips::{Index, Things};
 use views::MeshView;
 
 // Where both meshes, the meetings and their links stand in the working list; how many nodes there are.
@@ -47,20 +47,20 @@ fn meet(
     ensures written { IfOk result (MetWritten n placed coords.old work.old coords.new work.new) }
 {
     let (coords, points) = coords.split_at_mut(placed);
-    let (nets, rest) = work.split_at_mut(n.base);
+    let (nets, rest) = work.split_at_mut(n.behind);
     let (met, _) = rest.split_at_mut(5 * limit);
     let nets: &[u32] = nets;
     let things = Things {
         coords,
-        nodes: &nets[n.at..n.at + 2 * n.cutter],
-        ends: &nets[..0],
+        nodes: n.cutter.edges.part(nets),
+        ends: &[],
     };
     let cutter = Index {
         things,
-        numbers: &nets[n.index..n.index + index_size(n.cutter)],
+        numbers: n.index.part(nets),
     };
     let edges = Edges {
-        subject: &nets[n.from..n.from + 2 * n.subject],
+        subject: n.subject.edges.part(nets),
         cutter,
     };
     edges.compute_intersections(points, met)
@@ -90,39 +90,32 @@ fn crowded(w: &[u32], g: Regions) -> bool
     either_overfull(&meetings)
 }
 
-fn between(from: usize, end: usize) -> Run
-    ensures { result ≡ between from end }
-{
-    Run { from, end }
-}
-
 // Writes the links of h chains behind the meetings, and names the regions.
-fn link(w: &mut [u32], n: NetPlaces, met: usize, h: usize) -> Regions
-    requires { LinkRoom n met h (length w.old) }
-    ensures { (result ≡ regions_by n met h) × (w.new ≡ linked_by n met h w.old) }
+fn link(w: &mut [u32], n: NetPlaces, count: usize, h: usize) -> Regions
+    requires { LinkRoom n count h (length w.old) }
+    ensures { (result ≡ regions_by n count h) × (w.new ≡ linked_by n count h w.old) }
 {
-    let end = n.base + 5 * met;
-    let (nets, links) = w.split_at_mut(end);
-    let subject_end = n.from + 2 * n.subject;
-    let cutter_end = n.at + 2 * n.cutter;
+    let met = Run {
+        from: n.behind,
+        end: n.behind + 5 * count,
+    };
+    let (nets, rest) = w.split_at_mut(met.end);
+    let (links, _) = rest.split_at_mut(2 * (h + count));
     link_meetings(
-        &nets[n.from..subject_end],
-        &nets[n.at..cutter_end],
-        &nets[n.base..],
+        n.subject.edges.part(nets),
+        n.cutter.edges.part(nets),
+        met.part(nets),
         h,
-        &mut links[..2 * (h + met)],
+        links,
     );
     Regions {
-        subject: MeshRuns {
-            edges: between(n.from, subject_end),
-            entries: between(n.copied, n.from),
+        subject: n.subject,
+        cutter: n.cutter,
+        met,
+        links: Run {
+            from: met.end,
+            end: met.end + 2 * (h + count),
         },
-        cutter: MeshRuns {
-            edges: between(n.at, cutter_end),
-            entries: between(n.entries, n.copied),
-        },
-        met: between(n.base, end),
-        links: between(end, end + 2 * (h + met)),
     }
 }
 

@@ -94,6 +94,10 @@ pub all_added : (nodes ends : List ℕ) → cells_added [] (runs nodes ends) ≡
 unfolding descending_to cells_of cell_at
 all_added nodes ends = rw (sym (runs_are nodes ends)) (added_from (runs nodes ends) (length (runs nodes ends)) 0 (omega arith))
 
+-- at most one for each entry
+pub few_edges : (nodes ends : List ℕ) → Rising ends (length nodes) → length (compute_descending (cells_of (mesh [] nodes ends [] []))) ≤ length nodes
+few_edges nodes ends up = omega (arith, length_cells_added (runs nodes ends) [], fewer_corners nodes ends up, ap length (all_added nodes ends))
+
 -- ---- flat
 
 pub ends_snoc : (es : List Edge) (e : Edge) → flat_edges (es ++ e ∷ []) ≡ flat_edges es ++ (e.0 ∷ e.1 ∷ [])

@@ -22,7 +22,7 @@ use Rattle.rules.proofs.Rings.{side, ring_from, length_ring}
 use Rattle.keys.specs.Chains.{edge_chain}
 use Rattle.neighbours.specs.declared.EdgeLists.{EdgeLists}
 use Rattle.neighbours.specs.Chains.{Chained, edges_in, Room, Ready, SameLists, Cleared, Holds, Written, cells_added}
-use Rattle.neighbours.proofs.Edges.{length_added, length_added_all, ends_snoc, ends_pairs, corner_count, corner_count_more, fewer_corners, all_added, length_cells_added}
+use Rattle.neighbours.proofs.Edges.{length_added, length_added_all, ends_snoc, ends_pairs, corner_count, corner_count_more, fewer_corners, all_added, few_edges}
 use Rattle.neighbours.proofs.Chains.{key_at, chained_none, chained_more}
 
 -- ---- the edges that a list holds
@@ -241,8 +241,7 @@ all_written nodes ends l m m' l' none up first held last =
     let zero : m.count ≡ 0 = first.count ∙ none in
     let are : cells_added (edges_in m) (runs nodes ends) ≡ compute_descending (cells_of (mesh [] nodes ends [] [])) = rw zero (all_added nodes ends) in
     let t : Holds (compute_descending (cells_of (mesh [] nodes ends [] []))) m m' = rw are at held in
-    let same : SameLists m' l = same_both t.same first.same in
-    let few = length_cells_added (runs nodes ends) [] in (
+    let same : SameLists m' l = same_both t.same first.same in (
       record {
         count = last.count ∙ t.count;
         edges = last.edges ∙ t.edges ∙ ap (λ (xs : List ℕ). front xs (flat_edges (compute_descending (cells_of (mesh [] nodes ends [] []))))) first.edges;
@@ -250,5 +249,5 @@ all_written nodes ends l m m' l' none up first held last =
         nexts = last.nexts ∙ ap zeros same.nexts.long;
         same = same_both last.same same;
       },
-      omega (arith, last.count, t.count, few, fewer_corners nodes ends up, ap length (all_added nodes ends)),
+      omega (arith, last.count, t.count, few_edges nodes ends up),
     )

@@ -1,27 +1,29 @@
 -- `finding::stages::meet` meets its contract. Assumes nothing.
-use Rattle.finding.proofs.Lent.{index_lent, met_code}
+use mathlib.Core.Path.{◌∙◌}
+use mathlib.Core.List.{[]}
+use Rattle.regions.specs.Runs.{run_in}
+use Rattle.strips.specs.Index.{Indexed}
+use Rattle.finding.proofs.Lent.{few_lent, index_lent, met_code}
 use Rattle.finding.proofs.stages.meet.Goals as goal
+use Rattle.finding.proofs.stages.meet.Goals.{After-part}
+
+-- the index of the cutter's edges as they are lent
+lent : (c : After-part) → Indexed c.split_at_mut-coords.result.0.now c.part.result.now [] (run_in c.split_at_mut-nets.result.0.now c.args.n.index)
+lent c = index_lent _ _ _ _ _ c.requires.0 _ c.split_at_mut-nets.ensures.front c.requires.1 _ c.split_at_mut-coords.ensures.front _ c.part.ensures
 
 pub invariant_of-things : goal.invariant_of-things
-invariant_of-things c =
-    let a = c.args in
-    let ix = index_lent a.n a.placed a.limit a.coords.now a.work.now c.requires.0 _ _ _ _ _ _ c.split_at_mut-coords.ensures.front c.split_at_mut-coords.ensures.back
-    c.split_at_mut-nets.ensures.front c.split_at_mut-nets.ensures.back c.split_at_mut-met.ensures.front c.split_at_mut-met.ensures.back
-    c.index_size.result c.index_size.ensures c.requires.1 in
-    record { rising = ix.rising; few = ix.few }
+invariant_of-things c = let ix = lent (goal.at.invariant_of-things c).After-part in record { rising = ix.rising; few = ix.few }
 
 pub invariant_of-cutter : goal.invariant_of-cutter
-invariant_of-cutter c =
-    let a = c.args in
-    let ix = index_lent a.n a.placed a.limit a.coords.now a.work.now c.requires.0 _ _ _ _ _ _ c.split_at_mut-coords.ensures.front c.split_at_mut-coords.ensures.back
-    c.split_at_mut-nets.ensures.front c.split_at_mut-nets.ensures.back c.split_at_mut-met.ensures.front c.split_at_mut-met.ensures.back
-    c.index_size.result c.index_size.ensures c.requires.1 in
-    record { is = ix.is }
+invariant_of-cutter c = record { is = c.part-2.ensures ∙ (lent (goal.at.invariant_of-cutter c).After-part).is }
+
+pub invariant_of-edges-clause-few : goal.invariant_of-edges-clause-few
+invariant_of-edges-clause-few c = few_lent _ _ _ _ _ c.requires.0 _ c.split_at_mut-nets.ensures.front _ c.part-3.ensures
 
 pub returns-clause-code : goal.returns-clause-code
 returns-clause-code c =
-    let a = c.args in
-    let x = c.compute_intersections in
-    met_code a.n a.placed a.limit a.coords.now a.work.now c.requires.0 _ _ _ _ _ _ c.split_at_mut-coords.ensures.front c.split_at_mut-coords.ensures.back
-    c.split_at_mut-nets.ensures.front c.split_at_mut-nets.ensures.back c.split_at_mut-met.ensures.front c.split_at_mut-met.ensures.back
-    x.result x.new.points x.new.met x.ensures
+    let coords = c.split_at_mut-coords.ensures in
+    let nets = c.split_at_mut-nets.ensures in
+    let met = c.split_at_mut-met.ensures in
+    met_code _ _ _ _ _ c.requires.0 _ _ _ _ _ _ coords.front coords.back nets.front nets.back met.front met.back _ _ c.part-3.ensures c.part.ensures
+    _ _ _ c.compute_intersections.ensures
