@@ -10,12 +10,14 @@ use lib.Seq.{take_all}
 use lib.Pow.{pow_pos}
 use lib.Arith.{digits_lt, digits_div, digits_mod}
 use Rattle.exact.specs.Exact.{ordered}
-use Rattle.exact.specs.InnerRows.{value, Row}
+use Rattle.exact.specs.InnerCells.{value, greatest}
+use Rattle.exact.specs.InnerRows.{fullest}
+use Rattle.exact.specs.declared.rows.Rows.{Rows}
 use Rattle.std.specs.declared.cmp.Ordering.{Ordering}
 use Rattle.std.specs.declared.cmp.Ordering.TheVariants.{Equal}
 use Rattle.std.specs.Ordering.{nat_cmp, ordering_then}
 use Rattle.exact.proofs.Orders.{ordered_equal, by_digit}
-use Rattle.exact.proofs.Cells.{place, weigh}
+use Rattle.exact.proofs.Cells.{place, weigh, get_le}
 
 pub value_take : (xs : List ℕ) (i : ℕ) → i < length xs → value (take (suc i) xs) ≡ value (take i xs) + get_or xs i 0 * 2 ^ (32 * i)
 unfolding value
@@ -50,6 +52,18 @@ module _ (W x M : ℕ) (h : 0 < M) where
 rest_under : (xs : List ℕ) (i : ℕ) → value (take i xs) % 2 ^ (32 * i) < 2 ^ (32 * i)
 rest_under xs i = mod-lt (value (take i xs)) (pow_pos (32 * i))
 
+-- 136 cells, none of which is too great to take a carry
+pub record Row (xs : List ℕ) : Type 0 where
+  pub long : length xs ≡ 136
+  pub low : greatest xs ≤ 64 * 2 ^ 34
+
+module _ (r : Rows) (room : fullest r ≤ 64 * 2 ^ 34) where
+  pub row_more : Row r.more
+  row_more = record { long = r.more_long; low = omega arith }
+
+  pub row_less : Row r.less
+  row_less = record { long = r.less_long; low = omega arith }
+
 -- ---- after i cells: the carries, and how what is below them compares
 
 pub record State (p n : List ℕ) (order : Ordering) (u v i : ℕ) : Type 0 where
@@ -65,15 +79,15 @@ unfolding value
 start p n = record { passed = omega arith; carry = refl; carry' = refl; seen = sym (ordered_equal refl); small = omega arith; small' = omega arith }
 
 -- one more cell
-module _ {p n : List ℕ} {order : Ordering} {u v i : ℕ} (s : State p n order u v i) (rp : Row 64 p) (rn : Row 64 n) (h : i < 136) where
+module _ {p n : List ℕ} {order : Ordering} {u v i : ℕ} (s : State p n order u v i) (rp : Row p) (rn : Row n) (h : i < 136) where
   -- the carries of the next cell
-  next : (xs : List ℕ) (w : ℕ) → Row 64 xs → w ≡ value (take i xs) / 2 ^ (32 * i)
+  next : (xs : List ℕ) (w : ℕ) → Row xs → w ≡ value (take i xs) / 2 ^ (32 * i)
       → (get_or xs i 0 + w) / 2 ^ 32 ≡ value (take (i + 1) xs) / 2 ^ (32 * (i + 1))
   next xs w r e =
       ap (λ (x : ℕ). (get_or xs i 0 + x) / 2 ^ 32) e ∙ sym (above (value (take i xs)) (get_or xs i 0) (2 ^ (32 * i)) (pow_pos (32 * i)))
       ∙ ap₂ (λ (x y : ℕ). x / y) (sym (value_take xs i (omega (arith, r.long)))) (sym (place i)) ∙ ap (λ (j : ℕ). value (take j xs) / 2 ^ (32 * j)) (sym (add-one i))
 
-  low : (xs : List ℕ) (w : ℕ) → Row 64 xs → w ≡ value (take i xs) / 2 ^ (32 * i)
+  low : (xs : List ℕ) (w : ℕ) → Row xs → w ≡ value (take i xs) / 2 ^ (32 * i)
       → (get_or xs i 0 + w) % 2 ^ 32 * 2 ^ (32 * i) + value (take i xs) % 2 ^ (32 * i) ≡ value (take (i + 1) xs) % 2 ^ (32 * (i + 1))
   low xs w r e =
       ap (λ (x : ℕ). (get_or xs i 0 + x) % 2 ^ 32 * 2 ^ (32 * i) + value (take i xs) % 2 ^ (32 * i)) e
@@ -93,8 +107,8 @@ module _ {p n : List ℕ} {order : Ordering} {u v i : ℕ} (s : State p n order 
     carry' = next n v rn s.carry';
     seen = ap (ordering_then (nat_cmp digit digit')) s.seen ∙ by_digit digit digit' (rest_under p i) (rest_under n i)
         ∙ ap₂ (λ (x y : ℕ). ordered x y) (low p u rp s.carry) (low n v rn s.carry');
-    small = small_of _ _ (rp.low i) s.small;
-    small' = small_of _ _ (rn.low i) s.small';
+    small = small_of _ _ (omega (arith, get_le p i, rp.low)) s.small;
+    small' = small_of _ _ (omega (arith, get_le n i, rn.low)) s.small';
   }
     where
       small_of : (x w : ℕ) → x ≤ 64 * 2 ^ 34 → w ≤ 2 ^ 32 → (x + w) / 2 ^ 32 ≤ 2 ^ 32
@@ -111,8 +125,8 @@ module _ {p n : List ℕ} {order : Ordering} {u v i : ℕ} (s : State p n order 
       one_more)))
 
 -- ---- at the end
-module _ {p n : List ℕ} {order : Ordering} {u v i : ℕ} (s : State p n order u v i) (rp : Row 64 p) (rn : Row 64 n) (h : 136 ≤ i) where
-  whole : (xs : List ℕ) (w : ℕ) → Row 64 xs → w ≡ value (take i xs) / 2 ^ (32 * i) → w * 2 ^ (32 * i) + value (take i xs) % 2 ^ (32 * i) ≡ value xs
+module _ {p n : List ℕ} {order : Ordering} {u v i : ℕ} (s : State p n order u v i) (rp : Row p) (rn : Row n) (h : 136 ≤ i) where
+  whole : (xs : List ℕ) (w : ℕ) → Row xs → w ≡ value (take i xs) / 2 ^ (32 * i) → w * 2 ^ (32 * i) + value (take i xs) % 2 ^ (32 * i) ≡ value xs
   whole xs w r e =
       ap (λ (x : ℕ). x * 2 ^ (32 * i) + value (take i xs) % 2 ^ (32 * i)) e ∙ div-add-mod' (value (take i xs)) (2 ^ (32 * i))
       ∙ ap value (take_all i xs (omega (arith, r.long)))

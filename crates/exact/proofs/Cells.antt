@@ -1,13 +1,13 @@
 -- Rows of cells: what a store adds to the number, how much a cell grows, and the cells' number by its lowest cells. Assumes nothing.
 use mathlib.Core.Path.{◌≡◌, refl, sym, ap, ap₂, ◌∙◌, subst}
 use mathlib.Core.List.{List, [], ◌∷◌}
-use Prim.Native.Nat.{ℕ, zero, suc, ◌+◌, ◌*◌, ◌/◌, ◌%◌, ◌^◌, ◌≤◌, ◌<◌}
+use Prim.Native.Nat.{ℕ, zero, suc, ◌+◌, ◌*◌, ◌/◌, ◌%◌, ◌^◌, ◌≤◌, ◌<◌, max}
 use native.Mathlib.Nat.{not-suc-le-zero, le_of_suc-le-suc, le_trans, add_assoc, add_comm, add-mul, mul_assoc, mul_comm, mul_left_comm, mul-suc, mul-le-mul_right, div-add-mod'}
 use native.Mathlib.Numerals.{add-one, add-two}
 use native.Mathlib.Omega.{arith}
 use lib.ListN.{length, get_or, set, length-set}
 use lib.Pow.{pow-add, shl_exact}
-use Rattle.exact.specs.InnerRows.{value, Row, RowGrown}
+use Rattle.exact.specs.InnerCells.{value, greatest, RowGrown}
 
 -- the weight of a cell
 pub place : (i : ℕ) → 2 ^ (32 * suc i) ≡ 2 ^ 32 * 2 ^ (32 * i)
@@ -63,20 +63,27 @@ value_bump3 xs j d₀ d₁ d₂ h =
     line : (v x y z : ℕ) → v + x + y + z ≡ v + (x + y + z)
     line v x y z = omega arith
 
-pub row_bump3 : (xs : List ℕ) (j d₀ d₁ d₂ n : ℕ) → d₀ + d₁ + d₂ ≤ 2 ^ 34 → Row n xs → Row (n + 1) (bump3 xs j d₀ d₁ d₂)
-row_bump3 xs j d₀ d₁ d₂ n h u =
-    let one = bump xs j d₀ in
-    let two = bump one (j + 1) d₁ in
-    record {
-      long = simp length-set u.long;
-      low = λ k. sums _ _ _ _ _ _ _ _ (bump_le xs j d₀ k) (bump_le one (j + 1) d₁ k) (bump_le two (j + 2) d₂ k) h (u.low k);
-    }
-  where
-    sums : (x y z w d₀ d₁ d₂ n : ℕ) → y ≤ x + d₀ → z ≤ y + d₁ → w ≤ z + d₂ → d₀ + d₁ + d₂ ≤ 2 ^ 34 → x ≤ n * 2 ^ 34 → w ≤ (n + 1) * 2 ^ 34
-    sums x y z w d₀ d₁ d₂ n p q r s t = omega arith
+-- ---- the greatest cell
 
-pub row_more : {m : ℕ} {xs : List ℕ} (n : ℕ) → Row m xs → m ≤ n → Row n xs
-row_more {m} n r h = record { long = r.long; low = λ k. le_trans (r.low k) (mul-le-mul_right (2 ^ 34) h) }
+pub get_le : (xs : List ℕ) (k : ℕ) → get_or xs k 0 ≤ greatest xs
+unfolding greatest
+get_le [] k = omega arith
+get_le (x ∷ xs) zero = omega arith
+get_le (x ∷ xs) (suc k) = omega (arith, get_le xs k)
+
+greatest_set : (xs : List ℕ) (i v : ℕ) → greatest (set xs i v) ≤ max v (greatest xs)
+unfolding greatest
+greatest_set [] i v = omega arith
+greatest_set (x ∷ xs) zero v = omega arith
+greatest_set (x ∷ xs) (suc i) v = omega (arith, greatest_set xs i v)
+
+greatest_bump : (xs : List ℕ) (i d : ℕ) → greatest (bump xs i d) ≤ greatest xs + d
+greatest_bump xs i d = omega (arith, greatest_set xs i (get_or xs i 0 + d), get_le xs i)
+
+pub greatest_bump3 : (xs : List ℕ) (j d₀ d₁ d₂ : ℕ) → greatest (bump3 xs j d₀ d₁ d₂) ≤ greatest xs + (d₀ + d₁ + d₂)
+greatest_bump3 xs j d₀ d₁ d₂ =
+    let one = bump xs j d₀ in
+    omega (arith, greatest_bump xs j d₀, greatest_bump one (j + 1) d₁, greatest_bump (bump one (j + 1) d₁) (j + 2) d₂)
 
 -- ---- a word of 64 bits, moved up by e, as what it adds to three cells
 
@@ -118,38 +125,36 @@ added a b h k = omega arith
 pub grown : (xs : List ℕ) (v e : ℕ) → v < 2 ^ 64 → length xs ≡ 136 → e < 4288
     → RowGrown 1 (v * 2 ^ e) xs (bump3 xs (e / 32) (lo v e % 2 ^ 32) (lo v e / 2 ^ 32 + hi v e % 2 ^ 32) (hi v e / 2 ^ 32))
 grown xs v e hv l he = record {
+  long = simp length-set;
   total = value_bump3 xs (e / 32) _ _ _ (omega arith) ∙ ap (λ (n : ℕ). value xs + n) (word v e hv);
-  row = λ n u. row_bump3 xs (e / 32) _ _ _ n (added _ _ (omega arith) (omega arith)) u;
+  low =
+      let least = greatest_bump3 xs (e / 32) (lo v e % 2 ^ 32) (lo v e / 2 ^ 32 + hi v e % 2 ^ 32) (hi v e / 2 ^ 32) in
+      let few = added (lo v e) (hi v e) (omega arith) (omega arith) in
+      omega arith;
 }
 
 -- each of the three cells holds what is added to it
-cell : (x d : ℕ) → x ≤ 65 * 2 ^ 34 → d < 2 ^ 33 → x + d < 2 ^ 64
-cell x d h k = omega arith
+pub fits_one : (xs : List ℕ) (v e : ℕ) → greatest xs ≤ 64 * 2 ^ 34 → get_or (bump xs (e / 32) (lo v e % 2 ^ 32)) (e / 32 + 1) 0 + (lo v e / 2 ^ 32 + hi v e % 2 ^ 32) < 2 ^ 64
+fits_one xs v e r =
+    let one = bump xs (e / 32) (lo v e % 2 ^ 32) in
+    omega (arith, get_le one (e / 32 + 1), greatest_bump xs (e / 32) (lo v e % 2 ^ 32))
 
-pub fits₁ : (xs : List ℕ) (v e : ℕ) → Row 64 xs → get_or (bump xs (e / 32) (lo v e % 2 ^ 32)) (e / 32 + 1) 0 + (lo v e / 2 ^ 32 + hi v e % 2 ^ 32) < 2 ^ 64
-fits₁ xs v e r = cell _ _ (more _ _ _ (r.low (e / 32 + 1)) (bump_le xs (e / 32) (lo v e % 2 ^ 32) (e / 32 + 1)) (omega arith)) (omega arith)
-  where
-    more : (x y d : ℕ) → x ≤ 64 * 2 ^ 34 → y ≤ x + d → d < 2 ^ 32 → y ≤ 65 * 2 ^ 34
-    more x y d p q r = omega arith
-
-pub fits₂ : (xs : List ℕ) (v e : ℕ) → Row 64 xs
+pub fits_two : (xs : List ℕ) (v e : ℕ) → greatest xs ≤ 64 * 2 ^ 34
     → get_or (bump (bump xs (e / 32) (lo v e % 2 ^ 32)) (e / 32 + 1) (lo v e / 2 ^ 32 + hi v e % 2 ^ 32)) (e / 32 + 2) 0 + hi v e / 2 ^ 32 < 2 ^ 64
-fits₂ xs v e r =
-    cell _ _
-    (more _ _ _ _ _ (r.low (e / 32 + 2)) (bump_le xs (e / 32) (lo v e % 2 ^ 32) (e / 32 + 2))
-    (bump_le (bump xs (e / 32) (lo v e % 2 ^ 32)) (e / 32 + 1) (lo v e / 2 ^ 32 + hi v e % 2 ^ 32) (e / 32 + 2)) (omega arith) (omega arith)) (omega arith)
-  where
-    more : (x y z d d' : ℕ) → x ≤ 64 * 2 ^ 34 → y ≤ x + d → z ≤ y + d' → d < 2 ^ 32 → d' < 2 ^ 33 → z ≤ 65 * 2 ^ 34
-    more x y z d d' p q q' r r' = omega arith
+fits_two xs v e r =
+    let one = bump xs (e / 32) (lo v e % 2 ^ 32) in
+    let two = bump one (e / 32 + 1) (lo v e / 2 ^ 32 + hi v e % 2 ^ 32) in
+    omega (arith, get_le two (e / 32 + 2), greatest_bump one (e / 32 + 1) (lo v e / 2 ^ 32 + hi v e % 2 ^ 32), greatest_bump xs (e / 32) (lo v e % 2 ^ 32))
 
 -- ---- a product by its two words
 
 pub grown_product : {xs ys zs : List ℕ} (w e : ℕ) → RowGrown 1 (w % 2 ^ 64 * 2 ^ e) xs ys → RowGrown 1 (w / 2 ^ 64 * 2 ^ (e + 64)) ys zs
     → RowGrown 2 (w * 2 ^ e) xs zs
 grown_product {xs} {ys} {zs} w e a b = record {
+  long = b.long ∙ a.long;
   total = b.total ∙ ap (λ (x : ℕ). x + w / 2 ^ 64 * 2 ^ (e + 64)) a.total ∙ add_assoc (value xs) (w % 2 ^ 64 * 2 ^ e) (w / 2 ^ 64 * 2 ^ (e + 64))
       ∙ ap (λ (x : ℕ). value xs + x) sum;
-  row = λ k r. subst (λ (j : ℕ). Row j zs) (omega arith) (b.row (k + 1) (a.row k r));
+  low = omega (arith, a.low, b.low);
 }
   where
     one : (l h p : ℕ) → l * p + h * (p * 2 ^ 64) ≡ (h * 2 ^ 64 + l) * p
@@ -159,6 +164,3 @@ grown_product {xs} {ys} {zs} w e a b = record {
     sum =
         ap (λ (x : ℕ). w % 2 ^ 64 * 2 ^ e + w / 2 ^ 64 * x) (pow-add 2 e 64) ∙ one (w % 2 ^ 64) (w / 2 ^ 64) (2 ^ e)
         ∙ ap (λ (x : ℕ). x * 2 ^ e) (div-add-mod' w (2 ^ 64))
-
-pub kept : {xs : List ℕ} (k : ℕ) → Row k xs → Row (k + 2) xs
-kept k r = row_more (k + 2) r (omega arith)

@@ -2,17 +2,16 @@
 use mathlib.Core.Path.{◌≡◌, refl, sym, ap, ap₂, ◌∙◌}
 use mathlib.Core.Bool.{Bool, true, false, cond}
 use mathlib.Core.List.{List}
-use Prim.Native.Nat.{ℕ, zero, suc, ◌+◌, ◌*◌, ◌≤◌}
+use Prim.Native.Nat.{ℕ, zero, suc, ◌+◌, ◌*◌, max}
 use native.Mathlib.Nat.{add-zero}
-use Rattle.exact.proofs.Cells.{kept, row_more}
 use native.Mathlib.Omega.{arith}
-use lib.Dec.{lit≤}
-use lib.IntN.{ℤ, neg_ℤ, ◌+ℤ◌, ◌-ℤ◌, ◌*ℤ◌}
-use lib.ListN.{get_or, replicate, length-replicate}
+use lib.IntN.{ℤ, pos, neg_ℤ, ◌+ℤ◌, ◌-ℤ◌, ◌*ℤ◌}
+use lib.ListN.{replicate}
 use lib.Ieee.{Float, unlike}
 use Rattle.exact.specs.Exact.{coord, signed, ordered, sign, sign_number, signum}
 use Rattle.exact.specs.Inner.{size, signed_size}
-use Rattle.exact.specs.InnerRows.{value, Row, RowGrown, Filled, net}
+use Rattle.exact.specs.InnerCells.{value, greatest, RowGrown}
+use Rattle.exact.specs.InnerRows.{net}
 use Rattle.exact.specs.declared.rows.Rows.{Rows}
 use Rattle.exact.specs.Angle.{det, orientation}
 use Rattle.exact.specs.declared.parts.Parts.{Parts}
@@ -30,100 +29,57 @@ unfolding value
 value_zeros zero = refl
 value_zeros (suc n) = omega (arith, value_zeros n)
 
-get_or_zeros : (n k : ℕ) → ◌≡◌ {A = ℕ} (get_or (zeros n) k 0) 0
-get_or_zeros zero k = refl
-get_or_zeros (suc n) zero = refl
-get_or_zeros (suc n) (suc k) = get_or_zeros n k
-
-pub zero_row : Row 0 (zeros 136)
-zero_row = record { long = length-replicate {A = ℕ} 136 0; low = λ k. omega (arith, get_or_zeros 136 k) }
+pub greatest_zeros : (n : ℕ) → greatest (zeros n) ≡ 0
+unfolding greatest
+greatest_zeros zero = refl
+greatest_zeros (suc n) = omega (arith, greatest_zeros n)
 
 -- ---- one product more
 
-pub net_is : (r : Rows) → net r ≡ diff (value r.more) (value r.less)
-net_is r = minus_signed false false (value r.more) (value r.less) ∙ diff_same _ _ _ _ (omega arith)
+-- what two rows stand for
+abbrev pub net_of : List ℕ → List ℕ → ℤ
+net_of more less = pos (value more) -ℤ pos (value less)
+
+net_diff : (more less : List ℕ) → net_of more less ≡ diff (value more) (value less)
+net_diff more less = minus_signed false false (value more) (value less) ∙ diff_same _ _ _ _ (omega arith)
+
+net_is : (r : Rows) → net r ≡ diff (value r.more) (value r.less)
+net_is r = net_diff r.more r.less
+
+no_difference : diff 0 0 ≡ pos 0
+unfolding diff
+no_difference = refl
+
+-- empty rows
+pub empty_full : max (greatest (zeros 136)) (greatest (zeros 136)) ≡ 0
+empty_full = omega (arith, greatest_zeros 136)
+
+pub empty_net : net_of (zeros 136) (zeros 136) ≡ pos 0
+empty_net = net_diff (zeros 136) (zeros 136) ∙ ap₂ diff (value_zeros 136) (value_zeros 136) ∙ no_difference
 
 -- the sign of what two rows stand for
 pub net_sign : (r : Rows) → ordered (value r.more) (value r.less) ≡ sign (net r)
 net_sign r = sym (ap sign (net_is r) ∙ sign_diff (value r.more) (value r.less))
 
-one_more : (r r' : Rows) (a b : Parts) (s : Bool) → s ≡ unlike a.neg b.neg
-    → value r'.more ≡ value r.more + cond s 0 (size a * size b) → value r'.less ≡ value r.less + cond s (size a * size b) 0
-    → net r' ≡ net r +ℤ signed_size a *ℤ signed_size b
-one_more r r' a b s h p q =
-    net_is r' ∙ ap₂ diff p q ∙ add_signed (value r.more) (value r.less) s (size a * size b)
-    ∙ ap₂ (λ (x y : ℤ). x +ℤ y) (sym (net_is r)) (ap (λ (t : Bool). signed t (size a * size b)) h ∙ sym (signed_mul a.neg b.neg (size a) (size b)))
+module _ (r : Rows) (a b : Parts) {t : ℕ} (product : t ≡ size a * size b) where
+  one_more : (s : Bool) (m l : ℕ) → s ≡ unlike a.neg b.neg → m ≡ value r.more + cond s 0 t → l ≡ value r.less + cond s t 0
+      → diff m l ≡ net r +ℤ signed_size a *ℤ signed_size b
+  one_more s m l h p q =
+      ap₂ diff p q ∙ ap (λ (u : ℕ). diff (value r.more + cond s 0 u) (value r.less + cond s u 0)) product ∙ add_signed (value r.more) (value r.less) s (size a * size b)
+      ∙ ap₂ (λ (x y : ℤ). x +ℤ y) (sym (net_is r)) (ap (λ (t : Bool). signed t (size a * size b)) h ∙ sym (signed_mul a.neg b.neg (size a) (size b)))
 
-module _ (r : Rows) (a b : Parts) {t : ℕ} {xs : List ℕ} where
-  pub taken_away : unlike a.neg b.neg ≡ true → t ≡ size a * size b → RowGrown 2 t r.less xs
-      → net (record { more = r.more; less = xs }) ≡ net r +ℤ signed_size a *ℤ signed_size b
-  taken_away h e g =
-      one_more r (record { more = r.more; less = xs }) a b true (sym h) (sym (add-zero (value r.more))) (g.total ∙ ap (λ (x : ℕ). value r.less + x) e)
+  pub taken_away : {xs : List ℕ} → unlike a.neg b.neg ≡ true → RowGrown 2 t r.less xs → net_of r.more xs ≡ net r +ℤ signed_size a *ℤ signed_size b
+  taken_away {xs} h g = net_diff r.more xs ∙ one_more true _ _ (sym h) (sym (add-zero (value r.more))) g.total
 
-  pub added : unlike a.neg b.neg ≡ false → t ≡ size a * size b → RowGrown 2 t r.more xs
-      → net (record { more = xs; less = r.less }) ≡ net r +ℤ signed_size a *ℤ signed_size b
-  added h e g =
-      one_more r (record { more = xs; less = r.less }) a b false (sym h) (g.total ∙ ap (λ (x : ℕ). value r.more + x) e) (sym (add-zero (value r.less)))
-
-module _ {r : Rows} {t : ℕ} {xs : List ℕ} (k : ℕ) (f : Filled k r) where
-  pub filled_less : RowGrown 2 t r.less xs → Filled (k + 2) (record { more = r.more; less = xs })
-  filled_less g = record { more = kept k f.more; less = g.row k f.less }
-
-  pub filled_more : RowGrown 2 t r.more xs → Filled (k + 2) (record { more = xs; less = r.less })
-  filled_more g = record { more = g.row k f.more; less = kept k f.less }
-
-filled_up : {m : ℕ} {r : Rows} (n : ℕ) → Filled m r → m ≤ n → Filled n r
-filled_up n f h = record { more = row_more n f.more h; less = row_more n f.less h }
-
--- what a product more does to rows
-abbrev pub Grows : Rows → Rows → Type 0
-Grows r s = (k : ℕ) → Filled k r → Filled (k + 2) s
-
-abbrev pub empty : Rows
-empty = record { more = zeros 136; less = zeros 136 }
-
-no_steps : Filled 0 empty
-no_steps = record { more = zero_row; less = zero_row }
-
--- there is room for one product more: in empty rows, and after one to five products; after six the rows can be compared
-pub room_none : Filled 60 empty
-room_none = filled_up 60 no_steps (lit≤ tt)
-
-module _ {r₁ : Rows} (g₁ : Grows empty r₁) where
-  pub room_one : Filled 60 r₁
-  room_one = filled_up 60 (g₁ 0 no_steps) (lit≤ tt)
-
-  module _ {r₂ : Rows} (g₂ : Grows r₁ r₂) where
-    pub room_two : Filled 60 r₂
-    room_two = filled_up 60 (g₂ 2 (g₁ 0 no_steps)) (lit≤ tt)
-
-    module _ {r₃ : Rows} (g₃ : Grows r₂ r₃) where
-      three : Filled 6 r₃
-      three = g₃ 4 (g₂ 2 (g₁ 0 no_steps))
-
-      pub room_three : Filled 60 r₃
-      room_three = filled_up 60 three (lit≤ tt)
-
-      module _ {r₄ : Rows} (g₄ : Grows r₃ r₄) where
-        pub room_four : Filled 60 r₄
-        room_four = filled_up 60 (g₄ 6 three) (lit≤ tt)
-
-        module _ {r₅ : Rows} (g₅ : Grows r₄ r₅) where
-          pub room_five : Filled 60 r₅
-          room_five = filled_up 60 (g₅ 8 (g₄ 6 three)) (lit≤ tt)
-
-          pub all_six : {r₆ : Rows} → Grows r₅ r₆ → Filled 64 r₆
-          all_six g₆ = filled_up 64 (g₆ 10 (g₅ 8 (g₄ 6 three))) (lit≤ tt)
+  pub added : {xs : List ℕ} → unlike a.neg b.neg ≡ false → RowGrown 2 t r.more xs → net_of xs r.less ≡ net r +ℤ signed_size a *ℤ signed_size b
+  added {xs} h g = net_diff xs r.less ∙ one_more false _ _ (sym h) g.total (sym (add-zero (value r.less)))
 
 -- ---- all six
 
 nothing : (z : ℤ) → diff 0 0 +ℤ z ≡ z
 nothing = every (λ (z : ℤ). diff 0 0 +ℤ z ≡ z) (λ a b. diff_add 0 0 a b ∙ ap₂ diff (omega arith) (omega arith))
 
-pub none : net empty ≡ diff 0 0
-none = net_is empty ∙ ap₂ diff (value_zeros 136) (value_zeros 136)
-
-pub all : (ax ay bx by cx cy : ℤ) {ax' cx' ay' d₀ d₁ d₂ d₃ d₄ d₅ d₆ : ℤ} → ax' ≡ neg_ℤ ax → cx' ≡ neg_ℤ cx → ay' ≡ neg_ℤ ay → d₀ ≡ diff 0 0
+pub all : (ax ay bx by cx cy : ℤ) {ax' cx' ay' d₀ d₁ d₂ d₃ d₄ d₅ d₆ : ℤ} → ax' ≡ neg_ℤ ax → cx' ≡ neg_ℤ cx → ay' ≡ neg_ℤ ay → d₀ ≡ pos 0
     → d₁ ≡ d₀ +ℤ ax *ℤ by
     → d₂ ≡ d₁ +ℤ ax' *ℤ cy
     → d₃ ≡ d₂ +ℤ cx' *ℤ by
@@ -132,7 +88,7 @@ pub all : (ax ay bx by cx cy : ℤ) {ax' cx' ay' d₀ d₁ d₂ d₃ d₄ d₅ d
     → d₆ ≡ d₅ +ℤ cy *ℤ bx
     → d₆ ≡ det ax ay bx by cx cy
 all ax ay bx by cx cy {d₁ = d₁} {d₂ = d₂} {d₃ = d₃} p q r e₀ e₁ e₂ e₃ e₄ e₅ e₆ =
-    let f₁ = e₁ ∙ ap (λ (z : ℤ). z +ℤ ax *ℤ by) e₀ ∙ nothing (ax *ℤ by) in
+    let f₁ = e₁ ∙ ap (λ (z : ℤ). z +ℤ ax *ℤ by) (e₀ ∙ sym no_difference) ∙ nothing (ax *ℤ by) in
     let f₂ = e₂ ∙ ap (λ (z : ℤ). d₁ +ℤ z *ℤ cy) p ∙ add_negated d₁ ax cy ∙ ap (λ (z : ℤ). z -ℤ ax *ℤ cy) f₁ in
     let f₃ = e₃ ∙ ap (λ (z : ℤ). d₂ +ℤ z *ℤ by) q ∙ add_negated d₂ cx by ∙ ap (λ (z : ℤ). z -ℤ cx *ℤ by) f₂ in
     let f₄ = e₄ ∙ ap (λ (z : ℤ). d₃ +ℤ z *ℤ bx) r ∙ add_negated d₃ ay bx ∙ ap (λ (z : ℤ). z -ℤ ay *ℤ bx) f₃ in

@@ -3,4 +3,4 @@ use Rattle.exact.proofs.Cells.{grown}
 use Rattle.exact.proofs.rows.add_word.Goals as goal
 
 pub returns : goal.returns
-returns c = grown _ _ _ c.ranges.v.fits c.requires.1.long c.requires.0
+returns c = grown _ _ _ c.ranges.v.fits c.told-acc c.requires.0

@@ -3,7 +3,8 @@ use native.Mathlib.Omega.{arith}
 use lib.ListN.{length}
 use Rattle.std.proofs.lemmas.Slice.Zip.{zip_turn, zip_end}
 use Rattle.std.proofs.lemmas.List.{length_push}
-use Rattle.exact.proofs.Carries.{start, turn, at_end}
+use Rattle.exact.proofs.Cells.{get_le}
+use Rattle.exact.proofs.Carries.{start, turn, at_end, row_more, row_less}
 use Rattle.exact.proofs.Terms.{net_sign}
 use Rattle.exact.proofs.rows.Rows.sign.Goals as goal
 
@@ -14,25 +15,25 @@ pub overflow_add-a : goal.overflow_add-a
 overflow_add-a c =
     let rows = c.args.self.now in
     let t = zip_turn rows.more rows.less _ _ _ c.next.new.self _ (cc) (cc) c.loop-p.yielded_by _ c.in-Some.is c.next.ensures.steps in
-    omega (arith, t.2 0, c.requires.more.low (length c.loop-p.yielded), c.loop-p.invariant.small)
+    omega (arith, t.2 0, get_le rows.more (length c.loop-p.yielded), c.loop-p.invariant.small)
 
 pub overflow_add-b : goal.overflow_add-b
 overflow_add-b c =
     let rows = c.args.self.now in
     let t = zip_turn rows.more rows.less _ _ _ c.next.new.self _ (cc) (cc) c.loop-p.yielded_by _ c.in-Some.is c.next.ensures.steps in
-    omega (arith, t.3 0, c.requires.less.low (length c.loop-p.yielded), c.loop-p.invariant.small')
+    omega (arith, t.3 0, get_le rows.less (length c.loop-p.yielded), c.loop-p.invariant.small')
 
 pub loop-p-preserved : goal.loop-p-preserved
 loop-p-preserved c =
     let rows = c.args.self.now in
     let t = zip_turn rows.more rows.less _ _ _ c.next.new.self _ (cc) (cc) c.loop-p.yielded_by _ c.in-Some.is c.next.ensures.steps in
-    turn c.loop-p.invariant c.requires.more c.requires.less (omega (arith, t.0, c.requires.more.long)) (t.2 0) (t.3 0)
+    turn c.loop-p.invariant (row_more rows c.requires) (row_less rows c.requires) (omega (arith, t.0, rows.more_long)) (t.2 0) (t.3 0)
     (cc) (length_push c.loop-p.yielded (c.in-Some.p, c.in-Some.n))
 
 pub returns : goal.returns
 returns c =
     let rows = c.args.self.now in
     let t = zip_end rows.more rows.less _ _ _ c.next.new.self _ (cc) (cc) c.loop-p.yielded_by c.in-None.is c.next.ensures.steps in
-    let e = at_end c.loop-p.invariant c.requires.more c.requires.less (omega (arith, t, c.requires.more.long, c.requires.less.long)) in
+    let e = at_end c.loop-p.invariant (row_more rows c.requires) (row_less rows c.requires) (omega (arith, t, rows.more_long, rows.less_long)) in
     let s = net_sign rows in
     cc
