@@ -102,7 +102,8 @@ module _ (turning : Bool) (n : ℕ) (src dst : List ℕ) where
       rw (lt-ltb r n h, ne_eqb y start e, lt-ltb j' n (subst (λ (x : ℕ). x < n) f l), follow, arrive, onward)
       (ap (λ (x : ℕ). more (state (set marks i true) (r ∷ heap) done (on_slot start (mid ++ y ∷ []) x))) (sym f))
   way_step (stops {marks = marks} {start = start} {i = i} h e l) =
-      rw (lt-ltb (reverse_of n src dst i) n h, ne_eqb (get_or dst i 0) start e, le-ltb (next_open turning n src (set marks i true) (get_or dst i 0) (reverse_of n src dst i)) n l, follow, arrive, onward)
+      let j = next_open turning n src (set marks i true) (get_or dst i 0) (reverse_of n src dst i) in
+      rw (lt-ltb (reverse_of n src dst i) n h, ne_eqb (get_or dst i 0) start e, le-ltb j n l, follow, arrive, onward)
 
 -- ---- runs of steps
 
