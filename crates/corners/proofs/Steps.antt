@@ -1,15 +1,13 @@
 -- What an iterator of a ring has left, and folds over all that it gives. Assumes nothing.
 use mathlib.Core.Path.{◌≡◌, refl, sym, ap, ap₂, ◌∙◌, subst}
-use mathlib.Core.List.{List, [], ◌∷◌}
+use mathlib.Core.List.{[], ◌∷◌}
 use Prim.Native.Nat.{ℕ, zero, suc, ◌+◌, ◌≤◌, ◌<◌}
 use native.Mathlib.Numerals.{add-one}
 use native.Mathlib.Nat.{zero-add}
 use native.Mathlib.Omega.{arith}
 use lib.ListN.{length, drop, drop_of_length-le}
 use lib.Seq.{drop-cons}
-use Rattle.std.specs.Iterator.{MakesProgress, item_count}
 use Rattle.std.specs.List.{fold, enumerate_from}
-use Rattle.std.specs.Prelude.{Some}
 use Rattle.std.proofs.lemmas.List.Sums.{fold-append}
 use Rattle.lists.specs.Gather.{gathered, each}
 use Rattle.lists.proofs.Gather.{length_each, get_or_each, each_head, each_ext}
@@ -25,10 +23,6 @@ module _ {A : Type 0} (n m i : ℕ) (f : ℕ → A) (e : m ≡ n) where
 
   pub none_left : m ≤ i → drop i (each n f) ≡ []
   none_left h = drop_of_length-le (each n f) (rw length_each (subst (λ k. k ≤ i) e h))
-
--- an item lowers the number of those that are left
-pub lowered : {S A : Type 0} (rest : S → List A) (s t : S) (x : A) → rest s ≡ x ∷ rest t → MakesProgress (λ _. Unit {0}) (item_count rest) s (Some x) t
-lowered rest s t x e = record { on = λ _. (tt, tt, omega (arith, ap length e)); keeps = tt; rests = λ _. tt }
 
 -- a fold takes the steps that F counts
 pub fold_each : {A B : Type 0} (F : ℕ → B) (h : B → A → B) (f : ℕ → A) → ((k : ℕ) → F (suc k) ≡ h (F k) (f k)) → (n : ℕ) → fold h (F 0) (each n f) ≡ F n

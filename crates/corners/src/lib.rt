@@ -39,6 +39,7 @@ impl<'a> Ring<'a> {
         self.corners.len()
     }
 
+    #[tactic(auto, using(crate::proofs::Corners::backward, crate::proofs::Corners::forward, crate::proofs::Corners::no_corner))]
     fn node(self, i: usize) -> u32
         ensures { result ≡ get_or (as_read self.entry) i 0 }
     {
@@ -154,6 +155,7 @@ impl<'a> Iterator for Points<'a> {
 
     ghost remaining = { item_count points_left };
 
+    #[tactic(auto, using(crate::proofs::Steps::one_left, crate::proofs::Steps::none_left))]
     fn next(&mut self) -> Option<Point> {
         let i = self.at;
         if i < self.ring.len() {
@@ -178,6 +180,7 @@ impl<'a> Iterator for Edges<'a> {
 
     ghost remaining = { item_count edges_left };
 
+    #[tactic(auto, using(crate::proofs::Steps::one_left, crate::proofs::Steps::none_left))]
     fn next(&mut self) -> Option<(Point, Point)> {
         let i = self.at;
         let n = self.ring.len();
