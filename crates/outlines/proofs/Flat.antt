@@ -2,19 +2,21 @@
 use mathlib.Core.Path.{◌≡◌, refl, sym, ap, ap₂, subst, ◌∙◌}
 use mathlib.Core.Bool.{Bool, true, false, ◌||◌}
 use mathlib.Core.List.{List, [], ◌∷◌, ◌++◌, map, append-nil, append_assoc}
-use Prim.Native.Nat.{ℕ, ◌+◌, ◌*◌, ◌≤◌, ◌<◌}
+use Prim.Native.Nat.{ℕ, ◌+◌, ◌*◌, ◌/◌, ◌≤◌, ◌<◌}
 use native.Mathlib.Omega.{arith}
 use lib.Dec.{eqb}
 use lib.ListN.{length, get_or, set, take, drop, length-append, length-set, length-drop}
 use borrow.Author.Tests.{eq-eqb, ne_eqb}
 use Rattle.std.specs.List.{list_any}
+use Rattle.std.specs.Simd.{first_chunks}
 use Rattle.lists.specs.Gather.{joined}
 use Rattle.lists.specs.Regions.{front, put}
 use Rattle.lists.proofs.Regions.{put_none, front_put}
 use Rattle.cutting.specs.Edges.{Edge, same_key, reversed_if, hops}
 use Rattle.cutting.specs.Cell.{windows, or_ends, darts_along, own_darts, among, repeats}
-use Rattle.cutting.specs.Lent.{flat_edges, pair_of}
+use Rattle.cutting.specs.Lent.{flat_edges, pair_of, pairs}
 use Rattle.outlines.specs.Meets.{edges_meet}
+use Rattle.cutting.proofs.Chunks.{chunked}
 use Rattle.cutting.proofs.Pairs.{ends_more}
 
 -- ---- `lay_along`
@@ -101,10 +103,23 @@ unfolding among
 among_named e [] = refl
 among_named e (x ∷ es) = ap (λ (t : Bool). same_key (pair_of x) e || t) (among_named e es)
 
-pub meets_named : (es fs : List (List ℕ)) → list_any (λ x. named fs (pair_of x)) es ≡ edges_meet (map pair_of es) (map pair_of fs)
+meets_named : (es fs : List (List ℕ)) → list_any (λ x. named fs (pair_of x)) es ≡ edges_meet (map pair_of es) (map pair_of fs)
 unfolding edges_meet
 meets_named [] fs = refl
 meets_named (x ∷ es) fs = ap₂ (λ (s t : Bool). s || t) (among_named (pair_of x) fs) (meets_named es fs)
+
+pub meets_pairs : (r : Bool) (edges others : List ℕ) (es fs : List (List ℕ)) → es ≡ first_chunks 2 (length edges / 2) edges → fs ≡ first_chunks 2 (length others / 2) others
+    → r ≡ list_any (λ x. named fs (pair_of x)) es → r ≡ edges_meet (pairs edges) (pairs others)
+meets_pairs r edges others es fs e f is =
+    is ∙ meets_named es fs ∙ ap₂ edges_meet (ap (map pair_of) e ∙ chunked edges) (ap (map pair_of) f ∙ chunked others)
+
+-- ---- the edges that are left say what all say
+
+abbrev pub said : List (List ℕ) → Bool
+said es = repeats (map pair_of es)
+
+pub all_said : (edges : List ℕ) (es : List (List ℕ)) → es ≡ first_chunks 2 (length edges / 2) edges → said es ≡ repeats (pairs edges)
+all_said edges es e = ap repeats (ap (map pair_of) e ∙ chunked edges)
 
 pub repeats_loop : (x : List ℕ) (es : List (List ℕ)) → get_or x 0 0 ≡ get_or x 1 0 → repeats (map pair_of (x ∷ es)) ≡ true
 unfolding repeats

@@ -61,6 +61,7 @@ fn any_among(edges: &[[u32; 2]], others: &[[u32; 2]]) -> bool
 }
 
 // Whether a flat list of pairs passes between the same two nodes twice or from a node to itself.
+#[tactic(auto, using(crate::proofs::Flat::all_said, crate::proofs::Flat::repeats_loop, crate::proofs::Flat::repeats_on, crate::proofs::Flat::repeats_none))]
 pub fn edges_repeat(edges: &[u32]) -> bool
     ensures { result ≡ repeats (pairs edges.now) }
 {
@@ -75,6 +76,7 @@ pub fn edges_repeat(edges: &[u32]) -> bool
 }
 
 // Whether two flat lists of pairs have an edge between the same two nodes.
+#[tactic(auto, using(crate::proofs::Flat::meets_pairs))]
 pub fn edges_meet(edges: &[u32], others: &[u32]) -> bool
     ensures { result ≡ edges_meet (pairs edges.now) (pairs others.now) }
 {
