@@ -1,5 +1,5 @@
 -- Darts in a flat list of pairs, and whether edges of such lists are between the same two nodes. Assumes nothing.
-use mathlib.Core.Path.{◌≡◌, refl, sym, ap, ap₂, subst, ◌∙◌}
+use mathlib.Core.Path.{◌≡◌, refl, sym, ap, ap₂, ◌∙◌}
 use mathlib.Core.Bool.{Bool, true, false, ◌||◌}
 use mathlib.Core.List.{List, [], ◌∷◌, ◌++◌, map, append-nil, append_assoc}
 use Prim.Native.Nat.{ℕ, ◌+◌, ◌*◌, ◌/◌, ◌≤◌, ◌<◌}
@@ -20,10 +20,6 @@ use Rattle.cutting.proofs.Chunks.{chunked}
 use Rattle.cutting.proofs.Pairs.{ends_more}
 
 -- ---- `lay_along`
-
--- a list comes to hold the darts in front: r entries
-abbrev pub Holds : List Edge → ℕ → List ℕ → List ℕ → Type 0
-Holds darts r list list' = (r ≡ 2 * length darts) × (list' ≡ front list (flat_edges darts))
 
 -- those of the first windows are laid; the rest of the nodes has the others
 pub record Laying (inv : Bool) (nodes list₀ list rest : List ℕ) (k : ℕ) : Type 0 where
@@ -47,9 +43,9 @@ windows_none (x ∷ []) h = refl
 windows_none (x ∷ y ∷ rest) h = absurd (omega arith)
 
 module _ (inv : Bool) (nodes list₀ : List ℕ) where
-  pub laying_start : Laying inv nodes list₀ list₀ nodes 0
+  pub laying_start : (rest : List ℕ) → rest ≡ nodes → Laying inv nodes list₀ list₀ rest 0
   unfolding flat_edges joined
-  laying_start = record { same = refl; done = []; count = omega arith; low = omega arith; left = refl; held = sym (put_none list₀ 0) }
+  laying_start rest e = rw e (record { same = refl; done = []; count = omega arith; low = omega arith; left = refl; held = sym (put_none list₀ 0) })
 
   module _ (list rest : List ℕ) (k : ℕ) (v : Laying inv nodes list₀ list rest k) where
     pub laying_turn : (pair rest' : List ℕ) (e : Edge) → 2 ≤ length rest → pair ≡ take 2 rest → rest' ≡ drop 1 rest → e ≡ reversed_if inv (pair_of pair)
@@ -67,7 +63,7 @@ module _ (inv : Bool) (nodes list₀ : List ℕ) where
           held = ends_more list₀ list 0 k e.0 e.1 v.done e (omega arith) (omega (arith, v.count)) fits v.held refl refl;
         }
 
-    pub laying_end : length rest < 2 → Holds (map (reversed_if inv) (windows nodes)) k list₀ list
+    pub laying_end : length rest < 2 → (k ≡ 2 * length (map (reversed_if inv) (windows nodes))) × (list ≡ front list₀ (flat_edges (map (reversed_if inv) (windows nodes))))
     laying_end h =
         let all : v.done ≡ map (reversed_if inv) (windows nodes) = sym (append-nil v.done) ∙ ap (λ (es : List Edge). v.done ++ map (reversed_if inv) es)
         (sym (windows_none rest h)) ∙ v.left in
@@ -75,23 +71,22 @@ module _ (inv : Bool) (nodes list₀ : List ℕ) where
 
 -- ---- `lay_own_edge`
 
-module _ (a b : ℕ) (nodes : List ℕ) (r : ℕ) (list list' : List ℕ) where
-  pub lay_whole : length nodes ≡ 0 → Holds (map (reversed_if (eqb b a)) (windows (a ∷ b ∷ []))) r list list' → Holds (own_darts (record { edge = (a, b); nodes = nodes })) r list list'
+module _ (a b : ℕ) (nodes : List ℕ) where
+  pub own_edge : length nodes ≡ 0 → own_darts (record { edge = (a, b); nodes = nodes }) ≡ map (reversed_if (eqb b a)) (windows (a ∷ b ∷ []))
   unfolding own_darts darts_along
-  lay_whole h x = go nodes h
+  own_edge h = go nodes h
     where
-      go : (ns : List ℕ) → length ns ≡ 0 → Holds (darts_along b (or_ends (a, b) ns)) r list list'
-      go [] h = x
+      go : (ns : List ℕ) → length ns ≡ 0 → darts_along b (or_ends (a, b) ns) ≡ map (reversed_if (eqb b a)) (windows (a ∷ b ∷ []))
+      go [] h = refl
       go (m ∷ ns) h = absurd (omega arith)
 
-  pub lay_nodes : (first : ℕ) → 0 < length nodes → first ≡ get_or nodes 0 0 → Holds (map (reversed_if (eqb b first)) (windows nodes)) r list list'
-      → Holds (own_darts (record { edge = (a, b); nodes = nodes })) r list list'
+  pub own_nodes : (first : ℕ) → 0 < length nodes → first ≡ get_or nodes 0 0 → own_darts (record { edge = (a, b); nodes = nodes }) ≡ map (reversed_if (eqb b first)) (windows nodes)
   unfolding own_darts darts_along
-  lay_nodes first h e x = go nodes h (subst (λ (m : ℕ). Holds (map (reversed_if (eqb b m)) (windows nodes)) r list list') e x)
+  own_nodes first h e = go nodes h ∙ ap (λ (m : ℕ). map (reversed_if (eqb b m)) (windows nodes)) (sym e)
     where
-      go : (ns : List ℕ) → 0 < length ns → Holds (map (reversed_if (eqb b (get_or ns 0 0))) (windows ns)) r list list' → Holds (darts_along b (or_ends (a, b) ns)) r list list'
-      go [] h x = absurd (omega arith)
-      go (m ∷ ns) h x = x
+      go : (ns : List ℕ) → 0 < length ns → darts_along b (or_ends (a, b) ns) ≡ map (reversed_if (eqb b (get_or ns 0 0))) (windows ns)
+      go [] h = absurd (omega arith)
+      go (m ∷ ns) h = refl
 
 -- ---- `is_among`, `edges_repeat`, `edges_meet`: a flat list of pairs as arrays of two
 

@@ -12,6 +12,7 @@ ghost use Rattle.outlines.specs.Meets.{edges_meet};
 use keys::SortedKey;
 
 // Writes the darts along the nodes, each the other way where `inv` is true, to the front of a flat list of pairs. Answers how many entries they take.
+#[tactic(auto, using(crate::proofs::Flat::laying_start))]
 fn lay_along(inv: bool, nodes: &[u32], darts: &mut [u32]) -> usize
     requires { 2 * length nodes.now ≤ length darts.old + 2 }
     ensures { (result ≡ 2 * length (map (reversed_if inv) (windows nodes.now)))
@@ -34,6 +35,7 @@ fn lay_along(inv: bool, nodes: &[u32], darts: &mut [u32]) -> usize
 }
 
 // The same for the cell's own edge from a to b, by its sorted nodes (none: the edge itself).
+#[tactic(auto, using(crate::proofs::Flat::own_edge, crate::proofs::Flat::own_nodes))]
 pub fn lay_own_edge(a: u32, b: u32, nodes: &[u32], darts: &mut [u32]) -> usize
     requires { 2 * length nodes.now + 2 ≤ length darts.old }
     ensures { (result ≡ 2 * length (own_darts (record { edge = (a, b); nodes = nodes.now })))

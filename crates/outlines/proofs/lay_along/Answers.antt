@@ -1,28 +1,13 @@
-use mathlib.Core.Path.{◌≡◌, sym, ap, subst, ◌∙◌}
+use mathlib.Core.Path.{◌≡◌, sym, ap, ◌∙◌}
 use mathlib.Core.Bool.{Bool}
-use mathlib.Core.List.{List}
 use Prim.Native.Nat.{ℕ, ◌≤◌}
 use native.Mathlib.Omega.{arith}
 use lib.ListN.{length, take}
-use Rattle.std.specs.declared.slice.Windows.{Windows}
 use Rattle.cutting.specs.Edges.{reversed_if}
 use Rattle.cutting.specs.Lent.{pair_of}
-use Rattle.outlines.proofs.Flat.{Laying, laying_start, laying_turn, laying_end}
+use Rattle.outlines.proofs.Flat.{laying_turn, laying_end}
 use Rattle.outlines.proofs.lay_along.Goals as goal
 use Rattle.outlines.proofs.lay_along.Goals.{then-inv, else-inv}
-
-pub loop-pair-init : goal.loop-pair-init
-loop-pair-init c =
-    let a = c.args in
-    let i = c.into_iter-pair-iterator in
-    let w = c.windows-pair-items in
-    let size : i.result.size ≡ 2 = ap (λ (s : Windows ℕ). s.size) i.ensures.into_iter_gives ∙ w.ensures.size in
-    let rest : i.result.rest.now ≡ a.nodes.now = ap (λ (s : Windows ℕ). s.rest.now) i.ensures.into_iter_gives ∙ w.ensures.rest in (
-      omega arith,
-      tt,
-      size,
-      subst (λ (l : List ℕ). Laying a.inv a.nodes.now a.darts.now a.darts.now l 0) (sym rest) (laying_start a.inv a.nodes.now a.darts.now),
-    )
 
 pub loop-pair-preserved : goal.loop-pair-preserved
 loop-pair-preserved c =
