@@ -70,6 +70,7 @@ fn settle(n: usize, i: usize, r: Reached, b: Near) -> Near
     b
 }
 
+#[tactic(auto, using(corners::proofs::Steps::length_edges))]
 fn nearest(ring: Ring, p: Point) -> Near
     ensures { result ≡ nearest ring.entry.coords.now (as_read ring.entry) p }
 {

@@ -24,10 +24,11 @@ use Rattle.std.proofs.lemmas.List.Folds.{list_all-append, fold_stuck}
 use Rattle.lists.specs.Search.{bit}
 use Rattle.lists.specs.Gather.{gathered, each, all, tally}
 use Rattle.lists.specs.Sort.{sorted}
-use Rattle.lists.proofs.Gather.{all_snoc, tally_le}
+use Rattle.lists.proofs.Gather.{length_each, all_snoc, tally_le}
+use Rattle.lists.proofs.Sort.{length_sorted}
 use Rattle.plane.specs.Plane.{is_number}
 use Rattle.corners.specs.Corners.{corner_at, corner_after}
-use Rattle.polygons.specs.Interior.{height_at, foot, passed, crossed, crossing_at, lowest}
+use Rattle.polygons.specs.Interior.{height_at, heights, foot, passed, crossed, crossing_at, lowest}
 use Rattle.polygons.specs.Scans.{exceeds, first_above, closer, up_to, climbed, climb_to, taken, with_crossing}
 use Rattle.plane.specs.declared.Point.{Point}
 use Rattle.plane.proofs.FloatOrder.{lt_irrefl}
@@ -112,32 +113,39 @@ fewer_above h (z ∷ zs) y e = go (fewer_above h zs y) (above_is h (z ∷ zs) y 
         rw none (omega (arith, rest k))
     go i k false f g = rw (not_back h z y f k) (omega (arith, i g))
 
--- c is reached after i steps; fewer heights are above it than steps are left
-abbrev pub Climbed : ℕ → List Float → Climb → Type 0
-Climbed n ys c = (i : ℕ) × (c ≡ climb_to i ys) × (i + tally (exceeds c.at) ys ≤ n)
+-- c is reached after some steps; fewer heights are above it than steps are left
+pub record Climbed (n : ℕ) (ys : List Float) (c : Climb) : Type 0 where
+  pub steps : ℕ
+  pub reached : c ≡ climb_to steps ys
+  pub room : steps + tally (exceeds c.at) ys ≤ n
+
+pub length_heights : (cs : List Float) (ps : List ℕ) → length (sorted lt (heights cs ps)) ≡ length ps
+unfolding heights
+length_heights cs ps = length_sorted lt (heights cs ps) ∙ length_each (length ps) (height_at cs ps)
 
 pub at_foot : (n : ℕ) (ys : List Float) → length ys ≡ n → Climbed n ys foot
 unfolding climb_to
-at_foot n ys e = (0, refl, omega (arith, e, tally_le (exceeds None) ys))
+at_foot n ys e = record { steps = 0; reached = refl; room = omega (arith, e, tally_le (exceeds None) ys) }
 
 module _ (n : ℕ) (ys : List Float) (c : Climb) (h : Option Float) (e : h ≡ first_above c.at ys) where
-  module _ (y : Float) (is : h ≡ Some y) where
-    pub fewer_left : tally (exceeds (passed c y).at) ys < tally (exceeds c.at) ys
-    fewer_left = rw (passed_at c y) (fewer_above c.at ys y (sym e ∙ is))
+  module _ (y : Float) (c' : Climb) (is : h ≡ Some y) (next : c' ≡ passed c y) where
+    pub fewer_left : tally (exceeds c'.at) ys < tally (exceeds c.at) ys
+    fewer_left = rw (next, passed_at c y) (fewer_above c.at ys y (sym e ∙ is))
 
-    pub one_up : Climbed n ys c → Climbed n ys (passed c y)
+    pub one_up : Climbed n ys c → Climbed n ys c'
     unfolding climb_to climbed
-    one_up l = (
-      suc l.0,
-      ap (λ o. up_to o c) (sym is ∙ e) ∙ ap (climbed ys) l.1,
-      omega (arith, l.2, fewer_left),
-    )
+    one_up l =
+        record {
+          steps = suc l.steps;
+          reached = next ∙ ap (λ o. up_to o c) (sym is ∙ e) ∙ ap (climbed ys) l.reached;
+          room = omega (arith, l.room, fewer_left);
+        }
 
   -- where none is above, more steps change nothing
   pub at_top : h ≡ None → Climbed n ys c → c ≡ climb_to n ys
   at_top is l =
-      let s : n - l.0 + l.0 ≡ n = omega (arith, l.2) in
-      stays (n - l.0) l.0 ys c l.1 (sym e ∙ is) ∙ ap (λ (k : ℕ). climb_to k ys) s
+      let s : n - l.steps + l.steps ≡ n = omega (arith, l.room) in
+      stays (n - l.steps) l.steps ys c l.reached (sym e ∙ is) ∙ ap (λ (k : ℕ). climb_to k ys) s
 
 -- ---- `try_fold` with an `Option`: it goes on while there is one
 

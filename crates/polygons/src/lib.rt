@@ -82,6 +82,7 @@ fn passed(c: Climb, y: f64) -> Climb
 }
 
 // From height to height, until none is above.
+#[tactic(auto, using(crate::proofs::Steps::length_heights, crate::proofs::Steps::at_foot, crate::proofs::Steps::fewer_left, crate::proofs::Steps::one_up))]
 fn climbs(ring: Ring) -> Climb
     ensures { result ≡ climb_to (length (as_read ring.entry)) (sorted lt (heights ring.entry.coords.now (as_read ring.entry))) }
 {

@@ -1,8 +1,6 @@
 -- `insides::nearest` meets its contract: the closest place is kept from edge to edge. Assumes nothing.
-use mathlib.Core.Path.{◌≡◌, refl, ap, ◌∙◌}
-use mathlib.Core.Logic.{inl}
+use mathlib.Core.Path.{refl, ap, ◌∙◌}
 use Prim.Native.Nat.{ℕ}
-use native.Mathlib.Omega.{arith}
 use lib.Ieee.{of_bits}
 use lib.ListN.{length}
 use Rattle.std.specs.List.{fold, enumerate_from}
@@ -10,16 +8,10 @@ use Rattle.std.proofs.Common.{rules}
 use Rattle.std.proofs.lemmas.Iterator.Consumers.{fold_from_yields_List, YieldsList-from_first, YieldsList-from_enumerate, YieldsList-at}
 use Rattle.plane.specs.declared.Point.{Point}
 use Rattle.corners.specs.Ring.{as_read, edge_at, edges, edges_left}
-use Rattle.corners.proofs.Steps.{fold_counted, length_edges}
+use Rattle.corners.proofs.Steps.{fold_counted}
 use Rattle.insides.specs.Inside.{ortho_dist2, settle, nearer_edge, nearest_among, nearest}
 use Rattle.insides.specs.declared.Near.{Near}
 use Rattle.insides.proofs.nearest.Goals as goal
-
-pub fold-requires-clause-can : goal.fold-requires-clause-can
-fold-requires-clause-can c =
-    let r = c.args.ring in
-    let e : length (edges_left c.enumerate.result.iter) ≡ length r.corners.now = ap (λ s. length (edges_left s)) c.enumerate.ensures.source ∙ ap length c.edges.ensures ∙ length_edges r in
-    (tt, tt, inl (omega (arith, c.enumerate.ensures.count, e, c.ranges.ring)))
 
 pub returns : goal.returns
 unfolding nearest nearest_among nearer_edge of_bits
