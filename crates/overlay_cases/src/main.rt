@@ -1,18 +1,14 @@
 // Answers stored inputs, each a file named by an argument: its name, then what `overlay_main` writes for it.
 #![tactic(auto)]
 
+use program::{MOST_READ, MOST_WRITTEN};
 use std::env::Args;
 use std::io::Read;
 use std::rt::Files;
 use std::{env, fs, io};
 
-// A text of more than 65,536 bytes is refused, so one byte more is read.
-const MOST_READ: u64 = 65537;
-
-// Holds any answer.
-const MOST_WRITTEN: usize = 278580;
-
-// the file of this name
+// The file of this name: overlay_main's lines over another source. A function of both has no place: a library's public function has a contract that settles its
+// answer, and std's say nothing of what is printed.
 fn replay(rt: &(impl Files + Print + AllocGlobal), name: &str) -> io::Result<()> {
     rt.println(name)?;
     let mut text = Vec::new(rt.alloc());

@@ -1,14 +1,9 @@
 // Reads two meshes, overlays them and prints the answer.
 #![tactic(auto)]
 
+use program::{MOST_READ, MOST_WRITTEN};
 use std::io;
 use std::io::Read;
-
-// A text of more than 65,536 bytes is refused, so one byte more is read.
-const MOST_READ: u64 = 65537;
-
-// Holds any answer.
-const MOST_WRITTEN: usize = 278580;
 
 fn main(rt: HostRuntime) -> io::Result<()> {
     let mut text = Vec::new(rt.alloc());

@@ -1,5 +1,5 @@
 -- From the contracts of reading, overlay and printing to the program's answer. Assumes nothing.
-use mathlib.Core.Path.{◌≡◌, refl, ap, subst, ◌∙◌}
+use mathlib.Core.Path.{◌≡◌, refl, sym, ap, subst, ◌∙◌}
 use mathlib.Core.List.{List, [], ◌++◌}
 use Prim.Native.Nat.{ℕ, ◌+◌, ◌≤◌}
 use native.Mathlib.Omega.{arith}
@@ -13,7 +13,7 @@ use Rattle.rules.specs.Meetings.{added_by, scene_of}
 use Rattle.rules.specs.Overlay.{Lists, Result as Answered, lent_lists, answered as succeeded, answered_with, overlay_of}
 use Rattle.rules.proofs.Endings.{Ending, input, state_met, success, ending, input_refused, state_refused, succeeds}
 use Rattle.rules.proofs.Lengths.{accepted_fits}
-use Rattle.text.specs.Text.{answer_text}
+use Rattle.text.specs.Text.{unread, answer_text}
 use Rattle.text.specs.Read.{input_from}
 use Rattle.text.specs.Given.{Given, Parsed, ReadMesh, Limits, limits}
 use Rattle.std.specs.Prelude.{None, Some, Result, Ok, Err, IfOk}
@@ -25,7 +25,6 @@ use Rattle.overlay.specs.Shown.{answer_of}
 use Rattle.printing.specs.Page.{Place, Prints}
 use Rattle.printing.specs.Told.{told}
 use Rattle.printing.specs.declared.Listing.{Listing}
-use Rattle.printing.specs.declared.Answer.TheVariants as printed
 use Rattle.program.specs.Answered.{read_limits, lent, blank, result_told, overlay_told, answer_given, answer_to}
 use Rattle.program.specs.Printed.{printed_of}
 
@@ -97,9 +96,9 @@ module _ (s : List ℕ) where
   answer_read g e = ap (λ x. answer_text (answer_given x)) (e ∙ ap (λ l. input_from l l s) most_read)
 
   -- malformed
-  pub unread_printed : (v : Listing) (r : Place) (o u : List ℕ) → None ≡ input_from whole whole s → Prints r o u (answer_text (told printed.Unread v)) → Prints r o u (answer_to s)
-  unfolding told answer_given
-  unread_printed v r o u e h = rw (answer_read None e) at h
+  pub unread_answer : None ≡ input_from whole whole s → answer_to s ≡ answer_text unread
+  unfolding answer_given
+  unread_answer e = sym (answer_read None e)
 
   -- read, and overlaid
   pub read_printed : (op m : ℕ) (subject cutter : ReadMesh) (x y : Mesh) (o u : List ℕ) (r : Place)

@@ -26,8 +26,8 @@ use Rattle.text.specs.Read.{input_from}
 use Rattle.text.specs.Given.{Given, Parsed}
 use Rattle.std.specs.Prelude.{None, Some}
 use Rattle.text.proofs.Sizes.{Rising, no_end, end, overlay_size, refused_size}
-use Rattle.std.specs.Prelude.{Ok, is_ok}
-use Rattle.printing.specs.Page.{Place, Prints, room_for, laid_over}
+use Rattle.std.specs.Prelude.{Ok}
+use Rattle.printing.specs.Page.{room_for, laid_over}
 use Rattle.printing.specs.Told.{bits}
 use Rattle.program.specs.Answered.{read_limits, lent, blank, result_told, overlay_told, answer_given, answer_to}
 
@@ -110,18 +110,8 @@ answer_whole t o h = rw (le-leb (length (answer_to t)) (length o) (le_trans (ans
 
 -- ---- in a list of at least so many bytes
 
-laid_front : (t o : List ℕ) → length t ≤ length o → laid_over o t ≡ front o t
+pub laid_front : (t o : List ℕ) → length t ≤ length o → laid_over o t ≡ front o t
 unfolding laid_over front
 laid_front t o h = rw (take_all (length o) t h) refl
 
-module _ (t o u : List ℕ) (r : Place) (h : 278580 ≤ length o) (got : Prints r o u (answer_to t)) where
-  reply_ok : r ≡ Ok (length (answer_to t))
-  reply_ok = got.place ∙ answer_whole t o h
-
-  pub reply_is_ok : is_ok r ≡ true
-  reply_is_ok = rw reply_ok refl
-
-  pub reply_at : (p : ℕ) → r ≡ Ok p → (p ≡ length (answer_to t)) × (u ≡ front o (answer_to t)) × (p ≤ 278580)
-  reply_at p e =
-      let at : p ≡ length (answer_to t) = cc (e, reply_ok) in
-      (at, got.bytes ∙ laid_front (answer_to t) o (le_trans (answer_size t) h), rw at (answer_size t))
+pub ruleset reply_steps = (answer_size, answer_whole, laid_front)

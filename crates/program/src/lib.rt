@@ -16,6 +16,12 @@ use reading::MeshLists;
 use refusals::Refusal;
 use views::{MeshView, OutputView};
 
+// A text of more than 65,536 bytes is refused, so a program reads one byte more.
+pub const MOST_READ: u64 = 65537;
+
+// Holds any answer.
+pub const MOST_WRITTEN: usize = 278580;
+
 // what is printed of an overlay's answer: `nodes` are those of both meshes
 fn told(nodes: u32, answer: Result<overlay::Counts, Refusal>) -> Answer
     requires { IfOk answer (λ k. nodes + k.points ≤ 4294967295) }
@@ -105,6 +111,7 @@ fn cut(
 }
 
 // The answer to the text s, from the first place of `out` on.
+#[tactic(auto, unfolding(printing::specs::Told::told), using(crate::proofs::Answers::unread_answer))]
 pub fn answer(s: &[u8], out: &mut [u8]) -> Result<usize, Full>
     ensures { Prints result out.old out.new (answer_to s.now) }
 {
@@ -141,6 +148,7 @@ pub fn answer(s: &[u8], out: &mut [u8]) -> Result<usize, Full>
 }
 
 // The same in a list that holds any answer: how many bytes it has.
+#[tactic(auto, using(crate::proofs::Sizes::reply_steps))]
 pub fn reply(s: &[u8], out: &mut [u8]) -> usize
     requires { 278580 ≤ length out.old }
     ensures { (result ≡ length (answer_to s.now)) × (out.new ≡ front out.old (answer_to s.now)) × (result ≤ 278580) }

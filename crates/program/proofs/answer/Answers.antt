@@ -1,11 +1,6 @@
 -- `program::answer` meets its contract. Assumes nothing.
-use Rattle.program.proofs.Answers.{unread_printed, read_printed}
+use Rattle.program.proofs.Answers.{read_printed}
 use Rattle.program.proofs.answer.Goals as goal
-
-pub returns-in_default : goal.returns-in_default
-returns-in_default c =
-    let w = c.print_answer in
-    unread_printed c.args.s.now _ w.result c.args.out.now w.new.out c.in_default.ensures.read w.ensures
 
 pub returns : goal.returns
 returns c =
