@@ -6,6 +6,7 @@
 
 use corners::Ring;
 use plane::{Point, point_at};
+use reading_lines::words::{coordinate_of, hex_of};
 use segments::{Meeting, Segment};
 use std::alloc::Global;
 use std::cmp::Ordering;
@@ -32,32 +33,14 @@ impl fmt::Display for Bits {
     }
 }
 
-// Words are not read by crate reading_lines: its numbers have 16 digits or are none, and here a shorter or malformed word has a value too.
-#[tactic(auto, using(std::proofs::lemmas::Float::not_nan_f64_bits))]
-fn float_of(bits: u64) -> f64 {
-    if bits % 0x8000_0000_0000_0000 <= 0x7ff0_0000_0000_0000 {
-        f64::from_bits(bits)
-    } else {
-        f64::NAN
-    }
-}
-
-// A hexadecimal digit's value; any other character counts as 0.
-fn digit(b: u8) -> u64 {
-    match b {
-        b'0'..=b'9' => (b - b'0') as u64,
-        b'a'..=b'f' => (b - b'a') as u64 + 10,
-        _ => 0,
-    }
-}
-
-// The number that the first 16 digits of a word are the bits of.
+// The number that the first 16 digits of a word are the bits of; any other character counts as 0. Words are not read by reading_lines' `read_hex`: its numbers
+// have 16 digits or are none, and here a shorter or malformed word has a value too.
 fn number(word: &[u8]) -> f64 {
     let mut bits = 0;
     for b in word.iter().take(16) {
-        bits = bits << 4 | digit(*b);
+        bits = bits << 4 | hex_of(*b).unwrap_or(0);
     }
-    float_of(bits)
+    coordinate_of(bits)
 }
 
 // ---- Answers
