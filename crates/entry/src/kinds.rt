@@ -4,6 +4,7 @@ ghost use Rattle.entry.specs.Named.{NamesKind};
 ghost use Rattle.entry.specs.Refused.{ends_ok, kind_ok, kinds_ok};
 
 use lists::Runs;
+use views::MeshView;
 
 // A line; a triangle, a quadrilateral, a polygon.
 #[derive(Clone, Copy, Debug, PartialEq, Eq, PartialOrd, Ord)]
@@ -51,14 +52,15 @@ fn kind_ok(lines: bool, kind: u8, n: usize) -> bool
 }
 
 // A cell has as many nodes as its run is long.
-pub(crate) fn kinds_ok(lines: bool, kinds: &[u8], nodes: &[u32], ends: &[u32]) -> bool
-    requires as_many { length kinds.now ≡ length ends.now }
-    requires ends { ends_ok ends.now (length nodes.now) ≡ true }
-    ensures { result ≡ kinds_ok lines kinds.now ends.now }
+pub(crate) fn kinds_ok(lines: bool, mesh: &MeshView) -> bool
+    requires as_many { length mesh.now.kinds.now ≡ length mesh.now.ends.now }
+    requires ends { ends_ok mesh.now.ends.now (length mesh.now.nodes.now) ≡ true }
+    ensures { result ≡ kinds_ok lines mesh.now.kinds.now mesh.now.ends.now }
 {
-    kinds.is_sorted()
-        && kinds
+    mesh.kinds.is_sorted()
+        && mesh
+            .kinds
             .iter()
-            .zip(Runs::new(nodes, ends))
+            .zip(Runs::new(mesh.nodes, mesh.ends))
             .all(|(kind, cell)| kind_ok(lines, *kind, cell.len()))
 }

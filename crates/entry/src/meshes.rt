@@ -25,7 +25,7 @@ fn check(lines: bool, mesh: &MeshView) -> Result<(), Refusal>
     if !coords_ok(mesh.coords) {
         return Err(Refusal::Coordinates);
     }
-    if !kinds_ok(lines, mesh.kinds, mesh.nodes, mesh.ends) {
+    if !kinds_ok(lines, mesh) {
         return Err(Refusal::Kinds);
     }
     if !nodes_ok(mesh.nodes, mesh.coords.len() / 2) {

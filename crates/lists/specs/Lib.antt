@@ -3,3 +3,4 @@ pub mod Gather
 pub mod Sort
 pub mod Regions
 pub mod Runs
+pub mod Same

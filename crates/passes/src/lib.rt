@@ -76,7 +76,7 @@ fn cell_by(n: usize, tag: u32) -> u32
     (if k < n { k } else { k - n }) as u32
 }
 
-// The kinds of the pieces with these tags, to the front of a list, by those of the subject's and the cutter's cells.
+// The kinds of the pieces with these tags, to the front of a list, by those of the subject's and the cutter's cells: one list behind the other.
 pub fn write_kinds(tags: &[u32], subject: &[u8], cutter: &[u8], kinds: &mut [u8])
     requires { length tags.now ≤ length kinds.old }
     ensures { kinds.new ≡ front kinds.old (map (kind_by subject.now cutter.now) tags.now) }

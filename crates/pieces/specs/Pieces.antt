@@ -1,7 +1,7 @@
 -- Which pieces are kept, and where they are placed. Assumes nothing.
 use Rattle.std.specs.Prelude.{◌≡◌, Bool, true, false, cond, Result, Ok, Err, List, [], ◌++◌, map, ℕ, zero, suc, ◌+◌, ◌-◌, ◌^◌, ◌≤◌, ◌<◌, eqb, length, replicate, Float, MatchResult}
 use Rattle.lists.specs.Regions.{put, zeros}
-use Rattle.views.specs.Same.{SameList}
+use Rattle.lists.specs.Same.{SameList}
 use Rattle.cutting.specs.Outcome.{flat, stops}
 use Rattle.entry.specs.Mesh.{mesh}
 use Rattle.rules.specs.Mesh.{cells_of, Side, the_subject, the_cutter}

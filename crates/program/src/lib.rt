@@ -76,7 +76,7 @@ fn view<'a>(lists: &'a MeshLists, counts: reading::Counts) -> MeshView<'a>
     }
 }
 
-// the answer for two meshes as read
+// the answer for two meshes as read, the operation by its number, which is read whatever it is
 fn cut(
     op: u32,
     m: u32,

@@ -2,7 +2,7 @@
 use Rattle.std.specs.Prelude.{ℕ, ◌-◌, ◌*◌, ◌≤◌, ◌≡◌, List, [], ◌++◌, length, take, drop, Float, Option, None, Some, option_map}
 use Rattle.lists.specs.Regions.{zeros, fzeros}
 use Rattle.text.specs.Given.{Parsed, ReadMesh, Limits, limits, Given}
-use Rattle.views.specs.Same.{SameList}
+use Rattle.lists.specs.Same.{SameList}
 use Rattle.reading.specs.declared.Counts.{Counts}
 use Rattle.reading.specs.declared.MeshLists.{MeshLists}
 use Rattle.reading.specs.declared.Input.{Input}

@@ -1,7 +1,7 @@
 -- The answers of the code that reads words and lines, as what was read and the rest of the text. Assumes nothing.
 use Rattle.std.specs.Prelude.{ℕ, List, take, [], ◌∷◌, Float, Option, option_map}
 use denote.Ref.{Bor}
-use Rattle.views.specs.Same.{SameList}
+use Rattle.lists.specs.Same.{SameList}
 use Rattle.text.specs.Read.{Heading, Cell}
 use Rattle.text.specs.Given.{Parsed, Cells, First}
 use Rattle.reading_lines.specs.declared.lines.Node.{Node}

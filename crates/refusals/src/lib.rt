@@ -54,6 +54,7 @@ impl From<Refusal> for u32 {
     }
 }
 
+// A sentence for each: no derive writes them.
 impl fmt::Display for Refusal {
     fn fmt<W: fmt::Write>(&self, f: &mut fmt::Formatter<W>) -> fmt::Result {
         f.write_str(match self {

@@ -1,13 +1,8 @@
 -- The lists of an output after a call that was lent it: the same lists, and what they are where it clears them. Assumes nothing.
-use Rattle.std.specs.Prelude.{◌≡◌, List, length}
-use denote.Ref.{MutBor}
+use Rattle.std.specs.Prelude.{◌≡◌, length}
 use Rattle.lists.specs.Regions.{zeros, fzeros}
+use Rattle.lists.specs.Same.{SameList}
 use Rattle.views.specs.declared.OutputView.{OutputView}
-
--- the same list, as long as it was, written or not
-pub record SameList {A : Type 0} (l m : MutBor (List A)) : Type 0 where
-  pub name : l.ghost_name ≡ m.ghost_name
-  pub long : length l.now ≡ length m.now
 
 pub record SameLists (l m : OutputView) : Type 0 where
   pub coords : SameList l.coords m.coords

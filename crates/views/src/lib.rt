@@ -26,6 +26,7 @@ pub struct OutputView<'a> {
     pub cells: &'a mut [u32],
 }
 
+// A mesh of five lists, which C hands over one by one.
 pub fn view<'a>(
     coords: &'a [f64],
     nodes: &'a [u32],
