@@ -13,5 +13,6 @@ pub mod Rows
 pub mod Reached
 pub mod Complete
 pub mod Searching
+pub mod Reading
 pub mod Uses
 pub mod Rounds

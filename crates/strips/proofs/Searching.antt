@@ -8,7 +8,7 @@ use Prim.Native.Nat.{ℕ, zero, suc, ◌+◌, ◌-◌, ◌≤◌, ◌<◌}
 use native.Mathlib.Nat.{max-le}
 use native.Mathlib.Omega.{arith}
 use lib.ListN.{length, get_or, take, drop, length-drop}
-use lib.Seq.{take_all, take_at, drop_at, drop-drop, length-take-le}
+use lib.Seq.{take_all, take_at, drop_at, drop-drop}
 use lib.Ieee.{Float}
 use Rattle.lists.specs.Gather.{each}
 use Rattle.lists.proofs.Gather.{gathered_at, length_each, get_or_each}
@@ -131,23 +131,6 @@ module _ (coords : List Float) (nodes ends : List ℕ) where
 
     pub levels_read : get_or ix 1 0 ≡ level_count coords nodes ends
     levels_read = ap (λ (l : List ℕ). get_or l 1 0) is ∙ index_levels coords nodes ends
-
-    -- so its parts can be split off
-    pub record Parts : Type 0 where
-      pub numbers : 2 ≤ length ix
-      pub first : get_or ix 0 0 ≤ length (take (length ix - 2) (drop 2 ix))
-      pub second : get_or ix 0 0 ≤ length (take (length ix - 2) (drop 2 ix)) - get_or ix 0 0
-      pub third : chain_count (thing_count nodes ends) ≤ length (take (length ix - 2) (drop 2 ix)) - get_or ix 0 0 - get_or ix 0 0
-
-    pub parts : Parts
-    parts =
-        let behind : length (take (length ix - 2) (drop 2 ix)) ≡ length ix - 2 = length-take-le (length ix - 2) (drop 2 ix) (omega (arith, length-drop 2 ix)) in
-        record {
-          numbers = omega (arith, index_long);
-          first = omega (arith, index_long, side_read, behind);
-          second = omega (arith, index_long, side_read, behind);
-          third = omega (arith, index_long, side_read, behind);
-        }
 
     whole : take (length ix - 2) (drop 2 ix) ≡ drop 2 ix
     whole = take_all (length ix - 2) (drop 2 ix) (omega (arith, length-drop 2 ix))

@@ -101,6 +101,7 @@ impl<'a> Things<'a> {
     }
 
     // The nodes at which the strips of one axis begin. The samples stand in `scratch` then.
+    #[tactic(auto, using(crate::proofs::Samples::samples_fit, crate::proofs::Samples::bound_is, crate::proofs::Sizes::side_range))]
     fn bound(&self, axis: Axis, bounds: &mut [u32], scratch: &mut [u32])
         requires { (length bounds.old ≡ strip_count (count_of self.now)) × (count_of self.now ≤ length scratch.old) }
         ensures { bounds.new ≡ bounds_in self.now axis }
