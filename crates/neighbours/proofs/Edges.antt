@@ -19,7 +19,7 @@ use Rattle.entry.proofs.Runs.{runs_are}
 use Rattle.rules.specs.Mesh.{cell_at, cells_of}
 use Rattle.rules.specs.Neighbours.{added, added_all, descending_to, compute_descending}
 use Rattle.rules.proofs.Rings.{length_ring}
-use Rattle.neighbours.specs.Chains.{cells_added}
+use Rattle.neighbours.specs.Held.{cells_added}
 
 -- ---- edges added
 

@@ -5,8 +5,8 @@ use mathlib.Core.List.{List, [], ◌∷◌, ◌++◌, append_assoc}
 use Prim.Native.Nat.{ℕ, ◌+◌, ◌*◌, ◌-◌, ◌≤◌, ◌<◌}
 use native.Mathlib.Omega.{arith}
 use lib.ListN.{length, get_or, set, take, drop, length-append, get_or-replicate}
-use lib.Seq.{length-take-le}
-use Rattle.std.proofs.lemmas.List.{drop_all}
+use lib.Seq.{length-take-le, get_or-set_other}
+use Rattle.std.proofs.lemmas.List.{drop_all, take-set-le, length-set}
 use Rattle.lists.specs.Search.{has}
 use Rattle.lists.specs.Regions.{front, zeros}
 use Rattle.lists.specs.Runs.{runs}
@@ -21,8 +21,9 @@ use Rattle.rules.specs.Neighbours.{added, added_all, compute_descending}
 use Rattle.rules.proofs.Rings.{side, ring_from, length_ring}
 use Rattle.keys.specs.Chains.{edge_chain}
 use Rattle.neighbours.specs.declared.EdgeLists.{EdgeLists}
-use Rattle.neighbours.specs.Chains.{Chained, edges_in, Room, Ready, SameLists, Cleared, Holds, Written, cells_added}
-use Rattle.neighbours.proofs.Edges.{length_added, length_added_all, ends_snoc, ends_pairs, corner_count, corner_count_more, fewer_corners, all_added, few_edges}
+use Rattle.neighbours.specs.Chains.{Chained}
+use Rattle.neighbours.specs.Held.{edges_in, Room, SameLists, Holds, cells_added}
+use Rattle.neighbours.proofs.Edges.{length_added, length_added_all, ends_snoc, ends_pairs, corner_count, corner_count_more, fewer_corners, all_added}
 use Rattle.neighbours.proofs.Chains.{key_at, chained_none, chained_more}
 
 -- ---- the edges that a list holds
@@ -39,106 +40,119 @@ same_both s t =
     }
 
 -- with room for some there is room for fewer
-pub ready_less : (k n : ℕ) (l : EdgeLists) → n ≤ k → Ready k l → Ready n l
-ready_less k n l h r = record { room = record { edges = omega (arith, r.room.edges); nexts = omega (arith, r.room.nexts); few = omega (arith, r.room.few); some = r.room.some }; chained = r.chained }
+pub room_less : (k n : ℕ) (l : EdgeLists) → n ≤ k → Room k l → Room n l
+room_less k n l h r = record { edges = omega (arith, r.edges); nexts = omega (arith, r.nexts); few = omega (arith, r.few) }
 
-module _ (l : EdgeLists) (fits : 2 * l.count ≤ length l.edges.now) where
+module _ (l : EdgeLists) where
   abbrev xs : List ℕ
   xs = take (2 * l.count) l.edges.now
 
   held : length xs ≡ 2 * l.count
-  held = length-take-le (2 * l.count) l.edges.now fits
+  held = length-take-le (2 * l.count) l.edges.now l.fits
 
   pub count : length (edges_in l) ≡ l.count
   count = omega (arith, pairs_length xs, held)
 
-  whole : l.edges.now ≡ front l.edges.now (flat_edges (edges_in l))
-  whole = sym (ap (front l.edges.now) (ends_pairs xs l.count held) ∙ front_take l.edges.now (2 * l.count) fits)
-
--- l holds its own edges
-pub as_it_stands : (n : ℕ) (l : EdgeLists) → Ready n l → Holds (edges_in l) l l
-as_it_stands n l r =
-    let fits : 2 * l.count ≤ length l.edges.now = omega (arith, r.room.edges) in
-    record { count = sym (count l fits); edges = whole l fits; chained = r.chained; same = same_none l }
+  -- l holds its own edges
+  pub as_it_stands : Holds (edges_in l) l l
+  as_it_stands =
+      record {
+        count = sym count;
+        edges = sym (ap (front l.edges.now) (ends_pairs xs l.count held) ∙ front_take l.edges.now (2 * l.count) l.fits);
+        same = same_none l;
+      }
 
 -- ---- one more edge
 
-module _ (l : EdgeLists) (a b : ℕ) (r : Ready 1 l) where
+module _ (l : EdgeLists) (a b : ℕ) where
   abbrev es : List Edge
   es = edges_in l
 
   abbrev k : ℕ
   k = l.count
 
-  abbrev c : ℕ
-  c = edge_chain (length l.heads.now) (a, b)
-
-  fits : 2 * k ≤ length l.edges.now
-  fits = omega (arith, r.room.edges)
+  pub linked_yet : (v : ℕ) → l.count ≤ length (set l.nexts.now l.count v)
+  linked_yet v = omega (arith, length-set l.nexts.now l.count v, l.linked)
 
   pub hit : has (key_at (take (2 * l.count) l.edges.now) a b) (length (edges_in l)) ≡ true → Holds (added (edges_in l) (a, b)) l l
   unfolding added
-  hit t = rw t (as_it_stands 1 l r)
+  hit t = rw t (as_it_stands l)
 
-  pub miss : has (key_at (take (2 * l.count) l.edges.now) a b) (length (edges_in l)) ≡ false → (m : EdgeLists) → SameLists m l → m.count ≡ l.count + 1
-      → m.edges.now ≡ set (set l.edges.now (2 * l.count) a) (2 * l.count + 1) b → (d : ℕ) → d ≡ edge_chain (length l.heads.now) (a, b)
-      → m.heads.now ≡ set l.heads.now d (l.count + 1) → m.nexts.now ≡ set l.nexts.now l.count (get_or l.heads.now d 0) → Holds (added (edges_in l) (a, b)) l m
-  unfolding added
-  miss t m same more e d at heads nexts =
-      let ys : List ℕ = take (2 * k) l.edges.now in
-      let ly : length ys ≡ 2 * k = held l fits in
-      let n : length es ≡ k = count l fits in
-      let flat : flat_edges (es ++ (a, b) ∷ []) ≡ ys ++ (a ∷ b ∷ []) = ends_snoc es (a, b) ∙ ap (λ (xs : List ℕ). xs ++ (a ∷ b ∷ [])) (ends_pairs ys k ly) in
-      let l₁ : length (ys ++ (a ∷ [])) ≡ 2 * k + 1 = simp (length-append, ly) in
-      let one : set l.edges.now (2 * k) a ≡ front l.edges.now (ys ++ (a ∷ [])) =
-      front_store l.edges.now l.edges.now ys (2 * k) a 0 ly (omega (arith, r.room.edges)) (sym (front_take l.edges.now (2 * k) fits)) in
-      let two : set (set l.edges.now (2 * k) a) (2 * k + 1) b ≡ front l.edges.now ((ys ++ (a ∷ [])) ++ (b ∷ [])) =
-      front_store l.edges.now (set l.edges.now (2 * k) a) (ys ++ (a ∷ [])) (2 * k + 1) b 0 l₁ (omega (arith, r.room.edges)) one in
-      let chained : Chained (es ++ (a, b) ∷ []) (set l.heads.now c (length es + 1)) (set l.nexts.now (length es) (get_or l.heads.now c 0)) =
-      chained_more es l.heads.now l.nexts.now (a, b) r.room.some (omega (arith, r.room.nexts, n)) r.chained in
-      rw t
-      record {
-        count = more ∙ simp (length-append, n);
-        edges = e ∙ two ∙ ap (front l.edges.now) (append_assoc ys (a ∷ []) (b ∷ []) ∙ sym flat);
-        chained = rw (heads, nexts, at) (rw n at chained);
-        same = same;
-      }
+  -- it is written behind the others
+  module _ (room : Room 1 l) (miss : has (key_at (take (2 * l.count) l.edges.now) a b) (length (edges_in l)) ≡ false) (edges : List ℕ)
+      (e : edges ≡ set (set l.edges.now (2 * l.count) a) (2 * l.count + 1) b) where
+    abbrev ys : List ℕ
+    ys = take (2 * l.count) l.edges.now
+
+    whole : edges ≡ front l.edges.now (flat_edges (es ++ (a, b) ∷ []))
+    whole =
+        let ly : length ys ≡ 2 * k = held l in
+        let flat : flat_edges (es ++ (a, b) ∷ []) ≡ ys ++ (a ∷ b ∷ []) = ends_snoc es (a, b) ∙ ap (λ (xs : List ℕ). xs ++ (a ∷ b ∷ [])) (ends_pairs ys k ly) in
+        let l₁ : length (ys ++ (a ∷ [])) ≡ 2 * k + 1 = simp (length-append, ly) in
+        let one : set l.edges.now (2 * k) a ≡ front l.edges.now (ys ++ (a ∷ [])) =
+        front_store l.edges.now l.edges.now ys (2 * k) a 0 ly (omega (arith, room.edges)) (sym (front_take l.edges.now (2 * k) l.fits)) in
+        let two : set (set l.edges.now (2 * k) a) (2 * k + 1) b ≡ front l.edges.now ((ys ++ (a ∷ [])) ++ (b ∷ [])) =
+        front_store l.edges.now (set l.edges.now (2 * k) a) (ys ++ (a ∷ [])) (2 * k + 1) b 0 l₁ (omega (arith, room.edges)) one in
+        e ∙ two ∙ ap (front l.edges.now) (append_assoc ys (a ∷ []) (b ∷ []) ∙ sym flat)
+
+    longer : length (es ++ (a, b) ∷ []) ≡ k + 1
+    longer = length-append es ((a, b) ∷ []) ∙ ap (λ (n : ℕ). n + 1) (count l)
+
+    -- the edges then, and their chains
+    now_held : pairs (take (2 * (l.count + 1)) edges) ≡ es ++ (a, b) ∷ []
+    now_held =
+        ap (λ (xs : List ℕ). pairs (take (2 * (k + 1)) xs)) whole
+        ∙ ap pairs (take_front_of l.edges.now (flat_edges (es ++ (a, b) ∷ [])) (2 * (k + 1)) (omega (arith, ends_length (es ++ (a, b) ∷ []), longer))) ∙ pairs_ends (es ++ (a, b) ∷ [])
+
+    pub chained_now : (d : ℕ) → d ≡ edge_chain (length l.heads.now) (a, b)
+        → Chained (pairs (take (2 * (l.count + 1)) edges)) (set l.heads.now d (l.count + 1)) (set l.nexts.now l.count (get_or l.heads.now d 0))
+    chained_now d at =
+        let n : length es ≡ k = count l in
+        let more : Chained (es ++ (a, b) ∷ []) (set l.heads.now (edge_chain (length l.heads.now) (a, b)) (length es + 1))
+        (set l.nexts.now (length es) (get_or l.heads.now (edge_chain (length l.heads.now) (a, b)) 0)) =
+        chained_more es l.heads.now l.nexts.now (a, b) l.some (omega (arith, room.nexts, n)) l.chained in
+        rw (now_held, at) (rw n at more)
+
+    -- before they are counted, those there are stay on theirs
+    pub chained_yet : (v : ℕ) → Chained (pairs (take (2 * l.count) edges)) l.heads.now (set l.nexts.now l.count v)
+    chained_yet v =
+        let same : take (2 * k) edges ≡ take (2 * k) l.edges.now =
+        ap (take (2 * k)) e ∙ take-set-le (2 * k) (set l.edges.now (2 * k) a) (2 * k + 1) b (omega arith) ∙ take-set-le (2 * k) l.edges.now (2 * k) a (omega arith) in
+        let n : length es ≡ k = count l in
+        rw same
+        record { head = l.chained.head; next = λ i h. get_or-set_other l.nexts.now k i v 0 (λ z. omega (arith, z, h, n)) ∙ l.chained.next i h }
+
+    pub missed : (m : EdgeLists) → SameLists m l → m.count ≡ l.count + 1 → m.edges.now ≡ edges → Holds (added (edges_in l) (a, b)) l m
+    unfolding added
+    missed m same more is = rw miss (record { count = more ∙ sym longer; edges = is ∙ whole; same = same })
 
 -- ---- more edges, one call after the other
 
 -- l has come to hold its edges, with room for n more
 pub record Adding (n : ℕ) (l₀ l : EdgeLists) : Type 0 where
-  pub ready : Ready n l
+  pub room : Room n l
   pub holds : Holds (edges_in l) l₀ l
 
-pub adding_none : (n : ℕ) (l : EdgeLists) → Ready n l → Adding n l l
-adding_none n l r = record { ready = r; holds = as_it_stands n l r }
+pub adding_none : (n : ℕ) (l : EdgeLists) → Room n l → Adding n l l
+adding_none n l r = record { room = r; holds = as_it_stands l }
 
 -- a call adds at most m edges: those behind it have their room
 pub adding_more : (k m n : ℕ) (l₀ l l' : EdgeLists) (es : List Edge) → m + n ≤ k → Adding k l₀ l → (length (edges_in l) ≤ length es) × (length es ≤ length (edges_in l) + m)
     → Holds es l l' → (edges_in l' ≡ es) × Adding n l₀ l'
 adding_more k m n l₀ l l' es h g grown t =
-    let r : Ready k l = g.ready in
-    let fits : 2 * l.count ≤ length l.edges.now = omega (arith, r.room.edges) in
-    let n₀ : length (edges_in l) ≡ l.count = count l fits in
+    let r : Room k l = g.room in
+    let n₀ : length (edges_in l) ≡ l.count = count l in
     let lf : length (flat_edges es) ≡ 2 * length es = ends_length es in
     let most : length es ≤ l.count + m = omega (arith, grown, n₀) in
-    let room : length (flat_edges es) ≤ length l.edges.now = omega (arith, lf, r.room.edges, most) in
-    let held : edges_in l' ≡ es =
-    rw (t.edges, t.count) (ap pairs (take_front_of l.edges.now (flat_edges es) (2 * length es) lf) ∙ pairs_ends es) in
+    let held : edges_in l' ≡ es = rw (t.edges, t.count) (ap pairs (take_front_of l.edges.now (flat_edges es) (2 * length es) lf) ∙ pairs_ends es) in
     let s : SameLists l' l = t.same in (
       held,
       record {
-        ready =
+        room =
             record {
-              room =
-                  record {
-                    edges = omega (arith, t.count, most, r.room.edges, s.edges.long);
-                    nexts = omega (arith, t.count, most, r.room.nexts, s.nexts.long);
-                    few = omega (arith, t.count, most, r.room.few);
-                    some = omega (arith, r.room.some, s.heads.long);
-                  };
-              chained = rw held t.chained;
+              edges = omega (arith, t.count, most, r.edges, s.edges.long);
+              nexts = omega (arith, t.count, most, r.nexts, s.nexts.long);
+              few = omega (arith, t.count, most, r.few);
             };
         holds =
             rw held
@@ -146,7 +160,6 @@ adding_more k m n l₀ l l' es h g grown t =
               count = t.count;
               edges = t.edges ∙ ap (λ (xs : List ℕ). front xs (flat_edges es)) g.holds.edges
                   ∙ front_front l₀.edges.now (flat_edges (edges_in l)) (flat_edges es) (omega (arith, grown, lf, ends_length (edges_in l)));
-              chained = t.chained;
               same = same_both s g.holds.same;
             };
       },
@@ -160,8 +173,8 @@ pub record InCell (cell : List ℕ) (l₀ l : EdgeLists) (i : ℕ) : Type 0 wher
   pub rest : added_all (edges_in l) (drop i (ring cell)) ≡ added_all (edges_in l₀) (ring cell)
 
 module _ (cell : List ℕ) (l₀ : EdgeLists) where
-  pub cell_start : Ready (length cell) l₀ → InCell cell l₀ l₀ 0
-  cell_start r = record { adding = adding_none (length cell - 0) l₀ (ready_less (length cell) (length cell - 0) l₀ (omega arith) r); rest = refl }
+  pub cell_start : Room (length cell) l₀ → InCell cell l₀ l₀ 0
+  cell_start r = record { adding = adding_none (length cell - 0) l₀ (room_less (length cell) (length cell - 0) l₀ (omega arith) r); rest = refl }
 
   module _ (l : EdgeLists) (i : ℕ) (inv : InCell cell l₀ l i) where
     pub cell_turn : i < length cell → (j : ℕ) → j ≡ corner_after (length cell) i → (l' : EdgeLists) → Holds (added (edges_in l) (get_or cell i 0, get_or cell j 0)) l l'
@@ -187,20 +200,20 @@ pub record InCells (all left : List (List ℕ)) (l₀ l : EdgeLists) : Type 0 wh
   pub adding : Adding (corner_count left) l₀ l
   pub rest : cells_added (edges_in l) left ≡ cells_added (edges_in l₀) all
 
-pub cells_start : (nodes ends : List ℕ) (l : EdgeLists) → Ready (length nodes) l → Rising ends (length nodes) → (left : List (List ℕ)) → left ≡ runs nodes ends
+pub cells_start : (nodes ends : List ℕ) (l : EdgeLists) → Room (length nodes) l → Rising ends (length nodes) → (left : List (List ℕ)) → left ≡ runs nodes ends
     → InCells (runs nodes ends) left l l
 cells_start nodes ends l r up left is =
     rw is
     record {
-      adding = adding_none (corner_count (runs nodes ends)) l (ready_less (length nodes) (corner_count (runs nodes ends)) l (fewer_corners nodes ends up) r);
+      adding = adding_none (corner_count (runs nodes ends)) l (room_less (length nodes) (corner_count (runs nodes ends)) l (fewer_corners nodes ends up) r);
       rest = refl;
     }
 
 module _ (all : List (List ℕ)) (l₀ l : EdgeLists) (cell : List ℕ) (left : List (List ℕ)) where
-  pub next_ready : (now : List (List ℕ)) → now ≡ cell ∷ left → InCells all now l₀ l → Ready (length cell) l
-  next_ready now is inv =
+  pub next_room : (now : List (List ℕ)) → now ≡ cell ∷ left → InCells all now l₀ l → Room (length cell) l
+  next_room now is inv =
       let k : corner_count now ≡ length cell + corner_count left = ap corner_count is ∙ corner_count_more cell left in
-      ready_less (corner_count now) (length cell) l (omega (arith, k)) inv.adding.ready
+      room_less (corner_count now) (length cell) l (omega (arith, k)) inv.adding.room
 
   pub cells_turn : (now : List (List ℕ)) → now ≡ cell ∷ left → InCells all now l₀ l → (l' : EdgeLists) → Holds (added_all (edges_in l) (ring cell)) l l' → InCells all left l₀ l'
   unfolding cells_added
@@ -211,43 +224,19 @@ module _ (all : List (List ℕ)) (l₀ l : EdgeLists) (cell : List ℕ) (left : 
       (omega (arith, g.0), omega (arith, g.1, length_ring cell)) t in
       record { adding = m.1; rest = ap (λ (es : List Edge). cells_added es left) m.0 ∙ sym (ap (cells_added (edges_in l)) is) ∙ inv.rest }
 
-pub cells_end : (all now : List (List ℕ)) (l₀ l : EdgeLists) → now ≡ [] → InCells all now l₀ l → Holds (cells_added (edges_in l₀) all) l₀ l
-unfolding cells_added
-cells_end all now l₀ l none inv = rw (sym inv.rest, none) inv.adding.holds
+-- none is: to no edges those of the mesh are added
+pub cells_end : (nodes ends : List ℕ) (now : List (List ℕ)) (l₀ l : EdgeLists) → now ≡ [] → l₀.count ≡ 0 → InCells (runs nodes ends) now l₀ l
+    → Holds (compute_descending (cells_of (mesh [] nodes ends [] []))) l₀ l
+unfolding cells_added pairs
+cells_end nodes ends now l₀ l done none inv =
+    let are : cells_added (edges_in l₀) (runs nodes ends) ≡ compute_descending (cells_of (mesh [] nodes ends [] [])) = rw none (all_added nodes ends) in
+    let held : Holds (cells_added (edges_in l₀) (runs nodes ends)) l₀ l = rw (sym inv.rest, done) inv.adding.holds in
+    rw are at held
 
 -- ---- from none
 
-pub all_ready : (n : ℕ) (l m : EdgeLists) → l.count ≡ 0 → Room n l → Cleared l m → Ready n m
+-- cleared lists hold no edge
+pub chained_clear : (edges heads nexts : List ℕ) → heads ≡ zeros (length heads) → Chained (pairs (take (2 * 0) edges)) heads nexts
 unfolding pairs
-all_ready n l m none r k =
-    let zero : m.count ≡ 0 = k.count ∙ none in
-    let s : SameLists m l = k.same in
-    record {
-      room =
-          record {
-            edges = omega (arith, zero, r.edges, s.edges.long);
-            nexts = omega (arith, zero, r.nexts, s.nexts.long);
-            few = omega (arith, zero, r.few);
-            some = omega (arith, r.some, s.heads.long);
-          };
-      chained = rw zero (chained_none m.heads.now m.nexts.now (λ c b. ap (λ (u : List ℕ). get_or u c 0) k.heads ∙ get_or-replicate (length l.heads.now) c 0 0 (omega (arith, b, s.heads.long))));
-    }
-
--- the edges of all cells are those of the mesh, at most as many as its node numbers
-pub all_written : (nodes ends : List ℕ) (l m m' l' : EdgeLists) → l.count ≡ 0 → Rising ends (length nodes) → Cleared l m → Holds (cells_added (edges_in m) (runs nodes ends)) m m'
-    → Cleared m' l' → Written (compute_descending (cells_of (mesh [] nodes ends [] []))) l l' × (l'.count ≤ length nodes)
-unfolding pairs
-all_written nodes ends l m m' l' none up first held last =
-    let zero : m.count ≡ 0 = first.count ∙ none in
-    let are : cells_added (edges_in m) (runs nodes ends) ≡ compute_descending (cells_of (mesh [] nodes ends [] [])) = rw zero (all_added nodes ends) in
-    let t : Holds (compute_descending (cells_of (mesh [] nodes ends [] []))) m m' = rw are at held in
-    let same : SameLists m' l = same_both t.same first.same in (
-      record {
-        count = last.count ∙ t.count;
-        edges = last.edges ∙ t.edges ∙ ap (λ (xs : List ℕ). front xs (flat_edges (compute_descending (cells_of (mesh [] nodes ends [] []))))) first.edges;
-        heads = last.heads ∙ ap zeros same.heads.long;
-        nexts = last.nexts ∙ ap zeros same.nexts.long;
-        same = same_both last.same same;
-      },
-      omega (arith, last.count, t.count, few_edges nodes ends up),
-    )
+chained_clear edges heads nexts clear =
+    chained_none heads nexts (λ c b. ap (λ (u : List ℕ). get_or u c 0) clear ∙ get_or-replicate (length heads) c 0 0 (omega arith))

@@ -2,36 +2,41 @@
 // is found without a scan of all.
 #![tactic(auto)]
 
-ghost use Rattle.std.specs.Prelude.{◌≡◌, [], ◌*◌, ◌≤◌, ◌<◌, length};
+ghost use Rattle.std.specs.Prelude.{◌≡◌, [], ◌*◌, ◌≤◌, ◌<◌, length, take};
 ghost use Rattle.lists.specs.Search.{has};
 ghost use Rattle.lists.specs.Regions.{front, zeros};
-ghost use Rattle.lists.specs.Runs.{runs};
 ghost use Rattle.cutting.specs.Edges.{edge_at, same_key, ring};
-ghost use Rattle.cutting.specs.Lent.{flat_edges};
+ghost use Rattle.cutting.specs.Lent.{pairs, flat_edges};
 ghost use Rattle.entry.specs.Mesh.{mesh, Rising};
 ghost use Rattle.rules.specs.Mesh.{cells_of};
 ghost use Rattle.rules.specs.Neighbours.{added, added_all, compute_descending};
-ghost use Rattle.neighbours.specs.Chains.{edges_in, Room, Ready, Cleared, Holds, Written, cells_added};
+ghost use Rattle.neighbours.specs.Chains.{Chained};
 
 use corners::after;
 use keys::{SortedKey, edge_chain};
 use lists::Runs;
 
 // Edges at the front of a list, how many they are, and their chains: the last edge of each, and for each edge the one before it. Links are numbers, 1 and
-// that of an edge or 0 for none: the lists are lent, in fixed memory. What holds of them can be no ghost field beside a `&mut`, so contracts say it (`Ready`).
+// that of an edge or 0 for none: the lists are lent, in fixed memory. Each method promises that they are the same lists, so that who lent them knows what they
+// come to hold.
 #[derive(Drop)]
 struct EdgeLists<'a> {
     edges: &'a mut [u32],
     count: usize,
     heads: &'a mut [u32],
     nexts: &'a mut [u32],
+    ghost some: { 0 < length heads.now },
+    ghost chained: { Chained (pairs (take (2 * count) edges.now)) heads.now nexts.now },
+    ghost fits: { 2 * count ≤ length edges.now },
+    ghost linked: { count ≤ length nexts.now },
 }
 
 impl<'a> EdgeLists<'a> {
+    ghost use Rattle.neighbours.specs.Held.{edges_in, Room, Holds};
+
     // Whether some edge has the key of the edge a, b: those on its chain are looked at, from the last to the first.
     #[tactic(auto, using(crate::proofs::Chains::falls, crate::proofs::Chains::none))]
     fn has_key(&self, a: u32, b: u32) -> bool
-        requires { Ready 0 self.now }
         ensures { result ≡ has (λ i. same_key (edge_at (edges_in self.now) i) (a, b)) (length (edges_in self.now)) }
     {
         let key = SortedKey::new(a, b);
@@ -51,17 +56,18 @@ impl<'a> EdgeLists<'a> {
 
     // Adds the edge a, b, unless one has its key.
     fn add_edge(&mut self, a: u32, b: u32)
-        requires { Ready 1 self.old }
+        requires { Room 1 self.old }
         ensures { Holds (added (edges_in self.old) (a, b)) self.old self.new }
     {
         if self.has_key(a, b) {
             return;
         }
         let k = self.count;
+        let c = edge_chain(self.heads.len(), a, b);
+        let last = self.heads[c];
         self.edges[2 * k] = a;
         self.edges[2 * k + 1] = b;
-        let c = edge_chain(self.heads.len(), a, b);
-        self.nexts[k] = self.heads[c];
+        self.nexts[k] = last;
         self.heads[c] = (k + 1) as u32;
         self.count = k + 1;
     }
@@ -69,7 +75,7 @@ impl<'a> EdgeLists<'a> {
     // Adds the edges of a cell.
     #[tactic(auto, using(corners::proofs::Remainders::after_inside))]
     fn add_cell(&mut self, cell: &[u32])
-        requires { Ready (length cell.now) self.old }
+        requires { Room (length cell.now) self.old }
         ensures { Holds (added_all (edges_in self.old) (ring cell.now)) self.old self.new }
     {
         for (i, a) in cell.iter().enumerate() {
@@ -78,36 +84,22 @@ impl<'a> EdgeLists<'a> {
         }
     }
 
-    // Adds the edges of all cells.
+    // Adds the edges of all cells to none.
     fn add_cells(&mut self, nodes: &[u32], cells: &[u32])
-        requires { Ready (length nodes.now) self.old × Rising cells.now (length nodes.now) }
-        ensures { Holds (cells_added (edges_in self.old) (runs nodes.now cells.now)) self.old self.new }
+        requires none { self.old.count ≡ 0 }
+        requires room { Room (length nodes.now) self.old }
+        requires rising { Rising cells.now (length nodes.now) }
+        ensures { Holds (compute_descending (cells_of (mesh [] nodes.now cells.now [] []))) self.old self.new }
     {
         for cell in Runs::new(nodes, cells) {
             self.add_cell(cell);
         }
     }
-
-    fn clear_chains(&mut self)
-        ensures { Cleared self.old self.new }
-    {
-        self.heads.fill(0);
-        self.nexts.fill(0);
-    }
-
-    // Writes the edges of all cells, where there are none yet.
-    fn write(&mut self, nodes: &[u32], cells: &[u32])
-        requires { (self.old.count ≡ 0) × Room (length nodes.now) self.old × Rising cells.now (length nodes.now) }
-        ensures { Written (compute_descending (cells_of (mesh [] nodes.now cells.now [] []))) self.old self.new × (self.new.count ≤ length nodes.now) }
-    {
-        self.clear_chains();
-        self.add_cells(nodes, cells);
-        self.clear_chains();
-    }
 }
 
 // Writes the edges of all cells, whose node numbers are `nodes`, to the front of `edges`. Answers how many there are. `heads` and `nexts` are zero then: as
 // many heads as nodes and one keep the search for a key short, and any other number gives the same edges.
+#[tactic(auto, using(crate::proofs::Edges::few_edges))]
 pub fn compute_descending(
     nodes: &[u32],
     cells: &[u32],
@@ -117,16 +109,23 @@ pub fn compute_descending(
 ) -> usize
     requires { (2 * length nodes.now ≤ length edges.old) × (length nodes.now ≤ length nexts.old) × (length nodes.now ≤ 65536) × (0 < length heads.old)
         × (Rising cells.now (length nodes.now)) }
-    ensures { (result ≡ length (compute_descending (cells_of (mesh [] nodes.now cells.now [] []))))
-        × (edges.new ≡ front edges.old (flat_edges (compute_descending (cells_of (mesh [] nodes.now cells.now [] [])))))
-        × (heads.new ≡ zeros (length heads.old)) × (nexts.new ≡ zeros (length nexts.old)) × (result ≤ length nodes.now) }
+    ensures count { result ≡ length (compute_descending (cells_of (mesh [] nodes.now cells.now [] []))) }
+    ensures written { edges.new ≡ front edges.old (flat_edges (compute_descending (cells_of (mesh [] nodes.now cells.now [] [])))) }
+    ensures clear_heads { heads.new ≡ zeros (length heads.old) }
+    ensures clear_nexts { nexts.new ≡ zeros (length nexts.old) }
+    ensures few { result ≤ length nodes.now }
 {
+    heads.fill(0);
+    nexts.fill(0);
     let mut lists = EdgeLists {
         edges,
         count: 0,
         heads,
         nexts,
     };
-    lists.write(nodes, cells);
-    lists.count
+    lists.add_cells(nodes, cells);
+    let count = lists.count;
+    heads.fill(0);
+    nexts.fill(0);
+    count
 }
