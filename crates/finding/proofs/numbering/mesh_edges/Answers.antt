@@ -8,5 +8,5 @@ compute_descending-count-requires c =
 pub returns : goal.returns
 returns c =
     let e = c.compute_descending-count.ensures in
-    let is = written _ _ _ _ _ _ c.requires _ _ c.split_at_mut-before.ensures.front c.split_at_mut-before.ensures.back _ c.part.ensures _ _ e.0 e.1 in
-    (is.0, is.1, e.2, e.3)
+    let is = written _ _ _ _ _ _ c.requires _ _ c.split_at_mut-before.ensures.front c.split_at_mut-before.ensures.back _ c.part.ensures _ _ e.count e.written in
+    (is.0, is.1, e.clear_heads, e.clear_nexts)
