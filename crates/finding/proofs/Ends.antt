@@ -149,6 +149,27 @@ module _ (op m : ℕ) (sc cc : List Float) (sn se cn ce : List ℕ) (w₀ : List
   unfolding crowded scene_of both_full
   crowded_is = ap₂ (λ (a b : Bool). a || b) (full_is subjects) (full_is cutters)
 
+  -- ---- what follows after each stage
+
+  -- the links stand too
+  pub record AfterLink (f : MeetFound) (oc₂ : List Float) (g : Regions) (w₃ : List ℕ) : Type 0 where
+    pub asks : LinkedIn w₃ g
+    pub all : (b : Bool) → b ≡ both_full (run_in w₃ g.subject.edges) (run_in w₃ g.cutter.edges) (run_in w₃ g.met) → b ≡ false
+        → leaves (Ok (record { regions = g; next = placed / 2 + f.points })) oc₂ w₃ ≡ found_of op m s c oc w₀
+
+  -- the meetings are found
+  pub record AfterMeet (r : NetPlaces) (f : MeetFound) (oc₂ : List Float) (w₂ : List ℕ) : Type 0 where
+    pub asks : LinkRoom r f.met (placed / 2 + 1) (length w₂)
+    pub points : 2 * (placed / 2 + f.points) ≤ length oc₂
+    pub linked : (g : Regions) (w₃ : List ℕ) → (g ≡ regions_by r f.met (placed / 2 + 1)) × (w₃ ≡ linked_by r f.met (placed / 2 + 1) w₂) → AfterLink f oc₂ g w₃
+
+  -- the coordinates are placed, and the nets stand in the working list
+  pub record AfterNets (oc₁ : List Float) (r : NetPlaces) (w₁ : List ℕ) : Type 0 where
+    pub asks : MeetingsRoom r (length oc₁) (length w₁) placed m × CutterIndexed r (take placed oc₁) w₁
+    pub met : (a : Result MeetFound Refusal) (oc₂ : List Float) (w₂ : List ℕ)
+        → refused_with a ≡ first_refusal m (length oc₁ / 2 - placed / 2) 0 0 (joined of_meeting (met_in r placed oc₁ w₁)) → IfOk a (MetWritten r placed oc₁ w₁ oc₂ w₂)
+        → length oc₂ ≡ length oc₁ → length w₂ ≡ length w₁ → (f : MeetFound) → a ≡ Ok f → AfterMeet r f oc₂ w₂
+
   -- ---- from stage to stage
 
   -- 12 for the lent coordinates
@@ -204,7 +225,7 @@ module _ (op m : ℕ) (sc cc : List Float) (sn se cn ce : List ℕ) (w₀ : List
         }
 
     -- what `compute_intersections` asks
-    pub asked : MeetingsRoom r (length oc₁) (length w₁) placed m
+    asked : MeetingsRoom r (length oc₁) (length w₁) placed m
     asked = rw re asked_of
 
     -- the edges and the index of the cutter's, as they are read
@@ -228,10 +249,13 @@ module _ (op m : ℕ) (sc cc : List Float) (sn se cn ce : List ℕ) (w₀ : List
     indexed_of =
         record {
           index = record { rises = omega arith; fits = index_fits_lem lines sc cc sn se cn ce fs fc w₀ room₀ };
-          indexed = rw (coords_read, we, run_long (netted lines s c w₀) (cond lines (length cc / 2) (cutter_at s c)) (2 * length cutters), run_long (netted lines s c w₀) (index_at s c) (index_size (length cutters))) (cutters_indexed lines sc cc sn se cn ce fs fc w₀ room₀);
+          indexed =
+              let w = netted lines s c w₀ in
+              rw (coords_read, we, run_long w (cond lines (length cc / 2) (cutter_at s c)) (2 * length cutters), run_long w (index_at s c) (index_size (length cutters)))
+              (cutters_indexed lines sc cc sn se cn ce fs fc w₀ room₀);
         }
 
-    pub indexed : CutterIndexed r (take placed oc₁) w₁
+    indexed : CutterIndexed r (take placed oc₁) w₁
     indexed = rw re indexed_of
 
     abbrev found : List Met
@@ -275,7 +299,7 @@ module _ (op m : ℕ) (sc cc : List Float) (sn se cn ce : List ℕ) (w₀ : List
         count = ap (λ (x : MeetFound). x.met) all.found ∙ ap length met_are
 
         -- so have the new points
-        pub points_in : 2 * (placed / 2 + f.points) ≤ length oc₂
+        points_in : 2 * (placed / 2 + f.points) ≤ length oc₂
         unfolding put front
         points_in =
             let xs : List Float = added_by found in
@@ -307,7 +331,7 @@ module _ (op m : ℕ) (sc cc : List Float) (sn se cn ce : List ℕ) (w₀ : List
             }
 
         -- what `link` asks
-        pub link_asked : (h : ℕ) → h ≡ placed / 2 + 1 → LinkRoom r f.met h (length w₂)
+        link_asked : (h : ℕ) → h ≡ placed / 2 + 1 → LinkRoom r f.met h (length w₂)
         link_asked h e = rw (re, count, lw, length_work) (link_asked_of h e)
 
         -- the meetings, and nothing behind them yet
@@ -354,7 +378,7 @@ module _ (op m : ℕ) (sc cc : List Float) (sn se cn ce : List ℕ) (w₀ : List
           held = rw (regions_are, work_is) (worked_holds op sc cc sn se cn ce fs fc w₀ room₀ m ok.room few ok.most)
 
           -- what `crowded` asks
-          pub crowded_asks : LinkedIn w₃ g
+          crowded_asks : LinkedIn w₃ g
           crowded_asks = holds_linked op s c g w₃ held
 
           module _ (b : Bool) (be : b ≡ both_full (run_in w₃ g.subject.edges) (run_in w₃ g.cutter.edges) (run_in w₃ g.met)) where
@@ -375,7 +399,7 @@ module _ (op m : ℕ) (sc cc : List Float) (sn se cn ce : List ℕ) (w₀ : List
             nine_stop t = sym (ap (λ (u : Bool). cond u 9 0) t) ∙ end_code
 
             -- none
-            pub all_found : b ≡ false → leaves (Ok (record { regions = g; next = placed / 2 + f.points })) oc₂ w₃ ≡ found_of op m s c oc w₀
+            all_found : b ≡ false → leaves (Ok (record { regions = g; next = placed / 2 + f.points })) oc₂ w₃ ≡ found_of op m s c oc w₀
             unfolding found_as scene_of
             all_found e =
                 let half : placed / 2 + f.points ≡ length (sc ++ cc ++ added_by scene.met) / 2 =
@@ -386,6 +410,20 @@ module _ (op m : ℕ) (sc cc : List Float) (sn se cn ce : List ℕ) (w₀ : List
                 ap₂ (λ (x : Regions) (i : ℕ). leaves (Ok (record { regions = x; next = i })) oc₂ w₃) regions_are half
                 ∙ ap₂ (leaves (Ok (found_as op s c))) coords work_is
                 ∙ sym (all_left op m s c oc w₀ (sym end_code ∙ ap (λ (u : Bool). cond u 9 0) e))
+
+    pub after_nets : AfterNets oc₁ r w₁
+    after_nets =
+        record {
+          asks = (asked, indexed);
+          met = λ a oc₂ w₂ code written lo lw f i. record {
+            asks = link_asked a oc₂ w₂ code written lo lw f i (placed / 2 + 1) refl;
+            points = points_in a oc₂ w₂ code written lo lw f i;
+            linked = λ g w₃ le. record {
+              asks = crowded_asks a oc₂ w₂ code written lo lw f i (placed / 2 + 1) refl g w₃ le;
+              all = λ b be. all_found a oc₂ w₂ code written lo lw f i (placed / 2 + 1) refl g w₃ le b be;
+            };
+          };
+        }
 
   -- ---- the lists in the end
 

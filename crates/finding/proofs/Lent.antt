@@ -70,7 +70,8 @@ module _ (n : NetPlaces) (placed m : ℕ) (oc : List Float) (w : List ℕ) (room
     ms = met_in n placed oc w
 
     ms_lent : meetings_of cs es fs ≡ ms
-    ms_lent = ap₂ (λ (x y : List ℕ). meetings_of cs x y) (subject_lent nets nets-is es es-are) (cutter_lent nets nets-is fs fs-are) ∙ ap (λ (l : List Float). meetings_of l (run_in w n.subject.edges) (run_in w n.cutter.edges)) cs-is
+    ms_lent = ap₂ (λ (x y : List ℕ). meetings_of cs x y) (subject_lent nets nets-is es es-are) (cutter_lent nets nets-is fs fs-are)
+        ∙ ap (λ (l : List Float). meetings_of l (run_in w n.subject.edges) (run_in w n.cutter.edges)) cs-is
 
     length_rest : length rest ≡ length w - n.behind
     length_rest = ap length rest-is ∙ length-drop n.behind w

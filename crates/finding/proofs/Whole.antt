@@ -20,7 +20,8 @@ use Rattle.neighbours.proofs.Edges.{ends_pairs, few_edges}
 use Rattle.regions.specs.declared.MeshRuns.{MeshRuns}
 use Rattle.regions.specs.Runs.{run_in}
 use Rattle.regions.proofs.Parts.{run_of_front, run_kept, run_long}
-use Rattle.finding.specs.Nets.{Fit, NetRoom, cutter_entries, copied_at, subject_at, cutter_at, index_at, met_at, chain_room, between, with_edges, subject_runs, cutter_runs, edges_of, edged, edges_from, EdgesAsk}
+use Rattle.finding.specs.Nets.{Fit, NetRoom, cutter_entries, copied_at, subject_at, cutter_at, index_at, met_at, chain_room}
+use Rattle.finding.specs.Nets.{between, with_edges, subject_runs, cutter_runs, edges_of, edged, edges_from, EdgesAsk}
 use Rattle.finding.proofs.Cells.{cells_in, cells_lists, cells_renumbered, prior_two, line_pairs}
 use Rattle.finding.proofs.Layers as layers
 use Rattle.finding.proofs.Welded.{numbers_read}

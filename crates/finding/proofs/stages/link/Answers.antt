@@ -13,5 +13,6 @@ returns c =
     let nets = c.split_at_mut-nets.ensures in
     let links = c.split_at_mut-links.ensures in (
       refl,
-      links_put _ _ _ _ c.requires _ _ nets.front nets.back _ c.part-3.ensures _ _ _ _ c.part.ensures c.part-2.ensures (c.link_meetings.auto.links ∙ links.front_len) c.link_meetings.ensures links.back,
+      links_put _ _ _ _ c.requires _ _ nets.front nets.back _ c.part-3.ensures _ _ _ _ c.part.ensures c.part-2.ensures (c.link_meetings.auto.links ∙ links.front_len)
+          c.link_meetings.ensures links.back,
     )

@@ -1,78 +1,39 @@
 -- `finding::stages::stages` meets its contract. Assumes nothing.
-use mathlib.Core.Path.{◌≡◌, refl, ap}
+use mathlib.Core.Path.{ap}
 use mathlib.Core.Bool.{not}
-use mathlib.Core.List.{◌++◌}
-use Prim.Native.Nat.{◌+◌, ◌≤◌}
 use native.Mathlib.Omega.{arith}
-use lib.ListN.{length, take}
-use Rattle.finding.proofs.Ends.{coords_lent, asked, indexed, link_asked, crowded_asks, points_in, all_found}
+use Rattle.finding.proofs.Ends.{coords_lent, AfterNets, AfterMeet, AfterLink, after_nets}
 use Rattle.finding.proofs.stages.stages.Goals as goal
+use Rattle.finding.proofs.stages.stages.Goals.{After-nets-n, In_ok-f, After-link-g}
+
+nets : (c : After-nets-n) → AfterNets c.args.op c.args.limit _ _ _ _ _ _ c.args.work.now c.requires c.args.coords.now c.place_coords.new.oc c.nets-n.result c.nets-n.new.w
+nets c =
+    after_nets _ _ _ _ _ _ _ _ _ c.requires c.args.coords.now c.place_coords.result _ c.place_coords.ensures (ap not c.if-not-place_coords.false) _ _
+    (rw c.takes_lines.ensures at c.nets-n.ensures)
+
+met : (c : In_ok-f) → AfterMeet c.args.op c.args.limit _ _ _ _ _ _ c.args.work.now c.requires c.args.coords.now c.nets-n.result c.in_ok-f.f c.meet.new.coords c.meet.new.work
+met c = let m = c.meet in (nets (goal.at.In_ok-f c).After-nets-n).met _ _ _ m.ensures.code m.ensures.written m.auto.coords m.auto.work _ c.in_ok-f.was
+
+link : (c : After-link-g) → AfterLink c.args.op c.args.limit _ _ _ _ _ _ c.args.work.now c.requires c.args.coords.now c.in_ok-f.f c.meet.new.coords c.link-g.result c.link-g.new.w
+link c = (met (goal.at.After-link-g c).In_ok-f).linked _ _ c.link-g.ensures
 
 pub nets-n-requires : goal.nets-n-requires
 nets-n-requires c =
-    let a = c.args in
-    let lent : (length a.subject.now.coords.now + length a.cutter.now.coords.now ≤ length c.place_coords.new.oc)
-    × (take (length a.subject.now.coords.now + length a.cutter.now.coords.now) c.place_coords.new.oc ≡ a.subject.now.coords.now ++ a.cutter.now.coords.now) =
-    coords_lent _ _ _ _ _ _ _ _ c.args.work.now c.requires c.args.coords.now c.place_coords.result c.place_coords.new.oc
-    c.place_coords.ensures (ap not c.if-not-place_coords.false) c.place_coords.auto.oc in
     let ok = c.requires in
+    let lent = coords_lent _ _ _ _ _ _ _ _ _ ok c.args.coords.now c.place_coords.result _ c.place_coords.ensures (ap not c.if-not-place_coords.false) c.place_coords.auto.oc in
     (ok.subject, rw c.takes_lines.ensures ok.cutter, omega (arith, ok.room), lent.1)
 
 pub meet-requires : goal.meet-requires
-meet-requires c =
-    let oc-last = c.place_coords.new.oc in
-    let w-last = c.nets-n.new.w in (
-      asked _ _ _ _ _ _ _ _ c.args.work.now c.requires c.args.coords.now
-          c.place_coords.result oc-last c.place_coords.ensures (ap not c.if-not-place_coords.false)
-          c.nets-n.result w-last (rw c.takes_lines.ensures at c.nets-n.ensures),
-      indexed _ _ _ _ _ _ _ _ c.args.work.now c.requires c.args.coords.now
-          c.place_coords.result oc-last c.place_coords.ensures (ap not c.if-not-place_coords.false)
-          c.nets-n.result w-last (rw c.takes_lines.ensures at c.nets-n.ensures),
-    )
+meet-requires c = (nets (goal.at.meet-requires c).After-nets-n).asks
 
 pub link-g-requires : goal.link-g-requires
-link-g-requires c =
-    let oc-last = c.place_coords.new.oc in
-    let w-last = c.nets-n.new.w in
-    let met = c.meet in
-    link_asked _ _ _ _ _ _ _ _ c.args.work.now c.requires c.args.coords.now
-    c.place_coords.result oc-last c.place_coords.ensures (ap not c.if-not-place_coords.false)
-    c.nets-n.result w-last (rw c.takes_lines.ensures at c.nets-n.ensures)
-    met.result met.new.coords met.new.work met.ensures.code met.ensures.written met.auto.coords met.auto.work
-    _ c.in_ok-f.was _ refl
+link-g-requires c = (met (goal.at.link-g-requires c).In_ok-f).asks
 
 pub crowded-requires : goal.crowded-requires
-crowded-requires c =
-    let oc-last = c.place_coords.new.oc in
-    let w-last-by-nets = c.nets-n.new.w in
-    let w-last-by-link = c.link-g.new.w in
-    let met = c.meet in
-    crowded_asks _ _ _ _ _ _ _ _ c.args.work.now c.requires c.args.coords.now
-    c.place_coords.result oc-last c.place_coords.ensures (ap not c.if-not-place_coords.false)
-    c.nets-n.result w-last-by-nets (rw c.takes_lines.ensures at c.nets-n.ensures)
-    met.result met.new.coords met.new.work met.ensures.code met.ensures.written met.auto.coords met.auto.work
-    _ c.in_ok-f.was _ refl c.link-g.result w-last-by-link c.link-g.ensures
+crowded-requires c = (link (goal.at.crowded-requires c).After-link-g).asks
 
 pub overflow_add-result : goal.overflow_add-result
-overflow_add-result c =
-    let oc-last = c.place_coords.new.oc in
-    let w-last = c.nets-n.new.w in
-    let met = c.meet in
-    let low = points_in _ _ _ _ _ _ _ _ c.args.work.now c.requires c.args.coords.now
-    c.place_coords.result oc-last c.place_coords.ensures (ap not c.if-not-place_coords.false)
-    c.nets-n.result w-last (rw c.takes_lines.ensures at c.nets-n.ensures)
-    met.result met.new.coords met.new.work met.ensures.code met.ensures.written met.auto.coords met.auto.work _ c.in_ok-f.was in
-    omega (arith, c.well_formed, low, met.auto.coords, c.place_coords.auto.oc)
+overflow_add-result c = omega (arith, c.well_formed, (met (goal.at.overflow_add-result c).In_ok-f).points, c.meet.auto.coords, c.place_coords.auto.oc)
 
 pub returns : goal.returns
-returns c =
-    let oc-last = c.place_coords.new.oc in
-    let w-last-by-nets = c.nets-n.new.w in
-    let w-last-by-link = c.link-g.new.w in
-    let met = c.meet in
-    all_found _ _ _ _ _ _ _ _ c.args.work.now c.requires c.args.coords.now
-    c.place_coords.result oc-last c.place_coords.ensures (ap not c.if-not-place_coords.false)
-    c.nets-n.result w-last-by-nets (rw c.takes_lines.ensures at c.nets-n.ensures)
-    met.result met.new.coords met.new.work met.ensures.code met.ensures.written met.auto.coords met.auto.work
-    _ c.in_ok-f.was _ refl c.link-g.result w-last-by-link c.link-g.ensures
-    c.crowded.result c.crowded.ensures c.if-crowded.false
+returns c = (link (goal.at.returns c).After-link-g).all _ c.crowded.ensures c.if-crowded.false
