@@ -43,15 +43,15 @@ module _ (coords : List Float) (outline : List Edge) (near : List Laid) (on os :
 
 -- ---- the outline in a list
 
-module _ (coords : List Float) (outline : List Edge) (w : List ℕ) (n : ℕ) (put_in : take n w ≡ flat_edges outline) where
-  read_back : pairs (take n w) ≡ outline
+module _ (coords : List Float) (outline : List Edge) (w : List ℕ) (put_in : w ≡ flat_edges outline) where
+  read_back : pairs w ≡ outline
   read_back = ap pairs put_in ∙ pairs_ends outline
 
   -- the table of the own edges, by the outline as it is lent
-  pub own_table : (t : List Slot) → t ≡ cell_table coords outline [] → t ≡ cell_table coords (pairs (take n w)) []
+  pub own_table : (t : List Slot) → t ≡ cell_table coords outline [] → t ≡ cell_table coords (pairs w) []
   own_table t held = held ∙ ap (λ (o : List Edge). cell_table coords o []) (sym read_back)
 
-  pub as_lent : (near : List Laid) (on os : List ℕ) (x : Cut) → x ≡ cut_by (pairs (take n w)) (cell_table coords (pairs (take n w)) near) on os
+  pub as_lent : (near : List Laid) (on os : List ℕ) (x : Cut) → x ≡ cut_by (pairs w) (cell_table coords (pairs w) near) on os
       → x ≡ cut_by outline (cell_table coords outline near) on os
   as_lent near on os x e = e ∙ ap (λ (o : List Edge). cut_by o (cell_table coords o near) on os) read_back
 
@@ -64,10 +64,10 @@ module _ (coords : List Float) (work : List ℕ) (g : Regions) (edges : Run) (js
   abbrev others : List Laid
   others = near_in coords work g (edges_in work edges) js
 
-  pub cut_as_lent : (w : List ℕ) (n : ℕ) (x : Cut) → take n w ≡ flat_edges own
-      → x ≡ cut_by (pairs (take n w)) (cell_table coords (pairs (take n w)) others) on os → x ≡ cut_cell coords work g edges js cell on os
+  pub cut_as_lent : (w : List ℕ) (x : Cut) → w ≡ flat_edges own
+      → x ≡ cut_by (pairs w) (cell_table coords (pairs w) others) on os → x ≡ cut_cell coords work g edges js cell on os
   unfolding cut_cell table_in
-  cut_as_lent w n x put_in e = as_lent coords own w n put_in others on os x e
+  cut_as_lent w x put_in e = as_lent coords own w put_in others on os x e
 
   -- too many slots of the own edges are too many in all
   pub too_many_own : repeats own ≡ false → 1024 < length (cell_table coords own []) → cut_as (refusal 10) on os ≡ cut_cell coords work g edges js cell on os

@@ -2,11 +2,12 @@
 // regions of the working list.
 #![tactic(auto)]
 
-ghost use Rattle.std.specs.Prelude.{◌≡◌, false, [], map, ℕ, ◌≤◌, ◌<◌, length, take, is_err};
+ghost use Rattle.std.specs.Prelude.{◌≡◌, false, [], map, ℕ, ◌≤◌, ◌<◌, length, is_err};
 ghost use Rattle.cutting.specs.Edges.{ring};
 ghost use Rattle.cutting.specs.Cell.{cell_table, repeats};
 ghost use Rattle.cutting.specs.Outcome.{refusal};
 ghost use Rattle.cutting.specs.Lent.{flat_edges, pairs, pair_of};
+ghost use Rattle.dart_table.specs.Table.{darts};
 ghost use Rattle.outlines.specs.Meets.{edges_meet};
 ghost use Rattle.regions.specs.Runs.{Within};
 ghost use Rattle.cells.specs.Cells.{edges_in, Places, cut, cut_to, cut_as, cut_by, cut_cell, AllFew};
@@ -49,22 +50,16 @@ pub(crate) struct NearEdges<'a> {
 impl<'a> OwnEdges<'a> {
     ghost use Rattle.cells.specs.Near.{outline_of, darts_at, outline_from, LaidIn, Held};
 
-    // Makes the outline of the cell and the table of its own edges, until one is refused. The outline has an entry for each slot.
-    #[tactic(auto, using(crate::proofs::Own::outline_end))]
-    fn add_darts(
-        &self,
-        nodes: &mut [u32; 258],
-        outline: &mut [u32; 1024],
-        table: &mut DartTable,
-    ) -> Result<(), Full>
-        requires { table.old ≡ [] }
-        ensures held { Held (cell_table self.now.scene.coords.now (outline_of self.now) []) result table.new }
-        ensures outlined { is_err result ≡ false → take (length table.new) outline.new ≡ flat_edges (outline_of self.now) }
+    // Makes the table of the cell's own edges with its outline, until one is refused.
+    fn add_darts(&self, nodes: &mut [u32; 258], table: &mut DartTable) -> Result<(), Full>
+        requires { table.old ≡ darts [] [] }
+        ensures held { Held (cell_table self.now.scene.coords.now (outline_of self.now) []) result table.new.slots }
+        ensures outlined { is_err result ≡ false → table.new.outline ≡ flat_edges (outline_of self.now) }
     {
         for (i, a) in self.cell.iter().enumerate() {
             let b = next_corner(self.cell, i);
             let count = self.scene.nodes_on(*a, b, nodes);
-            table.add_own_edge(self.scene.coords, *a, b, &nodes[..count], outline)?;
+            table.add_own_edge(self.scene.coords, *a, b, &nodes[..count])?;
         }
         Ok(())
     }
@@ -121,16 +116,12 @@ impl<'a> OwnEdges<'a> {
 impl<'a> NearEdges<'a> {
     ghost use Rattle.cells.specs.Near.{laid_near, Held};
 
-    // Adds them by the cell's finished outline to the table of its own edges, until one is refused.
+    // Adds them to the table of the cell's own edges, until one is refused.
     #[tactic(auto, using(crate::proofs::Near::near_start, crate::proofs::Near::place_low, crate::proofs::Near::near_few, crate::proofs::Near::near_end))]
-    fn add_darts(
-        &self,
-        outline: &[u32],
-        nodes: &mut [u32; 258],
-        table: &mut DartTable,
-    ) -> Result<(), Full>
-        requires { table.old ≡ cell_table self.now.scene.coords.now (pairs outline.now) [] }
-        ensures { Held (cell_table self.now.scene.coords.now (pairs outline.now) (laid_near self.now)) result table.new }
+    fn add_darts(&self, nodes: &mut [u32; 258], table: &mut DartTable) -> Result<(), Full>
+        requires { table.old.slots ≡ cell_table self.now.scene.coords.now (pairs table.old.outline) [] }
+        ensures held { Held (cell_table self.now.scene.coords.now (pairs table.old.outline) (laid_near self.now)) result table.new.slots }
+        ensures outline { table.new.outline ≡ table.old.outline }
     {
         for place in self.places {
             let [a, b] = self.edges[*place as usize];
@@ -140,33 +131,31 @@ impl<'a> NearEdges<'a> {
         Ok(())
     }
 
-    // Cuts a cell with a finished outline, whose own edges have the slots, one for each of its entries: adds the edges near it and walks. The part of
-    // refusal 11 that is looked at after a walk never fires (cutting's `without_test`), so it is left out.
+    // Cuts a cell by the table of its own edges: adds the edges near it and walks. The part of refusal 11 that is looked at after a walk never fires
+    // (cutting's `without_test`), so it is left out.
     // `runs` and `stops` come one by one: in a struct of the two each contract would have to say that they are the same lists. They are no arrays, as those
     // would ask callers for 1,024 entries and no more.
     #[tactic(auto, using(crate::proofs::Cut::too_many, crate::proofs::Cut::repeated))]
     fn cut(
         &self,
-        outline: &[u32],
         nodes: &mut [u32; 258],
         table: &mut DartTable,
         runs: &mut [u32],
         stops: &mut [u32],
     ) -> Result<Counts, Refusal>
-        requires { (length outline.now ≤ 1024) × (table.old ≡ cell_table self.now.scene.coords.now (pairs outline.now) [])
-            × (1024 ≤ length runs.old) × (1024 ≤ length stops.old) }
-        ensures { cut result runs.new stops.new ≡ cut_by (pairs outline.now)
-            (cell_table self.now.scene.coords.now (pairs outline.now) (laid_near self.now)) runs.old stops.old }
+        requires { (table.old.slots ≡ cell_table self.now.scene.coords.now (pairs table.old.outline) []) × (1024 ≤ length runs.old) × (1024 ≤ length stops.old) }
+        ensures { cut result runs.new stops.new ≡ cut_by (pairs table.old.outline)
+            (cell_table self.now.scene.coords.now (pairs table.old.outline) (laid_near self.now)) runs.old stops.old }
     {
-        if edges_repeat(outline) {
+        if edges_repeat(table.outline()) {
             clear(runs, stops);
             return Err(Refusal::RepeatedEdge);
         }
-        if self.add_darts(outline, nodes, table).is_err() {
+        if self.add_darts(nodes, table).is_err() {
             clear(runs, stops);
             return Err(Refusal::FullTable);
         }
-        walk_dart_map(table.slots(), outline, runs, stops)
+        walk_dart_map(table.slots(), table.outline(), runs, stops)
     }
 }
 
@@ -193,9 +182,8 @@ pub fn cut_cell(
         places: js,
     };
     let mut nodes = [0u32; 258];
-    let mut outline = [0u32; 1024];
     let mut table = DartTable::new();
-    if own.add_darts(&mut nodes, &mut outline, &mut table).is_err() {
+    if own.add_darts(&mut nodes, &mut table).is_err() {
         let why = if own.outline_repeats(&mut nodes) {
             Refusal::RepeatedEdge
         } else {
@@ -204,6 +192,5 @@ pub fn cut_cell(
         clear(runs, stops);
         return Err(why);
     }
-    let entries = table.slots().len();
-    near.cut(&outline[..entries], &mut nodes, &mut table, runs, stops)
+    near.cut(&mut nodes, &mut table, runs, stops)
 }

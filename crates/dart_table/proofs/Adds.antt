@@ -5,24 +5,23 @@ use mathlib.Core.List.{List, [], ◌∷◌, ◌++◌, map, append-nil, append_as
 use Prim.Native.Nat.{ℕ, ◌+◌, ◌*◌, ◌-◌, ◌≤◌, ◌<◌}
 use native.Mathlib.Omega.{arith}
 use lib.Dec.{eqb}
-use lib.ListN.{length, get_or, set, take, drop, length-append, length-map}
+use lib.ListN.{length, get_or, set, take, drop, length-append, length-set, length-map}
 use lib.Ieee.{Float}
 use borrow.Author.Tests.{eq-eqb, ne_eqb, lt-ltb, le-ltb, ltb-true, ltb-false}
 use Rattle.std.proofs.Common.{Result, Ok, Err, is_err}
 use Rattle.lists.specs.Gather.{tally, joined}
 use Rattle.lists.specs.Sort.{sort_onto}
-use Rattle.lists.specs.Regions.{put}
 use Rattle.lists.proofs.Sort.{sort_onto_append, length_sort_onto}
-use Rattle.lists.proofs.Regions.{put_none}
 use Rattle.dart_table.specs.declared.Full.{Full}
 use Rattle.cutting.specs.declared.Slot.{Slot}
 use Rattle.cutting.specs.Edges.{Edge, key, reversed_if, hops}
 use Rattle.cutting.specs.Cell.{windows, darts_along, own_darts, near_darts, edge_slots, reverse_mark, names, is_new, stands_before}
 use Rattle.cutting.specs.Outcome.{too_many}
 use Rattle.cutting.specs.Lent.{flat_edges}
-use Rattle.dart_table.specs.Table.{Table, full, table_in, with_darts, with_edge, with_edges, outline_with}
+use Rattle.dart_table.specs.Table.{Darts, darts, Table, full, table_in, with_darts, with_edge, with_edges, outline_with}
 use Rattle.cutting.proofs.CellLaws.{slots_append, slots_length}
-use Rattle.cutting.proofs.Pairs.{windows_length, ends_more}
+use Rattle.cutting.proofs.Pairs.{windows_length, ends_length, ends_append}
+use Rattle.cutting.proofs.Runs.{take_push}
 
 -- ---- along a list of nodes
 
@@ -52,22 +51,31 @@ darts_length second ns h = omega (arith, length-map (windows ns) (reversed_if (e
 
 -- ---- an own edge's darts, as they are added one after the other
 
+-- two entries written behind the first n of a list
+pub two_behind : (w : List ℕ) (n a b : ℕ) → n + 2 ≤ length w → take (n + 2) (set (set w n a) (n + 1) b) ≡ take n w ++ a ∷ b ∷ []
+two_behind w n a b h =
+    let next : n + 2 ≡ n + 1 + 1 = omega arith in
+    ap (λ (k : ℕ). take k (set (set w n a) (n + 1) b)) next ∙ take_push (set w n a) (n + 1) b (omega (arith, length-set w n a))
+    ∙ ap (λ (l : List ℕ). l ++ b ∷ []) (take_push w n a (omega arith)) ∙ append_assoc (take n w) (a ∷ []) (b ∷ [])
+
 -- `rest` are the nodes from the last that was reached on
-pub record Laying (coords : List Float) (inv : Bool) (nodes outline₀ : List ℕ) (t₀ : List Slot) (rest outline : List ℕ) (t : List Slot) : Type 0 where
-  pub same_outline : length outline ≡ length outline₀
+pub record Laying (coords : List Float) (inv : Bool) (nodes : List ℕ) (d₀ : Darts) (rest : List ℕ) (d : Darts) : Type 0 where
   pub done : List Edge
   pub left : done ++ map (reversed_if inv) (windows rest) ≡ map (reversed_if inv) (windows nodes)
-  pub outlined : outline ≡ put outline₀ (length t₀) (flat_edges done)
-  pub inserted : t ≡ sort_onto (stands_before coords) t₀ (edge_slots reverse_mark done)
+  pub outlined : d.outline ≡ d₀.outline ++ flat_edges done
+  pub inserted : d.slots ≡ sort_onto (stands_before coords) d₀.slots (edge_slots reverse_mark done)
 
-module _ (coords : List Float) (inv : Bool) (nodes outline₀ : List ℕ) (t₀ : List Slot) where
-  pub lay_start : Laying coords inv nodes outline₀ t₀ nodes outline₀ t₀
+module _ (coords : List Float) (inv : Bool) (nodes : List ℕ) (d₀ : Darts) where
+  pub lay_start : Laying coords inv nodes d₀ nodes d₀
   unfolding sort_onto edge_slots flat_edges joined
-  lay_start = record { same_outline = refl; done = []; left = refl; outlined = sym (put_none outline₀ (length t₀)); inserted = refl }
+  lay_start = record { done = []; left = refl; outlined = sym (append-nil d₀.outline); inserted = refl }
 
-  module _ (rest outline : List ℕ) (t : List Slot) (v : Laying coords inv nodes outline₀ t₀ rest outline t) where
-    count : length t ≡ length t₀ + 2 * length v.done
-    count = omega (arith, ap length v.inserted, length_sort_onto (stands_before coords) t₀ (edge_slots reverse_mark v.done), slots_length reverse_mark v.done)
+  module _ (rest : List ℕ) (d : Darts) (v : Laying coords inv nodes d₀ rest d) where
+    count : length d.slots ≡ length d₀.slots + 2 * length v.done
+    count = omega (arith, ap length v.inserted, length_sort_onto (stands_before coords) d₀.slots (edge_slots reverse_mark v.done), slots_length reverse_mark v.done)
+
+    entries : length d.outline ≡ length d₀.outline + 2 * length v.done
+    entries = omega (arith, ap length v.outlined, length-append d₀.outline (flat_edges v.done), ends_length v.done)
 
     whole : length v.done + length (windows rest) ≡ length (windows nodes)
     whole = omega (
@@ -80,38 +88,50 @@ module _ (coords : List Float) (inv : Bool) (nodes outline₀ : List ℕ) (t₀ 
 
     module _ (w : List ℕ) (h : 2 ≤ length rest) (ew : w ≡ take 2 rest) where
       -- there is room for one more
-      pub lay_room : length t₀ + 2 * length nodes ≤ 1026 → length t + 2 ≤ 1024
+      pub lay_room : length d₀.slots + 2 * length nodes ≤ 1026 → length d.slots + 2 ≤ 1024
       lay_room few = omega (arith, few, count, whole, most nodes, ap length (window_first rest w h ew))
         where
           most : (ns : List ℕ) → length (windows ns) ≤ length ns - 1
           most [] = omega arith
           most (x ∷ ns) = omega (arith, windows_length x ns)
 
-      pub lay_turn : (e : Edge) (t' : List Slot) → e ≡ reversed_if inv (get_or w 0 0, get_or w 1 0) → length t + 2 ≤ 1024 → 1024 ≤ length outline₀
-          → t' ≡ sort_onto (stands_before coords) t (edge_slots reverse_mark (e ∷ []))
-          → length (set (set outline (length t) e.0) (length t + 1) e.1) ≡ length outline
-          → Laying coords inv nodes outline₀ t₀ (drop 1 rest) (set (set outline (length t) e.0) (length t + 1) e.1) t'
-      lay_turn e t' ee few room f lo = record {
-        same_outline = lo ∙ v.same_outline;
-        done = v.done ++ e ∷ [];
-        left = append_assoc v.done (e ∷ []) (map (reversed_if inv) (windows (drop 1 rest)))
-            ∙ ap (λ (x : Edge). v.done ++ x ∷ map (reversed_if inv) (windows (drop 1 rest))) ee
-            ∙ ap (λ (es : List Edge). v.done ++ map (reversed_if inv) es) (sym (window_first rest w h ew)) ∙ v.left;
-        outlined = ends_more outline₀ outline (length t₀) (length t) e.0 e.1 v.done e (omega (arith, count, few, room)) count (omega (arith, few, room)) v.outlined
-            refl refl;
-        inserted = f ∙ ap (λ (u : List Slot). sort_onto (stands_before coords) u (edge_slots reverse_mark (e ∷ []))) v.inserted
-            ∙ sym (sort_onto_append (stands_before coords) t₀ (edge_slots reverse_mark v.done) (edge_slots reverse_mark (e ∷ [])))
-            ∙ ap (sort_onto (stands_before coords) t₀) (sym (slots_append reverse_mark v.done (e ∷ [])));
-      }
+      module _ (e : Edge) (ee : e ≡ reversed_if inv (get_or w 0 0, get_or w 1 0)) (d' : Darts)
+          (added : d' ≡ darts (sort_onto (stands_before coords) d.slots (edge_slots reverse_mark (e ∷ []))) d.outline) where
+        -- and in the outline
+        pub lay_fits : length d₀.outline ≤ length d₀.slots → length d'.outline + 2 ≤ length d'.slots
+        lay_fits short = omega (
+          arith,
+          ap (λ (x : Darts). length x.slots) added,
+          ap (λ (x : Darts). length x.outline) added,
+          length_sort_onto (stands_before coords) d.slots (edge_slots reverse_mark (e ∷ [])),
+          slots_length reverse_mark (e ∷ []),
+          count,
+          entries,
+        )
 
-    pub lay_end : length rest < 2 → (outline ≡ put outline₀ (length t₀) (flat_edges (map (reversed_if inv) (windows nodes))))
-        × (t ≡ sort_onto (stands_before coords) t₀ (edge_slots reverse_mark (map (reversed_if inv) (windows nodes))))
+        pub lay_turn : (d'' : Darts) → d'' ≡ darts d'.slots (d'.outline ++ e.0 ∷ e.1 ∷ []) → Laying coords inv nodes d₀ (drop 1 rest) d''
+        unfolding flat_edges joined
+        lay_turn d'' outlined = record {
+          done = v.done ++ e ∷ [];
+          left = append_assoc v.done (e ∷ []) (map (reversed_if inv) (windows (drop 1 rest)))
+              ∙ ap (λ (x : Edge). v.done ++ x ∷ map (reversed_if inv) (windows (drop 1 rest))) ee
+              ∙ ap (λ (es : List Edge). v.done ++ map (reversed_if inv) es) (sym (window_first rest w h ew)) ∙ v.left;
+          outlined = ap (λ (x : Darts). x.outline) outlined ∙ ap (λ (x : Darts). x.outline ++ e.0 ∷ e.1 ∷ []) added ∙ ap (λ (l : List ℕ). l ++ e.0 ∷ e.1 ∷ []) v.outlined
+              ∙ append_assoc d₀.outline (flat_edges v.done) (e.0 ∷ e.1 ∷ [])
+              ∙ ap (λ (l : List ℕ). d₀.outline ++ l) (sym (ends_append v.done (e ∷ [])));
+          inserted = ap (λ (x : Darts). x.slots) outlined ∙ ap (λ (x : Darts). x.slots) added
+              ∙ ap (λ (u : List Slot). sort_onto (stands_before coords) u (edge_slots reverse_mark (e ∷ []))) v.inserted
+              ∙ sym (sort_onto_append (stands_before coords) d₀.slots (edge_slots reverse_mark v.done) (edge_slots reverse_mark (e ∷ [])))
+              ∙ ap (sort_onto (stands_before coords) d₀.slots) (sym (slots_append reverse_mark v.done (e ∷ [])));
+        }
+
+    pub lay_end : length rest < 2 → d ≡ darts (sort_onto (stands_before coords) d₀.slots (edge_slots reverse_mark (map (reversed_if inv) (windows nodes))))
+        (d₀.outline ++ flat_edges (map (reversed_if inv) (windows nodes)))
     lay_end h =
         let all : v.done ≡ map (reversed_if inv) (windows nodes) = sym (append-nil v.done) ∙ ap (λ (es : List Edge). v.done ++ map (reversed_if inv) es)
-        (sym (window_last rest h)) ∙ v.left in (
-          v.outlined ∙ ap (λ (es : List Edge). put outline₀ (length t₀) (flat_edges es)) all,
-          v.inserted ∙ ap (λ (es : List Edge). sort_onto (stands_before coords) t₀ (edge_slots reverse_mark es)) all,
-        )
+        (sym (window_last rest h)) ∙ v.left in
+        ap₂ darts (v.inserted ∙ ap (λ (es : List Edge). sort_onto (stands_before coords) d₀.slots (edge_slots reverse_mark es)) all)
+        (v.outlined ∙ ap (λ (es : List Edge). d₀.outline ++ flat_edges es) all)
 
 -- ---- with more darts
 
@@ -144,11 +164,11 @@ module _ (coords : List Float) (back : Bool) (es : List Edge) (t : List Slot) wh
 module _ (es : List Edge) (n : ℕ) (w : List ℕ) where
   pub outline_full : 1024 < n + 2 * length es → w ≡ outline_with es n w
   unfolding outline_with
-  outline_full h = sym (ap (λ (b : Bool). cond b w (put w n (flat_edges es))) (lt-ltb 1024 (n + 2 * length es) h))
+  outline_full h = sym (ap (λ (b : Bool). cond b w (w ++ flat_edges es)) (lt-ltb 1024 (n + 2 * length es) h))
 
-  pub outline_fit : n + 2 * length es ≤ 1024 → put w n (flat_edges es) ≡ outline_with es n w
+  pub outline_fit : n + 2 * length es ≤ 1024 → w ++ flat_edges es ≡ outline_with es n w
   unfolding outline_with
-  outline_fit h = sym (ap (λ (b : Bool). cond b w (put w n (flat_edges es))) (le-ltb 1024 (n + 2 * length es) h))
+  outline_fit h = sym (ap (λ (b : Bool). cond b w (w ++ flat_edges es)) (le-ltb 1024 (n + 2 * length es) h))
 
 module _ (a b : ℕ) where
   pub own_whole : (nodes : List ℕ) → length nodes ≡ 0 → darts_along b (a ∷ b ∷ []) ≡ own_darts (record { edge = (a, b); nodes = nodes })

@@ -5,14 +5,12 @@ use mathlib.Core.List.{List, [], ◌∷◌, ◌++◌, append-nil, append_assoc}
 use Prim.Native.Nat.{ℕ, ◌+◌, ◌*◌, ◌≤◌, ◌<◌}
 use native.Mathlib.Omega.{arith}
 use lib.Dec.{eqb}
-use lib.ListN.{length, take, drop, length-append}
-use lib.Seq.{length-take-le, take_at}
+use lib.ListN.{length, length-append}
 use lib.Ieee.{Float}
 use borrow.Author.Tests.{lt-ltb, le-ltb}
 use Rattle.std.proofs.Common.{Result, Ok, is_err}
 use Rattle.lists.specs.Gather.{tally, joined}
 use Rattle.lists.specs.Sort.{sort_onto, sorted}
-use Rattle.lists.specs.Regions.{front, put}
 use Rattle.lists.proofs.Gather.{tally_append, joined_append, joined_snoc}
 use Rattle.lists.proofs.Sort.{sort_onto_append, length_sort_onto, length_sorted, sorted_tally}
 use Rattle.dart_table.specs.declared.Full.{Full}
@@ -25,27 +23,17 @@ use Rattle.dart_table.specs.Table.{Table, table_in, with_darts, with_edge, with_
 use Rattle.cutting.specs.Walk.{walk}
 use Rattle.cutting.specs.Outcome.{Outcome, refusal, of_walk, too_many, cut_outcome}
 use Rattle.cutting.proofs.CellLaws.{slots_append, slots_length}
-use Rattle.cutting.proofs.Pairs.{ends_length, ends_append}
+use Rattle.cutting.proofs.Pairs.{ends_append}
 use Rattle.dart_table.proofs.Adds.{darts_tell, outline_fit}
 use Rattle.cutting.proofs.Closing.{without_test}
 
--- ---- the outline's flat list
+-- ---- the outline's flat list, with one own edge more
 
--- the first entries, after those of some darts have been put behind the first n
-pub take_put_ends : (w : List ℕ) (n : ℕ) (es : List Edge) → n ≤ length w → take (n + 2 * length es) (put w n (flat_edges es)) ≡ take n w ++ flat_edges es
-unfolding put front
-take_put_ends w n es h =
-    let k = length-take-le n w h in
-    ap (take (n + 2 * length es)) (sym (append_assoc (take n w) (flat_edges es) (drop (length (flat_edges es)) (drop n w))))
-    ∙ take_at (take n w ++ flat_edges es) (drop (length (flat_edges es)) (drop n w)) (n + 2 * length es) (omega (arith, length-append (take n w) (flat_edges es), k, ends_length es))
-
--- one own edge more
-pub outline_more : (w w' : List ℕ) (n : ℕ) (own : List Laid) (l : Laid) → n ≤ length w → take n w ≡ flat_edges (outline_darts own) → w' ≡ put w n (flat_edges (own_darts l))
-    → take (n + 2 * length (own_darts l)) w' ≡ flat_edges (outline_darts (own ++ l ∷ []))
+pub outline_more : (w w' : List ℕ) (own : List Laid) (l : Laid) → w ≡ flat_edges (outline_darts own) → w' ≡ w ++ flat_edges (own_darts l)
+    → w' ≡ flat_edges (outline_darts (own ++ l ∷ []))
 unfolding outline_darts
-outline_more w w' n own l h e f =
-    ap (take (n + 2 * length (own_darts l))) f ∙ take_put_ends w n (own_darts l) h ∙ ap (λ (xs : List ℕ). xs ++ flat_edges (own_darts l)) e
-    ∙ sym (ap flat_edges (joined_snoc own_darts own l) ∙ ends_append (joined own_darts own) (own_darts l))
+outline_more w w' own l e f =
+    f ∙ ap (λ (xs : List ℕ). xs ++ flat_edges (own_darts l)) e ∙ sym (ap flat_edges (joined_snoc own_darts own l) ∙ ends_append (joined own_darts own) (own_darts l))
 
 -- ---- the table
 
@@ -110,10 +98,9 @@ module _ (coords : List Float) (own : List Laid) (l : Laid) (t : List Slot) (r :
   pub own_size : is_err r ≡ false → length t' ≡ length t + 2 * length (own_darts l)
   own_size h = omega (arith, ap length (told.0 h).1, length_sort_onto (stands_before coords) t (edge_slots reverse_mark (own_darts l)), slots_length reverse_mark (own_darts l))
 
-  pub own_outline : (w w' : List ℕ) → is_err r ≡ false → 1024 ≤ length w → take (length t) w ≡ flat_edges (outline_darts own)
-      → w' ≡ outline_with (own_darts l) (length t) w → take (length t + 2 * length (own_darts l)) w' ≡ flat_edges (outline_darts (own ++ l ∷ []))
-  own_outline w w' h room e f = outline_more w w' (length t) own l (omega (arith, (told.0 h).0, room)) e
-      (f ∙ sym (outline_fit (own_darts l) (length t) w (told.0 h).0))
+  pub own_outline : (w w' : List ℕ) → is_err r ≡ false → w ≡ flat_edges (outline_darts own) → w' ≡ outline_with (own_darts l) (length t) w
+      → w' ≡ flat_edges (outline_darts (own ++ l ∷ []))
+  own_outline w w' h e f = outline_more w w' own l e (f ∙ sym (outline_fit (own_darts l) (length t) w (told.0 h).0))
 
   pub own_full : (later near : List Laid) → is_err r ≡ true → 1024 < length (cell_table coords (outline_darts (own ++ l ∷ later)) near)
   own_full later near h = own_over coords own l later near (omega (arith, told.1 h, own_count))

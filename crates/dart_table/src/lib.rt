@@ -1,16 +1,14 @@
 // A cell's table of slots, built edge by edge and kept in its order. Over 1,024 slots are refused (10).
 #![tactic(auto)]
 
-ghost use Rattle.std.specs.Prelude.{◌≡◌, [], ◌∷◌, List, map, take, ◌+◌, ◌*◌, ◌≤◌, ◌<◌, length};
+ghost use Rattle.std.specs.Prelude.{◌≡◌, [], ◌∷◌, ◌++◌, map, take, ◌+◌, ◌*◌, ◌≤◌, ◌<◌, length};
 ghost use Rattle.std.specs.List.{position};
 ghost use Rattle.lists.specs.Sort.{insert, sort_onto};
-ghost use Rattle.lists.specs.Regions.{put};
-ghost use Rattle.cutting.specs.declared.Slot.{Slot};
 ghost use Rattle.cutting.specs.Edges.{reversed_if};
 ghost use Rattle.cutting.specs.Cell.{windows, darts_along, own_darts, near_darts, edge_slots, reverse_mark, names, stands_before};
 ghost use Rattle.cutting.specs.Lent.{flat_edges};
 ghost use Rattle.refusals.specs.declared.Refusal.TheVariants.{FullTable};
-ghost use Rattle.dart_table.specs.Table.{table_in, with_darts, with_edge, with_edges, outline_with};
+ghost use Rattle.dart_table.specs.Table.{Darts, darts, table_in, with_darts, with_edge, with_edges, outline_with};
 
 use cutting::Slot;
 use keys::SortedKey;
@@ -67,25 +65,28 @@ impl From<Full> for Refusal {
     }
 }
 
-// A table of at most 1,024 slots, seen as their list. Memory is fixed, so it is an array and a count, as edge_nodes' `Nodes` and dart_walk's `Heap` are of
-// other elements, each in its own order. Coordinates come with each call: as a field they would be no part of what the table is seen as.
+// A table of at most 1,024 slots, and the darts of the cell's outline as a flat list of pairs, each of which has two slots: seen as the two lists. Memory is
+// fixed, so they are arrays and counts, as edge_nodes' `Nodes` and dart_walk's `Heap` are of other elements, each in its own order. Coordinates come with
+// each call: as a field they would be no part of what the table is seen as.
 #[derive(Drop)]
 pub struct DartTable {
     slots: [Slot; 1024],
     count: usize,
+    outline: [u32; 1024],
+    entries: usize,
 }
 
 impl Model for DartTable {
-    ghost Value = { List Slot };
+    ghost Value = { Darts };
 
-    ghost view = { λ t. take t.count t.slots };
+    ghost view = { λ t. darts (take t.count t.slots) (take t.entries t.outline) };
 
-    ghost invariant = { λ t. t.count ≤ 1024 };
+    ghost invariant = { λ t. (t.count ≤ 1024) × (t.entries ≤ t.count) };
 }
 
 impl DartTable {
     pub fn new() -> Self
-        ensures { result ≡ [] }
+        ensures { result ≡ darts [] [] }
     {
         let none = Slot {
             src: 0,
@@ -95,20 +96,29 @@ impl DartTable {
         DartTable {
             slots: [none; 1024],
             count: 0,
+            outline: [0; 1024],
+            entries: 0,
         }
     }
 
     pub fn slots(&self) -> &[Slot]
-        ensures slots { result.now ≡ self.now }
-        ensures few { length self.now ≤ 1024 }
+        ensures slots { result.now ≡ self.now.slots }
+        ensures few { length self.now.slots ≤ 1024 }
+        ensures short { length self.now.outline ≤ length self.now.slots }
     {
         &self.slots[..self.count]
     }
 
+    pub fn outline(&self) -> &[u32]
+        ensures { result.now ≡ self.now.outline }
+    {
+        &self.outline[..self.entries]
+    }
+
     // Puts a slot in its place.
     fn insert(&mut self, coords: &[f64], slot: Slot)
-        requires { length self.old < 1024 }
-        ensures { self.new ≡ insert (stands_before coords.now) slot self.old }
+        requires { length self.old.slots < 1024 }
+        ensures { self.new ≡ darts (insert (stands_before coords.now) slot self.old.slots) self.old.outline }
     {
         let n = self.count;
         let k = place(coords, &self.slots[..n], slot).unwrap_or(n);
@@ -119,8 +129,8 @@ impl DartTable {
     // Adds the slot from a to b, and the one from b to a, marked if `back` is true.
     #[tactic(auto, using(lists::proofs::Sort::length_insert), unfolding(lists::specs::Sort::sort_onto, cutting::specs::Cell::edge_slots))]
     fn add_dart(&mut self, coords: &[f64], a: u32, b: u32, back: bool)
-        requires { length self.old + 2 ≤ 1024 }
-        ensures { self.new ≡ sort_onto (stands_before coords.now) self.old (edge_slots back ((a, b) ∷ [])) }
+        requires { length self.old.slots + 2 ≤ 1024 }
+        ensures { self.new ≡ darts (sort_onto (stands_before coords.now) self.old.slots (edge_slots back ((a, b) ∷ []))) self.old.outline }
     {
         let there = Slot {
             src: a,
@@ -136,66 +146,66 @@ impl DartTable {
         self.insert(coords, back_again);
     }
 
-    // Adds the darts along the nodes, each the other way where `inv` is true, also to the outline, which has an entry for each slot.
-    // The outline is a lent list: as an array it would have to have 1,024 entries and no more, which asks callers for more.
-    fn add_along(&mut self, coords: &[f64], inv: bool, nodes: &[u32], outline: &mut [u32])
-        requires { (length self.old + 2 * length nodes.now ≤ 1026) × (1024 ≤ length outline.old) }
-        ensures outline_after { outline.new ≡ put outline.old (length self.old) (flat_edges (map (reversed_if inv) (windows nodes.now))) }
-        ensures slots_after { self.new ≡ sort_onto (stands_before coords.now) self.old (edge_slots reverse_mark (map (reversed_if inv) (windows nodes.now))) }
+    // Puts a dart behind the others of the outline.
+    #[tactic(auto, using(crate::proofs::Adds::two_behind))]
+    fn outline_dart(&mut self, a: u32, b: u32)
+        requires { length self.old.outline + 2 ≤ length self.old.slots }
+        ensures { self.new ≡ darts self.old.slots (self.old.outline ++ a ∷ b ∷ []) }
+    {
+        self.outline[self.entries] = a;
+        self.outline[self.entries + 1] = b;
+        self.entries += 2;
+    }
+
+    // Adds the darts along the nodes, each the other way where `inv` is true, also to the outline.
+    fn add_along(&mut self, coords: &[f64], inv: bool, nodes: &[u32])
+        requires { (length self.old.slots + 2 * length nodes.now ≤ 1026) × (length self.old.outline ≤ length self.old.slots) }
+        ensures { self.new ≡ darts (sort_onto (stands_before coords.now) self.old.slots (edge_slots reverse_mark (map (reversed_if inv) (windows nodes.now))))
+            (self.old.outline ++ flat_edges (map (reversed_if inv) (windows nodes.now))) }
     {
         for pair in nodes.windows(2) {
             let (a, b) = turned(inv, pair[0], pair[1]);
-            let n = self.slots().len();
-            outline[n] = a;
-            outline[n + 1] = b;
             self.add_dart(coords, a, b, true);
+            self.outline_dart(a, b);
         }
     }
 
-    // Adds the darts along the nodes of an own edge whose second node is given, also to the outline, a lent list as above.
-    fn add_darts(
-        &mut self,
-        coords: &[f64],
-        second: u32,
-        nodes: &[u32],
-        outline: &mut [u32],
-    ) -> Result<(), Full>
-        requires { (0 < length nodes.now) × (1024 ≤ length outline.old) }
-        ensures table { table_in result self.new ≡ with_darts coords.now reverse_mark (darts_along second nodes.now) self.old }
-        ensures outline { outline.new ≡ outline_with (darts_along second nodes.now) (length self.old) outline.old }
+    // Adds the darts along the nodes of an own edge whose second node is given, also to the outline.
+    fn add_darts(&mut self, coords: &[f64], second: u32, nodes: &[u32]) -> Result<(), Full>
+        requires { 0 < length nodes.now }
+        ensures table { table_in result self.new.slots ≡ with_darts coords.now reverse_mark (darts_along second nodes.now) self.old.slots }
+        ensures outline { self.new.outline ≡ outline_with (darts_along second nodes.now) (length self.old.slots) self.old.outline }
     {
         let slots = self.slots().len() + 2 * (nodes.len() - 1);
         if 1024 < slots {
             return Err(Full { slots });
         }
-        self.add_along(coords, second == nodes[0], nodes, outline);
+        self.add_along(coords, second == nodes[0], nodes);
         Ok(())
     }
 
-    // Adds the darts of the cell's own edge from a to b, by its sorted nodes (none: the edge itself), also to the outline, which has an entry for
-    // each slot and is a lent list as above.
+    // Adds the darts of the cell's own edge from a to b, by its sorted nodes (none: the edge itself), also to the outline.
     pub fn add_own_edge(
         &mut self,
         coords: &[f64],
         a: u32,
         b: u32,
         nodes: &[u32],
-        outline: &mut [u32],
     ) -> Result<(), Full>
-        requires { 1024 ≤ length outline.old }
-        ensures table { table_in result self.new ≡ with_darts coords.now reverse_mark (own_darts (record { edge = (a, b); nodes = nodes.now })) self.old }
-        ensures outline { outline.new ≡ outline_with (own_darts (record { edge = (a, b); nodes = nodes.now })) (length self.old) outline.old }
+        ensures table { table_in result self.new.slots ≡ with_darts coords.now reverse_mark (own_darts (record { edge = (a, b); nodes = nodes.now })) self.old.slots }
+        ensures outline { self.new.outline ≡ outline_with (own_darts (record { edge = (a, b); nodes = nodes.now })) (length self.old.slots) self.old.outline }
     {
         if nodes.is_empty() {
-            return self.add_darts(coords, b, &[a, b], outline);
+            return self.add_darts(coords, b, &[a, b]);
         }
-        self.add_darts(coords, b, nodes, outline)
+        self.add_darts(coords, b, nodes)
     }
 
     // Adds the edge from a to b, with a slot at both its ends, if it is new to the table.
     #[tactic(auto, using(crate::proofs::Slots::found, crate::proofs::Adds::edge_loop, crate::proofs::Adds::edge_known))]
     fn add_edge(&mut self, coords: &[f64], a: u32, b: u32) -> Result<(), Full>
-        ensures { table_in result self.new ≡ with_edge coords.now (a, b) self.old }
+        ensures table { table_in result self.new.slots ≡ with_edge coords.now (a, b) self.old.slots }
+        ensures outline { self.new.outline ≡ self.old.outline }
     {
         if a == b {
             return Ok(());
@@ -213,7 +223,8 @@ impl DartTable {
 
     // Adds the new windows of the nodes, until one is refused.
     fn add_new(&mut self, coords: &[f64], nodes: &[u32]) -> Result<(), Full>
-        ensures { table_in result self.new ≡ with_edges coords.now (windows nodes.now) self.old }
+        ensures table { table_in result self.new.slots ≡ with_edges coords.now (windows nodes.now) self.old.slots }
+        ensures outline { self.new.outline ≡ self.old.outline }
     {
         for pair in nodes.windows(2) {
             self.add_edge(coords, pair[0], pair[1])?;
@@ -231,7 +242,8 @@ impl DartTable {
         b: u32,
         nodes: &[u32],
     ) -> Result<(), Full>
-        ensures { table_in result self.new ≡ with_edges coords.now (near_darts (record { edge = (a, b); nodes = nodes.now })) self.old }
+        ensures table { table_in result self.new.slots ≡ with_edges coords.now (near_darts (record { edge = (a, b); nodes = nodes.now })) self.old.slots }
+        ensures outline { self.new.outline ≡ self.old.outline }
     {
         if nodes.is_empty() {
             let key = SortedKey::new(a, b);

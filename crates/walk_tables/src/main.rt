@@ -35,19 +35,17 @@ fn walk(
 ) -> Result<Counts, Refusal>
     requires { (1024 ≤ length nodes.old) × (1024 ≤ length stops.old) }
 {
-    let mut outline = [0u32; 1024];
     let mut table = DartTable::new();
     for e in own {
-        table.add_own_edge(coords, e.from, e.to, e.nodes, &mut outline)?;
+        table.add_own_edge(coords, e.from, e.to, e.nodes)?;
     }
-    let entries = table.slots().len();
-    if outlines::edges_repeat(&outline[..entries]) {
+    if outlines::edges_repeat(table.outline()) {
         return Err(Refusal::RepeatedEdge);
     }
     for e in near {
         table.add_near_edge(coords, e.from, e.to, e.nodes)?;
     }
-    walk_dart_map(table.slots(), &outline[..entries], nodes, stops)
+    walk_dart_map(table.slots(), table.outline(), nodes, stops)
 }
 
 // The pieces' nodes, a line for each piece.

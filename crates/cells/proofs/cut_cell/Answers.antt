@@ -1,9 +1,6 @@
 use mathlib.Core.Path.{◌≡◌, sym, ap, ◌∙◌, subst}
 use mathlib.Core.List.{List}
 use Rattle.std.proofs.Common.{Err}
-use Prim.Native.Nat.{ℕ}
-use native.Mathlib.Omega.{arith}
-use lib.ListN.{length, take, length-take}
 use Rattle.cutting.specs.Edges.{Edge}
 use Rattle.cutting.specs.Cell.{cell_table}
 use Rattle.cutting.specs.Lent.{pairs}
@@ -39,12 +36,9 @@ pub cut-requires : goal.cut-requires
 cut-requires c =
     let a = c.args in
     let own = c.add_darts in
-    let fits = sym c.is_err.ensures.value ∙ c.if-is_err.false in
-    let same = ap length c.slots-entries.ensures.slots in
-    let lent = ap (λ (n : ℕ). take n own.new.outline) same ∙ own.ensures.outlined fits in (
-      omega (arith, length-take (length c.slots-entries.result.now) own.new.outline, c.slots-entries.ensures.few, same),
-      own_table a.scene.coords.now (outline_in a.scene.coords.now a.scene.work.now a.scene.regions a.cell.now) own.new.outline
-          (length c.slots-entries.result.now) lent own.new.table (own.ensures.held.fits fits),
+    let fits = sym c.is_err.ensures.value ∙ c.if-is_err.false in (
+      own_table a.scene.coords.now (outline_in a.scene.coords.now a.scene.work.now a.scene.regions a.cell.now) own.new.table.outline
+          (own.ensures.outlined fits) own.new.table.slots (own.ensures.held.fits fits),
       c.requires.4,
       c.requires.5,
     )
@@ -54,9 +48,7 @@ returns c =
     let a = c.args in
     let own = c.add_darts in
     let fits = sym c.is_err.ensures.value ∙ c.if-is_err.false in
-    let same = ap length c.slots-entries.ensures.slots in
-    let lent = ap (λ (n : ℕ). take n own.new.outline) same ∙ own.ensures.outlined fits in
-    cut_as_lent a.scene.coords.now a.scene.work.now a.scene.regions a.edges a.js.now a.cell.now a.runs.now a.stops.now own.new.outline (length c.slots-entries.result.now) _
-    lent (c.cut.ensures ∙ ap (λ (es : List Edge). cut_by (pairs (take (length c.slots-entries.result.now) own.new.outline))
-    (cell_table a.scene.coords.now (pairs (take (length c.slots-entries.result.now) own.new.outline)) (near_in a.scene.coords.now a.scene.work.now a.scene.regions es a.js.now)) a.runs.now a.stops.now)
+    cut_as_lent a.scene.coords.now a.scene.work.now a.scene.regions a.edges a.js.now a.cell.now a.runs.now a.stops.now own.new.table.outline _
+    (own.ensures.outlined fits) (c.cut.ensures ∙ ap (λ (es : List Edge). cut_by (pairs own.new.table.outline)
+    (cell_table a.scene.coords.now (pairs own.new.table.outline) (near_in a.scene.coords.now a.scene.work.now a.scene.regions es a.js.now)) a.runs.now a.stops.now)
     (as_pairs a.scene.work.now a.edges _ _ c.part.ensures c.as_chunks.ensures.front))

@@ -1,6 +1,7 @@
 use mathlib.Core.Path.{sym, ap, ◌∙◌}
 use mathlib.Core.List.{List}
-use Rattle.cutting.specs.declared.Slot.{Slot}
+use Prim.Native.Nat.{ℕ}
+use Rattle.cutting.specs.Cell.{repeats}
 use Rattle.cutting.specs.Walk.{walk}
 use Rattle.cutting.specs.Outcome.{of_walk}
 use Rattle.cutting.specs.Lent.{pairs}
@@ -11,9 +12,10 @@ use Rattle.cells.proofs.NearEdges.cut.Goals as goal
 pub returns : goal.returns
 returns c =
     let a = c.args in
-    let outline = pairs a.outline.now in
     let w = c.walk_dart_map in
-    let cuts = answered (of_walk (walk outline c.slots.result.now)) w.result a.runs.now a.stops.now _ _ w.ensures.0 w.ensures.1 w.ensures.2 in
-    as_walked _ outline _ c.add_darts.new.table a.runs.now a.stops.now _ (sym c.edges_repeat.ensures ∙ c.if-edges_repeat.false) c.slots.ensures.few
-    (c.add_darts.ensures.fits (sym c.is_err.ensures.value ∙ c.if-is_err.false))
-    (cuts ∙ ap (λ (t : List Slot). cut_as (of_walk (walk outline t)) a.runs.now a.stops.now) c.slots.ensures.slots)
+    let cuts = answered (of_walk (walk (pairs c.outline-2.result.now) c.slots.result.now)) w.result a.runs.now a.stops.now _ _ w.ensures.0 w.ensures.1 w.ensures.2 in
+    let outline = c.outline-2.ensures ∙ c.add_darts.ensures.outline in
+    let once = ap (λ (o : List ℕ). repeats (pairs o)) (sym c.outline.ensures) ∙ (sym c.edges_repeat.ensures ∙ c.if-edges_repeat.false) in
+    as_walked _ (pairs a.table.now.outline) _ c.add_darts.new.table.slots a.runs.now a.stops.now _ once c.slots.ensures.few
+    (c.add_darts.ensures.held.fits (sym c.is_err.ensures.value ∙ c.if-is_err.false))
+    (cuts ∙ (λ t. cut_as (of_walk (walk (pairs (outline t)) (c.slots.ensures.slots t))) a.runs.now a.stops.now))

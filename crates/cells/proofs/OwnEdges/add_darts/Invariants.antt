@@ -3,4 +3,4 @@ use Rattle.cells.proofs.Own.{Outlining}
 use Rattle.cells.proofs.OwnEdges.add_darts.Given as goal
 
 abbrev pub invariant-loop-i : goal.invariant-loop-i
-invariant-loop-i l = Outlining l.self l.outline l.table l.i
+invariant-loop-i l = Outlining l.self l.table l.i

@@ -8,18 +8,19 @@ use native.Mathlib.Omega.{arith}
 use Rattle.cutting.specs.Cell.{names}
 use Rattle.dart_table.proofs.Slots.{found_not}
 use Rattle.dart_table.proofs.Adds.{darts_full, darts_fit, edge_new}
+use Rattle.dart_table.specs.Table.{Darts}
 use Rattle.dart_table.proofs.DartTable.add_edge.Goals as goal
 
-pub returns-then-slots-gt1024 : goal.returns-then-slots-gt1024
-returns-then-slots-gt1024 c =
+pub returns-then-slots-gt1024-clause-table : goal.returns-then-slots-gt1024-clause-table
+returns-then-slots-gt1024-clause-table c =
     let a = c.args in
     let is = c.find_slot.ensures ∙ ap (position (names a.a a.b)) c.slots.ensures.slots in
-    darts_full a.coords.now false ((a.a, a.b) ∷ []) a.self.now _ (omega (arith, ap length c.slots-2.ensures.slots)) c.if-slots-gt1024.true
-    ∙ edge_new a.coords.now a.a a.b a.self.now c.if-a-b.false (found_not (names a.a a.b) a.self.now _ is (sym c.is_some.ensures ∙ c.if-is_some.false))
+    darts_full a.coords.now false ((a.a, a.b) ∷ []) a.self.now.slots _ (omega (arith, ap length c.slots-2.ensures.slots)) c.if-slots-gt1024.true
+    ∙ edge_new a.coords.now a.a a.b a.self.now.slots c.if-a-b.false (found_not (names a.a a.b) a.self.now.slots _ is (sym c.is_some.ensures ∙ c.if-is_some.false))
 
-pub returns : goal.returns
-returns c =
+pub returns-clause-table : goal.returns-clause-table
+returns-clause-table c =
     let a = c.args in
     let is = c.find_slot.ensures ∙ ap (position (names a.a a.b)) c.slots.ensures.slots in
-    darts_fit a.coords.now false ((a.a, a.b) ∷ []) a.self.now _ (omega (arith, ap length c.slots-2.ensures.slots)) c.add_dart.ensures
-    ∙ edge_new a.coords.now a.a a.b a.self.now c.if-a-b.false (found_not (names a.a a.b) a.self.now _ is (sym c.is_some.ensures ∙ c.if-is_some.false))
+    darts_fit a.coords.now false ((a.a, a.b) ∷ []) a.self.now.slots _ (omega (arith, ap length c.slots-2.ensures.slots)) (ap (λ (d : Darts). d.slots) c.add_dart.ensures)
+    ∙ edge_new a.coords.now a.a a.b a.self.now.slots c.if-a-b.false (found_not (names a.a a.b) a.self.now.slots _ is (sym c.is_some.ensures ∙ c.if-is_some.false))

@@ -9,4 +9,5 @@ abbrev pub invariant-loop-pair : goal.invariant-loop-pair
 invariant-loop-pair l =
     (goal.iterator-loop-pair).can_next l.pair-iterator × (goal.iterator-loop-pair).is_finite l.pair-iterator
     × (windows_size l.pair-iterator ≡ 2)
-    × (with_edges l.coords (windows (windows_rest l.pair-iterator)) l.self ≡ with_edges l.coords (windows l.nodes) l.initial.self)
+    × (with_edges l.coords (windows (windows_rest l.pair-iterator)) l.self.slots ≡ with_edges l.coords (windows l.nodes) l.initial.self.slots)
+    × (l.self.outline ≡ l.initial.self.outline)

@@ -12,8 +12,8 @@ returns-then-is_empty c =
     let a = c.args in
     let is = own_whole a.a a.b a.nodes.now (eqb-true (length a.nodes.now) 0 (sym c.is_empty.ensures ∙ c.if-is_empty.true)) in
     record {
-      table = c.add_darts.ensures.table ∙ ap (λ es. with_darts a.coords.now reverse_mark es a.self.now) is;
-      outline = c.add_darts.ensures.outline ∙ ap (λ es. outline_with es (length a.self.now) a.outline.now) is;
+      table = c.add_darts.ensures.table ∙ ap (λ es. with_darts a.coords.now reverse_mark es a.self.now.slots) is;
+      outline = c.add_darts.ensures.outline ∙ ap (λ es. outline_with es (length a.self.now.slots) a.self.now.outline) is;
     }
 
 pub returns : goal.returns
@@ -21,6 +21,6 @@ returns c =
     let a = c.args in
     let is = own_along a.a a.b a.nodes.now (some_of a.nodes.now (sym c.is_empty.ensures ∙ c.if-is_empty.false)) in
     record {
-      table = c.add_darts-2.ensures.table ∙ ap (λ es. with_darts a.coords.now reverse_mark es a.self.now) is;
-      outline = c.add_darts-2.ensures.outline ∙ ap (λ es. outline_with es (length a.self.now) a.outline.now) is;
+      table = c.add_darts-2.ensures.table ∙ ap (λ es. with_darts a.coords.now reverse_mark es a.self.now.slots) is;
+      outline = c.add_darts-2.ensures.outline ∙ ap (λ es. outline_with es (length a.self.now.slots) a.self.now.outline) is;
     }
