@@ -1,7 +1,7 @@
 -- How many nodes are collected under a key, and whether they are too many. Assumes nothing.
 use mathlib.Core.Path.{◌≡◌}
 use mathlib.Core.List.{List}
-use Prim.Native.Nat.{ℕ, ◌+◌, ◌/◌, ◌≤◌}
+use Prim.Native.Nat.{ℕ, ◌+◌, ◌*◌, ◌/◌, ◌≤◌}
 use native.Mathlib.Omega.{arith}
 use lib.ListN.{length, length-append}
 use Rattle.cutting.specs.Edges.{Edge}
@@ -11,9 +11,9 @@ use Rattle.edge_nodes.specs.Chained.{number}
 use Rattle.edge_nodes.specs.Lent.{under, under_in, collected_in}
 use Rattle.edge_nodes.proofs.Under.{under_bound}
 
--- not more than a count of 32 bits would hold
-pub under_small : (m : Meetings) (e : Edge) → length m.met.now ≤ 327680 → length (under_in m e) ≤ 131072
-under_small m e h = omega (arith, h, under_bound (pairs m.edges.now) m.met.now (number m.side) e (length m.met.now / 5))
+-- a meeting takes five numbers, and has two nodes at most
+pub under_bounded : (m : Meetings) (e : Edge) → 2 * length (under_in m e) ≤ length m.met.now
+under_bounded m e = omega (arith, under_bound (pairs m.edges.now) m.met.now (number m.side) e (length m.met.now / 5))
 
 -- ---- by both
 

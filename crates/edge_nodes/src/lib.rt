@@ -6,7 +6,7 @@ mod chains;
 mod nodes;
 mod sides;
 
-ghost use Rattle.std.specs.Prelude.{◌≡◌, map, ◌+◌, ◌/◌, ◌≤◌, ltb, length};
+ghost use Rattle.std.specs.Prelude.{◌≡◌, map, ◌+◌, ◌*◌, ◌/◌, ◌≤◌, ltb, length};
 ghost use Rattle.std.specs.List.{list_any};
 ghost use Rattle.lists.specs.Search.{has};
 ghost use Rattle.lists.specs.Sort.{sort_onto};
@@ -33,11 +33,10 @@ impl<'a> Chains<'a> {
         }
     }
 
-    // How many they are. The limit of meetings is asked where they are counted: as a ghost field it would be asked of `nodes_on` too.
-    #[tactic(auto, using(crate::proofs::Count::under_small))]
-    fn count(&self, key: SortedKey) -> usize
-        requires { length self.now.meetings.met.now ≤ 327680 }
-        ensures { (result ≡ length (under_in self.now.meetings (edge_of key))) × (result ≤ 131072) }
+    // How many they are: two for each meeting at most.
+    #[tactic(auto, using(crate::proofs::Count::under_bounded))]
+    fn count(self, key: SortedKey) -> usize
+        ensures { (result ≡ length (under_in self.entry.meetings (edge_of key))) × (2 * result ≤ length self.entry.meetings.met.now) }
     {
         let mut n: usize = 0;
         for part in self.under(key) {
@@ -69,7 +68,6 @@ impl<'a> LinkedMeetings<'a> {
     // Whether over 256 nodes are collected under the key.
     #[tactic(auto, using(crate::proofs::Count::length_collected))]
     fn is_crowded(&self, key: SortedKey) -> bool
-        requires { length self.now.met.now ≤ 327680 }
         ensures { result ≡ ltb most_nodes (length (collected_in (pairs self.now.subject.now) (pairs self.now.cutter.now) self.now.met.now (edge_of key))) }
     {
         let (subject, cutter) = self.chains();
@@ -78,7 +76,6 @@ impl<'a> LinkedMeetings<'a> {
 
     // Whether they are under the key of one of the edges.
     fn any_crowded(&self, edges: &[[u32; 2]]) -> bool
-        requires { length self.now.met.now ≤ 327680 }
         ensures { result ≡ list_any (λ e. ltb most_nodes (length (collected_in (pairs self.now.subject.now) (pairs self.now.cutter.now) self.now.met.now (key (pair_of e))))) edges.now }
     {
         edges
@@ -89,7 +86,6 @@ impl<'a> LinkedMeetings<'a> {
     // The same of a flat list of edges (refusal 9).
     #[tactic(auto, using(crate::proofs::Crowded::crowded_pairs))]
     pub fn overfull(&self, edges: &[u32]) -> bool
-        requires { length self.now.met.now ≤ 327680 }
         ensures { result ≡ has (crowded_at (pairs edges.now) (pairs self.now.subject.now) (pairs self.now.cutter.now) self.now.met.now) (length edges.now / 2) }
     {
         self.any_crowded(edges.as_chunks::<2>().0)

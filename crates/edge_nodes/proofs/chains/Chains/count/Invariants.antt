@@ -8,4 +8,4 @@ use Rattle.edge_nodes.specs.Lent.{under_in}
 use Rattle.edge_nodes.proofs.chains.Chains.count.Given as goal
 
 abbrev pub invariant-loop-part : goal.invariant-loop-part
-invariant-loop-part l = l.n + length (concat (chain_left l.part-iterator)) ≡ length (under_in l.self.meetings (edge_of l.fn.key))
+invariant-loop-part l = l.n + length (concat (chain_left l.part-iterator)) ≡ length (under_in l.fn.self.meetings (edge_of l.fn.key))
