@@ -1,5 +1,5 @@
 -- The corners of a ring as they are read, and what its iterators have left. Assumes nothing.
-use Rattle.std.specs.Prelude.{List, ℕ, length, drop}
+use Rattle.std.specs.Prelude.{List, ℕ, length, drop, Float}
 use Rattle.lists.specs.Gather.{each}
 use Rattle.plane.specs.declared.Point.{Point}
 use Rattle.corners.specs.Corners.{corner_at, corner_after, oriented}
@@ -10,6 +10,10 @@ use Rattle.corners.specs.declared.Edges.{Edges}
 -- the corners as they stand, or backwards
 abbrev pub as_read : Ring → List ℕ
 as_read r = oriented r.back r.corners.now
+
+-- what f says of coordinates and corners, of those of a ring
+abbrev pub of_ring : {B : Type 0} → (List Float → List ℕ → B) → Ring → B
+of_ring f r = f r.coords.now (as_read r)
 
 -- the points of the corners, in turn
 abbrev pub points : Ring → List Point

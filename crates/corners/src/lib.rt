@@ -4,13 +4,13 @@
 ghost use Rattle.std.specs.Prelude.{◌≡◌, ◌<◌, length, get_or};
 ghost use Rattle.std.specs.Iterator.{YieldsFirst, item_count};
 ghost use Rattle.corners.specs.Corners.{corner_at, corner_after, corner_before, next_corner, doubled_sum, signed_area2, turned, into_ccw2};
-ghost use Rattle.corners.specs.Ring.{as_read, points, points_left, edges, edges_left};
+ghost use Rattle.corners.specs.Ring.{as_read, of_ring, points, points_left, edges, edges_left};
 
 use plane::{Point, point_at};
 
 // A polygon: its corners are a run of node numbers, read from the other end where back is true. The coordinates are those of all nodes.
-// The flag is no state of its own: C hands it over, and what reads the corners asks it at each. Contracts cite coordinates and corners apart, as the definitions
-// take them: a model of a ring would be that pair, taken apart at each.
+// The flag is no state of its own: C hands it over, and what reads the corners asks it at each. Definitions take coordinates and corners apart: `of_ring f` is what f
+// says of a ring's. No model: it would be that pair, taken apart at each.
 #[derive(Clone, Copy)]
 pub struct Ring<'a> {
     pub coords: &'a [f64],
@@ -52,7 +52,7 @@ impl<'a> Ring<'a> {
 
     #[tactic(auto, unfolding(crate::specs::Corners::corner_at))]
     pub fn corner(self, i: usize) -> Point
-        ensures { result ≡ corner_at self.entry.coords.now (as_read self.entry) i }
+        ensures { result ≡ of_ring corner_at self.entry i }
     {
         point_at(self.coords, self.node(i))
     }
@@ -73,7 +73,7 @@ impl<'a> Ring<'a> {
 
     // Twice the area: the sum of x·y' − x'·y over the edges.
     pub fn doubled(self) -> f64
-        ensures { result ≡ doubled_sum self.entry.coords.now (as_read self.entry) }
+        ensures { result ≡ of_ring doubled_sum self.entry }
     {
         self.edges()
             .fold(0.0, |sum, (a, b)| sum + (a.x * b.y - b.x * a.y))
@@ -81,7 +81,7 @@ impl<'a> Ring<'a> {
 
     #[tactic(auto, unfolding(crate::specs::Corners::signed_area2))]
     fn signed_area2(self) -> f64
-        ensures { result ≡ signed_area2 self.entry.coords.now (as_read self.entry) }
+        ensures { result ≡ of_ring signed_area2 self.entry }
     {
         self.doubled() / 2.0
     }
@@ -89,7 +89,7 @@ impl<'a> Ring<'a> {
     // Whether the corners go clockwise.
     #[tactic(auto, unfolding(crate::specs::Corners::turned))]
     pub fn is_turned(self) -> bool
-        ensures { result ≡ turned self.entry.coords.now (as_read self.entry) }
+        ensures { result ≡ of_ring turned self.entry }
     {
         self.signed_area2() < 0.0
     }
@@ -98,7 +98,7 @@ impl<'a> Ring<'a> {
     #[tactic(auto, using(crate::proofs::Corners::turned_again), unfolding(crate::specs::Corners::into_ccw2))]
     pub fn into_ccw2(self) -> Ring<'a>
         ensures coords_are { result.coords.now ≡ self.entry.coords.now }
-        ensures corners_are { as_read result ≡ into_ccw2 self.entry.coords.now (as_read self.entry) }
+        ensures corners_are { as_read result ≡ of_ring into_ccw2 self.entry }
     {
         Ring {
             back: self.back != self.is_turned(),

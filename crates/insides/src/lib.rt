@@ -2,7 +2,7 @@
 #![tactic(auto)]
 
 ghost use Rattle.std.specs.Prelude.{◌≡◌};
-ghost use Rattle.corners.specs.Ring.{as_read};
+ghost use Rattle.corners.specs.Ring.{of_ring};
 ghost use Rattle.insides.specs.Inside.{ortho_dist2, settle, nearest, orient2d2, left_of, reflex, at_corner, contains_stable, inside};
 
 use corners::{Ring, after, previous};
@@ -72,7 +72,7 @@ fn settle(n: usize, i: usize, r: Reached, b: Near) -> Near
 
 #[tactic(auto, using(corners::proofs::Steps::length_edges))]
 fn nearest(ring: Ring, p: Point) -> Near
-    ensures { result ≡ nearest ring.entry.coords.now (as_read ring.entry) p }
+    ensures { result ≡ of_ring nearest ring.entry p }
 {
     let n = ring.len();
     let none = Near {
@@ -84,7 +84,7 @@ fn nearest(ring: Ring, p: Point) -> Near
 
 #[tactic(auto, unfolding(crate::specs::Inside::left_of))]
 fn left_of(ring: Ring, i: usize, j: usize, p: Point) -> bool
-    ensures { result ≡ left_of ring.entry.coords.now (as_read ring.entry) i j p }
+    ensures { result ≡ of_ring left_of ring.entry i j p }
 {
     let a = ring.corner(i);
     let b = ring.corner(j);
@@ -94,7 +94,7 @@ fn left_of(ring: Ring, i: usize, j: usize, p: Point) -> bool
 
 #[tactic(auto, unfolding(crate::specs::Inside::reflex))]
 fn reflex(ring: Ring, i: usize, j: usize, k: usize) -> bool
-    ensures { result ≡ reflex ring.entry.coords.now (as_read ring.entry) i j k }
+    ensures { result ≡ of_ring reflex ring.entry i j k }
 {
     let a = ring.corner(i);
     let b = ring.corner(j);
@@ -104,7 +104,7 @@ fn reflex(ring: Ring, i: usize, j: usize, k: usize) -> bool
 
 #[tactic(auto, unfolding(crate::specs::Inside::at_corner))]
 fn at_corner(ring: Ring, i: usize, p: Point) -> bool
-    ensures { result ≡ at_corner ring.entry.coords.now (as_read ring.entry) i p }
+    ensures { result ≡ of_ring at_corner ring.entry i p }
 {
     let n = ring.len();
     let h = previous(n, i);
@@ -120,7 +120,7 @@ fn at_corner(ring: Ring, i: usize, p: Point) -> bool
 // The corners go counter-clockwise.
 #[tactic(auto, unfolding(crate::specs::Inside::contains_stable))]
 pub fn contains_stable(ring: Ring, p: Point) -> bool
-    ensures { result ≡ contains_stable ring.entry.coords.now (as_read ring.entry) p }
+    ensures { result ≡ of_ring contains_stable ring.entry p }
 {
     let n = ring.len();
     if n < 3 {
@@ -135,7 +135,7 @@ pub fn contains_stable(ring: Ring, p: Point) -> bool
 // Whether the point lies inside the polygon, its corners going either way round.
 #[tactic(auto, unfolding(crate::specs::Inside::inside))]
 pub fn inside(ring: Ring, p: Point) -> bool
-    ensures { result ≡ inside ring.entry.coords.now (as_read ring.entry) p }
+    ensures { result ≡ of_ring inside ring.entry p }
 {
     contains_stable(ring.into_ccw2(), p)
 }

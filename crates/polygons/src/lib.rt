@@ -6,7 +6,7 @@ ghost use Rattle.std.specs.Float.Ieee.{lt};
 ghost use Rattle.lists.specs.Gather.{all};
 ghost use Rattle.lists.specs.Sort.{sorted};
 ghost use Rattle.plane.specs.Plane.{is_number};
-ghost use Rattle.corners.specs.Ring.{as_read};
+ghost use Rattle.corners.specs.Ring.{as_read, of_ring};
 ghost use Rattle.polygons.specs.Interior.{heights, passed, widest_in, crossing_at, crossings, lowest, at_height, strict_interior_point};
 ghost use Rattle.polygons.specs.Scans.{lower, closer, first_above, climb_to, taken, with_crossing};
 
@@ -30,7 +30,7 @@ pub enum Lowest {
 }
 
 fn all_numbers(ring: Ring) -> bool
-    ensures { result ≡ all is_number (heights ring.entry.coords.now (as_read ring.entry)) }
+    ensures { result ≡ all is_number (of_ring heights ring.entry) }
 {
     ring.points().all(|p| !p.y.is_nan())
 }
@@ -58,7 +58,7 @@ fn closer(h: Option<f64>, b: Option<f64>, y: f64) -> Option<f64>
 
 // The lowest height above h, the first of them where several are equal.
 fn above(ring: Ring, h: Option<f64>) -> Option<f64>
-    ensures { result ≡ first_above h (sorted lt (heights ring.entry.coords.now (as_read ring.entry))) }
+    ensures { result ≡ first_above h (sorted lt (of_ring heights ring.entry)) }
 {
     ring.points().fold(None, |b, p| closer(h, b, p.y))
 }
@@ -84,7 +84,7 @@ fn passed(c: Climb, y: f64) -> Climb
 // From height to height, until none is above.
 #[tactic(auto, using(crate::proofs::Steps::length_heights, crate::proofs::Steps::at_foot, crate::proofs::Steps::fewer_left, crate::proofs::Steps::one_up))]
 fn climbs(ring: Ring) -> Climb
-    ensures { result ≡ climb_to (length (as_read ring.entry)) (sorted lt (heights ring.entry.coords.now (as_read ring.entry))) }
+    ensures { result ≡ climb_to (length (as_read ring.entry)) (sorted lt (of_ring heights ring.entry)) }
 {
     let mut c = Climb {
         at: None,
@@ -100,7 +100,7 @@ fn climbs(ring: Ring) -> Climb
 // The middle of the widest gap.
 #[tactic(auto, using(crate::proofs::Ascent::climbs_in), unfolding(crate::specs::Interior::widest_in))]
 fn widest(ring: Ring) -> Option<f64>
-    ensures { result ≡ widest_in ring.entry.coords.now (as_read ring.entry) }
+    ensures { result ≡ of_ring widest_in ring.entry }
 {
     if all_numbers(ring) {
         return climbs(ring).middle;
@@ -144,14 +144,14 @@ fn with_crossing(m: f64, a: Point, b: Point, l: Lowest) -> Option<Lowest>
 
 // None where a crossing is no number.
 fn lowest_two(ring: Ring, m: f64) -> Option<Lowest>
-    ensures { result ≡ lowest (crossings ring.entry.coords.now (as_read ring.entry) m) }
+    ensures { result ≡ lowest (of_ring crossings ring.entry m) }
 {
     ring.edges()
         .try_fold(Lowest::Empty, |l, (a, b)| with_crossing(m, a, b, l))
 }
 
 fn at_height(ring: Ring, m: f64) -> Option<Point>
-    ensures { result ≡ at_height ring.entry.coords.now (as_read ring.entry) (Some m) }
+    ensures { result ≡ of_ring at_height ring.entry (Some m) }
 {
     let Lowest::Two(x, y) = lowest_two(ring, m)? else {
         return None;
@@ -164,7 +164,7 @@ fn at_height(ring: Ring, m: f64) -> Option<Point>
 
 #[tactic(auto, unfolding(crate::specs::Interior::strict_interior_point))]
 pub fn strict_interior_point(ring: Ring) -> Option<Point>
-    ensures { result ≡ strict_interior_point ring.entry.coords.now (as_read ring.entry) }
+    ensures { result ≡ of_ring strict_interior_point ring.entry }
 {
     if ring.len() < 3 {
         return None;
