@@ -118,6 +118,7 @@ fn is_number(t: f64) -> bool
     !t.is_nan()
 }
 
+// As entry's `coords_ok` an `all` by a test of its own: what the two have in common is the library's method.
 #[tactic(auto, using(crate::proofs::Sorted::orderable_all))]
 fn orderable(ts: [f64; 4]) -> bool
     ensures { result ≡ orderable ts }
@@ -149,7 +150,7 @@ impl Ends {
 }
 
 // The ids in the order of their parameters, equal ones as P1 to P4, as document 01 has it: each one moves down past those that it is lower than, by exchanges.
-// `sort_by`, which keeps equal ones in place, takes a heap.
+// `sort_by`, which keeps equal ones in place, takes a heap; `sort_unstable_by` would have to be told the places of equal ones, by a test longer than the exchange.
 #[tactic(auto, unfolding(crate::specs::Scans::swept))]
 fn in_order(ts: [f64; 4]) -> [PointId; 4]
     ensures { result ≡ swept ts }
