@@ -3,7 +3,9 @@ use Rattle.std.specs.Prelude.{◌≡◌, List, map, ℕ, ◌+◌, ◌*◌, ◌/�
 use Rattle.lists.specs.Regions.{front}
 use Rattle.cutting.specs.Edges.{Edge}
 use Rattle.cutting.specs.Outcome.{flat, stops}
-use Rattle.entry.specs.Mesh.{Mesh}
+use Rattle.entry.specs.Mesh.{Mesh, mesh_of}
+use Rattle.entry.specs.Named.{op_number}
+use Rattle.entry.specs.Refused.{entry_of}
 use Rattle.rules.specs.Mesh.{Side, the_subject, the_cutter, other, side_number}
 use Rattle.rules.specs.Meetings.{Scene, net_of, added_by}
 use Rattle.rules.specs.Nodes.{sorted_nodes}
@@ -15,8 +17,23 @@ use Rattle.edge_nodes.specs.Lent.{nodes_on}
 use Rattle.pieces.specs.Pieces.{runs_of}
 use Rattle.cutting_cells.specs.Yields.{MeshesReady}
 use Rattle.passes.specs.Tags.{kind_by, family_by, mesh_by, cell_by}
+use Rattle.overlay.specs.declared.Call.{Call}
 use Rattle.overlay.specs.declared.Counts.{Counts}
 use Rattle.overlay.specs.declared.Prepared.{Prepared}
+
+-- what a call asks
+abbrev pub op_of : Call → ℕ
+op_of c = op_number c.operation
+
+abbrev pub subject_of : Call → Mesh
+subject_of c = mesh_of c.subject.now
+
+abbrev pub cutter_of : Call → Mesh
+cutter_of c = mesh_of c.cutter.now
+
+-- the entry refuses nothing of it, with a working list of n numbers
+abbrev pub Entered : Call → ℕ → Type 0
+Entered c n = entry_of (op_of c) c.m (subject_of c) (cutter_of c) n ≡ 0
 
 -- What the cells of the mesh w are cut by: the coordinates, the sorted nodes of edges, and the other mesh's edges and cells.
 pub record SceneIn (sc : Scene) (w : Side) (coords : List Float) (work : List ℕ) (g : Regions) (o : MeshRuns) (ends : List ℕ) : Type 0 where

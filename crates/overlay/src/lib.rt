@@ -5,14 +5,12 @@ ghost use Rattle.std.specs.Prelude.{◌≡◌, Ok, IfOk, [], ℕ, ◌/◌, lengt
 ghost use Rattle.lists.specs.Regions.{zeros};
 ghost use Rattle.refusals.specs.Numbers.{refused_with};
 ghost use Rattle.entry.specs.Mesh.{mesh_of};
-ghost use Rattle.entry.specs.Named.{op_number};
-ghost use Rattle.entry.specs.Refused.{entry_of};
 ghost use Rattle.rules.specs.Refusals.{course, first_refusal};
 ghost use Rattle.rules.specs.Overlay.{piece_room, state_of, answered, overlay_of};
 ghost use Rattle.finding.specs.Found.{found_events};
 ghost use Rattle.views.specs.Same.{SameLists};
 ghost use Rattle.overlay.specs.Shown.{lists_of, answer_of};
-ghost use Rattle.overlay.specs.Prepared.{PreparedIn, PlacedIn};
+ghost use Rattle.overlay.specs.Prepared.{op_of, subject_of, cutter_of, Entered, PreparedIn, PlacedIn};
 
 use cutting_cells::cut_meshes;
 use edge_nodes::SceneLists;
@@ -39,72 +37,108 @@ struct Prepared {
     indexes: Indexes,
 }
 
-// The stages between the entry and the cells: all coordinates go to the front of their list, what the cells are cut by to the working list.
-// That the entry refused nothing is asked by three functions: it speaks of the working list's length, and no ghost field can stand beside a `&mut` list.
-fn prepare(
+// A call behind the entry: the operation, the limit of meetings and both meshes.
+#[derive(Clone, Copy)]
+struct Call<'a> {
     operation: Operation,
     m: u32,
-    subject: &MeshView,
-    cutter: &MeshView,
-    coords: &mut [f64],
-    work: &mut [u32],
-) -> Result<Prepared, Refusal>
-    requires { entry_of (op_number operation) m (mesh_of subject.now) (mesh_of cutter.now) (length work.old) ≡ 0 }
-    ensures refusal { (q n : ℕ) → refused_with result
-        ≡ first_refusal m (length coords.old / 2) q n (found_events (op_number operation) (mesh_of subject.now) (mesh_of cutter.now)) }
-    ensures prepared { IfOk result (λ p. PreparedIn (op_number operation) (mesh_of subject.now) (mesh_of cutter.now) coords.old coords.new work.new p) }
-{
-    let found = find(u32::from(operation), m, subject, cutter, coords, work)?;
-    let points = &coords[..2 * found.next];
-    let indexes = index_meshes(points, work, found.regions, subject.ends, cutter.ends);
-    Ok(Prepared {
-        next: found.next,
-        regions: found.regions,
-        indexes,
-    })
+    subject: &'a MeshView<'a>,
+    cutter: &'a MeshView<'a>,
 }
 
-// Places all pieces that the operation keeps, each with its tag; as many have a place as there is room for ends.
-// The lists come one by one: a struct of parts of a lent struct's lists isn't covered by the borrow checker.
-#[tactic(auto, using(crate::proofs::Whole::refused_before, refusals::proofs::Numbers::number_positive))]
-fn place(
-    operation: Operation,
-    m: u32,
-    subject: &MeshView,
-    cutter: &MeshView,
-    coords: &mut [f64],
-    nodes: &mut [u32],
-    ends: &mut [u32],
-    tags: &mut [u32],
-    work: &mut [u32],
-) -> Result<Counts, Refusal>
-    requires entered { entry_of (op_number operation) m (mesh_of subject.now) (mesh_of cutter.now) (length work.old) ≡ 0 }
-    requires as_many { length ends.old ≡ length tags.old }
-    ensures refusal { refused_with result ≡ first_refusal m (length coords.old / 2) (length ends.old) (length nodes.old)
-        (course (op_number operation) (mesh_of subject.now) (mesh_of cutter.now)) }
-    ensures placed { IfOk result (λ k. PlacedIn (op_number operation) (mesh_of subject.now) (mesh_of cutter.now) k
-        coords.old nodes.old ends.old tags.old coords.new nodes.new ends.new tags.new) }
-{
-    let p = prepare(operation, m, subject, cutter, coords, work)?;
-    let scene = SceneLists {
-        coords: &coords[..2 * p.next],
-        work,
-        regions: p.regions,
-    };
-    let listed = cut_meshes(
-        u32::from(operation),
-        scene,
-        p.indexes,
-        subject.ends,
-        cutter.ends,
-        nodes,
-        ends,
-        tags,
-    )?;
-    Ok(Counts {
-        pieces: listed.count as u32,
-        points: (p.next - (subject.coords.len() + cutter.coords.len()) / 2) as u32,
-    })
+// That the entry refused nothing is asked of the working list's length, which is no field of a call: no ghost field can stand beside a `&mut` list.
+impl Call<'_> {
+    // The stages between the entry and the cells: all coordinates go to the front of their list, what the cells are cut by to the working list.
+    fn prepare(self, coords: &mut [f64], work: &mut [u32]) -> Result<Prepared, Refusal>
+        requires { Entered self (length work.old) }
+        ensures refusal { (q n : ℕ) → refused_with result ≡ first_refusal self.entry.m (length coords.old / 2) q n (found_events (op_of self.entry) (subject_of self.entry) (cutter_of self.entry)) }
+        ensures prepared { IfOk result (λ p. PreparedIn (op_of self.entry) (subject_of self.entry) (cutter_of self.entry) coords.old coords.new work.new p) }
+    {
+        let op = u32::from(self.operation);
+        let found = find(op, self.m, self.subject, self.cutter, coords, work)?;
+        let points = &coords[..2 * found.next];
+        let indexes = index_meshes(
+            points,
+            work,
+            found.regions,
+            self.subject.ends,
+            self.cutter.ends,
+        );
+        Ok(Prepared {
+            next: found.next,
+            regions: found.regions,
+            indexes,
+        })
+    }
+
+    // Places all pieces that the operation keeps, each with its tag; as many have a place as there is room for ends.
+    // The lists come one by one: a struct of parts of a lent struct's lists isn't covered by the borrow checker.
+    #[tactic(auto, using(crate::proofs::Whole::refused_before, refusals::proofs::Numbers::number_positive))]
+    fn place(
+        self,
+        coords: &mut [f64],
+        nodes: &mut [u32],
+        ends: &mut [u32],
+        tags: &mut [u32],
+        work: &mut [u32],
+    ) -> Result<Counts, Refusal>
+        requires entered { Entered self (length work.old) }
+        requires as_many { length ends.old ≡ length tags.old }
+        ensures refusal { refused_with result ≡ first_refusal self.entry.m (length coords.old / 2) (length ends.old) (length nodes.old)
+            (course (op_of self.entry) (subject_of self.entry) (cutter_of self.entry)) }
+        ensures placed { IfOk result (λ k. PlacedIn (op_of self.entry) (subject_of self.entry) (cutter_of self.entry) k
+            coords.old nodes.old ends.old tags.old coords.new nodes.new ends.new tags.new) }
+    {
+        let p = self.prepare(coords, work)?;
+        let scene = SceneLists {
+            coords: &coords[..2 * p.next],
+            work,
+            regions: p.regions,
+        };
+        let listed = cut_meshes(
+            u32::from(self.operation),
+            scene,
+            p.indexes,
+            self.subject.ends,
+            self.cutter.ends,
+            nodes,
+            ends,
+            tags,
+        )?;
+        let given = (self.subject.coords.len() + self.cutter.coords.len()) / 2;
+        Ok(Counts {
+            pieces: listed.count as u32,
+            points: (p.next - given) as u32,
+        })
+    }
+
+    // What stands behind the entry. The pieces' tags come into the list of families; kinds, parents and families are written by them. Where a stage
+    // refuses, the lists are to be cleared.
+    #[tactic(auto, using(crate::proofs::Whole::state_is))]
+    fn run(self, out: &mut OutputView, work: &mut [u32]) -> Result<Counts, Refusal>
+        requires { Entered self (length work.old) }
+        ensures refusal { refused_with result ≡ state_of (op_of self.entry) self.entry.m (subject_of self.entry) (cutter_of self.entry) (lists_of out.old work.old) }
+        ensures answer { IfOk result (λ k. answer_of (Ok k) (lists_of out.new (zeros (length work.old)))
+            ≡ answered (op_of self.entry) (subject_of self.entry) (cutter_of self.entry) (lists_of out.old work.old)) }
+        ensures same_lists { SameLists out.new out.old }
+    {
+        let room = piece_room(out);
+        let ends = &mut *out.ends;
+        let tags = &mut *out.families;
+        let counts = self.place(
+            out.coords,
+            out.nodes,
+            &mut ends[..room],
+            &mut tags[..room],
+            work,
+        )?;
+        let tags = &mut tags[..counts.pieces as usize];
+        write_kinds(tags, self.subject.kinds, self.cutter.kinds, out.kinds);
+        let meshes = &mut *out.meshes;
+        write_parents(tags, self.subject.ends.len(), meshes, out.cells);
+        write_families(self.subject.families, self.cutter.families, tags);
+        Ok(counts)
+    }
 }
 
 // How many pieces have their places.
@@ -114,45 +148,6 @@ fn piece_room(out: &OutputView) -> usize
     let parents = out.meshes.len().min(out.cells.len());
     let of_each = out.kinds.len().min(out.families.len().min(parents));
     out.ends.len().min(of_each)
-}
-
-// What stands behind the entry. The pieces' tags come into the list of families; kinds, parents and families are written by them. Where a stage
-// refuses, the lists are to be cleared.
-#[tactic(auto, using(crate::proofs::Whole::state_is))]
-fn run(
-    operation: Operation,
-    m: u32,
-    subject: &MeshView,
-    cutter: &MeshView,
-    out: &mut OutputView,
-    work: &mut [u32],
-) -> Result<Counts, Refusal>
-    requires { entry_of (op_number operation) m (mesh_of subject.now) (mesh_of cutter.now) (length work.old) ≡ 0 }
-    ensures refusal { refused_with result ≡ state_of (op_number operation) m (mesh_of subject.now) (mesh_of cutter.now) (lists_of out.old work.old) }
-    ensures answer { IfOk result (λ k. answer_of (Ok k) (lists_of out.new (zeros (length work.old)))
-        ≡ answered (op_number operation) (mesh_of subject.now) (mesh_of cutter.now) (lists_of out.old work.old)) }
-    ensures same_lists { SameLists out.new out.old }
-{
-    let room = piece_room(out);
-    let ends = &mut *out.ends;
-    let tags = &mut *out.families;
-    let counts = place(
-        operation,
-        m,
-        subject,
-        cutter,
-        out.coords,
-        out.nodes,
-        &mut ends[..room],
-        &mut tags[..room],
-        work,
-    )?;
-    let tags = &mut tags[..counts.pieces as usize];
-    write_kinds(tags, subject.kinds, cutter.kinds, out.kinds);
-    let meshes = &mut *out.meshes;
-    write_parents(tags, subject.ends.len(), meshes, out.cells);
-    write_families(subject.families, cutter.families, tags);
-    Ok(counts)
 }
 
 // Operation, meeting limit M, subject, cutter, output lists, working list. The operation by its number: any number is answered.
@@ -170,7 +165,13 @@ pub fn overlay(
     ensures same_lists { SameLists out.new out.old }
 {
     let operation = entry(op, m, subject, cutter, work.len())?;
-    let result = run(operation, m, subject, cutter, out, work);
+    let call = Call {
+        operation,
+        m,
+        subject,
+        cutter,
+    };
+    let result = call.run(out, work);
     if result.is_err() {
         out.clear();
     }

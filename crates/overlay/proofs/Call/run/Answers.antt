@@ -1,6 +1,6 @@
--- `overlay::run` meets its contract. Assumes nothing.
+-- `overlay::Call::run` meets its contract. Assumes nothing.
 use Rattle.overlay.proofs.Whole.{answer_is}
-use Rattle.overlay.proofs.run.Goals as goal
+use Rattle.overlay.proofs.Call.run.Goals as goal
 
 pub returns-clause-answer : goal.returns-clause-answer
 returns-clause-answer c =

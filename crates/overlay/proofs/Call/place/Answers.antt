@@ -1,11 +1,11 @@
--- `overlay::place` meets its contract. Assumes nothing.
+-- `overlay::Call::place` meets its contract. Assumes nothing.
 use Rattle.std.proofs.Common.{arith, Ok, Err}
 use Rattle.refusals.proofs.Residual.{passed_on}
 use Rattle.entry.proofs.Passed.{passed}
 use Rattle.pieces.proofs.Placing.{code_met, all_placed, fit}
 use Rattle.cutting_cells.proofs.Meshes.{meshes_steady}
 use Rattle.overlay.proofs.Whole.{cells_met, yielded_events, placed_in}
-use Rattle.overlay.proofs.place.Goals as goal
+use Rattle.overlay.proofs.Call.place.Goals as goal
 
 pub returns-in_err-listed-clause-refusal : goal.returns-in_err-listed-clause-refusal
 returns-in_err-listed-clause-refusal c =
