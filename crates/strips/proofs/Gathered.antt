@@ -1,16 +1,15 @@
 -- Things put in one after the other: what becomes of the list that holds them. Assumes nothing.
 use mathlib.Core.Path.{◌≡◌, refl, sym, ap, ap₂, ◌∙◌}
-use mathlib.Core.Bool.{Bool, true, false, cond, ◌&&◌, and-false}
+use mathlib.Core.Bool.{Bool, true, false, cond}
 use mathlib.Core.List.{List, [], ◌∷◌, ◌++◌}
-use Prim.Native.Nat.{ℕ, ◌≤◌, ◌<◌}
+use Prim.Native.Nat.{ℕ, ◌≤◌}
 use native.Mathlib.Decide.{dec_le}
 use native.Mathlib.Omega.{arith}
-use lib.Dec.{ltb, leb, eqb}
+use lib.Dec.{ltb, eqb}
 use lib.ListN.{length, take}
 use lib.Seq.{take_all, length-take-le}
-use borrow.Author.Tests.{lt-leb, le-leb}
 use Rattle.strips.specs.Meeting.{FrontIs}
-use Rattle.strips.specs.Gathering.{Rises, put_rising, with_thing, with_things}
+use Rattle.strips.specs.Gathering.{Rises, Risen, put_rising, with_thing, with_things}
 use Rattle.strips.proofs.Rising.{front_here, front_taken, front_long, front_then, rises_put, rises_take}
 
 length_put : (v : ℕ) (xs : List ℕ) → length xs ≤ length (put_rising v xs)
@@ -81,11 +80,12 @@ module _ (p : ℕ → Bool) where
   Holds xs js found₀ r found = FrontIs (with_things (length found₀) p xs js) found₀ r found
 
   module _ (xs js found₀ found : List ℕ) (r : ℕ) (h : Holds xs js found₀ r found) where
-    pub holds_rises : Rises xs → Rises (take r found)
-    holds_rises rise = rw (front_taken (with_things (length found₀) p xs js) found₀ found r h) (all_rise (length found₀) p xs js rise)
-
-    pub holds_long : length found ≡ length found₀
+    holds_long : length found ≡ length found₀
     holds_long = front_long (with_things (length found₀) p xs js) found₀ found r h
+
+    pub holds_risen : Rises xs → Risen r found
+    holds_risen rise =
+        record { fits = omega (arith, h.fits, holds_long); rises = rw (front_taken (with_things (length found₀) p xs js) found₀ found r h) (all_rise (length found₀) p xs js rise) }
 
     -- and the things ks
     pub holds_more : (ks found' : List ℕ) (q : ℕ) → length xs ≤ length found₀ → FrontIs (with_things (length found) p (take r found) ks) found q found'
@@ -108,21 +108,3 @@ module _ (p : ℕ → Bool) where
 pub one_thing : (most : ℕ) (p : ℕ → Bool) (xs : List ℕ) (j : ℕ) → with_thing most p xs j ≡ with_things most p xs (j ∷ [])
 unfolding with_things
 one_thing most p xs j = refl
-
--- ---- `gather_thing`: whether thing j is wanted
-
-pub not_wanted : (meets : ℕ → Bool) (from j k : ℕ) (found : List ℕ) → k ≤ length found → (leb from j && meets j) ≡ false
-    → FrontIs (with_thing (length found) (λ i. leb from i && meets i) (take k found) j) found k found
-not_wanted meets from j k found h e = rw (with_not (length found) (λ i. leb from i && meets i) (take k found) j e) (front_here found k h)
-
-pub wanted : (meets : ℕ → Bool) (from j k r : ℕ) (found found' : List ℕ) → from ≤ j → meets j ≡ true → FrontIs (take (length found) (put_rising j (take k found))) found r found'
-    → FrontIs (with_thing (length found) (λ i. leb from i && meets i) (take k found) j) found r found'
-wanted meets from j k r found found' h e put =
-    let both : (leb from j && meets j) ≡ true = ap₂ (λ (a b : Bool). a && b) (le-leb from j h) e in
-    rw (with_put (length found) (λ i. leb from i && meets i) (take k found) j both) put
-
-pub too_low : (meets : ℕ → Bool) (from j : ℕ) → j < from → (leb from j && meets j) ≡ false
-too_low meets from j h = ap (λ (a : Bool). a && meets j) (lt-leb from j h)
-
-pub apart : (meets : ℕ → Bool) (from j : ℕ) → meets j ≡ false → (leb from j && meets j) ≡ false
-apart meets from j e = ap (λ (b : Bool). leb from j && b) e ∙ and-false (leb from j)

@@ -20,7 +20,7 @@ use Rattle.lists.proofs.Search.{first_le, first_turn, first_here, first_shift}
 use Rattle.lists.proofs.Insert.{insert_at_fits, length_put_in}
 use Rattle.lists.proofs.Regions.{front_take, front_front, length_front, take_front_of}
 use Rattle.strips.specs.Meeting.{FrontIs}
-use Rattle.strips.specs.Gathering.{Rises, put_rising}
+use Rattle.strips.specs.Gathering.{Rises, Risen, put_rising}
 
 -- ---- where it goes
 
@@ -59,14 +59,14 @@ module _ (xs : List ℕ) (v : ℕ) where
 -- ---- what a binary search among the first k says
 
 module _ (found : List ℕ) (k v : ℕ) (rise : Rises (take k found)) where
-  pub found_there : (i : ℕ) → IsBinarySearchResult (λ y. nat_cmp y v) (take k found) (Ok i)
+  found_there : (i : ℕ) → IsBinarySearchResult (λ y. nat_cmp y v) (take k found) (Ok i)
       → (i ≡ first (λ j. leb v (get_or (take k found) j 0)) 0 (length (take k found)))
       × ((ltb i (length (take k found)) && eqb (get_or (take k found) i 0) v) ≡ true)
   found_there i h =
       let at = searched (take k found) v (Ok i) h (risen (take k found) v rise) in
       place_there (take k found) v rise i at.0 at.1
 
-  pub found_new : (p : ℕ) → IsBinarySearchResult (λ y. nat_cmp y v) (take k found) (Err p)
+  found_new : (p : ℕ) → IsBinarySearchResult (λ y. nat_cmp y v) (take k found) (Err p)
       → (p ≡ first (λ j. leb v (get_or (take k found) j 0)) 0 (length (take k found)))
       × ((ltb p (length (take k found)) && eqb (get_or (take k found) p 0) v) ≡ false)
   found_new p h =
@@ -164,17 +164,17 @@ module _ (found : List ℕ) (k p v : ℕ) (low : k ≤ length found) (p-is : p �
   held_as : (ys found' : List ℕ) (r : ℕ) → take (length found) (put_rising v xs) ≡ ys → FrontIs ys found r found' → FrontIs (take (length found) (put_rising v xs)) found r found'
   held_as ys found' r e = rw e (λ z. z)
 
-  pub put_there : (ltb p (length (take k found)) && eqb (get_or (take k found) p 0) v) ≡ true → FrontIs (take (length found) (put_rising v (take k found))) found k found
+  put_there : (ltb p (length (take k found)) && eqb (get_or (take k found) p 0) v) ≡ true → FrontIs (take (length found) (put_rising v (take k found))) found k found
   put_there e = held_as xs found k (ap (take (length found)) (there e) ∙ take_all (length found) xs (omega (arith, length_xs))) (front_here found k low)
 
-  pub put_more : (ltb p (length (take k found)) && eqb (get_or (take k found) p 0) v) ≡ false → k < length found → (found' : List ℕ) → found' ≡ insert_at found k p v
+  put_more : (ltb p (length (take k found)) && eqb (get_or (take k found) p 0) v) ≡ false → k < length found → (found' : List ℕ) → found' ≡ insert_at found k p v
       → FrontIs (take (length found) (put_rising v (take k found))) found (k + 1) found'
   put_more e h found' is =
       let n : length (put_in p v xs) ≡ k + 1 = length_put_in p v xs (omega (arith, p_low, length_xs)) ∙ omega (arith, length_xs) in
       held_as (put_in p v xs) found' (k + 1) (ap (take (length found)) (not_there e) ∙ take_all (length found) (put_in p v xs) (omega (arith, n)))
       record { count = sym n; fits = omega arith; held = is ∙ insert_at_fits found k p v p_low h }
 
-  pub put_full : (ltb p (length (take k found)) && eqb (get_or (take k found) p 0) v) ≡ false → length found ≤ k → p < k → (found' : List ℕ) → found' ≡ insert_at found (k - 1) p v
+  put_full : (ltb p (length (take k found)) && eqb (get_or (take k found) p 0) v) ≡ false → length found ≤ k → p < k → (found' : List ℕ) → found' ≡ insert_at found (k - 1) p v
       → FrontIs (take (length found) (put_rising v (take k found))) found k found'
   put_full e h l found' is =
       let m : length found ≡ suc (k - 1) = omega (arith, low) in
@@ -189,7 +189,7 @@ module _ (found : List ℕ) (k p v : ℕ) (low : k ≤ length found) (p-is : p �
         held = is ∙ insert_at_fits found (k - 1) p v (omega arith) (omega arith);
       }
 
-  pub put_behind : (ltb p (length (take k found)) && eqb (get_or (take k found) p 0) v) ≡ false → length found ≤ k → k ≤ p
+  put_behind : (ltb p (length (take k found)) && eqb (get_or (take k found) p 0) v) ≡ false → length found ≤ k → k ≤ p
       → FrontIs (take (length found) (put_rising v (take k found))) found k found
   unfolding put_in
   put_behind e h l =
@@ -199,6 +199,26 @@ module _ (found : List ℕ) (k p v : ℕ) (low : k ≤ length found) (p-is : p �
       let made : take (length found) (put_rising v xs) ≡ xs =
       ap₂ take m (not_there e ∙ ap (λ (u : List ℕ). u ++ v ∷ drop p xs) whole) ∙ take_at xs (v ∷ drop p xs) k length_xs in
       held_as xs found k made (front_here found k low)
+
+-- ---- what a binary search among the first k says of it
+
+module _ (found : List ℕ) (k v : ℕ) (risen : Risen k found) where
+  pub v_there : (i : ℕ) → IsBinarySearchResult (λ y. nat_cmp y v) (take k found) (Ok i) → FrontIs (take (length found) (put_rising v (take k found))) found k found
+  v_there i h = let at = found_there found k v risen.rises i h in put_there found k i v risen.fits at.0 at.1
+
+  module _ (p : ℕ) (h : IsBinarySearchResult (λ y. nat_cmp y v) (take k found) (Err p)) where
+    at : (p ≡ first (λ j. leb v (get_or (take k found) j 0)) 0 (length (take k found))) × ((ltb p (length (take k found)) && eqb (get_or (take k found) p 0) v) ≡ false)
+    at = found_new found k v risen.rises p h
+
+    pub v_more : k < length found → (found' : List ℕ) → found' ≡ insert_at found k p v → FrontIs (take (length found) (put_rising v (take k found))) found (k + 1) found'
+    v_more = put_more found k p v risen.fits at.0 at.1
+
+    pub v_full : length found ≤ k → p < k → (found' : List ℕ) → found' ≡ insert_at found (k - 1) p v
+        → FrontIs (take (length found) (put_rising v (take k found))) found k found'
+    v_full = put_full found k p v risen.fits at.0 at.1
+
+    pub v_behind : length found ≤ k → k ≤ p → FrontIs (take (length found) (put_rising v (take k found))) found k found
+    v_behind = put_behind found k p v risen.fits at.0 at.1
 
 -- ---- they go on rising
 

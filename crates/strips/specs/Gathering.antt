@@ -1,5 +1,5 @@
 -- How `gather` goes over the chains, and puts in one thing after the other: what only inner functions' contracts cite. Assumes nothing.
-use Rattle.std.specs.Prelude.{◌≡◌, Bool, true, false, cond, ◌&&◌, List, [], ◌∷◌, ◌++◌, ℕ, zero, suc, ◌+◌, ◌-◌, ◌<◌, ltb, leb, eqb, length, take, get_or, Float}
+use Rattle.std.specs.Prelude.{◌≡◌, Bool, true, false, cond, ◌&&◌, List, [], ◌∷◌, ◌++◌, ℕ, zero, suc, ◌+◌, ◌-◌, ◌≤◌, ◌<◌, ltb, leb, eqb, length, take, get_or, Float}
 use Rattle.lists.specs.Search.{first}
 use Rattle.lists.specs.Gather.{gathered, places}
 use Rattle.rules.specs.declared.Bounds.{Bounds}
@@ -11,6 +11,11 @@ use Rattle.strips.specs.Index.{on_chain, next_at, chain_at}
 -- each is below those behind it
 abbrev pub Rises : List ℕ → Type 0
 Rises xs = (i k : ℕ) → i < k → k < length xs → get_or xs i 0 < get_or xs k 0
+
+-- a list's first k numbers rise
+pub record Risen (k : ℕ) (found : List ℕ) : Type 0 where
+  pub fits : k ≤ length found
+  pub rises : Rises (take k found)
 
 -- v put among numbers that rise, unless it is there
 unfoldable pub put_rising : ℕ → List ℕ → List ℕ

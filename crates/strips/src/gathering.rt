@@ -3,7 +3,7 @@ ghost use Rattle.std.specs.Prelude.{◌≡◌, [], ◌≤◌, ◌<◌, length, t
 ghost use Rattle.strips.specs.Squares.{Small};
 ghost use Rattle.strips.specs.Index.{index_of};
 ghost use Rattle.strips.specs.Meeting.{things_meeting, FrontIs};
-ghost use Rattle.strips.specs.Gathering.{Rises, put_rising, with_thing, with_things, Chains};
+ghost use Rattle.strips.specs.Gathering.{Risen, put_rising, with_thing, with_things, Chains};
 
 use crate::building::chain_count;
 use crate::squares::{Span, Strips};
@@ -34,7 +34,7 @@ struct Search<'a> {
 // Puts v among the first k, which rise, unless it is there. Answers how many there are then; in a full list the last one goes.
 // List and count are no struct: what holds of both can be no ghost field beside a `&mut`.
 fn put_rising(found: &mut [u32], k: usize, v: u32) -> usize
-    requires { (k ≤ length found.old) × Rises (take k found.old) }
+    requires { Risen k found.old }
     ensures { FrontIs (take (length found.old) (put_rising v (take k found.old))) found.old result found.new }
 {
     let Err(p) = found[..k].binary_search(&v) else {
@@ -53,20 +53,30 @@ fn put_rising(found: &mut [u32], k: usize, v: u32) -> usize
 impl<'a> Search<'a> {
     ghost use Rattle.strips.specs.Search.{wanted, chain, row, level, levels, count};
 
+    // Whether thing j is no lower than `from` and its box meets the box looked for.
+    fn wants(&self, j: usize) -> bool
+        requires { j < count self.now }
+        ensures { result ≡ wanted self.now j }
+    {
+        self.from <= j && bounds_meet(self.things.bounds(j), self.bounds)
+    }
+
     // Puts thing j among the first k, if it is wanted.
+    #[tactic(auto, using(crate::proofs::Rising::front_here), unfolding(crate::specs::Gathering::with_thing))]
     fn gather_thing(&self, j: usize, found: &mut [u32], k: usize) -> usize
-        requires { (j < count self.now) × (k ≤ length found.old) × Rises (take k found.old) }
+        requires { (j < count self.now) × Risen k found.old }
         ensures { FrontIs (with_thing (length found.old) (wanted self.now) (take k found.old) j) found.old result found.new }
     {
-        if self.from <= j && bounds_meet(self.things.bounds(j), self.bounds) {
+        if self.wants(j) {
             return put_rising(found, k, j as u32);
         }
         k
     }
 
     // Those on chain c. The links are numbers in the caller's list: fixed memory, no heap.
+    #[tactic(auto, using(crate::proofs::Walk::walk_end))]
     fn gather_chain(&self, c: usize, found: &mut [u32], k: usize) -> usize
-        requires { (c < length self.now.heads.now) × (k ≤ length found.old) × Rises (take k found.old) }
+        requires { (c < length self.now.heads.now) × Risen k found.old }
         ensures { FrontIs (with_things (length found.old) (wanted self.now) (take k found.old) (chain self.now c)) found.old result found.new }
     {
         let nexts = self.nexts;
@@ -81,7 +91,7 @@ impl<'a> Search<'a> {
 
     // Those on the chains of a row of squares, from the strip before the first that s reaches.
     fn gather_row(&self, s: Span, y: usize, found: &mut [u32], k: usize) -> usize
-        requires { Small s × (y ≤ 256) × (k ≤ length found.old) × Rises (take k found.old) }
+        requires { Small s × (y ≤ 256) × Risen k found.old }
         ensures { FrontIs (with_things (length found.old) (wanted self.now) (take k found.old) (row self.now s y)) found.old result found.new }
     {
         let mut r = k;
@@ -94,7 +104,7 @@ impl<'a> Search<'a> {
 
     // Those on the chains of all squares of a level.
     fn gather_level(&self, s: Span, found: &mut [u32], k: usize) -> usize
-        requires { Small s × (k ≤ length found.old) × Rises (take k found.old) }
+        requires { Small s × Risen k found.old }
         ensures { FrontIs (with_things (length found.old) (wanted self.now) (take k found.old) (level self.now s)) found.old result found.new }
     {
         let mut r = k;

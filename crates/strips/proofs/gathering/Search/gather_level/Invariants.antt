@@ -1,7 +1,5 @@
-use lib.ListN.{length}
-use Rattle.strips.specs.Search.{wanted, chain_of, count}
 use Rattle.strips.proofs.Rows.{InLevel}
 use Rattle.strips.proofs.gathering.Search.gather_level.Given as goal
 
 abbrev pub invariant-loop-y : goal.invariant-loop-y
-invariant-loop-y l = InLevel (chain_of l.self) (count l.self) (length l.self.heads.now) (wanted l.self) l.s l.k l.initial.found l.y l.r l.found
+invariant-loop-y l = InLevel l.self l.s l.k l.initial.found l.y l.r l.found

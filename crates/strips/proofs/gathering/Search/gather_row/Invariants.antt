@@ -1,7 +1,5 @@
-use lib.ListN.{length}
-use Rattle.strips.specs.Search.{wanted, chain_of, count}
 use Rattle.strips.proofs.Rows.{InRow}
 use Rattle.strips.proofs.gathering.Search.gather_row.Given as goal
 
 abbrev pub invariant-loop-x : goal.invariant-loop-x
-invariant-loop-x l = InRow (chain_of l.self) (count l.self) (length l.self.heads.now) (wanted l.self) l.s l.y l.k l.initial.found l.x l.r l.found
+invariant-loop-x l = InRow l.self l.s l.y l.k l.initial.found l.x l.r l.found
