@@ -2,7 +2,7 @@
 use mathlib.Core.Path.{◌≡◌, refl, sym, ap, ap₂, ◌∙◌}
 use mathlib.Core.List.{List, ◌++◌, append-nil}
 use Prim.Native.Nat.{ℕ, ◌+◌, ◌*◌, ◌/◌, ◌≤◌, ◌<◌, min}
-use native.Mathlib.Nat.{min-le_left, min-le_right}
+use native.Mathlib.Nat.{le_antisymm, min-le_left, min-le_right}
 use native.Mathlib.Omega.{arith}
 use lib.ListN.{length, get_or, set, take, drop_of_length-le}
 use lib.Seq.{take_all, get_or-take, length-take-le}
@@ -13,7 +13,7 @@ use Rattle.lists.specs.Sort.{insert, sort_onto, sorted}
 use Rattle.lists.specs.Regions.{front, insert_at}
 use Rattle.std.proofs.Common.{unwrap_or}
 use Rattle.std.specs.List.{position}
-use Rattle.lists.proofs.Search.{first_ext, first_le}
+use Rattle.lists.proofs.Search.{first_ext}
 use Rattle.lists.proofs.InPlace.{place_is}
 use Rattle.lists.proofs.Library.{first_list}
 use Rattle.lists.proofs.Gather.{each_more, length_each}
@@ -37,11 +37,8 @@ before_is coords axis v u c d e f = ap₂ lt (sym e) (sym f)
 
 -- where a node goes: the first that it stands before
 pub placed : (coords : List Float) (axis : Axis) (v : ℕ) (order : List ℕ) (r : ℕ) → r ≡ unwrap_or (position (is_before coords axis v) order) (length order)
-    → (r ≡ first (λ i. is_before coords axis v (get_or order i 0)) 0 (length order)) × (r ≤ length order)
-placed coords axis v order r e =
-    let at : r ≡ first (λ i. is_before coords axis v (get_or order i 0)) 0 (length order) =
-    e ∙ place_is (is_before coords axis v) order ∙ sym (first_list (is_before coords axis v) order 0) in
-    (at, omega (arith, at, first_le (λ i. is_before coords axis v (get_or order i 0)) 0 (length order) (omega arith)))
+    → r ≡ first (λ i. is_before coords axis v (get_or order i 0)) 0 (length order)
+placed coords axis v order r e = e ∙ place_is (is_before coords axis v) order ∙ sym (first_list (is_before coords axis v) order 0)
 
 -- ---- samples put in order one by one
 
@@ -91,22 +88,23 @@ module _ (w₀ order : List ℕ) (side k : ℕ) where
   one t = get_or order (t * k / side) 0
 
   -- the first t are
-  abbrev pub Picking : ℕ → List ℕ → Type 0
-  Picking t w = w ≡ front w₀ (each t (λ i. get_or order (i * k / side) 0))
+  pub record Picking (t : ℕ) (w : List ℕ) : Type 0 where
+    pub held : w ≡ front w₀ (each t (λ i. get_or order (i * k / side) 0))
 
   pub picking_start : Picking 0 w₀
   unfolding gathered front
-  picking_start = refl
+  picking_start = record { held = refl }
 
   pub picking_turn : (t v : ℕ) (w : List ℕ) → Picking t w → t < length w₀ → v ≡ get_or order (t * k / side) 0 → Picking (t + 1) (set w t v)
   picking_turn t v w inv h v_is =
-      ap (set w t) v_is ∙ front_store w₀ w (each t one) t (one t) 0 (length_each t one) h inv ∙ ap (front w₀) (sym (each_more t one))
+      record { held = ap (set w t) v_is ∙ front_store w₀ w (each t one) t (one t) 0 (length_each t one) h inv.held ∙ ap (front w₀) (sym (each_more t one)) }
 
-  pub picking_end : (w : List ℕ) → Picking side w → length w₀ ≡ side → w ≡ picked side k order
+  pub picking_end : (t : ℕ) (w : List ℕ) → Picking t w → t ≤ side → side ≤ t → length w₀ ≡ side → w ≡ picked side k order
   unfolding picked front
-  picking_end w inv l =
+  picking_end t w inv a b l =
       let n : length (each side one) ≡ side = length_each side one in
-      inv ∙ ap (λ (u : List ℕ). each side one ++ u) (drop_of_length-le w₀ {i = length (each side one)} (omega (arith, n, l))) ∙ append-nil (each side one)
+      let all : t ≡ side = le_antisymm a b in
+      inv.held ∙ ap (λ (m : ℕ). front w₀ (each m one)) all ∙ ap (λ (u : List ℕ). each side one ++ u) (drop_of_length-le w₀ {i = length (each side one)} (omega (arith, n, l))) ∙ append-nil (each side one)
 
 -- ---- the nodes at which the strips of one axis begin
 

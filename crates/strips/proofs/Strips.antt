@@ -114,8 +114,5 @@ module _ (coords : List Float) (bounds : List ℕ) (axis : Axis) (v : Float) whe
           same = step f e false (ap (λ (x : Float). le x v) (sym is) ∙ t);
         }
 
-  pub halving_end : (lo n : ℕ) → Halving lo n → n ≤ 1 → (lo ≡ strip_of coords bounds axis v) × (lo < length bounds)
-  halving_end lo n inv h = (
-    sym (strip_one inv.fuel begins v lo n (omega (arith, inv.some, h))) ∙ inv.same,
-    omega (arith, inv.some, inv.within),
-  )
+  pub halving_end : (lo n : ℕ) → Halving lo n → n ≤ 1 → lo ≡ strip_of coords bounds axis v
+  halving_end lo n inv h = sym (strip_one inv.fuel begins v lo n (omega (arith, inv.some, h))) ∙ inv.same

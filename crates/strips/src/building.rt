@@ -53,8 +53,10 @@ fn position_of(coords: &[f64], order: &[u32], axis: Axis, v: u32) -> Option<usiz
 }
 
 // Where the node v goes among those in order.
+#[tactic(auto, using(lists::proofs::Search::first_le))]
 fn place(coords: &[f64], order: &[u32], axis: Axis, v: u32) -> usize
-    ensures { (result ≡ first (λ i. is_before coords.now axis v (get_or order.now i 0)) 0 (length order.now)) × (result ≤ length order.now) }
+    ensures place { result ≡ first (λ i. is_before coords.now axis v (get_or order.now i 0)) 0 (length order.now) }
+    ensures within { result ≤ length order.now }
 {
     position_of(coords, order, axis, v).unwrap_or(order.len())
 }

@@ -52,7 +52,8 @@ pub(crate) fn coordinate(coords: &[f64], axis: Axis, v: u32) -> f64
 #[tactic(auto, using(crate::proofs::Strips::halving_start, crate::proofs::Strips::halving_up, crate::proofs::Strips::halving_down))]
 pub(crate) fn strip(coords: &[f64], bounds: &[u32], axis: Axis, v: f64) -> usize
     requires { 0 < length bounds.now }
-    ensures { (result ≡ strip_of coords.now bounds.now axis v) × (result < length bounds.now) }
+    ensures strip { result ≡ strip_of coords.now bounds.now axis v }
+    ensures within { result < length bounds.now }
 {
     let mut lo: usize = 0;
     let mut n = bounds.len();
@@ -69,8 +70,11 @@ pub(crate) fn strip(coords: &[f64], bounds: &[u32], axis: Axis, v: f64) -> usize
 
 impl<'a> Strips<'a> {
     // Those that a box reaches, on the first level.
+    #[tactic(auto, unfolding(crate::specs::Squares::span_of))]
     pub(crate) fn span(&self, coords: &[f64], b: Bounds) -> Span
-        ensures { (result ≡ span_of coords.now self.now.xs.now self.now.ys.now b) × Small result × (result.level ≡ 0) }
+        ensures span { result ≡ span_of coords.now self.now.xs.now self.now.ys.now b }
+        ensures small { Small result }
+        ensures level { result.level ≡ 0 }
     {
         let x0 = strip(coords, self.xs, Axis::X, b.left);
         let x1 = strip(coords, self.xs, Axis::X, b.right);
