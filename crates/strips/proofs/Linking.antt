@@ -51,8 +51,8 @@ chain_by_low coords xs ys nodes ends j =
     chain_low (chain_count (thing_count nodes ends)) t t.x0 t.y0 (omega arith)
 
 -- what `fill` leaves
-pub filled : (h n : ℕ) (heads : List ℕ) → heads ≡ replicate h n → length heads ≡ h → (c : ℕ) → c < length heads → get_or heads c 0 ≡ n
-filled h n heads e l c b = ap (λ (u : List ℕ). get_or u c 0) e ∙ get_or-replicate h c n 0 (omega (arith, l))
+pub filled : (h n : ℕ) (heads : List ℕ) → heads ≡ replicate h n → (c : ℕ) → c < h → get_or heads c 0 ≡ n
+filled h n heads e c b = ap (λ (u : List ℕ). get_or u c 0) e ∙ get_or-replicate h c n 0 b
 
 -- ---- chains by f; thing j is on level g j
 
@@ -65,10 +65,6 @@ module _ (f g : ℕ → ℕ) (h n : ℕ) where
     pub next : (p : ℕ) → q ≤ p → p < n → get_or nexts p 0 ≡ next_at f n p
     pub highest : levels ≡ above g q (n - q)
     pub few : levels ≤ 513
-
-  -- the same by another word for the number
-  pub linked_at : (k q : ℕ) (heads nexts : List ℕ) (levels : ℕ) → k ≡ q → Linked k heads nexts levels → Linked q heads nexts levels
-  linked_at k q heads nexts levels e = subst (λ (j : ℕ). Linked j heads nexts levels) e
 
   -- no thing is on a chain yet
   pub link_start : (heads nexts : List ℕ) → length heads ≡ h → length nexts ≡ n → ((c : ℕ) → c < h → get_or heads c 0 ≡ n) → Linked n heads nexts 0
@@ -84,8 +80,17 @@ module _ (f g : ℕ → ℕ) (h n : ℕ) where
         few = omega arith;
       }
 
-  -- thing q goes before those on its chain
-  module _ (q : ℕ) (heads nexts : List ℕ) (levels : ℕ) (low : f q < h) (l : q < n) (inv : Linked (q + 1) heads nexts levels) where
+  -- the thing before j goes before those on its chain
+  module _ (j : ℕ) (heads nexts : List ℕ) (levels : ℕ) (some : 0 < j) (low : f (j - 1) < h) (most : j ≤ n) (behind : Linked j heads nexts levels) where
+    abbrev q : ℕ
+    q = j - 1
+
+    l : q < n
+    l = omega (arith, some, most)
+
+    inv : Linked (q + 1) heads nexts levels
+    inv = let back : j ≡ q + 1 = omega (arith, some) in subst (λ (i : ℕ). Linked i heads nexts levels) back behind
+
     head_turn : (k : ℕ) → k < h → Dec (k ≡ f q) → get_or (set heads (f q) q) k 0 ≡ first (on_chain f k) q n
     head_turn k b (yes e) =
         ap (λ (j : ℕ). get_or (set heads (f q) q) j 0) e ∙ get_or-set_same heads (f q) q 0 (omega (arith, inv.wide))
@@ -105,8 +110,8 @@ module _ (f g : ℕ → ℕ) (h n : ℕ) where
         let left : n - q ≡ suc (n - (q + 1)) = omega arith in
         r_is ∙ ap (max (g q + 1)) (inv.highest ∙ ap (λ (k : ℕ). above g k (n - (q + 1))) one) ∙ ap (above g q) (sym left)
 
-    pub link_turn : (heads' nexts' : List ℕ) (m r : ℕ) → heads' ≡ set heads (f q) q → nexts' ≡ set nexts q (get_or heads (f q) 0) → m ≡ g q → m ≤ 512 → r ≡ max (m + 1) levels
-        → Linked q heads' nexts' r
+    pub link_turn : (heads' nexts' : List ℕ) (m r : ℕ) → heads' ≡ set heads (f (j - 1)) (j - 1) → nexts' ≡ set nexts (j - 1) (get_or heads (f (j - 1)) 0) → m ≡ g (j - 1) → m ≤ 512
+        → r ≡ max (m + 1) levels → Linked (j - 1) heads' nexts' r
     link_turn heads' nexts' m r a b m_is m_low r_is =
         record {
           wide = ap length a ∙ length-set heads (f q) q ∙ inv.wide;
@@ -117,12 +122,15 @@ module _ (f g : ℕ → ℕ) (h n : ℕ) where
           few = omega (arith, r_is, max-le {a = m + 1} {b = levels} {k = 513} (omega arith) inv.few);
         }
 
-  pub link_heads : (heads nexts : List ℕ) (levels : ℕ) → Linked 0 heads nexts levels → heads ≡ each h (head_at f n)
-  link_heads heads nexts levels inv =
-      ext_get_or 0 heads (each h (head_at f n)) (inv.wide ∙ sym (length_each h (head_at f n)))
-      (λ i l. inv.head i (omega (arith, inv.wide)) ∙ sym (get_or_each h (head_at f n) i 0 (omega (arith, inv.wide))))
+  -- all of them are on chains
+  module _ (j : ℕ) (heads nexts : List ℕ) (levels : ℕ) (inv : Linked j heads nexts levels) (none : j ≤ 0) where
+    pub link_heads : heads ≡ each h (head_at f n)
+    link_heads =
+        let z : j ≡ 0 = omega (arith, none) in
+        ext_get_or 0 heads (each h (head_at f n)) (inv.wide ∙ sym (length_each h (head_at f n)))
+        (λ i l. inv.head i (omega (arith, inv.wide)) ∙ ap (λ (k : ℕ). first (on_chain f i) k n) z ∙ sym (get_or_each h (head_at f n) i 0 (omega (arith, inv.wide))))
 
-  pub link_nexts : (heads nexts : List ℕ) (levels : ℕ) → Linked 0 heads nexts levels → nexts ≡ each n (next_at f n)
-  link_nexts heads nexts levels inv =
-      ext_get_or 0 nexts (each n (next_at f n)) (inv.long ∙ sym (length_each n (next_at f n)))
-      (λ i l. inv.next i (omega arith) (omega (arith, inv.long)) ∙ sym (get_or_each n (next_at f n) i 0 (omega (arith, inv.long))))
+    pub link_nexts : nexts ≡ each n (next_at f n)
+    link_nexts =
+        ext_get_or 0 nexts (each n (next_at f n)) (inv.long ∙ sym (length_each n (next_at f n)))
+        (λ i l. inv.next i (omega (arith, none)) (omega (arith, inv.long)) ∙ sym (get_or_each n (next_at f n) i 0 (omega (arith, inv.long))))
