@@ -53,7 +53,8 @@ impl<'a> Cell<'a> {
         edges_repeat(&sides[..2 * corners.len()])
     }
 
-    // The cell itself as its one piece, unless its own edges repeat (19).
+    // The cell itself as its one piece, unless its own edges repeat (19). `runs` and `stops` come one by one, here and below, as cells' `cut_cell` takes them: in
+    // a struct of the two each contract would have to say that they are the same lists.
     fn copy(&self, runs: &mut [u32; 1024], stops: &mut [u32; 1024]) -> Result<Counts, Refusal>
         ensures { cut result runs.new stops.new ≡ cut_as (copied_outcome self.now.corners.now) runs.old stops.old }
     {
@@ -232,7 +233,8 @@ fn cuts_both(op: u32) -> bool
     )
 }
 
-// Cuts the cells of the subject, which end at `se`, and then those of the cutter, which end at `ce`, where the operation cuts both meshes.
+// Cuts the cells of the subject, which end at `se`, and then those of the cutter, which end at `ce`, where the operation with this number, which may name
+// none, cuts both meshes.
 fn cut_both(
     op: u32,
     scene: SceneLists,

@@ -61,7 +61,7 @@ fn place(coords: &[f64], order: &[u32], axis: Axis, v: u32) -> usize
     position_of(coords, order, axis, v).unwrap_or(order.len())
 }
 
-// Evenly spread ones of those in order. By index: a contract names what is written.
+// Evenly spread ones of those in order. By index: of a list written through `iter_mut().enumerate()` a proof knows no element.
 #[tactic(auto, using(crate::proofs::Samples::picking_start, crate::proofs::Samples::picking_turn))]
 fn pick(order: &[u32], bounds: &mut [u32])
     requires { (length bounds.old ≤ 256) × (length order.now ≤ 1024) }
@@ -116,7 +116,7 @@ impl<'a> Things<'a> {
 
     // ---- The chains
 
-    // Puts thing j before those on its chain. Answers its level.
+    // Puts thing j before those on its chain. Answers its level. A chain is a number in each of two lists, its head and the links: memory is fixed.
     #[tactic(auto, using(crate::proofs::Linking::thing_chain))]
     fn link_thing(&self, strips: &Strips, heads: &mut [u32], nexts: &mut [u32], j: usize) -> usize
         requires { (j < length nexts.old) × (length nexts.old ≡ count_of self.now) × (length heads.old ≡ chain_count (length nexts.old)) }
@@ -143,7 +143,7 @@ impl<'a> Things<'a> {
         let strips = Strips { xs, ys };
         let n = nexts.len();
         heads.fill(n as u32);
-        // by number: it is the thing's number that is written
+        // by number: it is the thing's number that is written, and the four lists are parts of the index in the caller's list
         let mut levels: usize = 0;
         for j in (0..n).rev() {
             let l = self.link_thing(&strips, heads, nexts, j);

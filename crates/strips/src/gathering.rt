@@ -32,7 +32,8 @@ struct Search<'a> {
 }
 
 // Puts v among the first k, which rise, unless it is there. Answers how many there are then; in a full list the last one goes.
-// List and count are no struct: what holds of both can be no ghost field beside a `&mut`.
+// List and count are no struct: in one of a `&mut` and a count each contract would have to say that it is the same list still, so that the caller knows what
+// its own comes to hold; here each says that the first k rise, and that is no longer.
 fn put_rising(found: &mut [u32], k: usize, v: u32) -> usize
     requires { Risen k found.old }
     ensures { FrontIs (take (length found.old) (put_rising v (take k found.old))) found.old result found.new }
@@ -89,7 +90,7 @@ impl<'a> Search<'a> {
         r
     }
 
-    // Those on the chains of a row of squares, from the strip before the first that s reaches.
+    // Those on the chains of a row of squares, from the strip before the first that s reaches. By the strip's number: no list of squares stands behind it.
     fn gather_row(&self, s: Span, y: usize, found: &mut [u32], k: usize) -> usize
         requires { Small s × (y ≤ 256) × Risen k found.old }
         ensures { FrontIs (with_things (length found.old) (wanted self.now) (take k found.old) (row self.now s y)) found.old result found.new }
@@ -102,7 +103,7 @@ impl<'a> Search<'a> {
         r
     }
 
-    // Those on the chains of all squares of a level.
+    // Those on the chains of all squares of a level, by the row's number.
     fn gather_level(&self, s: Span, found: &mut [u32], k: usize) -> usize
         requires { Small s × Risen k found.old }
         ensures { FrontIs (with_things (length found.old) (wanted self.now) (take k found.old) (level self.now s)) found.old result found.new }
@@ -114,7 +115,7 @@ impl<'a> Search<'a> {
         r
     }
 
-    // Those on the chains of all levels.
+    // Those on the chains of all levels, the first `most` of them; the span is halved from one to the next.
     #[tactic(auto, using(crate::proofs::Rows::levels_start, crate::proofs::Rows::levels_turn))]
     fn gather_levels(&self, first: Span, most: usize, found: &mut [u32]) -> usize
         requires { Small first × (first.level ≡ 0) × (most ≤ 513) }
@@ -131,7 +132,8 @@ impl<'a> Search<'a> {
 }
 
 impl<'a> Index<'a> {
-    // Writes the things from `from` on whose boxes meet b to the front of `found`, rising, as many as have a place there. Answers how many they are.
+    // Writes the things from `from` on whose boxes meet b to the front of `found`, rising, as many as have a place there. Answers how many they are: memory is
+    // fixed, and the list is the caller's.
     #[tactic(auto, using(crate::proofs::Searching::search_found, crate::proofs::Searching::levels_read, crate::proofs::Searching::xs_read, crate::proofs::Searching::ys_read, crate::proofs::IndexAt::length_bounds, crate::proofs::Sizes::side_range, crate::proofs::Reading::counts_there, crate::proofs::Reading::xs_there, crate::proofs::Reading::ys_there, crate::proofs::Reading::heads_there, crate::proofs::Reading::few_levels))]
     pub fn gather(&self, b: Bounds, from: usize, found: &mut [u32]) -> usize
         ensures { FrontIs (take (length found.old) (things_meeting self.now.things.coords.now self.now.things.nodes.now self.now.things.ends.now b from))

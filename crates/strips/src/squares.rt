@@ -13,7 +13,7 @@ pub(crate) enum Axis {
 }
 
 // From which strip to which something reaches by x and by y, on a level whose squares have their chains from `at` on, `side` to a row.
-// `Small` is no ghost field of it: the definitions make spans of any size.
+// `Small` is no ghost field of it: the definitions make spans of any size (`span_of`, `halved`), and could not with one.
 #[derive(Clone, Copy)]
 pub(crate) struct Span {
     pub x0: usize,
@@ -117,7 +117,7 @@ impl Span {
         (self.x0 + 1 < self.x1) | (self.y0 + 1 < self.y1)
     }
 
-    // On the first level where it reaches two strips at most, by x and by y.
+    // On the first level where it reaches two strips at most, by x and by y. A walk from level to level, no index.
     #[tactic(auto, using(crate::proofs::Spans::way_turn, crate::proofs::Spans::way_end))]
     pub(crate) fn narrowed(self) -> Span
         requires { Small self × (self.level ≡ 0) }
