@@ -6,12 +6,13 @@ use Prim.Native.Nat.{ℕ, suc, ◌+◌, ◌/◌, ◌≤◌, ◌<◌}
 use native.Mathlib.Numerals.{add-one}
 use native.Mathlib.Omega.{arith}
 use lib.Dec.{eqb}
-use lib.ListN.{length, get_or, take, drop, length-map}
-use lib.Seq.{drop-cons, length-take-le}
+use lib.ListN.{length, get_or, drop, length-map}
+use lib.Seq.{drop-cons}
 use Rattle.std.proofs.Common.{Option, unwrap_or}
 use Rattle.std.specs.List.{position, position_or_len}
-use Rattle.lists.specs.Regions.{insert_at}
-use Rattle.lists.proofs.InPlace.{put_there, place_is}
+use Rattle.std.specs.List.{insert as put_at}
+use Rattle.lists.specs.Regions.{put_in}
+use Rattle.lists.proofs.InPlace.{insert_there, place_is}
 use Rattle.std.proofs.lemmas.List.{drop_all}
 use lib.Ieee.{Float}
 use Rattle.lists.specs.Gather.{slim}
@@ -33,14 +34,12 @@ use Rattle.edge_nodes.proofs.Under.{map_append, sorted_key}
 
 -- ---- one put in its place
 
--- among the first n of a list, which are t
-pub put_among : (x : Placed) (w w' t : List Placed) (n k : ℕ) (p : Option ℕ) → take n w ≡ t → n ≤ length w → length t < length w → p ≡ position (stands_before x) (take n w)
-    → k ≡ unwrap_or p n → w' ≡ insert_at w n k x → take (n + 1) w' ≡ insert stands_before x t
-put_among x w w' t n k p t-is low room p-is k-is e =
-    let count : n ≡ length (take n w) = sym (length-take-le n w low) in
-    let at : k ≡ position_or_len (stands_before x) (take n w) =
-    k-is ∙ ap₂ unwrap_or p-is count ∙ place_is (stands_before x) (take n w) in
-    put_there stands_before x w w' n k (omega (arith, count, ap length t-is, room)) at e ∙ ap (insert stands_before x) t-is
+pub put_among : (x : Placed) (t ts : List Placed) (k : ℕ) (p : Option ℕ) → p ≡ position (stands_before x) t → k ≡ unwrap_or p (length t) → ts ≡ put_at t k x
+    → ts ≡ insert stands_before x t
+unfolding put_in
+put_among x t ts k p p-is k-is e =
+    let at : k ≡ position_or_len (stands_before x) t = k-is ∙ ap (λ (q : Option ℕ). unwrap_or q (length t)) p-is ∙ place_is (stands_before x) t in
+    e ∙ ap (λ (j : ℕ). put_at t j x) at ∙ sym (insert_there stands_before x t)
 
 -- ---- one after the other
 

@@ -8,8 +8,8 @@ ghost use Rattle.edge_nodes.specs.declared.nodes.Placed.{Placed};
 ghost use Rattle.edge_nodes.specs.Chained.{edge_of};
 ghost use Rattle.edge_nodes.specs.Lent.{placed, stands_before, node_of, pushed, FrontIs};
 
+use arrayvec::ArrayVec;
 use keys::SortedKey;
-use lists::insert_at;
 use plane::point_at;
 use std::marker::Model;
 
@@ -20,19 +20,16 @@ pub(crate) struct Placed {
     pub node: u32,
 }
 
-// At most 257 nodes in order, seen as their list. Memory is fixed, so it is an array and a count.
+// At most 257 nodes in order, seen as their list.
 #[derive(Drop)]
 pub(crate) struct Nodes {
-    items: [Placed; 257],
-    count: usize,
+    items: ArrayVec<Placed, 257>,
 }
 
 impl Model for Nodes {
     ghost Value = { List Placed };
 
-    ghost view = { λ t. take t.count t.items };
-
-    ghost invariant = { λ t. t.count ≤ 257 };
+    ghost view = { λ t. t.items.items };
 }
 
 // Total order, -0 before +0. No `total_cmp`: it asks for numbers, and coordinates may be any.
@@ -74,8 +71,7 @@ impl Nodes {
         ensures { result ≡ [] }
     {
         Nodes {
-            items: [Placed::default(); 257],
-            count: 0,
+            items: ArrayVec::new(),
         }
     }
 
@@ -83,7 +79,7 @@ impl Nodes {
         ensures items { result.now ≡ self.now }
         ensures few { length self.now ≤ 257 }
     {
-        &self.items[..self.count]
+        self.items.as_slice()
     }
 
     // Puts one in its place.
@@ -92,10 +88,8 @@ impl Nodes {
         requires { length self.old < 257 }
         ensures { self.new ≡ insert stands_before x self.old }
     {
-        let n = self.count;
-        let k = position_of(&self.items[..n], x).unwrap_or(n);
-        insert_at(&mut self.items, n, k, x);
-        self.count = n + 1;
+        let k = position_of(self.items.as_slice(), x).unwrap_or(self.items.len());
+        self.items.insert(k, x);
     }
 
     // Puts nodes in their places along the key.

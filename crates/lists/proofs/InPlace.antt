@@ -19,7 +19,7 @@ one_more k = omega arith
 
 module _ {A : Type 0} where
   -- before the first that it stands before
-  insert_there : (before : A → A → Bool) (x : A) (xs : List A) → insert before x xs ≡ put_in (position_or_len (before x) xs) x xs
+  pub insert_there : (before : A → A → Bool) (x : A) (xs : List A) → insert before x xs ≡ put_in (position_or_len (before x) xs) x xs
   unfolding insert put_in
   insert_there before x [] = refl
   insert_there before x (y ∷ ys) = go (before x y) (insert_there before x ys)

@@ -1,7 +1,7 @@
 -- The edges that are being written to a list, and what becomes of the lists. Assumes nothing.
 use Rattle.std.specs.Prelude.{◌≡◌, List, [], ◌∷◌, ℕ, ◌+◌, ◌*◌, ◌≤◌, length, take}
 use Rattle.lists.specs.Regions.{front}
-use Rattle.views.specs.Same.{SameList}
+use Rattle.lists.specs.Same.{SameList}
 use Rattle.cutting.specs.Edges.{Edge, ring}
 use Rattle.cutting.specs.Lent.{pairs, flat_edges}
 use Rattle.rules.specs.Neighbours.{added_all}
