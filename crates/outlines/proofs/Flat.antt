@@ -21,6 +21,10 @@ use Rattle.cutting.proofs.Pairs.{ends_more}
 
 -- ---- `lay_along`
 
+-- a list comes to hold the darts in front: r entries
+abbrev pub Holds : List Edge → ℕ → List ℕ → List ℕ → Type 0
+Holds darts r list list' = (r ≡ 2 * length darts) × (list' ≡ front list (flat_edges darts))
+
 -- those of the first windows are laid; the rest of the nodes has the others
 pub record Laying (inv : Bool) (nodes list₀ list rest : List ℕ) (k : ℕ) : Type 0 where
   pub same : length list ≡ length list₀
@@ -63,7 +67,7 @@ module _ (inv : Bool) (nodes list₀ : List ℕ) where
           held = ends_more list₀ list 0 k e.0 e.1 v.done e (omega arith) (omega (arith, v.count)) fits v.held refl refl;
         }
 
-    pub laying_end : length rest < 2 → (k ≡ 2 * length (map (reversed_if inv) (windows nodes))) × (list ≡ front list₀ (flat_edges (map (reversed_if inv) (windows nodes))))
+    pub laying_end : length rest < 2 → Holds (map (reversed_if inv) (windows nodes)) k list₀ list
     laying_end h =
         let all : v.done ≡ map (reversed_if inv) (windows nodes) = sym (append-nil v.done) ∙ ap (λ (es : List Edge). v.done ++ map (reversed_if inv) es)
         (sym (windows_none rest h)) ∙ v.left in
