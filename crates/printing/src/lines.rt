@@ -11,7 +11,7 @@ use crate::digits::{bits_of, hex_digits};
 use crate::writer::Writer;
 use lists::Runs;
 
-// a piece and its corners
+// a piece and its corners, by the numbers that the lists hold: those of its kind, of its mesh and of its cell there
 #[derive(Clone, Copy)]
 pub(crate) struct Piece<'a> {
     kind: u8,

@@ -13,6 +13,7 @@ pub struct Node {
     pub y: f64,
 }
 
+// Any number up to 255 is read as a kind, as any as an operation (`First`): the entry refuses one that is none.
 #[derive(Clone, Copy)]
 pub struct Heading {
     pub kind: u8,
