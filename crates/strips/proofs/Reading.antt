@@ -7,7 +7,9 @@ use lib.Seq.{length-take-le}
 use Rattle.strips.specs.declared.gathering.Index.{Index}
 use Rattle.strips.specs.Things.{thing_count}
 use Rattle.strips.specs.Index.{strip_count, chain_count, index_size}
-use Rattle.strips.proofs.Searching.{index_long, side_read, levels_read, levels_few}
+use Rattle.strips.proofs.Sizes.{side_range}
+use Rattle.strips.proofs.IndexAt.{length_bounds}
+use Rattle.strips.proofs.Searching.{index_long, side_read, levels_read, xs_read, ys_read, levels_few, search_found}
 
 module _ (s : Index) where
   long : length s.numbers.now ≡ index_size (thing_count s.things.nodes.now s.things.ends.now)
@@ -41,3 +43,6 @@ module _ (s : Index) where
     levels_read s.things.coords.now s.things.nodes.now s.things.ends.now s.numbers.now s.is,
     levels_few s.things.coords.now s.things.nodes.now s.things.ends.now,
   )
+
+-- what `gather` reads them by
+pub ruleset reading = (counts_there, xs_there, ys_there, heads_there, few_levels, search_found, levels_read, xs_read, ys_read, length_bounds, side_range)

@@ -104,7 +104,8 @@ module _ (w₀ order : List ℕ) (side k : ℕ) where
   picking_end t w inv a b l =
       let n : length (each side one) ≡ side = length_each side one in
       let all : t ≡ side = le_antisymm a b in
-      inv.held ∙ ap (λ (m : ℕ). front w₀ (each m one)) all ∙ ap (λ (u : List ℕ). each side one ++ u) (drop_of_length-le w₀ {i = length (each side one)} (omega (arith, n, l))) ∙ append-nil (each side one)
+      inv.held ∙ ap (λ (m : ℕ). front w₀ (each m one)) all
+      ∙ ap (λ (u : List ℕ). each side one ++ u) (drop_of_length-le w₀ {i = length (each side one)} (omega (arith, n, l))) ∙ append-nil (each side one)
 
 -- ---- the nodes at which the strips of one axis begin
 

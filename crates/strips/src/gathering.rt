@@ -134,7 +134,7 @@ impl<'a> Search<'a> {
 impl<'a> Index<'a> {
     // Writes the things from `from` on whose boxes meet b to the front of `found`, rising, as many as have a place there. Answers how many they are: memory is
     // fixed, and the list is the caller's.
-    #[tactic(auto, using(crate::proofs::Searching::search_found, crate::proofs::Searching::levels_read, crate::proofs::Searching::xs_read, crate::proofs::Searching::ys_read, crate::proofs::IndexAt::length_bounds, crate::proofs::Sizes::side_range, crate::proofs::Reading::counts_there, crate::proofs::Reading::xs_there, crate::proofs::Reading::ys_there, crate::proofs::Reading::heads_there, crate::proofs::Reading::few_levels))]
+    #[tactic(auto, using(crate::proofs::Reading::reading))]
     pub fn gather(&self, b: Bounds, from: usize, found: &mut [u32]) -> usize
         ensures { FrontIs (take (length found.old) (things_meeting self.now.things.coords.now self.now.things.nodes.now self.now.things.ends.now b from))
             found.old result found.new }
