@@ -2,7 +2,7 @@
 use mathlib.Core.Path.{◌≡◌, refl, sym, ap, ◌∙◌}
 use mathlib.Core.Bool.{Bool, true, false}
 use mathlib.Core.List.{List, [], ◌∷◌, ◌++◌, append-nil, append_assoc}
-use Prim.Native.Nat.{ℕ, ◌+◌}
+use Prim.Native.Nat.{ℕ, ◌+◌, ◌^◌, ◌<◌}
 use native.Mathlib.Omega.{arith}
 use lib.ListN.{length, length-append}
 use Rattle.std.specs.Prelude.{Result, Ok, Err, is_ok}
@@ -13,7 +13,7 @@ use Rattle.entry.specs.Mesh.{Rising}
 use Rattle.refusals.specs.declared.Refusal.{Refusal}
 use Rattle.refusals.specs.Numbers.{number}
 use Rattle.pieces.specs.declared.Listed.{Listed}
-use Rattle.pieces.specs.declared.PieceLists.{PieceLists}
+use Rattle.pieces.specs.declared.piece_lists.PieceLists.{PieceLists}
 use Rattle.pieces.specs.Pieces.{runs_of, Yield, tagged, Space, Placing, left, left_by, refused_in, placed_in, BeforeZeroing, SameLists}
 use Rattle.pieces.proofs.Room.{flat_append}
 use Rattle.pieces.proofs.Runs.{flat_passing, runs_short}
@@ -32,12 +32,16 @@ same_both l m n s t =
       tags = record { name = s.tags.name ∙ t.tags.name; long = s.tags.long ∙ t.tags.long };
     }
 
+-- what its fields say of a list of pieces
+pub space_of : (l : PieceLists) (n : ℕ) → l.placed.entries + n < 2 ^ 32 → Space l.placed n l
+space_of l n short = record { counted = l.counted; tags = l.tagged; corners = l.within; short = short }
+
 -- of the pieces ps those in `rest` are left, and of the others those that are kept are placed
 pub record Going (f : List ℕ → Bool) (ps : List (List ℕ)) (p : Listed) (t : ℕ) (l l' : PieceLists) (q : Listed) (rest : List (List ℕ)) : Type 0 where
   pub done : List (List ℕ)
   pub all : ps ≡ done ++ rest
   pub same : SameLists l' l
-  pub placed : left (Ok q) l' ≡ placed_in p (tagged t (passing f done)) l
+  pub placed : left_by (Ok q) l' ≡ placed_in p (tagged t (passing f done)) l
 
 module _ (f : List ℕ → Bool) (runs ends : List ℕ) (up : Rising ends (length runs)) (p : Listed) (t : ℕ) (l : PieceLists) (space : Space p (length runs) l) where
   abbrev ps : List (List ℕ)
@@ -51,7 +55,7 @@ module _ (f : List ℕ → Bool) (runs ends : List ℕ) (up : Rising ends (lengt
     abbrev kept : List (List ℕ)
     kept = passing f inv.done
 
-    pub end : rest ≡ [] → left (Ok q) l' ≡ placed_in p (tagged t (passing f (runs_of runs ends))) l
+    pub end : rest ≡ [] → left_by (Ok q) l' ≡ placed_in p (tagged t (passing f (runs_of runs ends))) l
     end none =
         inv.placed ∙ ap (λ (ks : List (List ℕ)). placed_in p (tagged t (passing f ks)) l)
         (sym (inv.all ∙ ap (λ (ks : List (List ℕ)). inv.done ++ ks) none ∙ append-nil inv.done))
@@ -105,7 +109,7 @@ module _ (f : List ℕ → Bool) (runs ends : List ℕ) (up : Rising ends (lengt
             ∙ placed_behind_lem p (tagged t kept) (tagged t (x ∷ [])) l.corners.now l.ends.now l.tags.now
             (steady_tagged t kept) space.counted space.tags space.corners q l'.corners.now l'.ends.now l'.tags.now inv.placed
 
-        pub laid : (r : Listed) (l'' : PieceLists) → left (Ok r) l'' ≡ placed_in q (tagged t (x ∷ [])) l' → SameLists l'' l' → Going f (runs_of runs ends) p t l l'' r ys
+        pub laid : (r : Listed) (l'' : PieceLists) → left_by (Ok r) l'' ≡ placed_in q (tagged t (x ∷ [])) l' → SameLists l'' l' → Going f (runs_of runs ends) p t l l'' r ys
         laid r l'' got s = record { done = inv.done ++ x ∷ []; all = all_with; same = same_both l l' l'' s inv.same; placed = got ∙ sym step }
 
         pub unlaid : (e : Refusal) → Err (number e) ≡ (placed_in q (tagged t (x ∷ [])) l').answer → Err (number e) ≡ (placed_in p (tagged t (passing f (runs_of runs ends))) l).answer
@@ -120,11 +124,11 @@ module _ (f : List ℕ → Bool) (runs ends : List ℕ) (up : Rising ends (lengt
 -- ---- behind the last piece, or the lists cleared where one had no place
 
 module _ (p : Listed) (y : Yield) (l l' : PieceLists) where
-  pub left_ok : (r : Result Listed Refusal) → BeforeZeroing (placed_in p y l) r l' → true ≡ is_ok r → left r l' ≡ placed_in p y l
+  pub left_ok : (r : Result (Unit {0}) Refusal) → BeforeZeroing (placed_in p y l) r l' → true ≡ is_ok r → left r l' ≡ placed_in p y l
   left_ok (Ok x) met e = met
   left_ok (Err k) met e = cc
 
-  pub left_cleared : (r : Result Listed Refusal) → BeforeZeroing (placed_in p y l) r l' → false ≡ is_ok r → SameLists l' l
+  pub left_cleared : (r : Result (Unit {0}) Refusal) → BeforeZeroing (placed_in p y l) r l' → false ≡ is_ok r → SameLists l' l
       → (l'' : PieceLists) → ((code : ℕ) → left_by (Err code) l'' ≡ refused_in code l') → left r l'' ≡ placed_in p y l
   left_cleared (Ok x) met e same l'' cleared = cc
   left_cleared (Err k) met e same l'' cleared =

@@ -15,7 +15,7 @@ use Rattle.lists.proofs.Regions.{put_none, put_store, copied_fits}
 use Rattle.cutting.specs.Outcome.{flat, stops}
 use Rattle.rules.specs.Refusals.{piece, first_refusal}
 use Rattle.pieces.specs.declared.Listed.{Listed}
-use Rattle.pieces.specs.declared.PieceLists.{PieceLists}
+use Rattle.pieces.specs.declared.piece_lists.PieceLists.{PieceLists}
 use Rattle.pieces.specs.Pieces.{tagged, Space, Placing, placing, placed_in}
 use Rattle.pieces.proofs.Room.{one_fits, no_place, too_long}
 use Rattle.pieces.proofs.Placing.{placed_all, placed_not}

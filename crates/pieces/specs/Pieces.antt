@@ -13,7 +13,7 @@ use Rattle.refusals.specs.Numbers.{number, by_number}
 use Rattle.strips.specs.declared.things.Things.{Things}
 use Rattle.pieces.specs.declared.Keep.{Keep}
 use Rattle.pieces.specs.declared.Listed.{Listed}
-use Rattle.pieces.specs.declared.PieceLists.{PieceLists}
+use Rattle.pieces.specs.declared.piece_lists.PieceLists.{PieceLists}
 
 -- ---- runs of node numbers in a flat list, by their ends
 
@@ -103,14 +103,18 @@ placed_behind p y on oe ot =
 abbrev pub left_by : Result Listed ℕ → PieceLists → Placing
 left_by r l = record { answer = r; corners = l.corners.now; ends = l.ends.now; tags = l.tags.now }
 
-abbrev pub left : Result Listed Refusal → PieceLists → Placing
-left r l = left_by (by_number r) l
+abbrev pub left : Result (Unit {0}) Refusal → PieceLists → Placing
+left (Ok _) l = left_by (Ok l.placed) l
+left (Err e) l = left_by (Err (number e)) l
 
 abbrev pub refused_in : ℕ → PieceLists → Placing
 refused_in code l = refused_by code l.corners.now l.ends.now l.tags.now
 
 abbrev pub placed_in : Listed → Yield → PieceLists → Placing
 placed_in p y l = placed_behind p y l.corners.now l.ends.now l.tags.now
+
+abbrev pub placed_on : Yield → PieceLists → Placing
+placed_on y l = placed_in l.placed y l
 
 pub record SameLists (l m : PieceLists) : Type 0 where
   pub corners : SameList l.corners m.corners
@@ -120,8 +124,8 @@ pub record SameLists (l m : PieceLists) : Type 0 where
 -- ---- what only inner functions' contracts cite
 
 -- before a refusal zeroes the lists: what g leaves, or its refusal
-abbrev pub BeforeZeroing : Placing → Result Listed Refusal → PieceLists → Type 0
-BeforeZeroing g r l = MatchResult r (λ x. left (Ok x) l ≡ g) (λ e. Err (number e) ≡ g.answer)
+abbrev pub BeforeZeroing : Placing → Result (Unit {0}) Refusal → PieceLists → Type 0
+BeforeZeroing g r l = MatchResult r (λ _. left_by (Ok l.placed) l ≡ g) (λ e. Err (number e) ≡ g.answer)
 
 -- the cells of the other mesh
 abbrev pub cells_in : Things → List (List ℕ)

@@ -1,20 +1,18 @@
 // Which pieces of a cell an operation keeps (document 01, "Operations"), and their placing behind those of the cells before.
 #![tactic(auto)]
 
-ghost use Rattle.std.specs.Prelude.{◌≡◌, Some, Err, [], ◌∷◌, ℕ, ◌<◌, length};
-ghost use Rattle.std.specs.List.{All, list_any};
-ghost use Rattle.lists.specs.Gather.{passing};
-ghost use Rattle.entry.specs.Mesh.{prior, Rising};
+ghost use Rattle.std.specs.Prelude.{◌≡◌, Some};
 ghost use Rattle.rules.specs.Inside.{some_holds, point_inside};
-ghost use Rattle.pieces.specs.Pieces.{side_of, runs_of, cells_in, keep_of, is_kept, tagged, Space, left, left_by, refused_in, placed_in, BeforeZeroing, SameLists};
+ghost use Rattle.pieces.specs.Pieces.{side_of, cells_in, keep_of, is_kept};
+
+mod piece_lists;
 
 use corners::Ring;
 use entry::Operation;
 use insides::inside;
-use lists::{Runs, copy_at};
+pub use piece_lists::PieceLists;
 use plane::Point;
 use polygons::strict_interior_point;
-use refusals::Refusal;
 use spatial_index::point_bounds;
 use strips::Index;
 
@@ -66,7 +64,7 @@ pub fn keep_of(op: u32, cutter: bool) -> Keep
 
 impl Keep {
     // Where the piece is kept either way it isn't asked whether it lies inside.
-    fn is_kept(self, cells: Index, piece: &[u32]) -> bool
+    pub(crate) fn is_kept(self, cells: Index, piece: &[u32]) -> bool
         ensures { result ≡ is_kept self cells.entry.things.coords.now (cells_in cells.entry.things) piece.now }
     {
         if self.inside & self.outside {
@@ -87,100 +85,4 @@ impl Keep {
 pub struct Listed {
     pub count: usize,
     pub entries: usize,
-}
-
-// The lists that pieces go to: their corners, where each ends among them, and a tag for each. Each method promises that they are the same lists, so that
-// a caller knows what its own come to hold; how many pieces stand there is beside them, as no ghost field says what holds of a `&mut` and a count.
-#[derive(Drop)]
-pub struct PieceLists<'a> {
-    pub corners: &'a mut [u32],
-    pub ends: &'a mut [u32],
-    pub tags: &'a mut [u32],
-}
-
-impl<'a> PieceLists<'a> {
-    // Places one piece behind those that p counts. Nothing changes where it has no place.
-    #[tactic(auto, using(crate::proofs::Piece::no_end, crate::proofs::Piece::no_corners))]
-    fn place(&mut self, p: Listed, piece: &[u32], tag: u32) -> Result<Listed, Refusal>
-        requires { Space p (length piece.now) self.old }
-        ensures placed { BeforeZeroing (placed_in p (tagged tag (piece.now ∷ [])) self.old) result self.new }
-        ensures same_lists { SameLists self.new self.old }
-    {
-        let next = p.count + 1;
-        if self.ends.len() < next {
-            return Err(Refusal::NoPlace);
-        }
-        if !copy_at(self.corners, p.entries, piece) {
-            return Err(Refusal::NoPlace);
-        }
-        let entries = p.entries + piece.len();
-        self.ends[p.count] = entries as u32;
-        self.tags[p.count] = tag;
-        Ok(Listed {
-            count: next,
-            entries,
-        })
-    }
-
-    // Places the pieces that are kept, one after the other, up to the first that has no place.
-    #[tactic(auto, using(crate::proofs::Loops::laid, crate::proofs::Loops::end))]
-    fn place_run(
-        &mut self,
-        keep: Keep,
-        cells: Index,
-        p: Listed,
-        runs: &[u32],
-        stops: &[u32],
-        tag: u32,
-    ) -> Result<Listed, Refusal>
-        requires { Rising stops.now (length runs.now) × Space p (length runs.now) self.old }
-        ensures placed { BeforeZeroing (placed_in p (tagged tag
-            (passing (is_kept keep cells.entry.things.coords.now (cells_in cells.entry.things)) (runs_of runs.now stops.now)))
-            self.old) result self.new }
-        ensures same_lists { SameLists self.new self.old }
-    {
-        let mut placed = p;
-        for piece in Runs::new(runs, stops) {
-            if keep.is_kept(cells, piece) {
-                placed = self.place(placed, piece, tag)?;
-            }
-        }
-        Ok(placed)
-    }
-
-    // Makes the lists zero, as a refusal leaves them.
-    pub fn clear(&mut self)
-        ensures cleared { (code : ℕ) → left_by (Err code) self.new ≡ refused_in code self.old }
-        ensures same_lists { SameLists self.new self.old }
-    {
-        self.corners.fill(0);
-        self.ends.fill(0);
-        self.tags.fill(0);
-    }
-
-    // Places the pieces that are kept behind those that p counts, each with the tag. As many pieces have a place as there is room for ends; a refusal
-    // leaves zeros. No `or_else`: its closure would have to be lent the lists, and what it does to them isn't known behind it.
-    #[tactic(auto, using(crate::proofs::Loops::left_ok))]
-    pub fn place_pieces(
-        &mut self,
-        keep: Keep,
-        cells: Index,
-        p: Listed,
-        runs: &[u32],
-        stops: &[u32],
-        tag: u32,
-    ) -> Result<Listed, Refusal>
-        requires { Rising stops.now (length runs.now) × Space p (length runs.now) self.old }
-        ensures placed { left result self.new ≡ placed_in p (tagged tag
-            (passing (is_kept keep cells.entry.things.coords.now (cells_in cells.entry.things)) (runs_of runs.now stops.now)))
-            self.old }
-        ensures same_lists { SameLists self.new self.old }
-    {
-        let placed = self.place_run(keep, cells, p, runs, stops, tag);
-        if placed.is_ok() {
-            return placed;
-        }
-        self.clear();
-        placed
-    }
 }

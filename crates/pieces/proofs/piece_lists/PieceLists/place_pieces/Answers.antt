@@ -1,5 +1,5 @@
 use Rattle.pieces.proofs.Loops.{left_cleared}
-use Rattle.pieces.proofs.PieceLists.place_pieces.Goals as goal
+use Rattle.pieces.proofs.piece_lists.PieceLists.place_pieces.Goals as goal
 
 pub returns-clause-placed : goal.returns-clause-placed
 returns-clause-placed c =
