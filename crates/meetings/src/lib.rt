@@ -2,17 +2,16 @@
 // structs, since they stand in the caller's working list, which holds numbers of every kind (fixed memory).
 #![tactic(auto)]
 
-ghost use Rattle.std.specs.Prelude.{◌≡◌, [], ◌∷◌, Ok, Err, ◌+◌, ◌*◌, ◌/◌, ◌≤◌, ◌<◌, length, get_or, take};
+ghost use Rattle.std.specs.Prelude.{◌≡◌, [], ◌∷◌, IsOk, IsErrAnd, ◌+◌, ◌*◌, ◌/◌, ◌≤◌, ◌<◌, length};
 ghost use Rattle.lists.specs.Regions.{put};
 ghost use Rattle.cutting.specs.Edges.{edge_at};
 ghost use Rattle.cutting.specs.Lent.{pairs};
 ghost use Rattle.refusals.specs.Numbers.{by_number};
 ghost use Rattle.segments.specs.Meet.{meeting};
+ghost use Rattle.rules.specs.SpatialIndex.{edge_box, candidates};
 ghost use Rattle.rules.specs.Meetings.{node_of, segment_of};
-ghost use Rattle.strips.specs.Meeting.{FrontIs};
 ghost use Rattle.meetings.specs.Booked.{meetings_of};
 ghost use Rattle.meetings.specs.MeetingsFound.{meetings_found};
-ghost use Rattle.meetings.specs.Steps.{candidates_from, met_of, met_with, Ready, Answered};
 
 use lists::copy_at;
 use plane::point_at;
@@ -21,12 +20,24 @@ use segments::{Meeting, PointId, Segment};
 use spatial_index::edge_bounds;
 use strips::Index;
 
-// How many meetings there are, and how many new points. The lists that they stand in are no part of it: what holds of list and count can be no ghost field
-// beside a `&mut`.
+// How many meetings there are, and how many new points.
 #[derive(Clone, Copy)]
 pub struct Found {
     pub met: usize,
     pub points: usize,
+}
+
+// The lists that new points and meetings are written to, and what stands at their fronts. At most 65,536 meetings have room; each has one new point at most.
+// Each method promises that they are the same lists, so that who lent them knows what they come to hold.
+#[derive(Drop)]
+struct MetLists<'a> {
+    points: &'a mut [f64],
+    met: &'a mut [u32],
+    found: Found,
+    ghost most: { length met.now / 5 ≤ 65536 },
+    ghost within: { found.met ≤ length met.now / 5 },
+    ghost placed: { 2 * found.points ≤ length points.now },
+    ghost fewer: { found.points ≤ found.met },
 }
 
 // The edges of both meshes, two node numbers each: the subject's, and the cutter's with their index, over the coordinates of both.
@@ -78,179 +89,102 @@ fn edge_at(edges: &[u32], i: usize) -> (u32, u32)
     (a, b)
 }
 
-// A meeting at one or two nodes that there are already, if there is room for one more: its two edges, the count of its nodes, and these. Count and second
-// node, 0 for none, as they are written: an `Option` would be turned into the same two numbers at once.
-#[tactic(auto, using(lists::proofs::Regions::copied_fits))]
-fn add_known(
-    met: &mut [u32],
-    f: Found,
-    i: usize,
-    j: usize,
-    count: u32,
-    u: u32,
-    v: u32,
-) -> Result<Found, Refusal>
-    requires { (length met.old / 5 ≤ 65536) × (f.met ≤ length met.old / 5) × (i < 65536) × (j < 65536) }
-    ensures over { length met.old / 5 ≤ f.met → result ≡ Err Refusal.TooManyMeetings }
-    ensures added { f.met < length met.old / 5 → (result ≡ Ok (record { met = f.met + 1; points = f.points }))
-        × (met.new ≡ put met.old (5 * f.met) (i ∷ j ∷ count ∷ u ∷ v ∷ [])) }
-{
-    if !copy_at(met, 5 * f.met, &[i as u32, j as u32, count, u, v]) {
-        return Err(Refusal::TooManyMeetings);
-    }
-    Ok(Found {
-        met: f.met + 1,
-        points: f.points,
-    })
-}
+impl<'a> MetLists<'a> {
+    ghost use Rattle.meetings.specs.Steps.{SameLists};
 
-// A meeting at a new point, whose number is n: the limit is looked at before the point's place.
-#[tactic(auto, using(lists::proofs::Regions::copied_fits))]
-fn add_new(
-    points: &mut [f64],
-    met: &mut [u32],
-    f: Found,
-    i: usize,
-    j: usize,
-    n: u32,
-    p: (f64, f64),
-) -> Result<Found, Refusal>
-    requires { (length met.old / 5 ≤ 65536) × (f.met ≤ length met.old / 5) × (i < 65536) × (j < 65536) × (f.points ≤ 65536) }
-    ensures over { length met.old / 5 ≤ f.met → result ≡ Err Refusal.TooManyMeetings }
-    ensures full { f.met < length met.old / 5 → length points.old < 2 * f.points + 2 → result ≡ Err Refusal.NoPlace }
-    ensures added { f.met < length met.old / 5 → 2 * f.points + 2 ≤ length points.old → (result ≡ Ok (record { met = f.met + 1; points = f.points + 1 }))
-        × (points.new ≡ put points.old (2 * f.points) (p.0 ∷ p.1 ∷ [])) × (met.new ≡ put met.old (5 * f.met) (i ∷ j ∷ 1 ∷ n ∷ 0 ∷ [])) }
-{
-    let g = add_known(met, f, i, j, 1, n, 0)?;
-    if !copy_at(points, 2 * f.points, &[p.0, p.1]) {
-        return Err(Refusal::NoPlace);
+    // A meeting at one or two nodes that there are already, if there is room for one more: its two edges, the count of its nodes, and these. Count and second
+    // node, 0 for none, as they are written: an `Option` would be turned into the same two numbers at once.
+    #[tactic(auto, using(lists::proofs::Regions::copied_fits))]
+    fn add_known(&mut self, i: usize, j: usize, count: u32, u: u32, v: u32) -> Result<(), Refusal>
+        requires { (i < 65536) × (j < 65536) }
+        ensures over { length self.old.met.now / 5 ≤ self.old.found.met → IsErrAnd result (λ e. e ≡ Refusal.TooManyMeetings) }
+        ensures added { self.old.found.met < length self.old.met.now / 5 → IsOk result × (self.new.found ≡ record { met = self.old.found.met + 1; points = self.old.found.points })
+            × (self.new.points.now ≡ self.old.points.now) × (self.new.met.now ≡ put self.old.met.now (5 * self.old.found.met) (i ∷ j ∷ count ∷ u ∷ v ∷ [])) }
+        ensures same_lists { SameLists self.new self.old }
+    {
+        let at = 5 * self.found.met;
+        if !copy_at(self.met, at, &[i as u32, j as u32, count, u, v]) {
+            return Err(Refusal::TooManyMeetings);
+        }
+        self.found.met += 1;
+        Ok(())
     }
-    Ok(Found {
-        met: g.met,
-        points: f.points + 1,
-    })
+
+    // A meeting at a new point, whose number is n: the limit is looked at before the point's place.
+    #[tactic(auto, using(lists::proofs::Regions::copied_fits))]
+    fn add_new(&mut self, i: usize, j: usize, n: u32, p: (f64, f64)) -> Result<(), Refusal>
+        requires { (i < 65536) × (j < 65536) }
+        ensures over { length self.old.met.now / 5 ≤ self.old.found.met → IsErrAnd result (λ e. e ≡ Refusal.TooManyMeetings) }
+        ensures full { self.old.found.met < length self.old.met.now / 5 → length self.old.points.now < 2 * self.old.found.points + 2 → IsErrAnd result (λ e. e ≡ Refusal.NoPlace) }
+        ensures added { self.old.found.met < length self.old.met.now / 5 → 2 * self.old.found.points + 2 ≤ length self.old.points.now
+            → IsOk result × (self.new.found ≡ record { met = self.old.found.met + 1; points = self.old.found.points + 1 })
+            × (self.new.points.now ≡ put self.old.points.now (2 * self.old.found.points) (p.0 ∷ p.1 ∷ []))
+            × (self.new.met.now ≡ put self.old.met.now (5 * self.old.found.met) (i ∷ j ∷ 1 ∷ n ∷ 0 ∷ [])) }
+        ensures same_lists { SameLists self.new self.old }
+    {
+        self.add_known(i, j, 1, n, 0)?;
+        let at = 2 * self.found.points;
+        if !copy_at(self.points, at, &[p.0, p.1]) {
+            return Err(Refusal::NoPlace);
+        }
+        self.found.points += 1;
+        Ok(())
+    }
 }
 
 impl<'a> Edges<'a> {
+    ghost use Rattle.meetings.specs.Steps.{met_of, met_with, Answered};
+
     // Adds the meeting of the subject's edge i with the cutter's edge j, if they meet. New points are numbered behind the nodes of both meshes.
     #[tactic(auto, using(crate::proofs::Near::pairs_few))]
-    fn add_intersection(
-        &self,
-        points: &mut [f64],
-        met: &mut [u32],
-        i: usize,
-        j: usize,
-        f: Found,
-    ) -> Result<Found, Refusal>
-        requires { Ready points.old met.old f.met f.points × (i < length self.now.subject.now / 2) × (j < length self.now.cutter.things.nodes.now / 2) }
-        ensures { Answered (length met.old / 5) points.old met.old f.met f.points
-            (met_of self.now.cutter.things.coords.now i j (length self.now.cutter.things.coords.now / 2 + f.points)
+    fn add_intersection(&self, lists: &mut MetLists, i: usize, j: usize) -> Result<(), Refusal>
+        requires { (i < length self.now.subject.now / 2) × (j < length self.now.cutter.things.nodes.now / 2) }
+        ensures { Answered (met_of self.now.cutter.things.coords.now i j (length self.now.cutter.things.coords.now / 2 + lists.old.found.points)
             (edge_at (pairs self.now.subject.now) i) (edge_at (pairs self.now.cutter.things.nodes.now) j))
-            points.new met.new result }
+            lists.old lists.new result }
     {
         let coords = self.cutter.things.coords;
         let s = edge_at(self.subject, i);
         let c = edge_at(self.cutter.things.nodes, j);
         match edges_meet(coords, s, c) {
-            Meeting::Apart => Ok(f),
-            Meeting::Existing(p) => add_known(met, f, i, j, 1, node_of(p, s, c), 0),
+            Meeting::Apart => Ok(()),
+            Meeting::Existing(p) => lists.add_known(i, j, 1, node_of(p, s, c), 0),
             Meeting::New(x, y) => {
-                let n = (coords.len() / 2 + f.points) as u32;
-                add_new(points, met, f, i, j, n, (x, y))
+                let n = (coords.len() / 2 + lists.found.points) as u32;
+                lists.add_new(i, j, n, (x, y))
             }
             Meeting::Overlap(p, q) => {
-                add_known(met, f, i, j, 2, node_of(p, s, c), node_of(q, s, c))
+                lists.add_known(i, j, 2, node_of(p, s, c), node_of(q, s, c))
             }
         }
     }
 
-    // Adds those of the subject's edge i with the cutter's edges js.
-    #[tactic(auto, using(crate::proofs::Loops::walk_start, crate::proofs::Loops::walk_turn))]
-    fn add_for_places(
-        &self,
-        points: &mut [f64],
-        met: &mut [u32],
-        js: &[u32],
-        i: usize,
-        f: Found,
-    ) -> Result<Found, Refusal>
-        requires { Ready points.old met.old f.met f.points × (i < length self.now.subject.now / 2)
-            × ((k : _) → k < length js.now → get_or js.now k 0 < length self.now.cutter.things.nodes.now / 2) }
-        ensures { Answered (length met.old / 5) points.old met.old f.met f.points
-            (met_with self.now.cutter.things.coords.now i (edge_at (pairs self.now.subject.now) i) (edge_at (pairs self.now.cutter.things.nodes.now))
-            (length self.now.cutter.things.coords.now / 2 + f.points) js.now)
-            points.new met.new result }
-    {
-        let mut g = f;
-        for &j in js {
-            g = self.add_intersection(points, met, i, j as usize, g)?;
-        }
-        Ok(g)
-    }
-
-    // Writes the candidates of the edge e among the cutter's, from number `from` on, to the front of `found`, rising, as many as have a place there. Answers
-    // how many they are.
-    fn gather_near(&self, e: (u32, u32), from: usize, found: &mut [u32]) -> usize
-        ensures { FrontIs
-            (take (length found.old) (candidates_from self.now.cutter.things.coords.now (pairs self.now.cutter.things.nodes.now) e from))
-            found.old result found.new }
-    {
-        let bounds = edge_bounds(self.cutter.things.coords, e.0, e.1);
-        self.cutter.gather(bounds, from, found)
-    }
-
-    // Adds those of the subject's edge i with all its candidates to those found: as many at a time as `found` has places.
-    #[tactic(auto, using(crate::proofs::Loops::gone_start, crate::proofs::Loops::round_full))]
-    fn add_for_edge(
-        &self,
-        points: &mut [f64],
-        met: &mut [u32],
-        found: &mut [u32],
-        i: usize,
-        f: Found,
-    ) -> Result<Found, Refusal>
-        requires { Ready points.old met.old f.met f.points × (i < length self.now.subject.now / 2) × (0 < length found.old) }
-        ensures { Answered (length met.old / 5) points.old met.old f.met f.points
-            (met_with self.now.cutter.things.coords.now i (edge_at (pairs self.now.subject.now) i) (edge_at (pairs self.now.cutter.things.nodes.now))
-            (length self.now.cutter.things.coords.now / 2 + f.points)
-            (candidates_from self.now.cutter.things.coords.now (pairs self.now.cutter.things.nodes.now) (edge_at (pairs self.now.subject.now) i) 0))
-            points.new met.new result }
+    // Adds those of the subject's edge i with all its candidates.
+    fn add_for_edge(&self, lists: &mut MetLists, i: usize) -> Result<(), Refusal>
+        requires { i < length self.now.subject.now / 2 }
+        ensures { Answered (met_with self.now.cutter.things.coords.now i (edge_at (pairs self.now.subject.now) i) (edge_at (pairs self.now.cutter.things.nodes.now))
+            (length self.now.cutter.things.coords.now / 2 + lists.old.found.points)
+            (candidates self.now.cutter.things.coords.now (pairs self.now.cutter.things.nodes.now) (edge_box self.now.cutter.things.coords.now (edge_at (pairs self.now.subject.now) i))))
+            lists.old lists.new result }
     {
         let e = edge_at(self.subject, i);
-        let count = self.cutter.things.nodes.len() / 2;
-        let mut g = f;
-        let mut from: usize = 0;
-        // By the number of the edge at which the next search begins.
-        while from < count {
-            let k = self.gather_near(e, from, found);
-            g = self.add_for_places(points, met, &found[..k], i, g)?;
-            if k < found.len() {
-                return Ok(g);
-            }
-            from = found[k - 1] as usize + 1;
+        let bounds = edge_bounds(self.cutter.things.coords, e.0, e.1);
+        for j in self.cutter.near(bounds) {
+            self.add_intersection(lists, i, j)?;
         }
-        Ok(g)
+        Ok(())
     }
 
-    // Adds those of all the subject's edges.
-    #[tactic(auto, using(crate::proofs::Loops::stop))]
-    fn add_for_edges(
-        &self,
-        points: &mut [f64],
-        met: &mut [u32],
-        found: &mut [u32],
-    ) -> Result<Found, Refusal>
-        requires { (length met.old / 5 ≤ 65536) × (0 < length found.old) }
-        ensures { Answered (length met.old / 5) points.old met.old 0 0
-            (meetings_of self.now.cutter.things.coords.now self.now.subject.now self.now.cutter.things.nodes.now)
-            points.new met.new result }
+    // Adds those of all the subject's edges to none.
+    fn add_for_edges(&self, lists: &mut MetLists) -> Result<(), Refusal>
+        requires { (lists.old.found.met ≡ 0) × (lists.old.found.points ≡ 0) }
+        ensures { Answered (meetings_of self.now.cutter.things.coords.now self.now.subject.now self.now.cutter.things.nodes.now) lists.old lists.new result }
     {
-        let mut f = Found { met: 0, points: 0 };
         // By number, which a meeting is written with: `enumerate` over the pairs would give the edge besides, which `add_for_edge` reads by its number.
         for i in 0..self.subject.len() / 2 {
-            f = self.add_for_edge(points, met, found, i, f)?;
+            self.add_for_edge(lists, i)?;
         }
-        Ok(f)
+        Ok(())
     }
 
     // The meetings by subject edge, then candidate in rising index, five numbers each: as many as `met` has room for; new points are numbered as found.
@@ -265,12 +199,18 @@ impl<'a> Edges<'a> {
         ensures { record { answer = by_number result; points = points.new; met = met.new }
             ≡ meetings_found (meetings_of self.now.cutter.things.coords.now self.now.subject.now self.now.cutter.things.nodes.now) points.old met.old }
     {
-        let mut found = [0u32; 1024];
-        let answer = self.add_for_edges(points, met, &mut found);
-        if answer.is_err() {
-            points.fill(0.0);
-            met.fill(0);
+        let mut lists = MetLists {
+            points,
+            met,
+            found: Found { met: 0, points: 0 },
+        };
+        match self.add_for_edges(&mut lists) {
+            Ok(()) => Ok(lists.found),
+            Err(e) => {
+                points.fill(0.0);
+                met.fill(0);
+                Err(e)
+            }
         }
-        answer
     }
 }

@@ -1,14 +1,14 @@
--- `meetings::Edges::add_for_edge` meets its contract. The loop's invariant: the meetings with the candidates below `from` are added. Assumes nothing.
-use mathlib.Core.Path.{◌≡◌}
-use Prim.Native.Nat.{◌-◌}
-use lib.ListN.{length}
-use Rattle.meetings.proofs.Loops.{Gone}
+use Rattle.cutting.specs.Edges.{edge_at}
+use Rattle.cutting.specs.Lent.{pairs}
+use Rattle.rules.specs.SpatialIndex.{edge_box, candidates}
+use Rattle.strips.specs.Near.{near_left}
+use Rattle.meetings.proofs.Loops.{from, Walked}
 use Rattle.meetings.proofs.Edges.add_for_edge.Given as goal
 
-abbrev pub invariant-loop-from : goal.invariant-loop-from
-invariant-loop-from l =
-    Gone l.self.cutter.things.coords.now l.self.subject.now l.self.cutter.things.nodes.now l.i l.initial.g.met l.initial.g.points l.initial.points l.initial.met
-    l.points l.met l.g l.from × (length l.found ≡ length l.initial.found)
-
-abbrev pub decreases-loop-from : goal.decreases-loop-from
-decreases-loop-from l = l.count - l.from
+abbrev pub invariant-loop-j : goal.invariant-loop-j
+invariant-loop-j l =
+    let cs = l.self.cutter.things.coords.now in
+    let es = l.self.subject.now in
+    let fs = l.self.cutter.things.nodes.now in
+    (goal.iterator-loop-j).can_next l.j-iterator × (goal.iterator-loop-j).is_finite l.j-iterator
+    × Walked cs es fs l.i (from cs es fs l.i l.initial.lists.found.points (candidates cs (pairs fs) (edge_box cs (edge_at (pairs es) l.i)))) l.initial.lists l.lists (near_left l.j-iterator)

@@ -1,37 +1,26 @@
-use mathlib.Core.Path.{refl}
-use Prim.Native.Nat.{◌/◌}
-use lib.ListN.{length}
 use Rattle.meetings.proofs.Adding.{apart, at_one, at_two, at_new}
 use Rattle.meetings.proofs.Edges.add_intersection.Goals as goal
 
 pub returns-in-Apart : goal.returns-in-Apart
-returns-in-Apart c =
-    let a = c.args in
-    rw (← c.edge_at-s.ensures, ← c.edge_at-c.ensures)
-    (apart (length a.met.now / 5) (length a.self.now.cutter.things.coords.now / 2) a.points.now a.met.now a.f.met a.f.points a.self.now.cutter.things.coords.now a.i a.j
-    c.edge_at-s.result c.edge_at-c.result c.edges_meet.result c.edges_meet.ensures c.requires.0.1 c.requires.0.2 _ c.in-Apart.is refl refl)
+returns-in-Apart c = rw (← c.edge_at-s.ensures, ← c.edge_at-c.ensures) (apart _ c.args.i c.args.j _ _ _ _ c.edges_meet.ensures c.args.lists.now c.in-Apart.is)
 
 pub returns-in-Existing : goal.returns-in-Existing
 returns-in-Existing c =
-    let a = c.args in
+    let x = c.add_known in
     rw (← c.edge_at-s.ensures, ← c.edge_at-c.ensures)
-    (at_one (length a.met.now / 5) (length a.self.now.cutter.things.coords.now / 2) a.points.now a.met.now a.f.met a.f.points a.self.now.cutter.things.coords.now a.i a.j
-    c.edge_at-s.result c.edge_at-c.result c.edges_meet.result c.edges_meet.ensures c.requires.0.1 c.requires.0.2 c.add_known.new.met
-    c.add_known.result _ c.node_of.result c.in-Existing.is c.node_of.ensures c.add_known.ensures.over c.add_known.ensures.added)
+    (at_one _ c.args.i c.args.j _ _ _ _ c.edges_meet.ensures c.args.lists.now x.new.self x.result x.ensures.same_lists x.ensures.over
+    c.in-Existing.p _ c.in-Existing.is c.node_of.ensures x.ensures.added)
 
 pub returns-in-New : goal.returns-in-New
 returns-in-New c =
-    let a = c.args in
+    let x = c.add_new in
     rw (← c.edge_at-s.ensures, ← c.edge_at-c.ensures)
-    (at_new (length a.met.now / 5) (length a.self.now.cutter.things.coords.now / 2) a.points.now a.met.now a.f.met a.f.points a.self.now.cutter.things.coords.now a.i a.j
-    c.edge_at-s.result c.edge_at-c.result c.edges_meet.result c.edges_meet.ensures c.requires.0.1 c.requires.0.2 c.add_new.new.points c.add_new.new.met
-    c.add_new.result _ _ c.in-New.is c.add_new.ensures.over c.add_new.ensures.full c.add_new.ensures.added)
+    (at_new _ c.args.i c.args.j _ _ _ _ c.edges_meet.ensures c.args.lists.now x.new.self x.result x.ensures.same_lists x.ensures.over
+    c.in-New.x c.in-New.y c.in-New.is x.ensures.full x.ensures.added)
 
 pub returns-in-Overlap : goal.returns-in-Overlap
 returns-in-Overlap c =
-    let a = c.args in
+    let x = c.add_known-in-Overlap in
     rw (← c.edge_at-s.ensures, ← c.edge_at-c.ensures)
-    (at_two (length a.met.now / 5) (length a.self.now.cutter.things.coords.now / 2) a.points.now a.met.now a.f.met a.f.points a.self.now.cutter.things.coords.now a.i a.j
-    c.edge_at-s.result c.edge_at-c.result c.edges_meet.result c.edges_meet.ensures c.requires.0.1 c.requires.0.2 c.add_known-in-Overlap.new.met
-    c.add_known-in-Overlap.result _ _ c.node_of-in-Overlap.result c.node_of-in-Overlap-2.result c.in-Overlap.is
-    c.node_of-in-Overlap.ensures c.node_of-in-Overlap-2.ensures c.add_known-in-Overlap.ensures.over c.add_known-in-Overlap.ensures.added)
+    (at_two _ c.args.i c.args.j _ _ _ _ c.edges_meet.ensures c.args.lists.now x.new.self x.result x.ensures.same_lists x.ensures.over
+    c.in-Overlap.p c.in-Overlap.q _ _ c.in-Overlap.is c.node_of-in-Overlap.ensures c.node_of-in-Overlap-2.ensures x.ensures.added)

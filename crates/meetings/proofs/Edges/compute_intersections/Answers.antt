@@ -1,12 +1,15 @@
--- `meetings::Edges::compute_intersections` meets its contract. Assumes nothing.
-use mathlib.Core.Path.{sym, ◌∙◌}
-use Rattle.meetings.proofs.Loops.{one_refused}
+use mathlib.Core.Path.{refl, sym}
+use native.Mathlib.Omega.{arith}
+use Rattle.std.proofs.Common.{rules}
+use Rattle.meetings.proofs.Loops.{all_found, one_refused}
 use Rattle.meetings.proofs.Edges.compute_intersections.Goals as goal
 
-pub returns-then-is_err : goal.returns-then-is_err
-returns-then-is_err c =
-    let x = c.add_for_edges-answer in
-    let a = c.args in
-    one_refused a.self.now.cutter.things.coords.now a.self.now.subject.now a.self.now.cutter.things.nodes.now a.points.now a.met.now a.self.now.even c.requires
-    x.new.points x.new.met x.result (sym c.is_err.ensures.value ∙ c.if-is_err.true) x.ensures
-    x.auto.points x.auto.met c.fill.new.self c.fill-then-is_err.new.self (c.fill.ensures.after (λ _ h. h)) (c.fill-then-is_err.ensures.after (λ _ h. h))
+pub returns-in-Ok : goal.returns-in-Ok
+returns-in-Ok c =
+    let same = c.in-Ok.ensures.same in
+    all_found _ _ c.add_for_edges.new.lists refl refl c.in-Ok.ensures _ _ (search (rules, sym same.points.name)) (search (rules, sym same.met.name))
+
+pub returns-in-Err : goal.returns-in-Err
+returns-in-Err c =
+    one_refused _ c.args.points.now c.args.met.now c.in-Err.e c.in-Err.ensures _ _ _ _ (c.fill.ensures.after (λ _ h. h)) (c.fill-in-Err.ensures.after (λ _ h. h))
+    (omega arith) (omega arith)
