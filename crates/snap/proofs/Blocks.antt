@@ -193,43 +193,55 @@ module _ (coords : List Float) (marks : List ℕ) where
           subst (λ (n : ℕ). Blocks coords marks s t (xs ++ i ∷ []) k n) (sym one)
           (subst (λ (u : List ℕ). Blocks coords marks s u (xs ++ i ∷ []) k (b + 1)) (sym put) (blocks_put s block xs k b h i l (omega (arith, places_le (marked marks) i))))
 
-  module _ (placed : AllPlaced coords) (most : length marks ≤ length coords / 2) (s block : List ℕ) (k b i : ℕ) (h : Blocks coords marks s block (places (marked marks) i) k b)
-      (le : i ≤ length marks) where
+  -- the marked ones of the first i nodes stand in order, the first k at the front of s, the others in the block
+  pub record InBlocks (s block : List ℕ) (k b i : ℕ) : Type 0 where
+    pub within : i ≤ length marks
+    pub long : length block ≡ 128
+    pub free : b < length block
+    pub blocks : Blocks coords marks s block (places (marked marks) i) k b
+
+  module _ (placed : AllPlaced coords) (most : length marks ≤ length coords / 2) (s block : List ℕ) (k b i : ℕ) (v : InBlocks s block k b i) where
     good : All (NodePlaced coords) (places (marked marks) i)
-    good = marked_placed coords marks i placed (omega arith)
+    good = marked_placed coords marks i placed (omega (arith, v.within))
 
-    -- what `put_in_order` and `merge` ask
-    pub blocks_ready : (k + b ≤ length s) × (b ≤ length block) × InOrder coords (take k s) × InOrder coords (take b block)
-    blocks_ready =
+    in_order : InOrder coords (take k s) × InOrder coords (take b block)
+    in_order =
         let xs : List ℕ = places (marked marks) i in
-        (omega (arith, h.count, h.few, h.size), h.within, blocks_first s block xs k b h good, blocks_last s block xs k b h good)
+        (blocks_first s block xs k b v.blocks good, blocks_last s block xs k b v.blocks good)
 
-    -- the rest put in
+    -- what `put_in_order` asks
+    pub put_asks : length marks ≤ 16384 → i < length marks → (b < length block) × (i < length s) × (length s ≤ 16384) × InOrder coords (take b block)
+    put_asks few here = (v.free, omega (arith, here, v.blocks.size), omega (arith, few, v.blocks.size), in_order.1)
+
+    -- what `merge` asks for the rest, and leaves
+    pub rest_asks : (k + length (take b block) ≤ length s) × InOrder coords (take k s) × InOrder coords (take b block)
+    rest_asks = let h = v.blocks in (omega (arith, h.count, h.few, h.size, length-take-le b block h.within), in_order.0, in_order.1)
+
     pub blocks_end : length marks ≤ i → (t : List ℕ) → t ≡ merged coords s k (take b block)
         → (k + b ≡ length (indices_in_order coords marks)) × (t ≡ front marks (indices_in_order coords marks))
     blocks_end ge t e =
-        order_end coords marks t (k + b) i le ge (h.count ∙ sym (length_sorted (before coords) (places (marked marks) i)))
-        (blocks_merged s block (places (marked marks) i) k b h good t e)
+        order_end coords marks t (k + b) i v.within ge (v.blocks.count ∙ sym (length_sorted (before coords) (places (marked marks) i)))
+        (blocks_merged s block (places (marked marks) i) k b v.blocks good t e)
 
-  -- the next node put in
-  module _ (placed : AllPlaced coords) (most : length marks ≤ length coords / 2) (s block : List ℕ) (k b i : ℕ) (h : Blocks coords marks s block (places (marked marks) i) k b)
-      (free : b < length block) (here : i < length s) (c : ℕ) (next : List ℕ) (ce : c ≡ counted s b i) (ne : next ≡ with_node coords s block b i) where
-    le : i + 1 ≤ length marks
-    le = omega (arith, here, h.size)
+    -- the next node put in
+    module _ (here : i < length marks) (c : ℕ) (next : List ℕ) (ce : c ≡ counted s b i) (ne : next ≡ with_node coords s block b i) (long : length next ≡ length block) where
+      after : Blocks coords marks s next (places (marked marks) (i + 1)) k c
+      after = blocks_next s block k b i v.blocks v.free here c next ce ne
 
-    after : Blocks coords marks s next (places (marked marks) (i + 1)) k c
-    after = blocks_next s block k b i h free (omega (arith, le)) c next ce ne
+      all_good : All (NodePlaced coords) (places (marked marks) (i + 1))
+      all_good = marked_placed coords marks (i + 1) placed (omega (arith, here))
 
-    -- what `merge_full` asks
-    pub next_ready : (k + c ≤ length s) × (c ≤ length next) × InOrder coords (take k s) × InOrder coords (take c next)
-    next_ready = blocks_ready placed most s next k c (i + 1) after le
+      -- what `merge_full` asks
+      pub next_ready : (k + c ≤ length s) × (c ≤ length next) × InOrder coords (take k s) × InOrder coords (take c next)
+      next_ready =
+          let xs : List ℕ = places (marked marks) (i + 1) in
+          (omega (arith, after.count, after.few, after.size), after.within, blocks_first s next xs k c after all_good, blocks_last s next xs k c after all_good)
 
-    -- what it answers
-    pub next_fits : (r : ℕ) → r ≡ counted_full next c → (r ≤ c) × (k + r ≤ length marks)
-    next_fits r e = let l = full_le next c in (omega (arith, l, e), omega (arith, l, e, after.count, after.few))
+      -- what it answers
+      pub next_fits : (r : ℕ) → r ≡ counted_full next c → (r ≤ c) × (k + r ≤ length marks)
+      next_fits r e = let l = full_le next c in (omega (arith, l, e), omega (arith, l, e, after.count, after.few))
 
-    pub next_full : (t : List ℕ) (r : ℕ) → 0 < length next → r ≡ counted_full next c → t ≡ merged_full coords s k next c
-        → (i + 1 ≤ length marks) × (c - r < length next) × Blocks coords marks t next (places (marked marks) (i + 1)) (k + r) (c - r)
-    next_full t r some re te =
-        let turned = blocks_turn s next (places (marked marks) (i + 1)) k c after (marked_placed coords marks (i + 1) placed (omega (arith, le))) t r some re te in
-        (le, turned.1, turned.0)
+      pub next_full : (t : List ℕ) (r : ℕ) → r ≡ counted_full next c → t ≡ merged_full coords s k next c → InBlocks t next (k + r) (c - r) (i + 1)
+      next_full t r re te =
+          let turned = blocks_turn s next (places (marked marks) (i + 1)) k c after all_good t r (omega (arith, long, v.long)) re te in
+          record { within = omega (arith, here); long = long ∙ v.long; free = turned.1; blocks = turned.0 }

@@ -1,48 +1,27 @@
-use mathlib.Core.Path.{refl, ◌∙◌}
+use mathlib.Core.Path.{refl}
 use native.Mathlib.Omega.{arith}
-use lib.ListN.{length-take}
-use Rattle.snap.proofs.Blocks.{blocks_start, blocks_ready, blocks_end, next_ready, next_full}
+use Rattle.snap.proofs.Blocks.{blocks_start, put_asks, rest_asks, blocks_end, next_ready, next_full}
 use Rattle.snap.proofs.sorted_indices_for.Goals as goal
 
 pub loop-i-init : goal.loop-i-init
-loop-i-init c = (omega arith, refl, omega arith, blocks_start _ _ _)
+loop-i-init c = record { within = omega arith; long = refl; free = omega arith; blocks = blocks_start _ _ _ }
 
 pub put_in_order-b-requires : goal.put_in_order-b-requires
-put_in_order-b-requires c =
-    let l = c.loop-i in
-    let ready = blocks_ready c.args.coords.now c.args.s.now c.requires.2 c.requires.1 l.s l.block l.k l.b
-    l.i l.invariant.3 l.invariant.0 in
-    (l.invariant.2, omega (arith, c.loop-i-test.true, l.invariant.3.size), omega (arith, l.invariant.3.size, c.requires.0), ready.3)
+put_in_order-b-requires c = put_asks _ _ c.requires.2 c.requires.1 _ _ _ _ _ c.loop-i.invariant c.requires.0 c.loop-i-test.true
 
 pub merge_full-full-requires : goal.merge_full-full-requires
 merge_full-full-requires c =
-    let l = c.loop-i in
     let put = c.put_in_order-b in
-    next_ready c.args.coords.now c.args.s.now c.requires.2 c.requires.1 l.s l.block l.k l.b l.i l.invariant.3 l.invariant.2
-    (omega (arith, c.loop-i-test.true, l.invariant.3.size)) put.result put.new.block put.ensures.0 put.ensures.1
+    next_ready _ _ c.requires.2 c.requires.1 _ _ _ _ _ c.loop-i.invariant c.loop-i-test.true _ _ put.ensures.0 put.ensures.1 put.auto.block
 
 pub loop-i-preserved : goal.loop-i-preserved
 loop-i-preserved c =
-    let l = c.loop-i in
     let put = c.put_in_order-b in
-    let full = c.merge_full-full in
-    let len = put.auto.block ∙ l.invariant.1 in
-    let turned = next_full c.args.coords.now c.args.s.now c.requires.2 c.requires.1 l.s l.block l.k l.b l.i
-    l.invariant.3 l.invariant.2
-    (omega (arith, c.loop-i-test.true, l.invariant.3.size)) put.result put.new.block put.ensures.0 put.ensures.1 full.new.s
-    full.result (omega (arith, len)) full.ensures.0 full.ensures.1 in
-    (turned.0, len, turned.1, turned.2)
+    let full = c.merge_full-full.ensures in
+    next_full _ _ c.requires.2 c.requires.1 _ _ _ _ _ c.loop-i.invariant c.loop-i-test.true _ _ put.ensures.0 put.ensures.1 put.auto.block _ _ full.0 full.1
 
 pub merge-requires : goal.merge-requires
-merge-requires c =
-    let l = c.loop-i in
-    let ready = blocks_ready c.args.coords.now c.args.s.now c.requires.2 c.requires.1 l.s l.block l.k l.b
-    l.i l.invariant.3 l.invariant.0 in
-    (omega (arith, ready.0, length-take l.b l.block), ready.2, ready.3)
+merge-requires c = rest_asks _ _ c.requires.2 c.requires.1 _ _ _ _ _ c.loop-i.invariant
 
 pub returns : goal.returns
-returns c =
-    let l = c.loop-i in
-    let m = c.merge in
-    blocks_end c.args.coords.now c.args.s.now c.requires.2 c.requires.1 l.s l.block l.k l.b l.i l.invariant.3 l.invariant.0
-    (omega (arith, c.loop-i-test.false, l.invariant.3.size)) m.new.s m.ensures
+returns c = blocks_end _ _ c.requires.2 c.requires.1 _ _ _ _ _ c.loop-i.invariant c.loop-i-test.false _ c.merge.ensures
