@@ -2,8 +2,4 @@ use Rattle.snap.proofs.Near.{near_stop}
 use Rattle.snap.proofs.Nodes.nearest.Goals as goal
 
 pub returns-then-p-q : goal.returns-then-p-q
-returns-then-p-q c =
-    let l = c.loop-v in
-    let a = c.args in
-    let q = c.point_at-q in
-    near_stop a.self.now.coords.now a.self.now.order.now a.p c.requires l.best q.result l.v-index l.invariant c.loop-v-test.true q.ensures c.if-p-q.true
+returns-then-p-q c = near_stop _ _ c.args.p c.requires _ _ _ c.loop-v.invariant c.loop-v-test.true c.point_at-q.ensures c.if-p-q.true
