@@ -142,6 +142,13 @@ module _ (lines : Bool) (sc cc : List Float) (sn se cn ce : List ℕ) where
       length_three = layers.length_three numbers entries sn (flat_edges subjects) behind (node_count c) (copied_at s c) (subject_at s c) (cutter_at s c) h₁ (omega arith)
           h₃ (h₄ behind few_behind) ∙ length_numbers
 
+      -- the entries stand in the nets, before the edges and their chains
+      pub record Lent (nets rest : List ℕ) : Type 0 where
+        pub long : length nets ≡ met_at s c
+        pub subject : run_in nets (between (copied_at s c) (subject_at s c)) ≡ sn
+        pub cutter : run_in nets (between (node_count c) (copied_at s c)) ≡ entries
+        pub all : nets ++ rest ≡ two
+
       module _ (w₁ w₂ w₃ : List ℕ) (d₁ : w₁ ≡ front w₀ (weld (mesh sc sn [] [] []) (mesh cc cn [] [] []) ++ zeros (length sc / 2)))
           (d₂ : w₂ ≡ put w₁ (node_count c) (map (λ n. get_or w₁ n 0) cn)) (d₃ : w₃ ≡ copied w₂ (copied_at s c) sn) where
         one_is : w₁ ≡ numbers
@@ -187,116 +194,124 @@ module _ (lines : Bool) (sc cc : List Float) (sn se cn ce : List ℕ) where
               ∙ layers.first_two numbers entries sn (flat_edges subjects) behind (node_count c) (copied_at s c) (subject_at s c) (cutter_at s c) h₁ (omega arith) h₃
               (h₄ behind few_behind)
 
-          subjects_found : edges_from nets se (between (copied_at s c) (subject_at s c)) ≡ subjects
-          subjects_found = ap (λ (ns : List ℕ). compute_descending (cells_in ns se)) subject_read ∙ sym subjects_are
+          pub entries_lent : Lent nets rest
+          entries_lent =
+              record {
+                long = long;
+                subject = subject_read;
+                cutter = cutter_read;
+                all = ap₂ (λ (u v : List ℕ). u ++ v) nets-is rest-is ∙ take-append-drop (met_at s c) w₃ ∙ three_is;
+              }
 
-          -- what `mesh_edges` asks
-          pub subject_asks : (h n : ℕ) → h ≡ node_count s + node_count c + 1 → n ≡ length sn + length cn
-              → EdgesAsk nets se (between (copied_at s c) (subject_at s c)) (subject_at s c) h n
-          subject_asks h n a b =
-              let m = ap length subject_read in
+      module _ (nets rest : List ℕ) (l : Lent nets rest) where
+        subjects_found : edges_from nets se (between (copied_at s c) (subject_at s c)) ≡ subjects
+        subjects_found = ap (λ (ns : List ℕ). compute_descending (cells_in ns se)) l.subject ∙ sym subjects_are
+
+        -- what `mesh_edges` asks
+        pub subject_asks : (h n : ℕ) → h ≡ node_count s + node_count c + 1 → n ≡ length sn + length cn
+            → EdgesAsk nets se (between (copied_at s c) (subject_at s c)) (subject_at s c) h n
+        subject_asks h n a b =
+            let m = ap length l.subject in
+            record {
+              before = record { rises = omega arith; fits = omega arith };
+              room = omega (arith, l.long, m);
+              rising = rw l.subject (rising false s fs);
+              most = omega (arith, m, fs.most_entries);
+              some = omega (arith, a);
+              links = omega (arith, b, m);
+            }
+
+        -- the subject's edges are written
+        module _ (g₁ : MeshRuns) (nets₁ heads nexts heads₁ nexts₁ : List ℕ)
+            (d₄ : (g₁ ≡ with_edges (between (copied_at s c) (subject_at s c)) (subject_at s c) (edges_from nets se (between (copied_at s c) (subject_at s c))))
+            × (nets₁ ≡ put nets (subject_at s c) (flat_edges (edges_from nets se (between (copied_at s c) (subject_at s c)))))
+            × (heads₁ ≡ zeros (length heads)) × (nexts₁ ≡ zeros (length nexts))) where
+          nets₁_is : nets₁ ≡ put nets (subject_at s c) (flat_edges subjects)
+          nets₁_is = d₄.1 ∙ ap (λ (es : List Edge). put nets (subject_at s c) (flat_edges es)) subjects_found
+
+          long₁ : length nets₁ ≡ met_at s c
+          long₁ = ap length nets₁_is ∙ length_put nets (subject_at s c) (omega (arith, l.long)) (flat_edges subjects) (omega (arith, h₃, l.long)) ∙ l.long
+
+          cutter_kept : run_in nets₁ (between (node_count c) (copied_at s c)) ≡ entries
+          cutter_kept =
+              ap (λ (w : List ℕ). run_in w (between (node_count c) (copied_at s c))) nets₁_is
+              ∙ run_kept nets (flat_edges subjects) (subject_at s c) (omega (arith, l.long)) (between (node_count c) (copied_at s c)) (record { rises = omega arith; fits = omega arith })
+              ∙ l.cutter
+
+          -- what `cutter_edges` asks
+          pub cutter_asks : (h n : ℕ) → h ≡ node_count s + node_count c + 1 → n ≡ length sn + length cn
+              → EdgesAsk nets₁ ce (between (node_count c) (copied_at s c)) (cutter_at s c) h n
+          cutter_asks h n a b =
+              let m : length (run_in nets₁ (between (node_count c) (copied_at s c))) ≡ length cn = ap length cutter_kept ∙ length_entries in
               record {
                 before = record { rises = omega arith; fits = omega arith };
-                room = omega (arith, long, m);
-                rising = rw subject_read (rising false s fs);
-                most = omega (arith, m, fs.most_entries);
+                room = omega (arith, long₁, m);
+                rising = rw cutter_kept up;
+                most = omega (arith, m, fc.most_entries);
                 some = omega (arith, a);
                 links = omega (arith, b, m);
               }
 
-          -- the subject's edges are written
-          module _ (g₁ : MeshRuns) (nets₁ heads nexts heads₁ nexts₁ : List ℕ)
-              (d₄ : (g₁ ≡ with_edges (between (copied_at s c) (subject_at s c)) (subject_at s c) (edges_from nets se (between (copied_at s c) (subject_at s c))))
-              × (nets₁ ≡ put nets (subject_at s c) (flat_edges (edges_from nets se (between (copied_at s c) (subject_at s c)))))
-              × (heads₁ ≡ zeros (length heads)) × (nexts₁ ≡ zeros (length nexts))) where
-            nets₁_is : nets₁ ≡ put nets (subject_at s c) (flat_edges subjects)
-            nets₁_is = d₄.1 ∙ ap (λ (es : List Edge). put nets (subject_at s c) (flat_edges es)) subjects_found
+          cutters_found : lines ≡ false → edges_from nets₁ ce (between (node_count c) (copied_at s c)) ≡ cutters
+          cutters_found e = ap (λ (ns : List ℕ). compute_descending (cells_in ns ce)) cutter_kept ∙ sym (cutters_cells e)
 
-            long₁ : length nets₁ ≡ met_at s c
-            long₁ = ap length nets₁_is ∙ length_put nets (subject_at s c) (omega (arith, long)) (flat_edges subjects) (omega (arith, h₃, long)) ∙ long
+          -- both are
+          module _ (g₂ : MeshRuns) (nets₂ heads₂ nexts₂ : List ℕ)
+              (d₅ : (g₂ ≡ cond lines (record { edges = between (node_count c) (copied_at s c); entries = between (node_count c) (copied_at s c) })
+              (with_edges (between (node_count c) (copied_at s c)) (cutter_at s c) (edges_from nets₁ ce (between (node_count c) (copied_at s c)))))
+              × (nets₂ ≡ put nets₁ (cutter_at s c) (cond lines [] (flat_edges (edges_from nets₁ ce (between (node_count c) (copied_at s c))))))
+              × (heads₂ ≡ zeros (length heads₁)) × (nexts₂ ≡ zeros (length nexts₁))) where
+            runs_are : g₂ ≡ cutter_runs lines s c
+            runs_are = d₅.0 ∙ go lines refl
+              where
+                go : (t : Bool) → lines ≡ t
+                    → cond t (record { edges = between (node_count c) (copied_at s c); entries = between (node_count c) (copied_at s c) })
+                    (with_edges (between (node_count c) (copied_at s c)) (cutter_at s c) (edges_from nets₁ ce (between (node_count c) (copied_at s c))))
+                    ≡ with_edges (between (node_count c) (copied_at s c)) (cond t (node_count c) (cutter_at s c)) cutters
+                go true e =
+                    let n : copied_at s c ≡ node_count c + 2 * length cutters = omega (arith, ap length (cutters_lines e), pairs_length entries, length_entries, line_count e) in
+                    ap (λ (k : ℕ). record { edges = between (node_count c) k; entries = between (node_count c) (copied_at s c) }) n
+                go false e = ap (with_edges (between (node_count c) (copied_at s c)) (cutter_at s c)) (cutters_found e)
 
-            cutter_kept : run_in nets₁ (between (node_count c) (copied_at s c)) ≡ entries
-            cutter_kept =
-                ap (λ (w : List ℕ). run_in w (between (node_count c) (copied_at s c))) nets₁_is
-                ∙ run_kept nets (flat_edges subjects) (subject_at s c) (omega (arith, long)) (between (node_count c) (copied_at s c)) (record { rises = omega arith; fits = omega arith })
-                ∙ cutter_read
+            behind_are : cond lines [] (flat_edges (edges_from nets₁ ce (between (node_count c) (copied_at s c)))) ≡ behind
+            behind_are = go lines refl
+              where
+                go : (t : Bool) → lines ≡ t → cond t [] (flat_edges (edges_from nets₁ ce (between (node_count c) (copied_at s c)))) ≡ cond t [] (flat_edges cutters)
+                go true e = refl
+                go false e = ap flat_edges (cutters_found e)
 
-            -- what `cutter_edges` asks
-            pub cutter_asks : (h n : ℕ) → h ≡ node_count s + node_count c + 1 → n ≡ length sn + length cn
-                → EdgesAsk nets₁ ce (between (node_count c) (copied_at s c)) (cutter_at s c) h n
-            cutter_asks h n a b =
-                let m : length (run_in nets₁ (between (node_count c) (copied_at s c))) ≡ length cn = ap length cutter_kept ∙ length_entries in
-                record {
-                  before = record { rises = omega arith; fits = omega arith };
-                  room = omega (arith, long₁, m);
-                  rising = rw cutter_kept up;
-                  most = omega (arith, m, fc.most_entries);
-                  some = omega (arith, a);
-                  links = omega (arith, b, m);
-                }
+            nets₂_is : nets₂ ≡ put (put nets (subject_at s c) (flat_edges subjects)) (cutter_at s c) behind
+            nets₂_is = d₅.1 ∙ ap₂ (λ (w xs : List ℕ). put w (cutter_at s c) xs) nets₁_is behind_are
 
-            cutters_found : lines ≡ false → edges_from nets₁ ce (between (node_count c) (copied_at s c)) ≡ cutters
-            cutters_found e = ap (λ (ns : List ℕ). compute_descending (cells_in ns ce)) cutter_kept ∙ sym (cutters_cells e)
+            long₂ : length nets₂ ≡ met_at s c
+            long₂ =
+                ap length nets₂_is ∙ ap (λ (w : List ℕ). length (put w (cutter_at s c) behind)) (sym nets₁_is)
+                ∙ length_put nets₁ (cutter_at s c) (omega (arith, long₁)) behind (omega (arith, few_behind, long₁)) ∙ long₁
 
-            -- both are
-            module _ (g₂ : MeshRuns) (nets₂ heads₂ nexts₂ : List ℕ)
-                (d₅ : (g₂ ≡ cond lines (record { edges = between (node_count c) (copied_at s c); entries = between (node_count c) (copied_at s c) })
-                (with_edges (between (node_count c) (copied_at s c)) (cutter_at s c) (edges_from nets₁ ce (between (node_count c) (copied_at s c)))))
-                × (nets₂ ≡ put nets₁ (cutter_at s c) (cond lines [] (flat_edges (edges_from nets₁ ce (between (node_count c) (copied_at s c))))))
-                × (heads₂ ≡ zeros (length heads₁)) × (nexts₂ ≡ zeros (length nexts₁))) where
-              runs_are : g₂ ≡ cutter_runs lines s c
-              runs_are = d₅.0 ∙ go lines refl
-                where
-                  go : (t : Bool) → lines ≡ t
-                      → cond t (record { edges = between (node_count c) (copied_at s c); entries = between (node_count c) (copied_at s c) })
-                      (with_edges (between (node_count c) (copied_at s c)) (cutter_at s c) (edges_from nets₁ ce (between (node_count c) (copied_at s c))))
-                      ≡ with_edges (between (node_count c) (copied_at s c)) (cond t (node_count c) (cutter_at s c)) cutters
-                  go true e =
-                      let n : copied_at s c ≡ node_count c + 2 * length cutters = omega (arith, ap length (cutters_lines e), pairs_length entries, length_entries, line_count e) in
-                      ap (λ (k : ℕ). record { edges = between (node_count c) k; entries = between (node_count c) (copied_at s c) }) n
-                  go false e = ap (with_edges (between (node_count c) (copied_at s c)) (cutter_at s c)) (cutters_found e)
+            -- they stand before the chains as in the whole list
+            whole₂ : nets₂ ++ rest ≡ put (put two (subject_at s c) (flat_edges subjects)) (cutter_at s c) behind
+            whole₂ =
+                let one : put two (subject_at s c) (flat_edges subjects) ≡ nets₁ ++ rest =
+                ap (λ (w : List ℕ). put w (subject_at s c) (flat_edges subjects)) (sym l.all)
+                ∙ put_left nets rest (subject_at s c) (flat_edges subjects) (omega (arith, h₃, l.long)) ∙ ap (λ (u : List ℕ). u ++ rest) (sym nets₁_is) in
+                sym (ap (λ (w : List ℕ). put w (cutter_at s c) behind) one ∙ put_left nets₁ rest (cutter_at s c) behind (omega (arith, few_behind, long₁))
+                ∙ ap (λ (w : List ℕ). put w (cutter_at s c) behind ++ rest) nets₁_is ∙ ap (λ (u : List ℕ). u ++ rest) (sym nets₂_is))
 
-              behind_are : cond lines [] (flat_edges (edges_from nets₁ ce (between (node_count c) (copied_at s c)))) ≡ behind
-              behind_are = go lines refl
-                where
-                  go : (t : Bool) → lines ≡ t → cond t [] (flat_edges (edges_from nets₁ ce (between (node_count c) (copied_at s c)))) ≡ cond t [] (flat_edges cutters)
-                  go true e = refl
-                  go false e = ap flat_edges (cutters_found e)
-
-              nets₂_is : nets₂ ≡ put (put nets (subject_at s c) (flat_edges subjects)) (cutter_at s c) behind
-              nets₂_is = d₅.1 ∙ ap₂ (λ (w xs : List ℕ). put w (cutter_at s c) xs) nets₁_is behind_are
-
-              long₂ : length nets₂ ≡ met_at s c
-              long₂ =
-                  ap length nets₂_is ∙ ap (λ (w : List ℕ). length (put w (cutter_at s c) behind)) (sym nets₁_is)
-                  ∙ length_put nets₁ (cutter_at s c) (omega (arith, long₁)) behind (omega (arith, few_behind, long₁)) ∙ long₁
-
-              -- they stand before the chains as in the whole list
-              whole₂ : nets₂ ++ rest ≡ put (put w₃ (subject_at s c) (flat_edges subjects)) (cutter_at s c) behind
-              whole₂ =
-                  let all : w₃ ≡ nets ++ rest = sym (take-append-drop (met_at s c) w₃) ∙ ap₂ (λ (u v : List ℕ). u ++ v) (sym nets-is) (sym rest-is) in
-                  let one : put w₃ (subject_at s c) (flat_edges subjects) ≡ nets₁ ++ rest =
-                  ap (λ (w : List ℕ). put w (subject_at s c) (flat_edges subjects)) all
-                  ∙ put_left nets rest (subject_at s c) (flat_edges subjects) (omega (arith, h₃, long)) ∙ ap (λ (u : List ℕ). u ++ rest) (sym nets₁_is) in
-                  sym (ap (λ (w : List ℕ). put w (cutter_at s c) behind) one ∙ put_left nets₁ rest (cutter_at s c) behind (omega (arith, few_behind, long₁))
-                  ∙ ap (λ (w : List ℕ). put w (cutter_at s c) behind ++ rest) nets₁_is ∙ ap (λ (u : List ℕ). u ++ rest) (sym nets₂_is))
-
-              pub edges_end : (rest₂ : List ℕ) → (h n : ℕ) → length heads ≡ h → length nexts ≡ n → h ≡ node_count s + node_count c + 1 → n ≡ length sn + length cn
-                  → rest₂ ≡ drop n (drop h rest)
-                  → (record { subject = g₁; cutter = g₂; index = between (index_at s c) (met_at s c); behind = met_at s c } ≡ edges_of lines s c)
-                  × (nets₂ ++ (heads₂ ++ (nexts₂ ++ rest₂)) ≡ edged lines s c w₀)
-              unfolding edges_of edged
-              edges_end rest₂ h n lh ln he ne r₂ =
-                  let hs : heads₂ ≡ zeros h = d₅.2 ∙ ap zeros (ap length d₄.2 ∙ length-replicate (length heads) 0 ∙ lh) in
-                  let ns : nexts₂ ≡ zeros n = d₅.3 ∙ ap zeros (ap length d₄.3 ∙ length-replicate (length nexts) 0 ∙ ln) in
-                  let size : h + n ≡ chain_room s c = omega (arith, he, ne) in
-                  let g₁_is : g₁ ≡ subject_runs s c = d₄.0 ∙ ap (with_edges (between (copied_at s c) (subject_at s c)) (subject_at s c)) subjects_found in (
-                    (λ i. record { subject = g₁_is i; cutter = runs_are i; index = between (index_at s c) (met_at s c); behind = met_at s c }),
-                    ap₂ (λ (u v : List ℕ). nets₂ ++ (u ++ v)) hs (ap₂ (λ (u v : List ℕ). u ++ v) ns r₂)
-                        ∙ ap (λ (v : List ℕ). nets₂ ++ v) (zeros_apart rest h n) ∙ sym (put_right nets₂ rest (met_at s c) (zeros (h + n)) long₂)
-                        ∙ ap₂ (λ (w : List ℕ) (k : ℕ). put w (met_at s c) (zeros k)) whole₂ size
-                        ∙ ap (λ (w : List ℕ). put (put (put w (subject_at s c) (flat_edges subjects)) (cutter_at s c) behind) (met_at s c) clear) three_is,
-                  )
+            pub edges_end : (rest₂ : List ℕ) → (h n : ℕ) → length heads ≡ h → length nexts ≡ n → h ≡ node_count s + node_count c + 1 → n ≡ length sn + length cn
+                → rest₂ ≡ drop n (drop h rest)
+                → (record { subject = g₁; cutter = g₂; index = between (index_at s c) (met_at s c); behind = met_at s c } ≡ edges_of lines s c)
+                × (nets₂ ++ (heads₂ ++ (nexts₂ ++ rest₂)) ≡ edged lines s c w₀)
+            unfolding edges_of edged
+            edges_end rest₂ h n lh ln he ne r₂ =
+                let hs : heads₂ ≡ zeros h = d₅.2 ∙ ap zeros (ap length d₄.2 ∙ length-replicate (length heads) 0 ∙ lh) in
+                let ns : nexts₂ ≡ zeros n = d₅.3 ∙ ap zeros (ap length d₄.3 ∙ length-replicate (length nexts) 0 ∙ ln) in
+                let size : h + n ≡ chain_room s c = omega (arith, he, ne) in
+                let g₁_is : g₁ ≡ subject_runs s c = d₄.0 ∙ ap (with_edges (between (copied_at s c) (subject_at s c)) (subject_at s c)) subjects_found in (
+                  (λ i. record { subject = g₁_is i; cutter = runs_are i; index = between (index_at s c) (met_at s c); behind = met_at s c }),
+                  ap₂ (λ (u v : List ℕ). nets₂ ++ (u ++ v)) hs (ap₂ (λ (u v : List ℕ). u ++ v) ns r₂)
+                      ∙ ap (λ (v : List ℕ). nets₂ ++ v) (zeros_apart rest h n) ∙ sym (put_right nets₂ rest (met_at s c) (zeros (h + n)) long₂)
+                      ∙ ap₂ (λ (w : List ℕ) (k : ℕ). put w (met_at s c) (zeros k)) whole₂ size,
+                )
 
       -- ---- what the regions hold
 
