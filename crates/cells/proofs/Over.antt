@@ -2,7 +2,7 @@
 use mathlib.Core.Path.{◌≡◌, refl, sym, ap, ap₂, ◌∙◌, subst}
 use mathlib.Core.Bool.{Bool, true, false, ◌||◌}
 use mathlib.Core.List.{List, [], ◌∷◌, ◌++◌, map}
-use Prim.Native.Nat.{ℕ, zero, suc, ◌+◌, ◌≤◌, ◌<◌}
+use Prim.Native.Nat.{ℕ, zero, suc, ◌+◌, ◌*◌, ◌≤◌, ◌<◌}
 use native.Mathlib.Omega.{arith}
 use lib.Dec.{eqb}
 use lib.ListN.{length, get_or, take, drop, length-append, length-map}
@@ -27,7 +27,7 @@ use Rattle.edge_nodes.specs.Lent.{collected_on, unless_none, sorted_in, nodes_on
 use Rattle.regions.specs.declared.Regions.{Regions}
 use Rattle.cells.specs.declared.OwnEdges.{OwnEdges}
 use Rattle.cells.specs.Cells.{laid_in, outline_in}
-use Rattle.cells.specs.Near.{outline_of, darts_at, outline_from, LaidIn}
+use Rattle.cells.specs.Near.{outline_of, darts_at, outline_from}
 use Rattle.cells.proofs.Own.{few_at}
 
 -- ---- `lay`
@@ -60,12 +60,6 @@ unfolding own_darts
 own_short e [] = omega (arith, darts_length e.1 (e.0 ∷ e.1 ∷ []) (omega arith))
 own_short e (m ∷ ns) = omega (arith, darts_length e.1 (m ∷ ns) (omega arith))
 
-laid_own : (e : Edge) (ns xs : List ℕ) (r : ℕ) (list list' : List ℕ) → ns ≡ xs → length ns ≤ 258
-    → Holds (own_darts (record { edge = e; nodes = ns })) r list list' → LaidIn (own_darts (record { edge = e; nodes = xs })) r list list'
-laid_own e ns xs r list list' q few p =
-    subst (λ (l : List ℕ). LaidIn (own_darts (record { edge = e; nodes = l })) r list list') q
-    (record { count = p.0; few = omega (arith, p.0, own_short e ns, few); held = p.1 })
-
 -- the own edge at corner i, by its nodes as they are found
 module _ (o : OwnEdges) (i : ℕ) (h : i < length o.cell.now) {b : ℕ} (eb : b ≡ next_corner o.cell.now i) {ns : List ℕ}
     (en : ns ≡ nodes_on o.scene.coords.now o.scene.work.now o.scene.regions (get_or o.cell.now i 0, b)) where
@@ -74,15 +68,20 @@ module _ (o : OwnEdges) (i : ℕ) (h : i < length o.cell.now) {b : ℕ} (eb : b 
       let few = subst (λ (c : ℕ). Few o.scene.work.now o.scene.regions (get_or o.cell.now i 0, c)) (sym eb) (few_at o i h) in
       omega (arith, ap length en, sorted_short o.scene.coords.now o.scene.work.now o.scene.regions (get_or o.cell.now i 0, b) few.few)
 
-  pub laid_at : {r : ℕ} {list list' : List ℕ} → Holds (own_darts (record { edge = (get_or o.cell.now i 0, b); nodes = ns })) r list list' → LaidIn (darts_at o i) r list list'
-  laid_at {r} {list} {list'} v =
-      let darts : ℕ → List Edge = λ c. own_darts (laid_in o.scene.coords.now o.scene.work.now o.scene.regions (get_or o.cell.now i 0, c)) in
-      subst (λ (c : ℕ). LaidIn (darts c) r list list') eb (laid_own (get_or o.cell.now i 0, b) ns _ r list list' en nodes_few v)
+  pub laid_fits : (r : ℕ) → r ≡ 2 * length (own_darts (record { edge = (get_or o.cell.now i 0, b); nodes = ns })) → r ≤ 518
+  laid_fits r e = omega (arith, own_short (get_or o.cell.now i 0, b) ns, nodes_few)
+
+  pub laid_at : {r : ℕ} (list : List ℕ) {list' : List ℕ} → Holds (own_darts (record { edge = (get_or o.cell.now i 0, b); nodes = ns })) r list list'
+      → take r list' ≡ flat_edges (darts_at o i)
+  laid_at {r} list {list'} v =
+      let own = own_darts (record { edge = (get_or o.cell.now i 0, b); nodes = ns }) in
+      ap (take r) v.1 ∙ take_front_of list (flat_edges own) r (ends_length own ∙ sym v.0)
+      ∙ ap (λ (l : List ℕ). flat_edges (own_darts (record { edge = (get_or o.cell.now i 0, b); nodes = l }))) en
+      ∙ ap (λ (c : ℕ). flat_edges (own_darts (laid_in o.scene.coords.now o.scene.work.now o.scene.regions (get_or o.cell.now i 0, c)))) eb
 
 -- read back
-laid_read : {darts : List Edge} {r : ℕ} {list list' : List ℕ} → LaidIn darts r list list' → pairs (take r list') ≡ darts
-laid_read {darts} {r} {list} {list'} v =
-    ap (λ (l : List ℕ). pairs (take r l)) v.held ∙ ap pairs (take_front_of list (flat_edges darts) r (ends_length darts ∙ sym v.count)) ∙ pairs_ends darts
+laid_read : {darts : List Edge} {list : List ℕ} → list ≡ flat_edges darts → pairs list ≡ darts
+laid_read {darts} e = ap pairs e ∙ pairs_ends darts
 
 -- ---- `meets_later` and `outline_repeats`: what the edges from one on say is what all say
 
@@ -112,8 +111,8 @@ module _ (o : OwnEdges) where
     unfolding outline_from outline_darts joined
     from_next = ap (λ (es : List Edge). outline_darts (map laid es)) (ring_from cell j h)
 
-    module _ {r : ℕ} {list list' : List ℕ} (v : LaidIn (darts_at o j) r list list') where
-      module _ (ds : List Edge) {t : Bool} (et : t ≡ edges_meet ds (pairs (take r list'))) {all : Bool} (inv : edges_meet ds (outline_from o j) ≡ all) where
+    module _ {list : List ℕ} (v : list ≡ flat_edges (darts_at o j)) where
+      module _ (ds : List Edge) {t : Bool} (et : t ≡ edges_meet ds (pairs list)) {all : Bool} (inv : edges_meet ds (outline_from o j) ≡ all) where
         both_meet : t || edges_meet ds (outline_from o (j + 1)) ≡ all
         both_meet = ap (λ (x : Bool). x || edges_meet ds (outline_from o (j + 1))) (et ∙ ap (edges_meet ds) (laid_read v))
             ∙ sym (ap (edges_meet ds) from_next ∙ meets_append ds (darts_at o j) (outline_from o (j + 1))) ∙ inv
@@ -124,7 +123,7 @@ module _ (o : OwnEdges) where
         pub meets_on : t ≡ false → edges_meet ds (outline_from o (j + 1)) ≡ all
         meets_on f = ap (λ (x : Bool). x || edges_meet ds (outline_from o (j + 1))) (sym f) ∙ both_meet
 
-      module _ {t : Bool} (et : t ≡ repeats (pairs (take r list'))) {all : Bool} (inv : repeats (outline_from o j) ≡ all) where
+      module _ {t : Bool} (et : t ≡ repeats (pairs list)) {all : Bool} (inv : repeats (outline_from o j) ≡ all) where
         both_repeat : t || edges_meet (darts_at o j) (outline_from o (j + 1)) || repeats (outline_from o (j + 1)) ≡ all
         both_repeat = ap (λ (x : Bool). x || edges_meet (darts_at o j) (outline_from o (j + 1)) || repeats (outline_from o (j + 1))) (et ∙ ap repeats (laid_read v))
             ∙ sym (ap repeats from_next ∙ repeats_append (darts_at o j) (outline_from o (j + 1))) ∙ inv
@@ -132,7 +131,7 @@ module _ (o : OwnEdges) where
         pub repeats_now : t ≡ true → true ≡ all
         repeats_now f = ap (λ (x : Bool). x || edges_meet (darts_at o j) (outline_from o (j + 1)) || repeats (outline_from o (j + 1))) (sym f) ∙ both_repeat
 
-        module _ (f : t ≡ false) {u : Bool} (eu : u ≡ edges_meet (pairs (take r list')) (outline_from o (j + 1))) where
+        module _ (f : t ≡ false) {u : Bool} (eu : u ≡ edges_meet (pairs list) (outline_from o (j + 1))) where
           later : u || repeats (outline_from o (j + 1)) ≡ all
           later = ap₂ (λ (x y : Bool). x || y || repeats (outline_from o (j + 1))) (sym f)
               (eu ∙ ap (λ (ds : List Edge). edges_meet ds (outline_from o (j + 1))) (laid_read v)) ∙ both_repeat

@@ -1,11 +1,10 @@
 -- A cell's own edges and those near it: what only inner functions' contracts cite. Assumes nothing.
-use Rattle.std.specs.Prelude.{◌≡◌, true, false, Result, is_err, List, map, ℕ, ◌*◌, ◌≤◌, ◌<◌, length, get_or, drop}
-use Rattle.lists.specs.Regions.{front}
+use Rattle.std.specs.Prelude.{◌≡◌, true, false, Result, is_err, List, map, ℕ, ◌<◌, length, get_or, drop}
 use Rattle.corners.specs.Corners.{next_corner}
 use Rattle.cutting.specs.Edges.{Edge, ring}
 use Rattle.cutting.specs.Cell.{Laid, own_darts, outline_darts}
 use Rattle.cutting.specs.declared.Slot.{Slot}
-use Rattle.cutting.specs.Lent.{flat_edges, pair_of}
+use Rattle.cutting.specs.Lent.{pair_of}
 use Rattle.dart_table.specs.declared.Full.{Full}
 use Rattle.cells.specs.declared.OwnEdges.{OwnEdges}
 use Rattle.cells.specs.declared.NearEdges.{NearEdges}
@@ -26,12 +25,6 @@ outline_from o k = outline_darts (map (laid_in o.scene.coords.now o.scene.work.n
 -- the edges near the cell, with their sorted nodes
 abbrev pub laid_near : NearEdges → List Laid
 laid_near n = near_in n.scene.coords.now n.scene.work.now n.scene.regions (map pair_of n.edges.now) n.places.now
-
--- A list comes to hold the darts in front: r entries, at most 518.
-pub record LaidIn (darts : List Edge) (r : ℕ) (list list' : List ℕ) : Type 0 where
-  pub count : r ≡ 2 * length darts
-  pub few : r ≤ 518
-  pub held : list' ≡ front list (flat_edges darts)
 
 -- A table holds the slots t, unless an edge was refused: then t has over 1,024.
 pub record Held (t : List Slot) (r : Result (Unit {0}) Full) (table : List Slot) : Type 0 where

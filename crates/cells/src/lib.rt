@@ -48,7 +48,7 @@ pub(crate) struct NearEdges<'a> {
 }
 
 impl<'a> OwnEdges<'a> {
-    ghost use Rattle.cells.specs.Near.{outline_of, darts_at, outline_from, LaidIn, Held};
+    ghost use Rattle.cells.specs.Near.{outline_of, darts_at, outline_from, Held};
 
     // Makes the table of the cell's own edges with its outline, until one is refused.
     fn add_darts(&self, nodes: &mut [u32; 258], table: &mut DartTable) -> Result<(), Full>
@@ -64,16 +64,17 @@ impl<'a> OwnEdges<'a> {
         Ok(())
     }
 
-    // Writes the darts of the own edge at corner i to the front of a flat list of pairs. Answers how many entries they take.
+    // The darts of the own edge at corner i, a flat list of pairs, which is written to `room`.
     #[tactic(auto, using(crate::proofs::Cut::read_front, crate::proofs::Over::nodes_few))]
-    fn lay(&self, i: usize, nodes: &mut [u32; 258], darts: &mut [u32; 518]) -> usize
+    fn lay<'b>(&self, i: usize, nodes: &mut [u32; 258], room: &'b mut [u32; 518]) -> &'b [u32]
         requires { i < length self.now.cell.now }
-        ensures { LaidIn (darts_at self.now i) result darts.old darts.new }
+        ensures { result.now ≡ flat_edges (darts_at self.now i) }
     {
         let a = self.cell[i];
         let b = next_corner(self.cell, i);
         let count = self.scene.nodes_on(a, b, nodes);
-        lay_own_edge(a, b, &nodes[..count], darts)
+        let entries = lay_own_edge(a, b, &nodes[..count], room);
+        &room[..entries]
     }
 
     // Whether one of some darts, a flat list of pairs, is between the same two nodes as one of the own edges from edge k on.
@@ -81,11 +82,10 @@ impl<'a> OwnEdges<'a> {
     fn meets_later(&self, k: usize, nodes: &mut [u32; 258], darts: &[u32]) -> bool
         ensures { result ≡ edges_meet (pairs darts.now) (outline_from self.now k) }
     {
-        let mut others = [0u32; 518];
+        let mut room = [0u32; 518];
         // by index, as an edge leads from corner j to the next one
         for j in k..self.cell.len() {
-            let n = self.lay(j, nodes, &mut others);
-            if edges_meet(darts, &others[..n]) {
+            if edges_meet(darts, self.lay(j, nodes, &mut room)) {
                 return true;
             }
         }
@@ -98,14 +98,14 @@ impl<'a> OwnEdges<'a> {
     fn outline_repeats(&self, nodes: &mut [u32; 258]) -> bool
         ensures { result ≡ repeats (outline_of self.now) }
     {
-        let mut darts = [0u32; 518];
+        let mut room = [0u32; 518];
         // by index, as in `meets_later`
         for i in 0..self.cell.len() {
-            let n = self.lay(i, nodes, &mut darts);
-            if edges_repeat(&darts[..n]) {
+            let darts = self.lay(i, nodes, &mut room);
+            if edges_repeat(darts) {
                 return true;
             }
-            if self.meets_later(i + 1, nodes, &darts[..n]) {
+            if self.meets_later(i + 1, nodes, darts) {
                 return true;
             }
         }

@@ -1,8 +1,8 @@
 -- Rows of cells: what a store adds to the number, how much a cell grows, and the cells' number by its lowest cells. Assumes nothing.
-use mathlib.Core.Path.{◌≡◌, refl, sym, ap, ap₂, ◌∙◌, subst}
+use mathlib.Core.Path.{◌≡◌, refl, sym, ap, ap₂, ◌∙◌}
 use mathlib.Core.List.{List, [], ◌∷◌}
 use Prim.Native.Nat.{ℕ, zero, suc, ◌+◌, ◌*◌, ◌/◌, ◌%◌, ◌^◌, ◌≤◌, ◌<◌, max}
-use native.Mathlib.Nat.{not-suc-le-zero, le_of_suc-le-suc, le_trans, add_assoc, add_comm, add-mul, mul_assoc, mul_comm, mul_left_comm, mul-suc, mul-le-mul_right, div-add-mod'}
+use native.Mathlib.Nat.{not-suc-le-zero, le_of_suc-le-suc, add_assoc, add_comm, add-mul, mul_assoc, mul_comm, mul_left_comm, mul-suc, div-add-mod'}
 use native.Mathlib.Numerals.{add-one, add-two}
 use native.Mathlib.Omega.{arith}
 use lib.ListN.{length, get_or, set, length-set}

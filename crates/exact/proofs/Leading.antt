@@ -1,9 +1,9 @@
 -- The place of the leading bit, and numbers scaled by powers of two. Assumes nothing.
 use mathlib.Core.Path.{◌≡◌, refl, sym, ap, ap₂, ◌∙◌, subst}
 use mathlib.Core.Logic.{◌⊎◌, inl, inr}
-use Prim.Native.Nat.{ℕ, suc, ◌+◌, ◌*◌, ◌/◌, ◌%◌, ◌^◌, ◌≤◌, ◌<◌}
-use native.Mathlib.Nat.{le_trans, le_of_eq, lt_of_lt_of_le, lt_of_le_of_lt, le-add_right, add_comm, mul_assoc, mul_left_comm, mul-le-mul_right, suc-add}
-use native.Mathlib.Nat.{mul-lt-mul_of_pos_right, lt_of_mul-lt-mul_right, mod-eq_of_lt, zero-mul, mul-pos, eq-zero-or-pos, not-le_of_lt, div-add-mod', mul-mul-mul_comm}
+use Prim.Native.Nat.{ℕ, suc, ◌+◌, ◌*◌, ◌%◌, ◌^◌, ◌≤◌, ◌<◌}
+use native.Mathlib.Nat.{le_trans, le_of_eq, lt_of_lt_of_le, lt_of_le_of_lt, add_comm, mul_assoc, mul_left_comm, mul-le-mul_right}
+use native.Mathlib.Nat.{mul-lt-mul_of_pos_right, lt_of_mul-lt-mul_right, mod-eq_of_lt, zero-mul, mul-pos, eq-zero-or-pos, not-le_of_lt, mul-mul-mul_comm}
 use native.Mathlib.Omega.{arith}
 use lib.Dec.{lit<}
 use lib.Count.{count_leading_zeros, leading_top, leading_of_zero}
@@ -30,47 +30,13 @@ at_top n j r low high e = record {
 zeros : Lead 0 128
 zeros = record { most = omega arith; fits = lit< tt; top = λ h. absurd (omega arith); none = λ h. refl }
 
--- the zeros above the leading bit of two words
-pub lead_high : (hi lo : ℕ) → (hi ≡ 0 → ⊥) → hi < 2 ^ 64 → lo < 2 ^ 64 → Lead (hi * 2 ^ 64 + lo) (count_leading_zeros 64 hi)
-lead_high hi lo n h l =
-    let t = leading_top 64 hi (omega arith) h in
-    let low : 2 ^ (t.0 + 64) ≤ hi * 2 ^ 64 + lo =
-    le_trans (le_of_eq (pow-add 2 t.0 64)) (le_trans (mul-le-mul_right (2 ^ 64) t.2) (le-add_right (hi * 2 ^ 64) lo)) in
-    let high : hi * 2 ^ 64 + lo < 2 ^ suc (t.0 + 64) =
-    subst (λ (x : ℕ). hi * 2 ^ 64 + lo < 2 ^ x) (suc-add t.0 64)
-    (lt_of_lt_of_le (below hi lo l) (le_trans (mul-le-mul_right (2 ^ 64) t.3) (le_of_eq (sym (pow-add 2 (suc t.0) 64))))) in
-    at_top (hi * 2 ^ 64 + lo) (t.0 + 64) (count_leading_zeros 64 hi) low high (sum _ _ t.1)
+-- the zeros above the leading bit of 128 bits
+pub lead_of : (w : ℕ) → w < 2 ^ 128 → Lead w (count_leading_zeros 128 w)
+lead_of w h = go (eq-zero-or-pos w)
   where
-    below : (hi lo : ℕ) → lo < 2 ^ 64 → hi * 2 ^ 64 + lo < suc hi * 2 ^ 64
-    below hi lo l = omega arith
-
-    sum : (r j : ℕ) → r + suc j ≡ 64 → r + suc (j + 64) ≡ 128
-    sum r j e = omega arith
-
-pub lead_low : (hi lo : ℕ) → hi ≡ 0 → lo < 2 ^ 64 → Lead (hi * 2 ^ 64 + lo) (64 + count_leading_zeros 64 lo)
-lead_low hi lo z l = subst (λ (n : ℕ). Lead n (64 + count_leading_zeros 64 lo)) (only hi lo z) (go (eq-zero-or-pos lo))
-  where
-    only : (hi lo : ℕ) → hi ≡ 0 → lo ≡ hi * 2 ^ 64 + lo
-    only hi lo e = omega arith
-
-    sum : (r j : ℕ) → r + suc j ≡ 64 → 64 + r + suc j ≡ 128
-    sum r j e = omega arith
-
-    go : (lo ≡ 0) ⊎ (0 < lo) → Lead lo (64 + count_leading_zeros 64 lo)
-    go (inl e) = subst (λ (n : ℕ). Lead n (64 + count_leading_zeros 64 n)) (sym e) (subst (λ (n : ℕ). Lead 0 (64 + n)) (sym (leading_of_zero 64)) zeros)
-    go (inr p) = let t = leading_top 64 lo p l in at_top lo t.0 (64 + count_leading_zeros 64 lo) t.2 t.3 (sum _ _ t.1)
-
--- the zeros above the leading bit of 128 bits, by the high word, or where that is 0 by the low one
-pub lead_of_high : (w : ℕ) → w < 2 ^ 128 → (w / 2 ^ 64 ≡ 0 → ⊥) → Lead w (count_leading_zeros 64 (w / 2 ^ 64))
-lead_of_high w h n =
-    subst (λ (x : ℕ). Lead x (count_leading_zeros 64 (w / 2 ^ 64))) (div-add-mod' w (2 ^ 64))
-    (lead_high (w / 2 ^ 64) (w % 2 ^ 64) n (omega arith) (omega arith))
-
-pub lead_of_low : (w : ℕ) → w / 2 ^ 64 ≡ 0 → Lead w (64 + count_leading_zeros 64 w)
-lead_of_low w e = subst (λ (x : ℕ). Lead x (64 + count_leading_zeros 64 w)) (only w) (lead_low 0 w refl (omega arith))
-  where
-    only : (w : ℕ) → 0 * 2 ^ 64 + w ≡ w
-    only w = omega arith
+    go : (w ≡ 0) ⊎ (0 < w) → Lead w (count_leading_zeros 128 w)
+    go (inl e) = subst (λ (n : ℕ). Lead n (count_leading_zeros 128 n)) (sym e) (subst (λ (n : ℕ). Lead 0 n) (sym (leading_of_zero 128)) zeros)
+    go (inr p) = let t = leading_top 128 w p h in at_top w t.0 (count_leading_zeros 128 w) t.2 t.3 t.1
 
 -- ---- u * 2 ^ e against v * 2 ^ f, with i and j zeros above their leading bits
 

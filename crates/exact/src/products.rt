@@ -16,17 +16,12 @@ impl Product {
     ghost use Rattle.exact.specs.Exact.{ordered};
     ghost use Rattle.exact.specs.Inner.{Lead, product_size};
 
-    // How many zeros stand above the leading bit of w, by its high word and its low one: 128 for 0.
-    #[tactic(auto, using(crate::proofs::Leading::lead_of_high, crate::proofs::Leading::lead_of_low))]
+    // How many zeros stand above the leading bit of w: 128 for 0.
+    #[tactic(auto, using(crate::proofs::Leading::lead_of))]
     fn lead(self) -> u32
         ensures { Lead self.w result }
     {
-        let high = (self.w >> 64) as u64;
-        if high != 0 {
-            high.leading_zeros()
-        } else {
-            64 + (self.w as u64).leading_zeros()
-        }
+        self.w.leading_zeros()
     }
 
     // By the places of the leading bits, and where those are the same, by the digits, each number
