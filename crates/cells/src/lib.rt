@@ -64,7 +64,7 @@ impl<'a> OwnEdges<'a> {
         Ok(())
     }
 
-    // The darts of the own edge at corner i, a flat list of pairs, which is written to `room`.
+    // The darts of the own edge at corner i, a flat list of pairs, which is written to `room`. i is a corner of the cell, no place in the lists.
     #[tactic(auto, using(crate::proofs::Cut::read_front, crate::proofs::Over::nodes_few))]
     fn lay<'b>(&self, i: usize, nodes: &mut [u32; 258], room: &'b mut [u32; 518]) -> &'b [u32]
         requires { i < length self.now.cell.now }
@@ -77,7 +77,7 @@ impl<'a> OwnEdges<'a> {
         &room[..entries]
     }
 
-    // Whether one of some darts, a flat list of pairs, is between the same two nodes as one of the own edges from edge k on.
+    // Whether one of some darts, a flat list of pairs, is between the same two nodes as one of the own edges from edge k of the cell on.
     #[tactic(auto, using(crate::proofs::Over::meets_now, crate::proofs::Over::meets_on, crate::proofs::Over::meets_out))]
     fn meets_later(&self, k: usize, nodes: &mut [u32; 258], darts: &[u32]) -> bool
         ensures { result ≡ edges_meet (pairs darts.now) (outline_from self.now k) }
@@ -133,7 +133,7 @@ impl<'a> NearEdges<'a> {
 
     // Cuts a cell by the table of its own edges: adds the edges near it and walks. The part of refusal 11 that is looked at after a walk never fires
     // (cutting's `without_test`), so it is left out.
-    // `runs` and `stops` come one by one: in a struct of the two each contract would have to say that they are the same lists. They are no arrays, as those
+    // `nodes` is room for those of one edge. `runs` and `stops` come one by one: in a struct of the two each contract would have to say that they are the same lists. They are no arrays, as those
     // would ask callers for 1,024 entries and no more.
     #[tactic(auto, using(crate::proofs::Cut::too_many, crate::proofs::Cut::repeated))]
     fn cut(

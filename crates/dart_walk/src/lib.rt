@@ -113,7 +113,7 @@ impl Heap {
     }
 }
 
-// Goes along slot i: marks it, and puts its reverse onto the heap. Answers the node that it leads to, and the reverse.
+// Goes along slot i, which goes by its number, as on the heap: marks it, and puts its reverse onto the heap. Answers the node that it leads to, and the reverse.
 #[tactic(auto, using(crate::proofs::Slots::none_there))]
 fn follow(slots: &mut [Slot], heap: &mut Heap, i: usize) -> Option<(u32, usize)>
     requires { (i < length slots.old) × (length slots.old ≤ 1024) × (length heap.old < 2048) }
