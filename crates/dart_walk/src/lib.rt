@@ -198,7 +198,8 @@ fn walk_table(
 
 // Walks the slots of a table from the outline's darts, a flat list of pairs. The corners of the pieces go to the front of `nodes`, one piece after the
 // other, and where each piece ends among them to the front of `stops`; both are zero on a refusal. They come one by one: in a struct of the two each
-// contract would have to say that they are the same lists, and arrays would ask more of callers.
+// contract would have to say that they are the same lists, and arrays would ask more of callers. That the slots are at most 1,024 stands in each contract:
+// a struct around the slice, with that as a ghost field, is one that callers would have to make.
 pub fn walk_dart_map(
     slots: &[Slot],
     outline: &[u32],
