@@ -29,17 +29,19 @@ pub some_of : (ns : List ℕ) → eqb (length ns) 0 ≡ false → 0 < length ns
 some_of [] h = cc
 some_of (x ∷ ns) h = omega arith
 
-pub window_first : (ns w : List ℕ) → 2 ≤ length ns → w ≡ take 2 ns → windows ns ≡ (get_or w 0 0, get_or w 1 0) ∷ windows (drop 1 ns)
+-- w is the next window of two
+pub window_first : (ns w : List ℕ) {size : ℕ} → size ≡ 2 → size ≤ length ns → w ≡ take size ns → windows ns ≡ (get_or w 0 0, get_or w 1 0) ∷ windows (drop 1 ns)
 unfolding hops
-window_first [] w h e = absurd (omega arith)
-window_first (x ∷ []) w h e = absurd (omega arith)
-window_first (x ∷ y ∷ ns) w h e = ap (λ (v : List ℕ). (get_or v 0 0, get_or v 1 0) ∷ hops y ns) (sym e)
+window_first [] w two h e = absurd (omega arith)
+window_first (x ∷ []) w two h e = absurd (omega arith)
+window_first (x ∷ y ∷ ns) w two h e = ap (λ (v : List ℕ). (get_or v 0 0, get_or v 1 0) ∷ hops y ns) (sym (e ∙ ap (λ (n : ℕ). take n (x ∷ y ∷ ns)) two))
 
-pub window_last : (ns : List ℕ) → length ns < 2 → windows ns ≡ []
+-- there is none left
+pub window_last : (ns : List ℕ) {size : ℕ} → size ≡ 2 → length ns < size → windows ns ≡ []
 unfolding hops
-window_last [] h = refl
-window_last (x ∷ []) h = refl
-window_last (x ∷ y ∷ ns) h = absurd (omega arith)
+window_last [] two h = refl
+window_last (x ∷ []) two h = refl
+window_last (x ∷ y ∷ ns) two h = absurd (omega arith)
 
 pub windows_count : (ns : List ℕ) → 0 < length ns → length (windows ns) ≡ length ns - 1
 windows_count [] h = absurd (omega arith)
@@ -86,10 +88,10 @@ module _ (coords : List Float) (inv : Bool) (nodes : List ℕ) (d₀ : Darts) wh
       length-map (windows nodes) (reversed_if inv),
     )
 
-    module _ (w : List ℕ) (h : 2 ≤ length rest) (ew : w ≡ take 2 rest) where
+    module _ (w : List ℕ) {size : ℕ} (two : size ≡ 2) (h : size ≤ length rest) (ew : w ≡ take size rest) where
       -- there is room for one more
       pub lay_room : length d₀.slots + 2 * length nodes ≤ 1026 → length d.slots + 2 ≤ 1024
-      lay_room few = omega (arith, few, count, whole, most nodes, ap length (window_first rest w h ew))
+      lay_room few = omega (arith, few, count, whole, most nodes, ap length (window_first rest w two h ew))
         where
           most : (ns : List ℕ) → length (windows ns) ≤ length ns - 1
           most [] = omega arith
@@ -115,7 +117,7 @@ module _ (coords : List Float) (inv : Bool) (nodes : List ℕ) (d₀ : Darts) wh
           done = v.done ++ e ∷ [];
           left = append_assoc v.done (e ∷ []) (map (reversed_if inv) (windows (drop 1 rest)))
               ∙ ap (λ (x : Edge). v.done ++ x ∷ map (reversed_if inv) (windows (drop 1 rest))) ee
-              ∙ ap (λ (es : List Edge). v.done ++ map (reversed_if inv) es) (sym (window_first rest w h ew)) ∙ v.left;
+              ∙ ap (λ (es : List Edge). v.done ++ map (reversed_if inv) es) (sym (window_first rest w two h ew)) ∙ v.left;
           outlined = ap (λ (x : Darts). x.outline) outlined ∙ ap (λ (x : Darts). x.outline ++ e.0 ∷ e.1 ∷ []) added ∙ ap (λ (l : List ℕ). l ++ e.0 ∷ e.1 ∷ []) v.outlined
               ∙ append_assoc d₀.outline (flat_edges v.done) (e.0 ∷ e.1 ∷ [])
               ∙ ap (λ (l : List ℕ). d₀.outline ++ l) (sym (ends_append v.done (e ∷ [])));
@@ -125,11 +127,11 @@ module _ (coords : List Float) (inv : Bool) (nodes : List ℕ) (d₀ : Darts) wh
               ∙ ap (sort_onto (stands_before coords) d₀.slots) (sym (slots_append reverse_mark v.done (e ∷ [])));
         }
 
-    pub lay_end : length rest < 2 → d ≡ darts (sort_onto (stands_before coords) d₀.slots (edge_slots reverse_mark (map (reversed_if inv) (windows nodes))))
+    pub lay_end : {size : ℕ} → size ≡ 2 → length rest < size → d ≡ darts (sort_onto (stands_before coords) d₀.slots (edge_slots reverse_mark (map (reversed_if inv) (windows nodes))))
         (d₀.outline ++ flat_edges (map (reversed_if inv) (windows nodes)))
-    lay_end h =
+    lay_end two h =
         let all : v.done ≡ map (reversed_if inv) (windows nodes) = sym (append-nil v.done) ∙ ap (λ (es : List Edge). v.done ++ map (reversed_if inv) es)
-        (sym (window_last rest h)) ∙ v.left in
+        (sym (window_last rest two h)) ∙ v.left in
         ap₂ darts (v.inserted ∙ ap (λ (es : List Edge). sort_onto (stands_before coords) d₀.slots (edge_slots reverse_mark es)) all)
         (v.outlined ∙ ap (λ (es : List Edge). d₀.outline ++ flat_edges es) all)
 
@@ -224,18 +226,23 @@ module _ (coords : List Float) where
   unfolding with_edges
   edge_alone e t = let u = with_edge coords e t in sym (one_alone u.answer u.slots)
 
-  pub edges_none : (ns : List ℕ) (t : List Slot) → length ns < 2 → table_in (Ok tt) t ≡ with_edges coords (windows ns) t
-  unfolding with_edges
-  edges_none ns t h = sym (ap (λ (es : List Edge). with_edges coords es t) (window_last ns h))
-
-  module _ (e : Edge) (es : List Edge) (t u : List Slot) where
-    abbrev on : Table → Table
-    on v = cond (is_err v.answer) v (with_edges coords es v.slots)
-
-    pub edges_next : (x : Unit {0}) → table_in (Ok x) u ≡ with_edge coords e t → with_edges coords es u ≡ with_edges coords (e ∷ es) t
+  -- the windows of `rest`, one by one: what all of them make
+  module _ (rest : List ℕ) {size : ℕ} (two : size ≡ 2) (t : List Slot) {all : Table} (inv : with_edges coords (windows rest) t ≡ all) where
+    pub windows_out : length rest < size → table_in (Ok tt) t ≡ all
     unfolding with_edges
-    edges_next x got = ap on got
+    windows_out h = sym (ap (λ (es : List Edge). with_edges coords es t) (window_last rest two h)) ∙ inv
 
-    pub edges_stop : (r : Full) → table_in (Err r) u ≡ with_edge coords e t → table_in (Err r) u ≡ with_edges coords (e ∷ es) t
-    unfolding with_edges
-    edges_stop r got = ap on got
+    module _ (w : List ℕ) (h : size ≤ length rest) (ew : w ≡ take size rest) where
+      abbrev after_one : Table → Table
+      after_one v = cond (is_err v.answer) v (with_edges coords (windows (drop 1 rest)) v.slots)
+
+      one_first : after_one (with_edge coords (get_or w 0 0, get_or w 1 0) t) ≡ all
+      unfolding with_edges
+      one_first = sym (ap (λ (es : List Edge). with_edges coords es t) (window_first rest w two h ew)) ∙ inv
+
+      pub window_next : {u : List Slot} {x : Unit {0}} → table_in (Ok x) u ≡ with_edge coords (get_or w 0 0, get_or w 1 0) t → {rest' : List ℕ} → rest' ≡ drop 1 rest
+          → with_edges coords (windows rest') u ≡ all
+      window_next {u} got e = ap (λ (r : List ℕ). with_edges coords (windows r) u) e ∙ ap after_one got ∙ one_first
+
+      pub window_stop : {u : List Slot} {r : Full} → table_in (Err r) u ≡ with_edge coords (get_or w 0 0, get_or w 1 0) t → table_in (Err r) u ≡ all
+      window_stop got = ap after_one got ∙ one_first

@@ -12,7 +12,7 @@ use Rattle.std.proofs.Common.{Result, Ok, is_err}
 use Rattle.lists.specs.Gather.{tally, joined}
 use Rattle.lists.specs.Sort.{sort_onto, sorted}
 use Rattle.lists.proofs.Gather.{tally_append, joined_append, joined_snoc}
-use Rattle.lists.proofs.Sort.{sort_onto_append, length_sort_onto, length_sorted, sorted_tally}
+use Rattle.lists.proofs.Sort.{sort_onto_append, length_sorted, sorted_tally}
 use Rattle.dart_table.specs.declared.Full.{Full}
 use Rattle.cutting.specs.declared.Slot.{Slot}
 use Rattle.cutting.specs.Edges.{Edge}
@@ -94,9 +94,6 @@ module _ (coords : List Float) (own : List Laid) (l : Laid) (t : List Slot) (r :
 
   pub own_turn : is_err r ≡ false → t' ≡ sorted (stands_before coords) (edge_slots reverse_mark (outline_darts (own ++ l ∷ [])))
   own_turn h = (told.0 h).1 ∙ ap (λ (u : List Slot). sort_onto (stands_before coords) u (edge_slots reverse_mark (own_darts l))) held ∙ own_more coords own l
-
-  pub own_size : is_err r ≡ false → length t' ≡ length t + 2 * length (own_darts l)
-  own_size h = omega (arith, ap length (told.0 h).1, length_sort_onto (stands_before coords) t (edge_slots reverse_mark (own_darts l)), slots_length reverse_mark (own_darts l))
 
   pub own_outline : (w w' : List ℕ) → is_err r ≡ false → w ≡ flat_edges (outline_darts own) → w' ≡ outline_with (own_darts l) (length t) w
       → w' ≡ flat_edges (outline_darts (own ++ l ∷ []))

@@ -2,7 +2,6 @@ use mathlib.Core.Path.{◌≡◌, sym, ap, ◌∙◌, subst}
 use mathlib.Core.List.{List}
 use Prim.Native.Nat.{ℕ}
 use native.Mathlib.Omega.{arith}
-use lib.ListN.{take}
 use Rattle.std.specs.Slice.Iter.{windows_rest, windows_size}
 use Rattle.dart_table.proofs.Adds.{Laying, lay_start, lay_room, lay_fits, lay_turn, lay_end}
 use Rattle.dart_table.proofs.DartTable.add_along.Goals as goal
@@ -24,16 +23,14 @@ add_dart-requires c =
     let a = c.args in
     let l = c.loop-pair in
     let step = c.in-Some.ensures.steps.1 in
-    lay_room a.coords.now a.inv a.nodes.now a.self.now _ l.self l.invariant.3 c.in-Some.pair.now (omega (arith, step.0, l.invariant.2))
-    (step.1 ∙ ap (λ (n : ℕ). take n (windows_rest l.pair-iterator)) l.invariant.2) c.requires.0
+    lay_room a.coords.now a.inv a.nodes.now a.self.now _ l.self l.invariant.3 c.in-Some.pair.now l.invariant.2 step.0 step.1 c.requires.0
 
 pub outline_dart-requires : goal.outline_dart-requires
 outline_dart-requires c =
     let a = c.args in
     let l = c.loop-pair in
     let step = c.in-Some.ensures.steps.1 in
-    lay_fits a.coords.now a.inv a.nodes.now a.self.now _ l.self l.invariant.3 c.in-Some.pair.now (omega (arith, step.0, l.invariant.2))
-    (step.1 ∙ ap (λ (n : ℕ). take n (windows_rest l.pair-iterator)) l.invariant.2) _ c.turned-a.ensures _ c.add_dart.ensures c.requires.1
+    lay_fits a.coords.now a.inv a.nodes.now a.self.now _ l.self l.invariant.3 c.in-Some.pair.now l.invariant.2 step.0 step.1 _ c.turned-a.ensures _ c.add_dart.ensures c.requires.1
 
 pub loop-pair-preserved : goal.loop-pair-preserved
 loop-pair-preserved c =
@@ -41,8 +38,8 @@ loop-pair-preserved c =
     let l = c.loop-pair in
     let step = c.in-Some.ensures.steps.1 in
     let size : windows_size c.next.new.self ≡ 2 = c.in-Some.ensures.steps.0 ∙ l.invariant.2 in
-    let turn = lay_turn a.coords.now a.inv a.nodes.now a.self.now _ l.self l.invariant.3 c.in-Some.pair.now (omega (arith, step.0, l.invariant.2))
-    (step.1 ∙ ap (λ (n : ℕ). take n (windows_rest l.pair-iterator)) l.invariant.2) _ c.turned-a.ensures _ c.add_dart.ensures _ c.outline_dart.ensures in (
+    let turn = lay_turn a.coords.now a.inv a.nodes.now a.self.now _ l.self l.invariant.3 c.in-Some.pair.now l.invariant.2 step.0 step.1
+    _ c.turned-a.ensures _ c.add_dart.ensures _ c.outline_dart.ensures in (
       omega (arith, size),
       tt,
       size,
@@ -52,5 +49,4 @@ loop-pair-preserved c =
 pub returns : goal.returns
 returns c =
     let a = c.args in
-    let l = c.loop-pair in
-    lay_end a.coords.now a.inv a.nodes.now a.self.now _ l.self l.invariant.3 (omega (arith, c.in-None.ensures.steps.1.0, l.invariant.2))
+    lay_end a.coords.now a.inv a.nodes.now a.self.now _ c.loop-pair.self c.loop-pair.invariant.3 c.loop-pair.invariant.2 c.in-None.ensures.steps.1.0
