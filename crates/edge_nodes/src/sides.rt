@@ -7,11 +7,11 @@ ghost use Rattle.edge_nodes.specs.Lent.{met_nodes, under_at};
 
 use keys::SortedKey;
 
-// A meeting has an edge of either mesh.
+// A meeting has an edge of either mesh: the first two of its numbers.
 #[derive(Clone, Copy)]
 pub(crate) enum Side {
-    Subject,
-    Cutter,
+    Subject = 0,
+    Cutter = 1,
 }
 
 // The meetings by one side: its edges, pairs in a flat list, and all meetings, five numbers each. Flat, as they stand in the working list and in the
@@ -37,11 +37,7 @@ impl<'a> Meetings<'a> {
         requires { q < length self.now.met.now / 5 }
         ensures { edge_of result ≡ key (edge_at (pairs self.now.edges.now) (get_or self.now.met.now (5 * q + number self.now.side) 0)) }
     {
-        let e = match self.side {
-            Side::Subject => self.met[5 * q],
-            Side::Cutter => self.met[5 * q + 1],
-        };
-        key_at(self.edges, e as usize)
+        key_at(self.edges, self.met[5 * q + self.side as usize] as usize)
     }
 
     // Its nodes: one or two, or none.
