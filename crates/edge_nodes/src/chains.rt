@@ -39,7 +39,8 @@ pub struct LinkedMeetings<'a> {
     ghost linked: { Linked (pairs subject.now) (pairs cutter.now) met.now links.now },
 }
 
-// Chains the meetings by the edges of both meshes, on h chains for either: h is where `links` is split, and no place in the others.
+// Chains the meetings by the edges of both meshes, on h chains for either: h is where `links` is split, and no place in the others. They are at most 65,536, as
+// refusal 8 has it: their numbers are written as u32.
 #[tactic(auto, using(crate::proofs::Linking::links_made))]
 pub fn link_meetings(subject: &[u32], cutter: &[u32], met: &[u32], h: usize, links: &mut [u32])
     requires { (length links.old ≡ 2 * h + 2 * (length met.now / 5)) × (0 < h) × (length met.now ≤ 327680) }
