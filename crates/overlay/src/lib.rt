@@ -1,7 +1,7 @@
 // The overlay of two meshes: the public call.
 #![tactic(auto)]
 
-ghost use Rattle.std.specs.Prelude.{◌≡◌, Ok, IfOk, [], ℕ, ◌/◌, length};
+ghost use Rattle.std.specs.Prelude.{◌≡◌, Ok, IfOk, [], ℕ, ◌*◌, ◌/◌, ◌≤◌, length, take};
 ghost use Rattle.lists.specs.Regions.{zeros};
 ghost use Rattle.refusals.specs.Numbers.{refused_with};
 ghost use Rattle.entry.specs.Mesh.{mesh_of};
@@ -37,6 +37,14 @@ struct Prepared {
     indexes: Indexes,
 }
 
+// The coordinates of the first n nodes.
+fn first_nodes(coords: &[f64], n: usize) -> &[f64]
+    requires { 2 * n ≤ length coords.now }
+    ensures { result.now ≡ take (2 * n) coords.now }
+{
+    &coords[..2 * n]
+}
+
 // A call behind the entry: the operation, the limit of meetings and both meshes.
 #[derive(Clone, Copy)]
 struct Call<'a> {
@@ -56,7 +64,7 @@ impl Call<'_> {
     {
         let op = u32::from(self.operation);
         let found = find(op, self.m, self.subject, self.cutter, coords, work)?;
-        let points = &coords[..2 * found.next];
+        let points = first_nodes(coords, found.next);
         let indexes = index_meshes(
             points,
             work,
@@ -91,7 +99,7 @@ impl Call<'_> {
     {
         let p = self.prepare(coords, work)?;
         let scene = SceneLists {
-            coords: &coords[..2 * p.next],
+            coords: first_nodes(coords, p.next),
             work,
             regions: p.regions,
         };

@@ -1,8 +1,7 @@
 -- `overlay::Call::prepare` meets its contract. Assumes nothing.
-use Rattle.std.proofs.Common.{◌*◌, sym, arith, Ok, Err}
+use Rattle.std.proofs.Common.{Ok, Err}
 use Rattle.refusals.proofs.Residual.{passed_on}
-use lib.Seq.{length-take-le}
-use Rattle.overlay.proofs.Found.{find_asked, refusal_is, index_asked, points_fit, next_most, prepared}
+use Rattle.overlay.proofs.Found.{find_asked, refusal_is, index_asked, points_fit, prepared}
 use Rattle.overlay.proofs.Call.prepare.Goals as goal
 
 pub find-requires : goal.find-requires
@@ -12,14 +11,8 @@ pub returns-in_err-found-clause-refusal : goal.returns-in_err-found-clause-refus
 returns-in_err-found-clause-refusal c =
     rw (passed_on _ _ c.from_residual.ensures.1) (refusal_is _ _ _ _ _ c.requires _ _ _ (Err _) (rw c.from-op.ensures at c.in_err-found.ensures))
 
-pub overflow_mul-points : goal.overflow_mul-points
-overflow_mul-points c = omega (arith, next_most _ _ _ _ _ c.requires _ _ _ _ (rw c.from-op.ensures at c.in_ok-found.ensures))
-
-pub slice_bounds-points-end : goal.slice_bounds-points-end
-slice_bounds-points-end c = points_fit _ _ _ _ _ c.requires _ _ _ _ (rw c.from-op.ensures at c.in_ok-found.ensures)
-
-pub slice_bounds-points-end-2 : goal.slice_bounds-points-end-2
-slice_bounds-points-end-2 c = sym (length-take-le (2 * c.in_ok-found.found.next) c.find.new.coords (points_fit _ _ _ _ _ c.requires _ _ _ _ (rw c.from-op.ensures at c.in_ok-found.ensures)))
+pub first_nodes-points-requires : goal.first_nodes-points-requires
+first_nodes-points-requires c = points_fit _ _ _ _ _ c.requires _ _ _ _ (rw c.from-op.ensures at c.in_ok-found.ensures)
 
 pub index_meshes-indexes-requires : goal.index_meshes-indexes-requires
 index_meshes-indexes-requires c = index_asked _ _ _ _ _ c.requires _ _ _ _ (rw c.from-op.ensures at c.in_ok-found.ensures)
@@ -28,4 +21,4 @@ pub returns-clause-refusal : goal.returns-clause-refusal
 returns-clause-refusal c = refusal_is _ _ _ _ _ c.requires _ _ _ (Ok c.in_ok-found.found) (rw c.from-op.ensures at c.in_ok-found.ensures)
 
 pub returns-clause-prepared : goal.returns-clause-prepared
-returns-clause-prepared c = prepared _ _ _ _ _ c.requires _ _ _ _ (rw c.from-op.ensures at c.in_ok-found.ensures) _ _ c.index_meshes-indexes.ensures
+returns-clause-prepared c = prepared _ _ _ _ _ c.requires _ _ _ _ (rw c.from-op.ensures at c.in_ok-found.ensures) _ _ (rw c.first_nodes-points.ensures at c.index_meshes-indexes.ensures)
