@@ -19,5 +19,5 @@ fn coord_ok(x: f64) -> bool
 pub(crate) fn coords_ok(coords: &[f64]) -> bool
     ensures { result ≡ coords_ok coords.now }
 {
-    coords.iter().all(|x| coord_ok(*x))
+    coords.iter().copied().all(coord_ok)
 }
