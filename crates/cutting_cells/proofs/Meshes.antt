@@ -2,7 +2,7 @@
 use mathlib.Core.Path.{◌≡◌, refl, sym, ap, ◌∙◌, subst}
 use mathlib.Core.Bool.{Bool, true, false, cond}
 use mathlib.Core.List.{List, [], append-nil}
-use Prim.Native.Nat.{ℕ, ◌+◌, ◌≤◌}
+use Prim.Native.Nat.{ℕ, ◌+◌}
 use native.Mathlib.Omega.{arith}
 use lib.ListN.{length, get_or}
 use lib.Ieee.{Float}
@@ -10,14 +10,15 @@ use Rattle.std.specs.Prelude.{Result, Ok, Err}
 use Rattle.rules.specs.Mesh.{Side, the_subject, the_cutter, other}
 use Rattle.rules.specs.Operations.{cuts}
 use Rattle.refusals.specs.declared.Refusal.{Refusal}
+use Rattle.refusals.specs.Numbers.{number}
 use Rattle.regions.specs.declared.Regions.{Regions}
 use Rattle.regions.specs.declared.Indexes.{Indexes}
 use Rattle.regions.specs.Runs.{run_in}
 use Rattle.pieces.specs.declared.Keep.{Keep}
 use Rattle.pieces.specs.declared.Listed.{Listed}
-use Rattle.pieces.specs.declared.PieceLists.{PieceLists}
-use Rattle.pieces.specs.Pieces.{runs_of, keep_of, Yield, nothing, both, all_of, Placing, left, placed_in, SameLists}
-use Rattle.pieces.proofs.Placing.{Steady, steady_nothing, steady_both, steady_all, fit, refused_first, placed_behind_lem}
+use Rattle.pieces.specs.declared.piece_lists.PieceLists.{PieceLists}
+use Rattle.pieces.specs.Pieces.{runs_of, keep_of, Yield, nothing, both, all_of, Placing, left, left_by, placed_on}
+use Rattle.pieces.proofs.Placing.{Steady, steady_nothing, steady_both, steady_all, refused_first, placed_behind_lem}
 use Rattle.cutting_cells.specs.declared.Treatment.{Treatment}
 use Rattle.cutting_cells.specs.Yields.{yield_of, runs_on, numbered_from, cells_yield, meshes_yield, none_yet, Few, MeshesReady}
 use Rattle.cutting_cells.specs.Treated.{CellsAsk}
@@ -60,7 +61,7 @@ meshes_steady op coords work g se ce =
     go false = steady_nothing
 
 module _ (op : ℕ) (coords : List Float) (work : List ℕ) (g : Regions) (x : Indexes) (se ce : List ℕ) (l : PieceLists)
-    (ready : MeshesReady op coords work g x se ce) (ht : length l.ends.now ≤ length l.tags.now) where
+    (ready : MeshesReady op coords work g x se ce) (none : l.placed ≡ none_yet) where
   abbrev first : Yield
   first = cells_yield op coords work g the_subject ce se
 
@@ -70,13 +71,13 @@ module _ (op : ℕ) (coords : List Float) (work : List ℕ) (g : Regions) (x : I
   abbrev rest : Yield
   rest = cond (cuts op the_cutter) second nothing
 
-  pub asks_first : (t : Treatment) → t.scene.work.now ≡ work → t.scene.regions ≡ g → (own : List ℕ) → own ≡ run_in work g.subject.entries → CellsAsk t own se 0 none_yet l
+  pub asks_first : (t : Treatment) → t.scene.work.now ≡ work → t.scene.regions ≡ g → (own : List ℕ) → own ≡ run_in work g.subject.entries → CellsAsk t own se 0 l
   asks_first t ew eg own eo =
       rw eo (record {
         cells = rw (ew, eg) ready.subject_cells;
         rise = ready.subject.indexed.cells.rising;
         most = omega (arith, ready.most_subject);
-        space = record { counted = omega arith; tags = ht; corners = omega arith; short = omega (arith, ready.most_subject) };
+        short = omega (arith, ready.most_subject, ap (λ (p : Listed). p.entries) none);
       })
 
   -- the subject's cells as they are lent
@@ -87,50 +88,43 @@ module _ (op : ℕ) (coords : List Float) (work : List ℕ) (g : Regions) (x : I
     lent₁_is : lent₁ ≡ first
     lent₁_is = cells_lent op coords work g the_subject ce se k₁ own₁ 0 ek₁ eo₁ refl
 
-    pub first_refused : (e : Refusal) → left (Err e) l₁ ≡ placed_in none_yet lent₁ l → left (Err e) l₁ ≡ placed_in none_yet (meshes_yield op coords work g se ce) l
+    pub first_refused : (e : Refusal) → left_by (Err (number e)) l₁ ≡ placed_on lent₁ l → left_by (Err (number e)) l₁ ≡ placed_on (meshes_yield op coords work g se ce) l
     unfolding meshes_yield
     first_refused e one =
-        let all : left (Err e) l₁ ≡ placed_in none_yet first l = one ∙ ap (λ (y : Yield). placed_in none_yet y l) lent₁_is in
-        all ∙ sym (refused_first none_yet first rest l.corners.now l.ends.now l.tags.now e (ap (λ (q : Placing). q.answer) all))
+        let all : left_by (Err (number e)) l₁ ≡ placed_on first l = one ∙ ap (λ (y : Yield). placed_on y l) lent₁_is in
+        all ∙ sym (refused_first l.placed first rest l.corners.now l.ends.now l.tags.now e (ap (λ (q : Placing). q.answer) all))
 
-    module _ (p : Listed) (one : left (Ok p) l₁ ≡ placed_in none_yet lent₁ l) where
-      all₁ : left (Ok p) l₁ ≡ placed_in none_yet first l
-      all₁ = one ∙ ap (λ (y : Yield). placed_in none_yet y l) lent₁_is
+    module _ (one : left_by (Ok l₁.placed) l₁ ≡ placed_on lent₁ l) where
+      all₁ : left_by (Ok l₁.placed) l₁ ≡ placed_on first l
+      all₁ = one ∙ ap (λ (y : Yield). placed_on y l) lent₁_is
 
-      pub first_only : cuts op the_cutter ≡ false → left (Ok p) l₁ ≡ placed_in none_yet (meshes_yield op coords work g se ce) l
+      pub first_only : cuts op the_cutter ≡ false → left_by (Ok l₁.placed) l₁ ≡ placed_on (meshes_yield op coords work g se ce) l
       unfolding meshes_yield
-      first_only e = all₁ ∙ ap (λ (y : Yield). placed_in none_yet y l) (sym behind_none ∙ ap (λ (b : Bool). both first (cond b second nothing)) (sym e))
+      first_only e = all₁ ∙ ap (λ (y : Yield). placed_on y l) (sym behind_none ∙ ap (λ (b : Bool). both first (cond b second nothing)) (sym e))
         where
           behind_none : both first nothing ≡ first
           behind_none = λ s. record { events = append-nil first.events s; pieces = append-nil first.pieces s; tags = append-nil first.tags s }
 
       -- and the cutter's
       module _ (e : cuts op the_cutter ≡ true) (own₂ : List ℕ) (eo₂ : own₂ ≡ run_in work g.cutter.entries) where
-        pub asks_second : Few (length se) none_yet p → SameLists l₁ l → (t : Treatment) → t.scene.work.now ≡ work → t.scene.regions ≡ g → CellsAsk t own₂ ce (length se) p l₁
-        asks_second few same t ew eg =
-            let f = fit none_yet first l.corners.now l.ends.now l.tags.now p l₁.corners.now l₁.ends.now l₁.tags.now all₁
-            (cells_steady op coords work g the_subject ce se) (omega arith) (omega arith) in
+        pub asks_second : Few (length se) l.placed l₁.placed → (t : Treatment) → t.scene.work.now ≡ work → t.scene.regions ≡ g → CellsAsk t own₂ ce (length se) l₁
+        asks_second few t ew eg =
             rw eo₂ (record {
               cells = rw (ew, eg) (ready.cutter_cells e);
               rise = ready.cutter.indexed.cells.rising;
               most = omega (arith, ready.most_subject, ready.most_cutter);
-              space = record {
-                counted = omega (arith, f.0, same.ends.long);
-                tags = omega (arith, ht, same.ends.long, same.tags.long);
-                corners = omega (arith, f.1, same.corners.long);
-                short = omega (arith, few.corners, ready.most_subject, ready.most_cutter);
-              };
+              short = omega (arith, few.corners, ready.most_subject, ready.most_cutter, ap (λ (p : Listed). p.entries) none);
             })
 
         module _ (k₂ : Keep) (ek₂ : k₂ ≡ keep_of op the_cutter) where
           abbrev pub lent₂ : Yield
           lent₂ = all_of (length ce) (λ i. yield_of coords work g g.subject se k₂ (length se + i) (get_or (runs_of own₂ ce) i []))
 
-          pub both_placed : (r : Result Listed Refusal) (l₂ : PieceLists) → left r l₂ ≡ placed_in p lent₂ l₁
-              → left r l₂ ≡ placed_in none_yet (meshes_yield op coords work g se ce) l
+          pub both_placed : (r : Result (Unit {0}) Refusal) (l₂ : PieceLists) → left r l₂ ≡ placed_on lent₂ l₁
+              → left r l₂ ≡ placed_on (meshes_yield op coords work g se ce) l
           unfolding meshes_yield
           both_placed r l₂ two =
-              two ∙ ap (λ (y : Yield). placed_in p y l₁) (cells_lent op coords work g the_cutter se ce k₂ own₂ (length se) ek₂ eo₂ refl)
-              ∙ sym (placed_behind_lem none_yet first second l.corners.now l.ends.now l.tags.now (cells_steady op coords work g the_subject ce se) (omega arith) ht
-              (omega arith) p l₁.corners.now l₁.ends.now l₁.tags.now all₁)
-              ∙ ap (λ (b : Bool). placed_in none_yet (both first (cond b second nothing)) l) (sym e)
+              two ∙ ap (λ (y : Yield). placed_on y l₁) (cells_lent op coords work g the_cutter se ce k₂ own₂ (length se) ek₂ eo₂ refl)
+              ∙ sym (placed_behind_lem l.placed first second l.corners.now l.ends.now l.tags.now (cells_steady op coords work g the_subject ce se) l.counted l.tagged
+              l.within l₁.placed l₁.corners.now l₁.ends.now l₁.tags.now all₁)
+              ∙ ap (λ (b : Bool). placed_on (both first (cond b second nothing)) l) (sym e)

@@ -7,7 +7,7 @@ use native.Mathlib.Omega.{arith}
 use lib.Dec.{ltb}
 use lib.ListN.{length, take, length-take}
 use lib.Ieee.{Float}
-use Rattle.std.specs.Prelude.{Result, Ok, Err, IfOk}
+use Rattle.std.specs.Prelude.{Result, Ok, Err, IfOk, OnOk}
 use Rattle.lists.specs.Search.{bit}
 use Rattle.lists.specs.Gather.{passing}
 use Rattle.lists.proofs.Gather.{length_passing, tally_le}
@@ -29,8 +29,9 @@ use Rattle.cells.specs.Cells.{outline_in, table_in, edges_in, cut, cut_as}
 use Rattle.cells.proofs.Scene.{read_pieces, read_refusal}
 use Rattle.pieces.specs.declared.Keep.{Keep}
 use Rattle.pieces.specs.declared.Listed.{Listed}
+use Rattle.pieces.specs.declared.piece_lists.PieceLists.{PieceLists}
 use Rattle.strips.specs.declared.things.Things.{Things}
-use Rattle.pieces.specs.Pieces.{runs_of, cells_in, is_kept, Yield, tagged, placing, refused_by, placed_behind}
+use Rattle.pieces.specs.Pieces.{runs_of, cells_in, is_kept, Yield, tagged, left, refused_by, placed_behind, placed_on}
 use Rattle.pieces.proofs.Runs.{length_runs, read_back, stops_rise, kept_within}
 use Rattle.pieces.proofs.Placing.{Steady, steady_tagged, placed_not, counted_most}
 use Rattle.cutting_cells.specs.declared.Treatment.{Treatment}
@@ -131,14 +132,13 @@ module _ (t : Treatment) (cell near : List ℕ) (at : near ≡ near_to t cell) (
 
 -- of pieces that stand in lists of 1,024 few are counted
 pub pieces_few : (k : Counts) (runs stops : List ℕ) → Readable k runs stops → length runs ≡ 1024 → length stops ≡ 1024
-    → (test : List ℕ → Bool) (tag : ℕ) (p : Listed) (r : Result Listed Refusal) (on oe ot on' oe' ot' : List ℕ)
-    → placing r on' oe' ot' ≡ placed_behind p (tagged tag (passing test (runs_of (take k.entries runs) (take k.pieces stops)))) on oe ot
-    → IfOk r (λ q. Few 1 p q)
-pieces_few k runs stops u ln ls test tag p (Err e) on oe ot on' oe' ot' got = tt
-pieces_few k runs stops u ln ls test tag p (Ok q) on oe ot on' oe' ot' got =
+    → (test : List ℕ → Bool) (tag : ℕ) (r : Result (Unit {0}) Refusal) (l l' : PieceLists)
+    → left r l' ≡ placed_on (tagged tag (passing test (runs_of (take k.entries runs) (take k.pieces stops)))) l → OnOk r (Few 1 l.placed l'.placed)
+pieces_few k runs stops u ln ls test tag (Err e) l l' got = tt
+pieces_few k runs stops u ln ls test tag (Ok _) l l' got =
     let corners : List ℕ = take k.entries runs in
     let stops' : List ℕ = take k.pieces stops in
-    let most = counted_most p (tagged tag (passing test (runs_of corners stops'))) on oe ot (Ok q) on' oe' ot' got in
+    let most = counted_most l.placed (tagged tag (passing test (runs_of corners stops'))) l.corners.now l.ends.now l.tags.now (Ok l'.placed) l'.corners.now l'.ends.now l'.tags.now got in
     record {
       pieces = omega (
         arith,

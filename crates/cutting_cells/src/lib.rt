@@ -1,7 +1,7 @@
 // The cells of one mesh (document 01, module 7): each is copied or cut, and those of its pieces that the operation keeps are placed behind the others.
 #![tactic(auto)]
 
-ghost use Rattle.std.specs.Prelude.{◌≡◌, [], ◌+◌, ◌*◌, ◌^◌, ◌≤◌, ◌<◌, length, take, IfOk};
+ghost use Rattle.std.specs.Prelude.{◌≡◌, [], ◌+◌, ◌*◌, ◌^◌, ◌≤◌, ◌<◌, length, take, IfOk, OnOk};
 ghost use Rattle.lists.specs.Search.{bit};
 ghost use Rattle.cutting.specs.Edges.{ring};
 ghost use Rattle.cutting.specs.Cell.{repeats};
@@ -10,7 +10,7 @@ ghost use Rattle.rules.specs.Mesh.{the_cutter};
 ghost use Rattle.rules.specs.Operations.{cuts};
 ghost use Rattle.regions.specs.Runs.{run_in};
 ghost use Rattle.cells.specs.Cells.{cut, cut_as, edges_in, Places, AllFew};
-ghost use Rattle.pieces.specs.Pieces.{Space, placing, left, placed_behind, placed_in, SameLists};
+ghost use Rattle.pieces.specs.Pieces.{placing, left, placed_behind, placed_on, SameLists};
 ghost use Rattle.cutting_cells.specs.Yields.{meshes_yield, none_yet, Few, OtherReady, MeshesReady};
 
 use cells::cut_cell;
@@ -158,18 +158,17 @@ impl<'a> Treatment<'a> {
         cut_cell(self.scene, self.other.edges, js, cell.corners, runs, stops)
     }
 
-    // Places the kept pieces of a cell behind what p counts; `found` is room for the places of the other mesh's edges.
+    // Places the kept pieces of a cell behind those that stand there; `found` is room for the places of the other mesh's edges.
     #[tactic(auto, using(crate::proofs::Outcomes::pieces_yielded))]
     fn overlay_cell(
         &self,
         cell: Cell,
         found: &mut [u32; 65536],
         lists: &mut PieceLists,
-        p: Listed,
-    ) -> Result<Listed, Refusal>
-        requires { AllFew self.now.scene.work.now self.now.scene.regions (ring cell.corners.now) × Space p 1024 lists.old }
-        ensures placed { left result lists.new ≡ placed_in p (yield_for self.now cell.entry.number cell.entry.corners.now) lists.old }
-        ensures few { IfOk result (λ r. Few 1 p r) }
+    ) -> Result<(), Refusal>
+        requires { AllFew self.now.scene.work.now self.now.scene.regions (ring cell.corners.now) × (lists.old.placed.entries + 1024 < 2 ^ 32) }
+        ensures placed { left result lists.new ≡ placed_on (yield_for self.now cell.entry.number cell.entry.corners.now) lists.old }
+        ensures few { OnOk result (Few 1 lists.old.placed lists.new.placed) }
         ensures same_lists { SameLists lists.new lists.old }
     {
         let n = self.near(cell.corners, found);
@@ -181,7 +180,6 @@ impl<'a> Treatment<'a> {
                 lists.place_pieces(
                     self.keep,
                     self.cells(),
-                    p,
                     &runs[..counts.entries],
                     &stops[..counts.pieces],
                     tag,
@@ -194,30 +192,29 @@ impl<'a> Treatment<'a> {
         }
     }
 
-    // Cuts all cells of a mesh, runs of `own` by `stops`, the first of them with the number `first`, and places their kept pieces behind what p counts.
+    // Cuts all cells of a mesh, runs of `own` by `stops`, the first of them with the number `first`, and places their kept pieces behind those
+    // that stand there.
     fn cut_cells(
         &self,
         own: &[u32],
         stops: &[u32],
         first: usize,
         lists: &mut PieceLists,
-        p: Listed,
-    ) -> Result<Listed, Refusal>
-        requires { CellsAsk self.now own.now stops.now first p lists.old }
-        ensures placed { left result lists.new ≡ placed_in p (all_yield self.now own.now stops.now first) lists.old }
-        ensures few { IfOk result (λ r. Few (length stops.now) p r) }
+    ) -> Result<(), Refusal>
+        requires { CellsAsk self.now own.now stops.now first lists.old }
+        ensures placed { left result lists.new ≡ placed_on (all_yield self.now own.now stops.now first) lists.old }
+        ensures few { OnOk result (Few (length stops.now) lists.old.placed lists.new.placed) }
         ensures same_lists { SameLists lists.new lists.old }
     {
         let mut found = [0u32; 65536];
-        let mut placed = p;
         for (i, corners) in Runs::new(own, stops).enumerate() {
             let cell = Cell {
                 number: first + i,
                 corners,
             };
-            placed = self.overlay_cell(cell, &mut found, lists, placed)?;
+            self.overlay_cell(cell, &mut found, lists)?;
         }
-        Ok(placed)
+        Ok(())
     }
 }
 
@@ -242,17 +239,13 @@ fn cut_both(
     se: &[u32],
     ce: &[u32],
     lists: &mut PieceLists,
-) -> Result<Listed, Refusal>
-    requires { MeshesReady op scene.coords.now scene.work.now scene.regions x se.now ce.now × (length lists.old.ends.now ≤ length lists.old.tags.now) }
-    ensures placed { left result lists.new ≡ placed_in none_yet
+) -> Result<(), Refusal>
+    requires { MeshesReady op scene.coords.now scene.work.now scene.regions x se.now ce.now × (lists.old.placed ≡ none_yet) }
+    ensures placed { left result lists.new ≡ placed_on
         (meshes_yield op scene.entry.coords.now scene.entry.work.now scene.entry.regions se.now ce.now) lists.old }
-    ensures few { IfOk result (λ r. Few (length se.now + length ce.now) none_yet r) }
+    ensures few { OnOk result (Few (length se.now + length ce.now) none_yet lists.new.placed) }
     ensures same_lists { SameLists lists.new lists.old }
 {
-    let none = Listed {
-        count: 0,
-        entries: 0,
-    };
     let subject = Treatment {
         scene,
         keep: keep_of(op, false),
@@ -261,9 +254,9 @@ fn cut_both(
         ends: ce,
     };
     let own = scene.regions.subject.entries.part(scene.work);
-    let placed = subject.cut_cells(own, se, 0, lists, none)?;
+    subject.cut_cells(own, se, 0, lists)?;
     if !cuts_both(op) {
-        return Ok(placed);
+        return Ok(());
     }
     let cutter = Treatment {
         scene,
@@ -273,7 +266,7 @@ fn cut_both(
         ends: se,
     };
     let own = scene.regions.cutter.entries.part(scene.work);
-    cutter.cut_cells(own, ce, se.len(), lists, placed)
+    cutter.cut_cells(own, ce, se.len(), lists)
 }
 
 // Cuts the cells of both meshes and places the kept pieces in the three lists, which a refusal leaves zero. They come one by one, since a struct of parts
@@ -297,6 +290,11 @@ pub fn cut_meshes(
         corners: on,
         ends: oe,
         tags: ot,
+        placed: Listed {
+            count: 0,
+            entries: 0,
+        },
     };
-    cut_both(op, scene, x, se, ce, &mut lists)
+    cut_both(op, scene, x, se, ce, &mut lists)?;
+    Ok(lists.placed)
 }
