@@ -26,6 +26,7 @@ pub struct Found {
 }
 
 // Places the coordinates of both meshes, the subject's first. Answers whether they have their place, as `copy_at` does; what is refused then is said once, below.
+// Two lists into a third: none runs beside another.
 fn place_coords(sc: &[f64], cc: &[f64], oc: &mut [f64]) -> bool
     ensures { (result ≡ leb (length sc.now + length cc.now) (length oc.old))
         × (result ≡ true → oc.new ≡ front oc.old (sc.now ++ cc.now)) }
@@ -33,7 +34,8 @@ fn place_coords(sc: &[f64], cc: &[f64], oc: &mut [f64]) -> bool
     copy_at(oc, 0, sc) && copy_at(oc, sc.len(), cc)
 }
 
-// The meetings of the edges that n names: new points behind the first `placed` coordinates, the meetings behind the nets.
+// The meetings of the edges that n names: new points behind the first `placed` coordinates, the meetings behind the nets. Both lists are cut here, since the stages
+// before and behind take them whole. A meeting is five numbers there: C lends one list of numbers for all of this, and the cells read them by the links.
 #[tactic(auto, using(crate::proofs::Lent::met_written))]
 fn meet(
     n: NetPlaces,
@@ -90,7 +92,7 @@ fn crowded(w: &[u32], g: Regions) -> bool
     either_overfull(&meetings)
 }
 
-// Writes the links of h chains behind the meetings, and names the regions.
+// Writes the links of h chains behind the `count` meetings, and names the regions. The list whole, as it is lent on; both numbers count, neither is a place.
 fn link(w: &mut [u32], n: NetPlaces, count: usize, h: usize) -> Regions
     requires { LinkRoom n count h (length w.old) }
     ensures { (result ≡ regions_by n count h) × (w.new ≡ linked_by n count h w.old) }
@@ -126,7 +128,7 @@ fn takes_lines(op: u32) -> bool
     matches!(Operation::try_from(op), Ok(Operation::Lines))
 }
 
-// Refusals 12, 8, 12 and 9, in this order; one leaves the lists as they are then.
+// Refusals 12, 8, 12 and 9, in this order; one leaves the lists as they are then. By the operation's number, as `find` is.
 #[tactic(auto, using(crate::proofs::Ends::twelve, crate::proofs::Ends::coords_lent, crate::proofs::Ends::met_stop, crate::proofs::Ends::nine_stop))]
 fn stages(
     op: u32,

@@ -43,7 +43,7 @@ fn index_mesh(coords: &[f64], w: &mut [u32], m: MeshRuns, ends: &[u32], at: usiz
     MeshIndex { edges, cells }
 }
 
-// Those of both meshes, behind the links; the cells end at se and at ce.
+// Those of both meshes, behind the links; the cells end at se and at ce, which are the meshes' own lists, as the coordinates are.
 pub fn index_meshes(coords: &[f64], w: &mut [u32], g: Regions, se: &[u32], ce: &[u32]) -> Indexes
     requires { Asks w.old g se.now ce.now }
     ensures { (result ≡ indexes_at coords.now w.old g se.now ce.now)

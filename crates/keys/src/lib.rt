@@ -25,6 +25,7 @@ impl SortedKey {
     }
 
     // The chain of the edges with this key, of h chains. A caller's h is the length of a list, above 0 by a clause: as a `NonZeroUsize` each call would make one first.
+    // That the chain is below h each of these three functions says: a number with its bound would be a type that carries h besides.
     pub fn chain(self, h: usize) -> usize
         requires { 0 < h }
         ensures { (result ≡ chain_of h self.first) × (result < h) }

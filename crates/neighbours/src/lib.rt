@@ -98,7 +98,8 @@ impl<'a> EdgeLists<'a> {
 }
 
 // Writes the edges of all cells, whose node numbers are `nodes`, to the front of `edges`. Answers how many there are. `heads` and `nexts` are zero then: as
-// many heads as nodes and one keep the search for a key short, and any other number gives the same edges.
+// many heads as nodes and one keep the search for a key short, and any other number gives the same edges. Lists one by one, since the caller cuts them from its
+// own; that two of them are left zero is a promise about what is lent, which no type of theirs can make.
 #[tactic(auto, using(crate::proofs::Edges::few_edges))]
 pub fn compute_descending(
     nodes: &[u32],
