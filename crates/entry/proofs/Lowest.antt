@@ -5,7 +5,7 @@ use mathlib.Core.Bool.{Bool, true, false, ◌&&◌, not, cond}
 use Prim.Native.Nat.{ℕ, zero, suc, ◌+◌, ◌*◌, ◌≤◌, ◌<◌}
 use native.Mathlib.Nat.{suc-ne-zero}
 use native.Mathlib.Omega.{arith}
-use lib.Dec.{eqb, leb}
+use lib.Dec.{eqb}
 use lib.ListN.{length}
 use borrow.Author.Tests.{eq-eqb, ne_eqb, le-leb, lt-leb}
 use Rattle.std.specs.Ordering.{ord_min}
@@ -99,17 +99,6 @@ unfolding lower_refusal
 lower_two r s e =
     ap number e ∙ lower_number r s
     ∙ sym (rw (ne_eqb (number r) 0 (λ z. omega (arith, z, number_positive r)), ne_eqb (number s) 0 (λ z. omega (arith, z, number_positive s))))
-
--- where the lower of two is 0, both are
-pub lower_zero : (a b : ℕ) → lower_refusal a b ≡ 0 → (a ≡ 0) × (b ≡ 0)
-unfolding lower_refusal
-lower_zero zero b h = (refl, h)
-lower_zero (suc n) zero h = absurd (suc-ne-zero n (rw (ne_eqb (suc n) 0 (suc-ne-zero n)) at h))
-lower_zero (suc n) (suc m) h = absurd (go (leb (suc n) (suc m)) (rw (ne_eqb (suc n) 0 (suc-ne-zero n), ne_eqb (suc m) 0 (suc-ne-zero m)) at h))
-  where
-    go : (t : Bool) → cond t (suc n) (suc m) ≡ 0 → ⊥
-    go true q = suc-ne-zero n q
-    go false q = suc-ne-zero m q
 
 -- ---- the entry's answers
 

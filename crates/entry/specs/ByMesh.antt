@@ -1,5 +1,5 @@
 -- Refusals 1 to 7 mesh by mesh, as the code goes. `entry_of` is the lowest of them (proofs/Lowest.antt). Assumes nothing.
-use Rattle.std.specs.Prelude.{ℕ, Bool, not, cond, leb, eqb}
+use Rattle.std.specs.Prelude.{ℕ, ◌≤◌, Bool, not, cond, leb, eqb, length}
 use Rattle.entry.specs.Mesh.{Mesh, node_count}
 use Rattle.entry.specs.Refused.{shape_ok, coords_ok, kinds_ok, nodes_ok, cells_ok}
 
@@ -15,3 +15,8 @@ mesh_refusal lines m =
 -- the lower of two refusals, where 0 is none
 unfoldable pub lower_refusal : ℕ → ℕ → ℕ
 lower_refusal a b = cond (eqb a 0) b (cond (eqb b 0) a (cond (leb a b) a b))
+
+-- a mesh within its limits, so that sums over two of them don't wrap; cited only by contracts of inner functions
+pub record Few (m : Mesh) : Type 0 where
+  pub nodes : node_count m ≤ 16384
+  pub entries : length m.nodes ≤ 65536

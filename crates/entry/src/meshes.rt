@@ -1,10 +1,10 @@
 // The lowest refusal of both meshes.
-ghost use Rattle.std.specs.Prelude.{◌≡◌, IfOk, false, eqb};
+ghost use Rattle.std.specs.Prelude.{◌≡◌, Ok, IfOk, false, eqb};
 ghost use Rattle.refusals.specs.Numbers.{number, refused_with};
 ghost use Rattle.entry.specs.Mesh.{mesh_of};
 ghost use Rattle.entry.specs.Named.{op_number};
 ghost use Rattle.entry.specs.Refused.{entry_of};
-ghost use Rattle.entry.specs.ByMesh.{mesh_refusal, lower_refusal};
+ghost use Rattle.entry.specs.ByMesh.{mesh_refusal, lower_refusal, Few};
 
 use crate::coords::coords_ok;
 use crate::kinds::kinds_ok;
@@ -17,7 +17,8 @@ use views::MeshView;
 // Whether a mesh, of lines or of cells, passes 2 to 6.
 #[tactic(auto, unfolding(crate::specs::ByMesh::mesh_refusal))]
 fn check(lines: bool, mesh: &MeshView) -> Result<(), Refusal>
-    ensures { refused_with result ≡ mesh_refusal lines (mesh_of mesh.now) }
+    ensures refusal { refused_with result ≡ mesh_refusal lines (mesh_of mesh.now) }
+    ensures few { IfOk result (λ _. Few (mesh_of mesh.now)) }
 {
     if !shape_ok(mesh) {
         return Err(Refusal::Lists);
@@ -48,7 +49,8 @@ fn lower(a: Refusal, b: Refusal) -> Refusal
 // The refusal of one of two checks, the lower one where both refuse.
 #[tactic(auto, using(crate::proofs::Lowest::lower_first, crate::proofs::Lowest::lower_second))]
 fn both(a: Result<(), Refusal>, b: Result<(), Refusal>) -> Result<(), Refusal>
-    ensures { refused_with result ≡ lower_refusal (refused_with a) (refused_with b) }
+    ensures refusal { refused_with result ≡ lower_refusal (refused_with a) (refused_with b) }
+    ensures none { IfOk result (λ _. (a ≡ Ok tt) × (b ≡ Ok tt)) }
 {
     match (a, b) {
         (Err(r), Err(s)) => Err(lower(r, s)),
@@ -59,8 +61,9 @@ fn both(a: Result<(), Refusal>, b: Result<(), Refusal>) -> Result<(), Refusal>
 
 // Whether both meshes of an overlay pass: the subject's cells, and the cutter's cells or lines.
 fn check_both(operation: Operation, subject: &MeshView, cutter: &MeshView) -> Result<(), Refusal>
-    ensures { refused_with result
+    ensures refusal { refused_with result
         ≡ lower_refusal (mesh_refusal false (mesh_of subject.now)) (mesh_refusal (eqb (op_number operation) 5) (mesh_of cutter.now)) }
+    ensures few { IfOk result (λ _. Few (mesh_of subject.now) × Few (mesh_of cutter.now)) }
 {
     both(
         check(false, subject),

@@ -2,6 +2,7 @@
 ghost use Rattle.std.specs.Prelude.{◌≡◌, true, length};
 ghost use Rattle.std.specs.Bool.{OnTrue};
 ghost use Rattle.entry.specs.Mesh.{mesh_of};
+ghost use Rattle.entry.specs.ByMesh.{Few};
 ghost use Rattle.entry.specs.Refused.{ends_ok, shape_ok};
 
 use views::MeshView;
@@ -21,6 +22,7 @@ fn ends_ok(ends: &[u32], n: usize) -> bool
 pub(crate) fn shape_ok(mesh: &MeshView) -> bool
     ensures answer { result ≡ shape_ok (mesh_of mesh.now) }
     ensures passed { OnTrue result ((length mesh.now.kinds.now ≡ length mesh.now.ends.now) × (ends_ok mesh.now.ends.now (length mesh.now.nodes.now) ≡ true)) }
+    ensures few { OnTrue result (Few (mesh_of mesh.now)) }
 {
     mesh.coords.len() % 2 == 0
         && ends_ok(mesh.ends, mesh.nodes.len())
