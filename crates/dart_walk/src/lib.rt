@@ -157,10 +157,7 @@ fn walk_on(
                 if y == start {
                     break;
                 }
-                let Some(next) = next_open(slots, y, back) else {
-                    return Err(Refusal::OpenWalk);
-                };
-                at = next;
+                at = next_open(slots, y, back).ok_or(Refusal::OpenWalk)?;
                 nodes[entries] = y;
                 entries += 1;
             }

@@ -1,6 +1,8 @@
-use mathlib.Core.Path.{ap}
+use mathlib.Core.Path.{◌≡◌, ap, ◌∙◌}
 use native.Mathlib.Omega.{arith}
 use lib.ListN.{length}
+use Rattle.std.proofs.Common.{rules, Err}
+use Rattle.refusals.specs.Numbers.{by_number}
 use Rattle.dart_walk.proofs.Turns.{at_first, missing, corner_fits, at_close, follow_fits, lost, less_left, stop_fits, turn_close, no_way, next_fits, turn_onward}
 use Rattle.dart_walk.proofs.walk_on.Goals as goal
 
@@ -19,18 +21,21 @@ follow-requires c = follow_fits c.requires c.loop-y.invariant.0
 pub returns-in_default-follow : goal.returns-in_default-follow
 returns-in_default-follow c = lost c.requires c.loop-y.invariant.0 c.in_default-follow.ensures
 
-pub returns-in_default-next_open : goal.returns-in_default-next_open
-returns-in_default-next_open c = no_way c.requires c.loop-y.invariant.0 c.in-Some-follow.ensures c.if-y-start.false _ c.next_open.ensures.found c.in_default-next_open.is
+pub returns-in_err-at : goal.returns-in_err-at
+returns-in_err-at c =
+    let code : by_number c.from_residual.result ≡ Err 11 = search rules in
+    let e = no_way c.requires c.loop-y.invariant.0 c.in-Some-follow.ensures c.if-y-start.false _ c.next_open.ensures.found c.in_err-at.ensures.ok_part in
+    (code ∙ e.0, e.1)
 
 pub bounds-nodes-entries-in-loop-y : goal.bounds-nodes-entries-in-loop-y
-bounds-nodes-entries-in-loop-y c = next_fits c.requires c.loop-y.invariant.0 c.in-Some-follow.ensures c.if-y-start.false _ c.next_open.ensures.found c.in-Some-next_open.is c.next_open.ensures.within
+bounds-nodes-entries-in-loop-y c = next_fits c.requires c.loop-y.invariant.0 c.in-Some-follow.ensures c.if-y-start.false _ c.next_open.ensures.found c.in_ok-at.ensures.ok_part c.next_open.ensures.within
 
 pub loop-y-smaller : goal.loop-y-smaller
 loop-y-smaller c = less_left c.requires c.loop-y.invariant.0 c.in-Some-follow.ensures
 
 pub loop-y-preserved : goal.loop-y-preserved
 loop-y-preserved c = (
-  turn_onward c.requires c.loop-y.invariant.0 c.in-Some-follow.ensures c.if-y-start.false _ c.next_open.ensures.found c.in-Some-next_open.is c.next_open.ensures.within,
+  turn_onward c.requires c.loop-y.invariant.0 c.in-Some-follow.ensures c.if-y-start.false _ c.next_open.ensures.found c.in_ok-at.ensures.ok_part c.next_open.ensures.within,
   omega (arith, less_left c.requires c.loop-y.invariant.0 c.in-Some-follow.ensures, c.loop-y.invariant.1),
 )
 
