@@ -36,21 +36,16 @@ fn first_open(slots: &[Slot], a: u32) -> Option<usize>
     slots.iter().position(|s| s.src == a && !s.marked)
 }
 
-// The first unmarked slot of the node a after its slot r, going round, r itself last. Tried by `or_else`, and the proof didn't close: what its closures
-// promise isn't known behind them.
+// The first unmarked slot of the node a after its slot r, going round, r itself last.
 #[tactic(auto, using(crate::proofs::Slots::late_next, crate::proofs::Slots::early_next, crate::proofs::Slots::back_next, crate::proofs::Slots::none_next))]
 fn next_open(slots: &[Slot], a: u32, r: usize) -> Option<usize>
     requires { r < length slots.now }
     ensures within { IfSome result (λ i. i < length slots.now) }
     ensures found { unwrap_or result (length slots.now) ≡ next_open true (length slots.now) (srcs slots.now) (marks_of slots.now) a r }
 {
-    if let Some(k) = first_open(&slots[r + 1..], a) {
-        return Some(r + 1 + k);
-    }
-    if let Some(k) = first_open(&slots[..r], a) {
-        return Some(k);
-    }
-    if slots[r].marked { None } else { Some(r) }
+    let late = first_open(&slots[r + 1..], a).map(|k| r + 1 + k);
+    late.or_else(|| first_open(&slots[..r], a))
+        .or_else(|| if slots[r].marked { None } else { Some(r) })
 }
 
 // The slots that pieces may begin at, the one put on last first. At most 2,048: memory is fixed, so it is an array and a count. The definition's word.
