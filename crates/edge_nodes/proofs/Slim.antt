@@ -1,6 +1,6 @@
 -- Adjacent equals dropped as nodes are put behind each other. Assumes nothing.
 use mathlib.Core.Path.{◌≡◌, refl, sym, ap, ap₂, subst, ◌∙◌}
-use mathlib.Core.Bool.{Bool, true, false, true≢false, cond, ◌&&◌}
+use mathlib.Core.Bool.{Bool, true, false, true≢false, cond, and-true}
 use mathlib.Core.List.{List, [], ◌∷◌, ◌++◌, append-nil, map}
 use Prim.Native.Nat.{ℕ, suc, ◌+◌, ◌-◌, ◌≤◌, ◌<◌}
 use native.Mathlib.Numerals.{add-one}
@@ -28,10 +28,6 @@ eqb_turned a b = go (eqb a b) refl
     go true e = sym (eq-eqb b a (sym (eqb-true a b e)))
     go false e = sym (ne_eqb b a (λ p. absurd (true≢false (sym (eq-eqb a b (sym p)) ∙ e))))
 
-alone : (b : Bool) → (b && true) ≡ b
-alone true = refl
-alone false = refl
-
 -- v is put behind a list unless that ends with it
 pushed_by_end : (xs : List ℕ) (v : ℕ) → pushed xs v ≡ xs ++ cond (ends_with eqb xs (v ∷ [])) [] (v ∷ [])
 unfolding pushed
@@ -41,7 +37,7 @@ pushed_by_end (x ∷ xs) v =
     let last : drop (length l - 1) l ≡ get_or l (length l - 1) 0 ∷ drop (suc (length l - 1)) l = drop-cons l (length l - 1) 0 (omega arith) in
     let none : drop (suc (length l - 1)) l ≡ [] = drop_all (suc (length l - 1)) l (omega arith) in
     let e : ends_with eqb l (v ∷ []) ≡ eqb (get_or l (length l - 1) 0) v =
-    ap (pointwise eqb (v ∷ [])) (last ∙ ap (λ (r : List ℕ). get_or l (length l - 1) 0 ∷ r) none) ∙ alone (eqb v (get_or l (length l - 1) 0)) ∙ eqb_turned v (get_or l (length l - 1) 0) in
+    ap (pointwise eqb (v ∷ [])) (last ∙ ap (λ (r : List ℕ). get_or l (length l - 1) 0 ∷ r) none) ∙ and-true (eqb v (get_or l (length l - 1) 0)) ∙ eqb_turned v (get_or l (length l - 1) 0) in
     rw (ne_eqb (length l) 0 (λ z. omega (arith, z))) (ap (λ (b : Bool). l ++ cond b [] (v ∷ [])) (sym e))
 
 module _ (s : List ℕ) (k v : ℕ) (fits : k < length s) where

@@ -13,7 +13,7 @@ use Rattle.std.specs.List.{position, position_or_len}
 use Rattle.std.specs.List.{insert as put_at}
 use Rattle.lists.specs.Regions.{put_in}
 use Rattle.lists.proofs.InPlace.{insert_there, place_is}
-use Rattle.std.proofs.lemmas.List.{drop_all}
+use Rattle.std.proofs.lemmas.List.{drop_all, map-append, nil_from_length}
 use lib.Ieee.{Float}
 use Rattle.lists.specs.Gather.{slim}
 use Rattle.lists.specs.Sort.{insert, sort_onto, sorted}
@@ -30,7 +30,7 @@ use Rattle.edge_nodes.specs.declared.sides.Meetings.{Meetings}
 use Rattle.edge_nodes.specs.declared.chains.LinkedMeetings.{LinkedMeetings}
 use Rattle.edge_nodes.specs.Sides.{subject_meetings, cutter_meetings}
 use Rattle.edge_nodes.proofs.Count.{length_collected}
-use Rattle.edge_nodes.proofs.Under.{map_append, sorted_key}
+use Rattle.edge_nodes.proofs.Under.{sorted_key}
 
 -- ---- one put in its place
 
@@ -84,10 +84,6 @@ map_nodes : (xs : List Placed) → map node_of xs ≡ map (λ (p : Projected). p
 map_nodes [] = refl
 map_nodes (x ∷ xs) = ap (λ (l : List ℕ). x.node ∷ l) (map_nodes xs)
 
-none_in : (xs : List ℕ) → length xs ≡ 0 → xs ≡ []
-none_in [] e = refl
-none_in (x ∷ xs) e = absurd (omega (arith, e))
-
 some_in : (coords : List Float) (e : Edge) (xs : List ℕ) → (length xs ≡ 0 → ⊥) → along_edge coords (key e) xs ≡ unless_none coords e xs
 some_in coords e [] h = absurd (h refl)
 some_in coords e (x ∷ xs) h = refl
@@ -111,7 +107,7 @@ module _ (coords : List Float) (subject cutter : List Edge) (met : List ℕ) (k 
         z-is ∙ ap (λ (l : List Placed). sort_onto stands_before l (map (placed coords e) by_cutter))
         (y-is ∙ ap (λ (l : List Placed). sort_onto stands_before l (map (placed coords e) by_subject)) x-is)
         ∙ sym (sort_onto_append stands_before (insert stands_before (placed coords e k.first) []) (map (placed coords e) by_subject) (map (placed coords e) by_cutter))
-        ∙ sym (ap (sort_onto stands_before (insert stands_before (placed coords e k.first) [])) (map_append (placed coords e) by_subject by_cutter))
+        ∙ sym (ap (sort_onto stands_before (insert stands_before (placed coords e k.first) [])) (map-append (placed coords e) by_subject by_cutter))
 
     long : length zs ≡ 1 + length (collected_in subject cutter met e)
     long =
@@ -121,7 +117,7 @@ module _ (coords : List Float) (subject cutter : List Edge) (met : List ℕ) (k 
     pub no_nodes : length zs ≡ 1 → (out : List ℕ) → FrontIs (sorted_in coords subject cutter met e) out 0 out
     unfolding sorted_in front
     no_nodes h out =
-        let z : collected_in subject cutter met e ≡ [] = none_in (collected_in subject cutter met e) (omega (arith, long, h)) in
+        let z : collected_in subject cutter met e ≡ [] = nil_from_length (collected_in subject cutter met e) (omega (arith, long, h)) in
         let none : unless_none coords e (collected_in subject cutter met e) ≡ [] = ap (unless_none coords e) z in
         record { count = sym (ap length none); fits = omega arith; held = sym (ap (λ (l : List ℕ). front out l) none) }
 

@@ -1,5 +1,5 @@
 -- The nodes that meetings collect under a key, put in order one after the other. Assumes nothing.
-use mathlib.Core.Path.{◌≡◌, refl, sym, ap, ap₂, ◌∙◌}
+use mathlib.Core.Path.{◌≡◌, sym, ap, ap₂, ◌∙◌}
 use mathlib.Core.Bool.{Bool, true, false, cond, ◌&&◌}
 use mathlib.Core.List.{List, [], ◌∷◌, ◌++◌, map}
 use Prim.Native.Nat.{ℕ, zero, suc, ◌+◌, ◌*◌, ◌-◌, ◌/◌, ◌≤◌, ◌<◌, min, max}
@@ -8,6 +8,7 @@ use lib.Dec.{eqb}
 use lib.ListN.{length, get_or, take, drop, length-append, length-map}
 use lib.Seq.{drop-cons}
 use Rattle.std.specs.List.{concat}
+use Rattle.std.proofs.lemmas.List.{map-append}
 use Rattle.lists.specs.Gather.{gathered}
 use Rattle.lists.specs.Sort.{sort_onto}
 use Rattle.lists.proofs.Gather.{gathered_more}
@@ -90,17 +91,13 @@ module _ (es : List Edge) (met : List ℕ) (which : ℕ) (e : Edge) where
   under_bound zero = omega arith
   under_bound (suc n) = omega (arith, length-append (under n es met which e) (under_at es met which e n), under_bound n, under_few es met which e n)
 
-pub map_append : {A B : Type 0} (f : A → B) (xs ys : List A) → map f (xs ++ ys) ≡ map f xs ++ map f ys
-map_append f [] ys = refl
-map_append f (x ∷ xs) ys = ap (λ l. f x ∷ l) (map_append f xs ys)
-
 -- ---- one list after the other
 
 module _ (f : ℕ → Placed) (part : List ℕ) (before after : List (List ℕ)) (ys zs : List Placed) (e : before ≡ part ∷ after) (z : zs ≡ sort_onto stands_before ys (map f part)) where
   pub part_put_in : sort_onto stands_before zs (map f (concat after)) ≡ sort_onto stands_before ys (map f (concat before))
   part_put_in =
       rw e (ap (λ (l : List Placed). sort_onto stands_before l (map f (concat after))) z ∙ sym (sort_onto_append stands_before ys (map f part) (map f (concat after)))
-      ∙ sym (ap (sort_onto stands_before ys) (map_append f part (concat after))))
+      ∙ sym (ap (sort_onto stands_before ys) (map-append f part (concat after))))
 
   pub part_counted : length zs + length (concat after) ≡ length ys + length (concat before)
   part_counted = rw e (omega (arith, ap length z ∙ length_sort_onto stands_before ys (map f part), length-map part f, length-append part (concat after)))

@@ -96,6 +96,6 @@ eq_not_lt x y h = fails (lt x y) (λ k. law.eq-not_lt x y (law.T_from_true (eq x
 pub trichotomy : (x y : Float) → eq x x ≡ true → eq y y ≡ true → lt y x ≡ false → eq x y ≡ false → lt x y ≡ true
 trichotomy x y n k h l =
     elim (law.lt-or-eq x y (law.le_of_not-lt y x (not_nan y k) (not_nan x n) (law.T_from_false (lt y x) h))) [
-      inl e ↦ holds (lt x y) e
+      | inl e ↦ holds (lt x y) e
       | inr e ↦ absurd (true≢false (sym (holds (eq x y) e) ∙ l))
     ]

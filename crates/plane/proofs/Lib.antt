@@ -1,2 +1,1 @@
 pub mod FloatOrder
-pub mod Laws

@@ -13,7 +13,7 @@ use Rattle.lists.specs.Gather.{joined, slim_after, slim}
 use Rattle.lists.specs.Sort.{insert, sort_onto}
 use Rattle.lists.proofs.Gather.{length_each, get_or_each, in_list, mem_at, joined_append}
 use Rattle.lists.proofs.Regions.{length_run}
-use Rattle.plane.proofs.Laws.{get_or_over}
+use Rattle.std.proofs.lemmas.List.{get_or_past}
 use Rattle.segments.specs.Meet.{meeting}
 use Rattle.segments.specs.declared.PointId.{PointId}
 use Rattle.segments.specs.declared.PointId.TheVariants.{P1, P2, P3, P4}
@@ -98,7 +98,7 @@ edge_any n es h k j = go (ltb j (length es)) refl
   where
     go : (b : Bool) → ltb j (length es) ≡ b → Both n (edge_at es j)
     go true e = h (edge_at es j) (in_list es j (ltb-true j (length es) e) (0, 0))
-    go false e = subst (Both n) (sym (get_or_over es j (0, 0) (ltb-false j (length es) e))) (k, k)
+    go false e = subst (Both n) (sym (get_or_past es j (0, 0) (ltb-false j (length es) e))) (k, k)
 
 -- ---- the nodes of meetings
 

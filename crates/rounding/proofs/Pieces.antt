@@ -9,7 +9,7 @@ use lib.Ieee.{Float}
 use borrow.Author.Tests.{ltb-true, ltb-false}
 use Rattle.lists.specs.Gather.{joined}
 use Rattle.lists.proofs.Gather.{in_list}
-use Rattle.plane.proofs.Laws.{get_or_over}
+use Rattle.std.proofs.lemmas.List.{get_or_past}
 use Rattle.cutting.specs.Edges.{Edge, edge_at, ring, rings}
 use Rattle.cutting.specs.Setting.{Setting, ours}
 use Rattle.cutting.specs.Cell.{Laid, or_whole, near_darts, repeats, edge_slots, reverse_mark, table, is_new, new_to, inner_with, stands_before, cell_table_with, doubled}
@@ -33,7 +33,7 @@ module _ (n : ℕ) (some : 0 < n) where
     where
       pick : (b : Bool) → ltb i (length xs) ≡ b → get_or xs i 0 < n
       pick true e = h (get_or xs i 0) (in_list xs i (ltb-true i (length xs) e) 0)
-      pick false e = subst (Under n) (sym (get_or_over xs i 0 (ltb-false i (length xs) e))) some
+      pick false e = subst (Under n) (sym (get_or_past xs i 0 (ltb-false i (length xs) e))) some
 
   abbrev Runs : List (List ℕ) → Type 0
   Runs ps = Each (λ (p : List ℕ). Each (Under n) p) ps
