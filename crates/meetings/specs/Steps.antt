@@ -6,7 +6,7 @@ use Rattle.refusals.specs.declared.Refusal.{Refusal}
 use Rattle.refusals.specs.Numbers.{number}
 use Rattle.segments.specs.Meet.{meeting}
 use Rattle.cutting.specs.Edges.{Edge}
-use Rattle.views.specs.Same.{SameList}
+use Rattle.lists.specs.Same.{SameList}
 use Rattle.rules.specs.Meetings.{Met, segment_of, recorded, added_by}
 use Rattle.rules.specs.Refusals.{Event, of_meeting, first_refusal}
 use Rattle.meetings.specs.declared.MetLists.{MetLists}
