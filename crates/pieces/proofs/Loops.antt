@@ -14,10 +14,10 @@ use Rattle.refusals.specs.declared.Refusal.{Refusal}
 use Rattle.refusals.specs.Numbers.{number}
 use Rattle.pieces.specs.declared.Listed.{Listed}
 use Rattle.pieces.specs.declared.piece_lists.PieceLists.{PieceLists}
-use Rattle.pieces.specs.Pieces.{runs_of, Yield, tagged, Space, Placing, left, left_by, refused_in, placed_in, BeforeZeroing, SameLists}
+use Rattle.pieces.specs.Pieces.{runs_of, Yield, tagged, Placing, left, left_by, refused_in, placed_in, BeforeZeroing, SameLists}
 use Rattle.pieces.proofs.Room.{flat_append}
 use Rattle.pieces.proofs.Runs.{flat_passing, runs_short}
-use Rattle.pieces.proofs.Piece.{kept_yes, kept_no}
+use Rattle.pieces.proofs.Piece.{Space, kept_yes, kept_no}
 use Rattle.pieces.proofs.Placing.{steady_tagged, tagged_both, all_placed, fit, placed_nothing, refused_first, placed_behind_lem, zeroed}
 
 pub same_none : (l : PieceLists) → SameLists l l

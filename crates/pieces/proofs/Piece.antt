@@ -2,7 +2,7 @@
 use mathlib.Core.Path.{◌≡◌, sym, ap, ap₂, ◌∙◌}
 use mathlib.Core.Bool.{Bool, true, false}
 use mathlib.Core.List.{List, [], ◌∷◌, append-nil}
-use Prim.Native.Nat.{ℕ, ◌+◌, ◌-◌, ◌≤◌, ◌<◌}
+use Prim.Native.Nat.{ℕ, ◌+◌, ◌-◌, ◌≤◌, ◌<◌, ◌^◌}
 use native.Mathlib.Nat.{le_of_lt, add-zero}
 use native.Mathlib.Omega.{arith}
 use lib.Dec.{leb}
@@ -16,9 +16,16 @@ use Rattle.cutting.specs.Outcome.{flat, stops}
 use Rattle.rules.specs.Refusals.{piece, first_refusal}
 use Rattle.pieces.specs.declared.Listed.{Listed}
 use Rattle.pieces.specs.declared.piece_lists.PieceLists.{PieceLists}
-use Rattle.pieces.specs.Pieces.{tagged, Space, Placing, placing, placed_in}
+use Rattle.pieces.specs.Pieces.{tagged, Placing, placing, placed_in}
 use Rattle.pieces.proofs.Room.{one_fits, no_place, too_long}
 use Rattle.pieces.proofs.Placing.{placed_all, placed_not}
+
+-- What p counts stands in the lists; a piece has a place in both of ends and tags; n more corners can be counted.
+pub record Space (p : Listed) (n : ℕ) (l : PieceLists) : Type 0 where
+  pub counted : p.count ≤ length l.ends.now
+  pub tags : length l.ends.now ≤ length l.tags.now
+  pub corners : p.entries ≤ length l.corners.now
+  pub short : p.entries + n < 2 ^ 32
 
 -- one element
 set_put : (w : List ℕ) (b v : ℕ) → b < length w → set w b v ≡ put w b (v ∷ [])

@@ -1,5 +1,5 @@
 -- Which pieces are kept, and where they are placed. Assumes nothing.
-use Rattle.std.specs.Prelude.{◌≡◌, Bool, true, false, cond, Result, Ok, Err, List, [], ◌++◌, map, ℕ, zero, suc, ◌+◌, ◌-◌, ◌^◌, ◌≤◌, ◌<◌, eqb, length, replicate, Float, MatchResult}
+use Rattle.std.specs.Prelude.{◌≡◌, Bool, true, false, cond, Result, Ok, Err, List, [], ◌++◌, map, ℕ, zero, suc, ◌+◌, ◌-◌, eqb, length, replicate, Float, MatchResult}
 use Rattle.lists.specs.Regions.{put, zeros}
 use Rattle.lists.specs.Same.{SameList}
 use Rattle.cutting.specs.Outcome.{flat, stops}
@@ -61,13 +61,6 @@ both y z = record { events = y.events ++ z.events; pieces = y.pieces ++ z.pieces
 unfoldable pub all_of : ℕ → (ℕ → Yield) → Yield
 all_of zero f = nothing
 all_of (suc n) f = both (all_of n f) (f n)
-
--- What p counts stands in the lists; a piece has a place in both of ends and tags; n more corners can be counted.
-pub record Space (p : Listed) (n : ℕ) (l : PieceLists) : Type 0 where
-  pub counted : p.count ≤ length l.ends.now
-  pub tags : length l.ends.now ≤ length l.tags.now
-  pub corners : p.entries ≤ length l.corners.now
-  pub short : p.entries + n < 2 ^ 32
 
 -- what placing leaves: the answer or the refusal's number, and the lists of corners, ends and tags
 pub record Placing : Type 0 where
