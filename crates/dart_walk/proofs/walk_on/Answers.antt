@@ -28,7 +28,9 @@ returns-in_err-at c =
     (code ∙ e.0, e.1)
 
 pub bounds-nodes-entries-in-loop-y : goal.bounds-nodes-entries-in-loop-y
-bounds-nodes-entries-in-loop-y c = next_fits c.requires c.loop-y.invariant.0 c.in-Some-follow.ensures c.if-y-start.false _ c.next_open.ensures.found c.in_ok-at.ensures.ok_part c.next_open.ensures.within
+bounds-nodes-entries-in-loop-y c =
+    next_fits c.requires c.loop-y.invariant.0 c.in-Some-follow.ensures c.if-y-start.false _ c.next_open.ensures.found
+    c.in_ok-at.ensures.ok_part c.next_open.ensures.within
 
 pub loop-y-smaller : goal.loop-y-smaller
 loop-y-smaller c = less_left c.requires c.loop-y.invariant.0 c.in-Some-follow.ensures
