@@ -13,7 +13,7 @@ ghost use Rattle.lists.specs.Sort.{sort_onto};
 ghost use Rattle.cutting.specs.Edges.{key};
 ghost use Rattle.cutting.specs.Lent.{pairs, pair_of};
 ghost use Rattle.edge_nodes.specs.Chained.{edge_of};
-ghost use Rattle.edge_nodes.specs.Lent.{placed, stands_before, under_in, collected_in, sorted_in, most_nodes, crowded_at, FrontIs, nodes_on, Few};
+ghost use Rattle.edge_nodes.specs.Lent.{placed, stands_before, under_in, most_nodes, crowded_at, FrontIs, nodes_on, Few};
 
 use chains::Chains;
 pub use chains::{LinkedMeetings, link_meetings};
@@ -47,11 +47,13 @@ impl<'a> Chains<'a> {
 }
 
 impl<'a> LinkedMeetings<'a> {
+    ghost use Rattle.edge_nodes.specs.Sides.{collected_under, sorted_under};
+
     // Writes the sorted nodes of the key to the front of `out`. Answers how many they are.
     #[tactic(auto, using(lists::proofs::Sort::length_insert, crate::proofs::Count::length_collected, crate::proofs::Sorted::some_nodes, crate::proofs::Sorted::second_fits))]
     fn sorted_nodes(&self, coords: &[f64], key: SortedKey, out: &mut [u32]) -> usize
-        requires { (length (collected_in (pairs self.now.subject.now) (pairs self.now.cutter.now) self.now.met.now (edge_of key)) ≤ 256) × (258 ≤ length out.old) }
-        ensures { FrontIs (sorted_in coords.now (pairs self.now.subject.now) (pairs self.now.cutter.now) self.now.met.now (edge_of key)) out.old result out.new }
+        requires { (length (collected_under self.now (edge_of key)) ≤ 256) × (258 ≤ length out.old) }
+        ensures { FrontIs (sorted_under coords.now self.now (edge_of key)) out.old result out.new }
     {
         let (by_subject, by_cutter) = self.chains();
         let mut nodes = Nodes::new();
@@ -68,7 +70,7 @@ impl<'a> LinkedMeetings<'a> {
     // Whether over 256 nodes are collected under the key.
     #[tactic(auto, using(crate::proofs::Count::length_collected))]
     fn is_crowded(&self, key: SortedKey) -> bool
-        ensures { result ≡ ltb most_nodes (length (collected_in (pairs self.now.subject.now) (pairs self.now.cutter.now) self.now.met.now (edge_of key))) }
+        ensures { result ≡ ltb most_nodes (length (collected_under self.now (edge_of key))) }
     {
         let (subject, cutter) = self.chains();
         256 < subject.count(key) + cutter.count(key)
@@ -76,7 +78,7 @@ impl<'a> LinkedMeetings<'a> {
 
     // Whether they are under the key of one of the edges.
     fn any_crowded(&self, edges: &[[u32; 2]]) -> bool
-        ensures { result ≡ list_any (λ e. ltb most_nodes (length (collected_in (pairs self.now.subject.now) (pairs self.now.cutter.now) self.now.met.now (key (pair_of e))))) edges.now }
+        ensures { result ≡ list_any (λ e. ltb most_nodes (length (collected_under self.now (key (pair_of e))))) edges.now }
     {
         edges
             .iter()
