@@ -104,7 +104,7 @@ impl Nodes {
     }
 }
 
-// Puts v behind the first k, unless it equals the last of them. List and count are no struct: what holds of both can be no ghost field beside a `&mut`.
+// Puts v behind the first k, unless it equals the last of them. List and count are no struct: its contracts would have to say that it is the same list.
 #[tactic(auto, using(crate::proofs::Slim::same_count, crate::proofs::Slim::same_held, crate::proofs::Slim::more_count, crate::proofs::Slim::more_held))]
 fn push(out: &mut [u32], k: usize, v: u32) -> usize
     requires { k < length out.old }

@@ -54,7 +54,7 @@ struct Call<'a> {
     cutter: &'a MeshView<'a>,
 }
 
-// That the entry refused nothing is asked of the working list's length, which is no field of a call: no ghost field can stand beside a `&mut` list.
+// That the entry refused nothing is asked of the working list's length too. The list is lent to each stage for itself: in a call that held it each contract would have to say that it is the same list.
 impl Call<'_> {
     // The stages between the entry and the cells: all coordinates go to the front of their list, what the cells are cut by to the working list.
     fn prepare(self, coords: &mut [f64], work: &mut [u32]) -> Result<Prepared, Refusal>
