@@ -1,8 +1,8 @@
 -- Edges on chains: the last index that passes a test, an edge added to its chain, a key searched along a chain. Assumes nothing.
 use mathlib.Core.Path.{◌≡◌, refl, sym, ap, ap₂, ◌∙◌}
-use mathlib.Core.Bool.{Bool, true, false, true≢false, ◌&&◌}
+use mathlib.Core.Bool.{Bool, true, false, true≢false, ◌||◌}
 use mathlib.Core.List.{List, [], ◌∷◌, ◌++◌}
-use Prim.Native.Nat.{ℕ, zero, suc, ◌+◌, ◌-◌, ◌/◌, ◌≤◌, ◌<◌}
+use Prim.Native.Nat.{ℕ, zero, suc, ◌+◌, ◌-◌, ◌≤◌, ◌<◌}
 use native.Mathlib.Numerals.{add-one}
 use native.Mathlib.Decide.{dec_lt, ℕ_discrete}
 use native.Mathlib.Omega.{arith}
@@ -13,13 +13,9 @@ use borrow.Author.Tests.{eqb-true, eq-eqb, ne_eqb}
 use Rattle.lists.specs.Search.{seek, first, has}
 use Rattle.lists.proofs.Search.{has_at, has_some, and_true}
 use Rattle.cutting.specs.Edges.{Edge, edge_at, key, same_key}
-use Rattle.cutting.specs.Lent.{pairs}
-use Rattle.std.specs.Simd.{first_chunks}
-use Rattle.std.proofs.lemmas.List.{get_or_default}
-use Rattle.cutting.proofs.Pairs.{pairs_length}
-use Rattle.cutting.proofs.Chunks.{chunk_at}
-use Rattle.keys.specs.Chains.{edge_chain}
-use Rattle.neighbours.specs.Chains.{last_below, on_chain, Chained}
+use Rattle.std.specs.List.{list_any}
+use Rattle.keys.specs.Chains.{chain_of, edge_chain}
+use Rattle.neighbours.specs.Chains.{last_below, on_chain, edges_below, Chained}
 
 -- ---- the last index that passes
 
@@ -33,7 +29,7 @@ pub last_before : (p : ℕ → Bool) (n : ℕ) → p n ≡ false → last_below 
 unfolding last_below
 last_before p n e = ap (last_below p) (add-one n) ∙ ap (λ (t : Bool). elim t [ true ↦ suc n | false ↦ last_below p n ]) e
 
-last_le : (p : ℕ → Bool) (n : ℕ) → last_below p n ≤ n
+pub last_le : (p : ℕ → Bool) (n : ℕ) → last_below p n ≤ n
 unfolding last_below
 last_le p zero = omega arith
 last_le p (suc n) = go (p n) (last_le p n)
@@ -158,89 +154,79 @@ module _ (es : List Edge) (heads nexts : List ℕ) (f : Edge) (some : 0 < length
         next = λ e b. rw lh (next_more e (omega (arith, b, grown)) (ℕ_discrete e k));
       }
 
--- ---- `has_key`
+-- ---- along a chain
 
--- pair i of a flat list has the key of a, b
-abbrev pub key_at : List ℕ → ℕ → ℕ → ℕ → Bool
-key_at s a b i = same_key (edge_at (pairs s) i) (a, b)
+module _ (h : ℕ) (es : List Edge) (d : ℕ) where
+  abbrev on : ℕ → Bool
+  on = on_chain h es d
 
--- the keys of e and f, compared
-one_key : (e f : Edge) {x y : Edge} → x ≡ key e → y ≡ key f → same_key e f ≡ (eqb x.0 y.0 && eqb x.1 y.1)
-one_key e f m n = sym (ap₂ (λ (x y : Edge). eqb x.0 y.0 && eqb x.1 y.1) m n)
+  abbrev below : ℕ → List Edge
+  below = edges_below h es d
 
--- read from the list in pairs and compared
-pub key_seen : (s : List ℕ) (a b i : ℕ) (chunks : List (List ℕ)) (x y : Edge) → chunks ≡ first_chunks 2 (length s / 2) s → length chunks ≡ length s / 2 → i < length s / 2
-    → x ≡ key (get_or (get_or chunks i []) 0 0, get_or (get_or chunks i []) 1 0) → y ≡ key (a, b) → key_at s a b i ≡ (eqb x.0 y.0 && eqb x.1 y.1)
-key_seen s a b i chunks x y e n h m o =
-    let read : ◌≡◌ {A = Edge} (get_or (get_or chunks i []) 0 0, get_or (get_or chunks i []) 1 0) (edge_at (pairs s) i) =
-    chunk_at s chunks i (get_or chunks i []) e (get_or_default chunks i [] (0 ∷ 0 ∷ []) (omega (arith, n, h))) in
-    ap (λ (f : Edge). same_key f (a, b)) (sym read) ∙ one_key _ (a, b) m o
+  -- an edge on it stands before those below
+  pub one_on : (i : ℕ) → on i ≡ true → below (suc i) ≡ edge_at es i ∷ below i
+  unfolding edges_below
+  one_on i e = ap (λ (t : Bool). elim t [ true ↦ edge_at es i ∷ below i | false ↦ below i ]) e
 
--- those from e on have not the key; the one before is on its chain
-abbrev pub Passed : ℕ → List ℕ → ℕ → ℕ → ℕ → Type 0
-Passed h s a b e =
-    (e ≤ length s / 2) × (has (key_at s a b) e ≡ has (key_at s a b) (length (pairs s))) × ((i : ℕ) → e ≡ i + 1 → edge_chain h (edge_at (pairs s) i) ≡ edge_chain h (a, b))
+  passed : (i : ℕ) → on i ≡ false → below (suc i) ≡ below i
+  unfolding edges_below
+  passed i e = ap (λ (t : Bool). elim t [ true ↦ edge_at es i ∷ below i | false ↦ below i ]) e
 
-module _ (s heads nexts : List ℕ) (a b : ℕ) (is : Chained (pairs s) heads nexts) where
-  abbrev chains : ℕ
-  chains = length heads
-
-  abbrev p : ℕ → Bool
-  p = on_chain chains (pairs s) (edge_chain chains (a, b))
-
-  count : length (pairs s) ≡ length s / 2
-  count = pairs_length s
-
-  -- one with the key is on the chain
-  with_key : (i : ℕ) → p i ≡ false → key_at s a b i ≡ false
-  with_key i f = go (key_at s a b i) refl
+  to_last : (n : ℕ) → below n ≡ below (last_below on n)
+  unfolding edges_below last_below
+  to_last zero = refl
+  to_last (suc n) = go (on n) refl (to_last n)
     where
-      go : (t : Bool) → key_at s a b i ≡ t → key_at s a b i ≡ false
+      go : (t : Bool) → on n ≡ t → below n ≡ below (last_below on n)
+          → elim t [ true ↦ edge_at es n ∷ below n | false ↦ below n ] ≡ below (elim t [ true ↦ suc n | false ↦ last_below on n ])
+      go true e ih = sym (one_on n e)
+      go false e ih = ih
+
+  -- the walk from the last of them is along this chain
+  pub from_last : (at n : ℕ) → at ≡ last_below on n → edges_below h es (edge_chain h (edge_at es (at - 1))) at ≡ below n
+  unfolding edges_below
+  from_last zero n e = ap below e ∙ sym (to_last n)
+  from_last (suc i) n e =
+      let z : suc i - 1 ≡ i = omega arith in
+      let one : suc i ≡ i + 1 = omega arith in
+      let here : edge_chain h (edge_at es i) ≡ d = eqb-true (edge_chain h (edge_at es i)) d (last_hit on n i (sym e ∙ one)) in
+      rw z (ap (λ (x : ℕ). edges_below h es x (suc i)) here ∙ ap below e ∙ sym (to_last n))
+
+-- the edges with a key are on its chain
+module _ (h : ℕ) (es : List Edge) (f : Edge) where
+  abbrev has_its_key : ℕ → Bool
+  has_its_key i = same_key (edge_at es i) f
+
+  abbrev its_edges : ℕ → List Edge
+  its_edges = edges_below h es (edge_chain h f)
+
+  abbrev its_chain : ℕ → Bool
+  its_chain = on_chain h es (edge_chain h f)
+
+  off_chain : (i : ℕ) → its_chain i ≡ false → has_its_key i ≡ false
+  off_chain i off = go (has_its_key i) refl
+    where
+      go : (t : Bool) → has_its_key i ≡ t → has_its_key i ≡ false
       go false e = e
       go true e =
-          let k : (key (edge_at (pairs s) i)).0 ≡ (key (a, b)).0 = eqb-true _ _ (and_true _ _ e).0 in
-          absurd (true≢false (sym (eq-eqb (edge_chain chains (edge_at (pairs s) i)) (edge_chain chains (a, b)) (omega (arith, k))) ∙ f))
+          let k : (key (edge_at es i)).0 ≡ (key f).0 = eqb-true _ _ (and_true _ _ e).0 in
+          absurd (true≢false (sym (eq-eqb (edge_chain h (edge_at es i)) (edge_chain h f) (ap (chain_of h) k)) ∙ off))
 
-  -- the search goes on at the last one below n that is on the chain
-  step : (n : ℕ) → n ≤ length s / 2 → has (key_at s a b) n ≡ has (key_at s a b) (length (pairs s)) → (e : ℕ) → e ≡ last_below p n → Passed chains s a b e
-  step n l so e z = (
-    omega (arith, z, last_le p n),
-    ap (has (key_at s a b)) z ∙ fewer (key_at s a b) (last_below p n) n (last_le p n) (λ i u v. with_key i (last_none p n i u v)) ∙ so,
-    λ i y. eqb-true (edge_chain chains (edge_at (pairs s) i)) (edge_chain chains (a, b)) (last_hit p n i (sym z ∙ y)),
-  )
+  has_more : (n : ℕ) → (has_its_key n || has has_its_key n) ≡ has has_its_key (suc n)
+  has_more n = go (has_its_key n) refl
+    where
+      go : (t : Bool) → has_its_key n ≡ t → (t || has has_its_key n) ≡ has has_its_key (suc n)
+      go true e = sym (has_at has_its_key (suc n) n (omega arith) e)
+      go false e = fewer has_its_key n (suc n) (omega arith) (λ i u v. let z : i ≡ n = omega (arith, u, v) in ap has_its_key z ∙ e)
 
-  pub search_start : (c : ℕ) → (c ≡ edge_chain chains (a, b)) × (c < chains) → Passed chains s a b (get_or heads c 0)
-  search_start c z =
-      step (length (pairs s)) (omega (arith, count)) refl (get_or heads c 0)
-      (is.head c z.1 ∙ ap (λ (d : ℕ). last_below (on_chain chains (pairs s) d) (length (pairs s))) z.0)
-
-  -- edge e - 1 is compared, as it is read from the list in pairs; x and y are the two keys
-  module _ (e : ℕ) (inv : Passed chains s a b e) (some : 0 < e) (chunks : List (List ℕ)) (front : chunks ≡ first_chunks 2 (length s / 2) s) (all : length s / 2 ≡ length chunks)
-      (x y : Edge) (read : x ≡ key (get_or (get_or chunks (e - 1) []) 0 0, get_or (get_or chunks (e - 1) []) 1 0)) (sought : y ≡ key (a, b)) where
-    abbrev i : ℕ
-    i = e - 1
-
-    seen : key_at s a b i ≡ (eqb x.0 y.0 && eqb x.1 y.1)
-    seen = key_seen s a b i chunks x y front (sym all) (omega (arith, inv.0, some)) read sought
-
-    pub found : true ≡ (eqb x.0 y.0 && eqb x.1 y.1) → true ≡ has (key_at s a b) (length (pairs s))
-    found h = sym (has_at (key_at s a b) (length (pairs s)) i (omega (arith, inv.0, count, some)) (seen ∙ sym h))
-
-    pub further : false ≡ (eqb x.0 y.0 && eqb x.1 y.1) → Passed chains s a b (get_or nexts (e - 1) 0)
-    further h =
-        let here : e ≡ i + 1 = omega (arith, some) in
-        let low : has (key_at s a b) i ≡ has (key_at s a b) e =
-        fewer (key_at s a b) i e (omega arith) (λ j u v. let z : j ≡ i = omega (arith, u, v) in ap (key_at s a b) z ∙ seen ∙ sym h) in
-        step i (omega (arith, inv.0, some)) (low ∙ inv.1) (get_or nexts i 0)
-        (is.next i (omega (arith, inv.0, count, some)) ∙ ap (λ (d : ℕ). last_below (on_chain chains (pairs s) d) i) (inv.2 i here))
-
-  -- the walk comes to an earlier edge
-  pub falls : (e : ℕ) → Passed chains s a b e → 0 < e → get_or nexts (e - 1) 0 < e
-  falls e inv some =
-      omega (arith, some, is.next (e - 1) (omega (arith, inv.0, count, some)), last_le (on_chain chains (pairs s) (edge_chain chains (edge_at (pairs s) (e - 1)))) (e - 1))
-
-  pub none : (e : ℕ) → e ≤ 0 → Passed chains s a b e → false ≡ has (key_at s a b) (length (pairs s))
-  unfolding first seek
-  none e l inv =
-      let z : 0 ≡ e = omega (arith, l) in
-      ap (has (key_at s a b)) z ∙ inv.1
+  -- so a search along it finds what a search of all would
+  pub search_chain : (n : ℕ) → list_any (λ e. same_key e f) (its_edges n) ≡ has has_its_key n
+  unfolding edges_below first seek
+  search_chain zero = refl
+  search_chain (suc n) = go (its_chain n) refl (search_chain n)
+    where
+      go : (t : Bool) → its_chain n ≡ t → list_any (λ e. same_key e f) (its_edges n) ≡ has has_its_key n
+          → list_any (λ e. same_key e f) (its_edges (suc n)) ≡ has has_its_key (suc n)
+      go true e ih = ap (list_any (λ e. same_key e f)) (one_on h es (edge_chain h f) n e) ∙ ap (λ (t : Bool). has_its_key n || t) ih ∙ has_more n
+      go false e ih =
+          ap (list_any (λ e. same_key e f)) (passed h es (edge_chain h f) n e) ∙ ih ∙ ap (λ (t : Bool). t || has has_its_key n) (sym (off_chain n e)) ∙ has_more n

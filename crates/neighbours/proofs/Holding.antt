@@ -12,7 +12,7 @@ use Rattle.lists.specs.Regions.{front, zeros}
 use Rattle.lists.specs.Runs.{runs}
 use Rattle.lists.proofs.Regions.{front_take, front_store, front_front, take_front_of}
 use Rattle.corners.specs.Corners.{corner_after, next_corner}
-use Rattle.cutting.specs.Edges.{Edge, ring}
+use Rattle.cutting.specs.Edges.{Edge, edge_at, same_key, ring}
 use Rattle.cutting.specs.Lent.{pairs, flat_edges}
 use Rattle.cutting.proofs.Pairs.{pairs_length, ends_length, pairs_ends}
 use Rattle.entry.specs.Mesh.{mesh, Rising}
@@ -24,7 +24,7 @@ use Rattle.neighbours.specs.declared.EdgeLists.{EdgeLists}
 use Rattle.neighbours.specs.Chains.{Chained}
 use Rattle.neighbours.specs.Held.{edges_in, Room, SameLists, Holds, cells_added}
 use Rattle.neighbours.proofs.Edges.{length_added, length_added_all, ends_snoc, ends_pairs, corner_count, corner_count_more, fewer_corners, all_added}
-use Rattle.neighbours.proofs.Chains.{key_at, chained_none, chained_more}
+use Rattle.neighbours.proofs.Chains.{chained_none, chained_more}
 
 -- ---- the edges that a list holds
 
@@ -74,12 +74,12 @@ module _ (l : EdgeLists) (a b : ℕ) where
   pub linked_yet : (v : ℕ) → l.count ≤ length (set l.nexts.now l.count v)
   linked_yet v = omega (arith, length-set l.nexts.now l.count v, l.linked)
 
-  pub hit : has (key_at (take (2 * l.count) l.edges.now) a b) (length (edges_in l)) ≡ true → Holds (added (edges_in l) (a, b)) l l
+  pub hit : has (λ i. same_key (edge_at es i) (a, b)) (length es) ≡ true → Holds (added (edges_in l) (a, b)) l l
   unfolding added
   hit t = rw t (as_it_stands l)
 
   -- it is written behind the others
-  module _ (room : Room 1 l) (miss : has (key_at (take (2 * l.count) l.edges.now) a b) (length (edges_in l)) ≡ false) (edges : List ℕ)
+  module _ (room : Room 1 l) (miss : has (λ i. same_key (edge_at es i) (a, b)) (length es) ≡ false) (edges : List ℕ)
       (e : edges ≡ set (set l.edges.now (2 * l.count) a) (2 * l.count + 1) b) where
     abbrev ys : List ℕ
     ys = take (2 * l.count) l.edges.now

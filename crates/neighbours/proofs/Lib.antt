@@ -1,3 +1,4 @@
 pub mod Edges
 pub mod Chains
 pub mod Holding
+pub mod Walk

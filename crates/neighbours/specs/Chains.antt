@@ -1,5 +1,5 @@
 -- Edges on chains by the smaller node of their keys: those with one key are on one chain. Assumes nothing.
-use Rattle.std.specs.Prelude.{◌≡◌, Bool, true, false, List, ℕ, zero, suc, ◌<◌, eqb, length, get_or}
+use Rattle.std.specs.Prelude.{◌≡◌, Bool, true, false, List, [], ◌∷◌, ℕ, zero, suc, ◌<◌, eqb, length, get_or}
 use Rattle.cutting.specs.Edges.{Edge, edge_at}
 use Rattle.keys.specs.Chains.{edge_chain}
 
@@ -10,6 +10,11 @@ last_below p (suc n) = elim (p n) [ true ↦ suc n | false ↦ last_below p n ]
 
 abbrev pub on_chain : ℕ → List Edge → ℕ → ℕ → Bool
 on_chain h es c i = eqb (edge_chain h (edge_at es i)) c
+
+-- of the first n edges those on chain c, from the last to the first
+unfoldable pub edges_below : ℕ → List Edge → ℕ → ℕ → List Edge
+edges_below h es c zero = []
+edges_below h es c (suc n) = elim (on_chain h es c n) [ true ↦ edge_at es n ∷ edges_below h es c n | false ↦ edges_below h es c n ]
 
 -- two lists hold the chains of edges: for each chain 1 + its last edge, and for each edge 1 + the one before it on its chain; 0 for none
 pub record Chained (es : List Edge) (heads nexts : List ℕ) : Type 0 where

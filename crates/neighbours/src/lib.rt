@@ -31,27 +31,44 @@ struct EdgeLists<'a> {
     ghost linked: { count ≤ length nexts.now },
 }
 
+// The edges on one chain that are still to come, from the last to the first. `at` is a link, as in the lists.
+#[derive(Drop)]
+struct Chain<'b, 'a> {
+    lists: &'b EdgeLists<'a>,
+    at: usize,
+    ghost within: { at ≤ lists.now.count },
+}
+
 impl<'a> EdgeLists<'a> {
     ghost use Rattle.neighbours.specs.Held.{edges_in, Room, Holds};
+    ghost use Rattle.neighbours.specs.Chain.{on_key_chain, chain_left};
 
-    // Whether some edge has the key of the edge a, b: those on its chain are looked at, from the last to the first.
-    #[tactic(auto, using(crate::proofs::Chains::falls, crate::proofs::Chains::none))]
+    // Edge i.
+    #[tactic(auto, using(crate::proofs::Walk::edge_read))]
+    fn edge(&self, i: usize) -> (u32, u32)
+        requires { i < self.now.count }
+        ensures { result ≡ edge_at (edges_in self.now) i }
+    {
+        (self.edges[2 * i], self.edges[2 * i + 1])
+    }
+
+    // The edges on the key's chain: no others have the key.
+    #[tactic(auto, using(crate::proofs::Walk::starts_within, crate::proofs::Walk::starts_with_all))]
+    fn chain(&self, key: SortedKey) -> Chain<'_, 'a>
+        ensures { chain_left result ≡ on_key_chain self.now key }
+    {
+        Chain {
+            lists: self,
+            at: self.heads[key.chain(self.heads.len())] as usize,
+        }
+    }
+
+    // Whether some edge has the key of the edge a, b.
     fn has_key(&self, a: u32, b: u32) -> bool
         ensures { result ≡ has (λ i. same_key (edge_at (edges_in self.now) i) (a, b)) (length (edges_in self.now)) }
     {
         let key = SortedKey::new(a, b);
-        let pairs = self.edges[..2 * self.count].as_chunks::<2>().0;
-        let mut e = self.heads[key.chain(self.heads.len())] as usize;
-        // along a chain of lent numbers: no index is counted
-        while 0 < e {
-            let i = e - 1;
-            let [x, y] = pairs[i];
-            if SortedKey::new(x, y) == key {
-                return true;
-            }
-            e = self.nexts[i] as usize;
-        }
-        false
+        self.chain(key).any(|(x, y)| SortedKey::new(x, y) == key)
     }
 
     // Adds the edge a, b, unless one has its key.
@@ -94,6 +111,24 @@ impl<'a> EdgeLists<'a> {
         for cell in Runs::new(nodes, cells) {
             self.add_cell(cell);
         }
+    }
+}
+
+impl<'b, 'a> Iterator for Chain<'b, 'a> {
+    ghost use Rattle.std.specs.Iterator.{YieldsFirst, item_count};
+    ghost use Rattle.neighbours.specs.Chain.{chain_left};
+
+    type Item = (u32, u32);
+
+    ghost next_gives = { YieldsFirst chain_left };
+
+    ghost remaining = { item_count chain_left };
+
+    #[tactic(auto, using(crate::proofs::Walk::link_within, crate::proofs::Walk::one_given), unfolding(crate::specs::Chains::edges_below))]
+    fn next(&mut self) -> Option<(u32, u32)> {
+        let i = self.at.checked_sub(1)?;
+        self.at = self.lists.nexts[i] as usize;
+        Some(self.lists.edge(i))
     }
 }
 
