@@ -1,109 +1,130 @@
 -- The things on one chain, one after the other. Assumes nothing.
-use mathlib.Core.Path.{◌≡◌, sym, ap, ap₂, ◌∙◌}
-use mathlib.Core.Bool.{Bool, false, cond}
-use mathlib.Core.List.{List, [], ◌∷◌, ◌++◌, append-nil}
+use mathlib.Core.Path.{◌≡◌, refl, sym, ap, ◌∙◌}
+use mathlib.Core.Bool.{Bool, true, false, cond}
+use mathlib.Core.List.{List, [], ◌∷◌, ◌++◌, append_assoc}
 use Prim.Native.Nat.{ℕ, zero, suc, ◌+◌, ◌-◌, ◌≤◌, ◌<◌}
-use native.Mathlib.Nat.{le_antisymm, min-le_right}
+use native.Mathlib.Nat.{min-le_right}
+use native.Mathlib.Decide.{dec_lt}
 use native.Mathlib.Omega.{arith}
-use lib.ListN.{length, get_or, take, length-take}
+use lib.ListN.{length, get_or, take, length-take, length-append}
 use borrow.Author.Tests.{eq-eqb, eqb-true}
-use Rattle.lists.specs.Search.{first}
+use Rattle.std.proofs.lemmas.List.{get_or_at}
+use Rattle.lists.specs.Search.{seek, first}
 use Rattle.lists.specs.Gather.{gathered, places}
-use Rattle.lists.proofs.Search.{first_hit, first_none, first_le, first_from_lem}
-use Rattle.lists.proofs.Gather.{gathered_more, places_more}
+use Rattle.lists.proofs.Search.{first_hit}
+use Rattle.lists.proofs.Gather.{gathered_more, places_at}
+use Rattle.spatial_index.specs.Candidates.{places_among, places_from}
+use Rattle.spatial_index.proofs.Candidates.{places_from_lem}
 use Rattle.strips.specs.declared.gathering.Search.{Search}
 use Rattle.strips.specs.Index.{on_chain}
-use Rattle.strips.specs.Search.{wanted, chain, chain_of, count}
+use Rattle.strips.specs.Search.{chain, chain_of, count}
 use Rattle.strips.specs.Meeting.{FrontIs}
 use Rattle.strips.specs.Gathering.{Risen, with_thing, with_things}
 use Rattle.strips.proofs.Gathered.{Holds, holds_none, holds_more, holds_risen, one_thing}
 
--- numbers that fail add nothing
-none_more : (p : ℕ → Bool) (j k : ℕ) → ((i : ℕ) → k ≤ i → i < j + k → p i ≡ false) → places p (j + k) ≡ places p k
-none_more p zero k none = let z : 0 + k ≡ k = omega arith in ap (places p) z
-none_more p (suc j) k none =
-    let z : suc j + k ≡ j + k + 1 = omega arith in
-    ap (places p) z ∙ places_more (j + k) p ∙ ap₂ (λ (xs : List ℕ) (t : Bool). xs ++ cond t ((j + k) ∷ []) []) (none_more p j k (λ i a b. none i a (omega arith)))
-    (none (j + k) (omega arith) (omega arith)) ∙ append-nil (places p k)
+-- ---- along a chain
 
--- up to the next one that passes
-skipped : (p : ℕ → Bool) (k n : ℕ) → k ≤ n → places p (first p k n) ≡ places p k
-skipped p k n l =
-    let q : ℕ = first p k n in
-    let a : k ≤ q = first_from_lem p k n in
-    let b : q ≤ n = first_le p k n l in
-    let z : q - k + k ≡ q = omega (arith, a) in
-    ap (places p) (sym z) ∙ none_more p (q - k) k (λ i c d. first_none p k n i c (omega (arith, b, z)) (omega (arith, z)))
+module _ (p : ℕ → Bool) where
+  -- numbers that fail are passed over
+  among_first : (k m : ℕ) → places_among p k m ≡ places_among p (seek p k m) (k + m - seek p k m)
+  unfolding places_among seek
+  among_first k zero = let z : k + 0 - k ≡ 0 = omega arith in rw z refl
+  among_first k (suc m) = go (p k) refl (among_first (suc k) m)
+    where
+      go : (t : Bool) → p k ≡ t → places_among p (suc k) m ≡ places_among p (seek p (suc k) m) (suc k + m - seek p (suc k) m)
+          → (let q : ℕ = elim t [ true ↦ k | false ↦ seek p (suc k) m ] in places_among p k (suc m) ≡ places_among p q (k + suc m - q))
+      go true e ih = let z : suc m ≡ k + suc m - k = omega arith in ap (places_among p k) z
+      go false e ih =
+          let q : ℕ = seek p (suc k) m in
+          let z : suc k + m - q ≡ k + suc m - q = omega arith in
+          ap (λ (t : Bool). cond t (k ∷ []) [] ++ places_among p (suc k) m) e ∙ ih ∙ ap (places_among p q) z
 
--- the walk along chain c has come to thing j, or to the end; the wanted things before j have been put in
-pub record Walking (g : Search) (c k : ℕ) (found₀ : List ℕ) (j r : ℕ) (found : List ℕ) : Type 0 where
-  pub low : j ≤ count g
-  pub here : j < count g → chain_of g j ≡ c
+  none_left : (k n : ℕ) → n ≤ k → places_from p k n ≡ []
+  unfolding places_among
+  none_left k n h = let z : n - k ≡ 0 = omega arith in ap (places_among p k) z
+
+  from_next : (k n : ℕ) → k ≤ n → places_from p (first p k n) n ≡ places_from p k n
+  unfolding first
+  from_next k n h = let z : k + (n - k) ≡ n = omega arith in sym (among_first k (n - k) ∙ ap (λ (m : ℕ). places_among p (seek p k (n - k)) (m - seek p k (n - k))) z)
+
+  from_here : (k n : ℕ) → k < n → p k ≡ true → places_from p k n ≡ k ∷ places_from p (k + 1) n
+  unfolding places_among
+  from_here k n h e =
+      let z : n - k ≡ suc (n - (k + 1)) = omega arith in
+      let one : suc k ≡ k + 1 = omega arith in
+      ap (places_among p k) z ∙ ap (λ (t : Bool). cond t (k ∷ []) [] ++ places_among p (suc k) (n - (k + 1))) e ∙ ap (λ (i : ℕ). k ∷ places_among p i (n - (k + 1))) one
+
+-- n things are on chains by f
+module _ (f : ℕ → ℕ) (n : ℕ) where
+  -- those from thing `at` on that are on its chain
+  abbrev from : ℕ → List ℕ
+  from at = places_from (on_chain f (f at)) at n
+
+  -- the walk from the first thing on a chain is along that chain
+  from_first : (c k at : ℕ) → k ≤ n → at ≡ first (on_chain f c) k n → from at ≡ places_from (on_chain f c) k n
+  from_first c k at l e = go (dec_lt at n) ∙ ap (λ (i : ℕ). places_from (on_chain f c) i n) e ∙ from_next (on_chain f c) k n l
+    where
+      go : Dec (at < n) → from at ≡ places_from (on_chain f c) at n
+      go (yes b) = ap (λ (d : ℕ). places_from (on_chain f d) at n) (ap f e ∙ eqb-true (f (first (on_chain f c) k n)) c (first_hit (on_chain f c) k n (omega (arith, b, e))))
+      go (no b) = none_left (on_chain f (f at)) at n (omega (arith, b)) ∙ sym (none_left (on_chain f c) at n (omega (arith, b)))
+
+module _ (g : Search) where
+  abbrev left : ℕ → List ℕ
+  left at = places_from (on_chain (chain_of g) (chain_of g at)) at (count g)
+
+  pub starts : (c : ℕ) → c < length g.heads.now → left (get_or g.heads.now c 0) ≡ chain g c
+  starts c h = from_first (chain_of g) (count g) c 0 (get_or g.heads.now c 0) (omega arith) (g.chained.head c h) ∙ places_from_lem (on_chain (chain_of g) c) (count g)
+
+  pub one_given : (j : ℕ) → j < length g.nexts.now → left j ≡ j ∷ left (get_or g.nexts.now j 0)
+  one_given j h =
+      let f : ℕ → ℕ = chain_of g in
+      let low : j < count g = omega (arith, h, g.chained.long) in
+      from_here (on_chain f (f j)) j (count g) low (eq-eqb (f j) (f j) refl)
+      ∙ ap (λ (js : List ℕ). j ∷ js) (sym (from_first f (count g) (f j) (j + 1) (get_or g.nexts.now j 0) (omega (arith, low)) (g.chained.next j low)))
+
+  pub at_end : (j : ℕ) → length g.nexts.now ≤ j → left j ≡ []
+  at_end j h = none_left (on_chain (chain_of g) (chain_of g j)) j (count g) (omega (arith, h, g.chained.long))
+
+-- ---- things put in one after the other
+
+-- of the things `all`, put in where they pass, those on the left are still to come
+pub record Putting (p : ℕ → Bool) (all : List ℕ) (k : ℕ) (found₀ : List ℕ) (left : List ℕ) (r : ℕ) (found : List ℕ) : Type 0 where
+  pub gone : List ℕ
+  pub whole : gone ++ left ≡ all
   pub risen : Risen k found₀
-  pub holds : Holds (wanted g) (take k found₀) (places (on_chain (chain_of g) c) j) found₀ r found
+  pub holds : Holds p (take k found₀) gone found₀ r found
 
-module _ (g : Search) (c : ℕ) where
-  abbrev n : ℕ
-  n = count g
+module _ (p : ℕ → Bool) (all : List ℕ) (k : ℕ) (found₀ : List ℕ) where
+  pub putting_start : (left : List ℕ) → left ≡ all → Risen k found₀ → Putting p all k found₀ left k found₀
+  putting_start left e risen = record { gone = []; whole = e; risen = risen; holds = holds_none p found₀ k risen.fits }
 
-  abbrev on : ℕ → Bool
-  on = on_chain (chain_of g) c
+  module _ (left : List ℕ) (r : ℕ) (found : List ℕ) (inv : Putting p all k found₀ left r found) where
+    pub putting_risen : Risen r found
+    putting_risen = holds_risen p (take k found₀) inv.gone found₀ found r inv.holds inv.risen.rises
 
-  found_at : (k : ℕ) → k ≤ n → (first on k n ≤ n) × (first on k n < n → chain_of g (first on k n) ≡ c)
-  found_at k l = (first_le on k n l, λ b. eqb-true (chain_of g (first on k n)) c (first_hit on k n b))
-
-  module _ (k : ℕ) (found₀ : List ℕ) where
-    pub walk_start : c < length g.heads.now → Risen k found₀ → Walking g c k found₀ (get_or g.heads.now c 0) k found₀
-    unfolding gathered
-    walk_start h risen =
-        let e : get_or g.heads.now c 0 ≡ first on 0 n = g.chained.head c h in
-        let at = found_at 0 (omega arith) in
-        let none : places on (get_or g.heads.now c 0) ≡ [] = ap (places on) e ∙ skipped on 0 n (omega arith) in
+    pub putting_turn : (j : ℕ) (rest : List ℕ) → left ≡ j ∷ rest → (q : ℕ) (found' : List ℕ) → FrontIs (with_thing (length found) p (take r found) j) found q found'
+        → Putting p all k found₀ rest q found'
+    putting_turn j rest e q found' put =
+        let one : FrontIs (with_things (length found) p (take r found) (j ∷ [])) found q found' = rw (sym (one_thing (length found) p (take r found) j)) put in
         record {
-          low = omega (arith, e, at.0);
-          here = λ l. ap (chain_of g) e ∙ at.1 (omega (arith, e));
-          risen = risen;
-          holds = rw none (holds_none (wanted g) found₀ k risen.fits);
+          gone = inv.gone ++ j ∷ [];
+          whole = append_assoc inv.gone (j ∷ []) rest ∙ ap (λ (js : List ℕ). inv.gone ++ js) (sym e) ∙ inv.whole;
+          risen = inv.risen;
+          holds = holds_more p (take k found₀) inv.gone found₀ found r inv.holds (j ∷ []) found' q short one;
         }
+      where
+        short : length (take k found₀) ≤ length found₀
+        short = omega (arith, length-take k found₀, min-le_right k (length found₀))
 
-    module _ (j r : ℕ) (found : List ℕ) (inv : Walking g c k found₀ j r found) where
-      pub walk_asks : j < length g.nexts.now → (j < count g) × Risen r found
-      walk_asks h = (omega (arith, h, g.chained.long), holds_risen (wanted g) (take k found₀) (places on j) found₀ found r inv.holds inv.risen.rises)
-
-      module _ (h : j < length g.nexts.now) where
-        below : j < n
-        below = omega (arith, h, g.chained.long)
-
-        next_is : get_or g.nexts.now j 0 ≡ first on (j + 1) n
-        next_is = g.chained.next j below ∙ ap (λ (d : ℕ). first (on_chain (chain_of g) d) (j + 1) n) (inv.here below)
-
-        -- the next one comes behind it
-        pub walk_on : length g.nexts.now - get_or g.nexts.now j 0 < length g.nexts.now - j
-        walk_on = omega (arith, h, next_is, first_from_lem on (j + 1) n)
-
-        pub walk_turn : (q : ℕ) (found' : List ℕ) → FrontIs (with_thing (length found) (wanted g) (take r found) j) found q found'
-            → Walking g c k found₀ (get_or g.nexts.now j 0) q found'
-        walk_turn q found' put =
-            let next : ℕ = get_or g.nexts.now j 0 in
-            let at = found_at (j + 1) (omega (arith, below)) in
-            let one : FrontIs (with_things (length found) (wanted g) (take r found) (j ∷ [])) found q found' = rw (sym (one_thing (length found) (wanted g) (take r found) j)) put in
-            let more : places on next ≡ places on j ++ j ∷ [] =
-            ap (places on) next_is ∙ skipped on (j + 1) n (omega (arith, below)) ∙ places_more j on
-            ∙ ap (λ (t : Bool). places on j ++ cond t (j ∷ []) []) (eq-eqb (chain_of g j) c (inv.here below)) in
-            record {
-              low = omega (arith, next_is, at.0);
-              here = λ l. ap (chain_of g) next_is ∙ at.1 (omega (arith, next_is));
-              risen = inv.risen;
-              holds = rw more (holds_more (wanted g) (take k found₀) (places on j) found₀ found r inv.holds (j ∷ []) found' q short one);
-            }
-          where
-            short : length (take k found₀) ≤ length found₀
-            short = omega (arith, length-take k found₀, min-le_right k (length found₀))
-
-      pub walk_end : length g.nexts.now ≤ j → FrontIs (with_things (length found₀) (wanted g) (take k found₀) (chain g c)) found₀ r found
-      walk_end h =
-          let z : n ≡ j = le_antisymm {n = n} {m = j} (omega (arith, h, g.chained.long)) inv.low in
-          rw z inv.holds
+-- the next one on a chain is a thing
+module _ (p on : ℕ → Bool) (n k : ℕ) (found₀ left : List ℕ) (r : ℕ) (found : List ℕ) (inv : Putting p (places on n) k found₀ left r found) where
+  pub next_low : (j : ℕ) (rest : List ℕ) → left ≡ j ∷ rest → j < n
+  next_low j rest e =
+      let at : ℕ = length inv.gone in
+      let whole : inv.gone ++ j ∷ rest ≡ places on n = ap (λ (js : List ℕ). inv.gone ++ js) (sym e) ∙ inv.whole in
+      let low : at < length (places on n) = omega (arith, ap length whole, length-append inv.gone (j ∷ rest)) in
+      let is : get_or (places on n) at 0 ≡ j = ap (λ (js : List ℕ). get_or js at 0) (sym whole) ∙ get_or_at inv.gone j rest 0 at refl in
+      omega (arith, is, (places_at on n at low).0)
 
 -- ---- rows and levels: lists of things one after the other
 

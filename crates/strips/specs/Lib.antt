@@ -6,3 +6,4 @@ pub mod Gathering
 pub mod Lent
 pub mod Search
 pub mod Near
+pub mod Chain

@@ -31,6 +31,13 @@ struct Search<'a> {
     ghost chained: { Chains things.coords.now things.nodes.now things.ends.now heads.now nexts.now },
 }
 
+// The things on one chain that are still to come, rising: the next is `at`, and none where that is the number of things.
+#[derive(Drop)]
+struct Chain<'b, 'a> {
+    search: &'b Search<'a>,
+    at: usize,
+}
+
 // Puts v among the first k, which rise, unless it is there. Answers how many there are then; in a full list the last one goes.
 // List and count are no struct: in one of a `&mut` and a count each contract would have to say that it is the same list still, so that the caller knows what
 // its own comes to hold; here each says that the first k rise, and that is no longer.
@@ -53,6 +60,7 @@ fn put_rising(found: &mut [u32], k: usize, v: u32) -> usize
 
 impl<'a> Search<'a> {
     ghost use Rattle.strips.specs.Search.{wanted, chain, row, level, levels, count};
+    ghost use Rattle.strips.specs.Chain.{chain_left};
 
     // Whether thing j is no lower than `from` and its box meets the box looked for.
     fn wants(&self, j: usize) -> bool
@@ -74,18 +82,26 @@ impl<'a> Search<'a> {
         k
     }
 
-    // Those on chain c. The links are numbers in the caller's list: fixed memory, no heap.
-    #[tactic(auto, using(crate::proofs::Walk::walk_end))]
+    // The things on chain c.
+    #[tactic(auto, using(crate::proofs::Walk::starts))]
+    fn chain(&self, c: usize) -> Chain<'_, 'a>
+        requires { c < length self.now.heads.now }
+        ensures { chain_left result ≡ chain self.now c }
+    {
+        Chain {
+            search: self,
+            at: self.heads[c] as usize,
+        }
+    }
+
+    // Those on chain c.
     fn gather_chain(&self, c: usize, found: &mut [u32], k: usize) -> usize
         requires { (c < length self.now.heads.now) × Risen k found.old }
         ensures { FrontIs (with_things (length found.old) (wanted self.now) (take k found.old) (chain self.now c)) found.old result found.new }
     {
-        let nexts = self.nexts;
         let mut r = k;
-        let mut j = self.heads[c] as usize;
-        while j < nexts.len() {
+        for j in self.chain(c) {
             r = self.gather_thing(j, found, r);
-            j = nexts[j] as usize;
         }
         r
     }
@@ -103,7 +119,7 @@ impl<'a> Search<'a> {
         r
     }
 
-    // Those on the chains of all squares of a level, by the row's number.
+    // Those on the chains of all squares of a level. By the row's number: rows are no list either.
     fn gather_level(&self, s: Span, found: &mut [u32], k: usize) -> usize
         requires { Small s × Risen k found.old }
         ensures { FrontIs (with_things (length found.old) (wanted self.now) (take k found.old) (level self.now s)) found.old result found.new }
@@ -115,7 +131,7 @@ impl<'a> Search<'a> {
         r
     }
 
-    // Those on the chains of all levels, the first `most` of them; the span is halved from one to the next.
+    // Those on the chains of all levels, the first `most` of them; the span is halved from one to the next. The loop only counts: levels are no list either.
     #[tactic(auto, using(crate::proofs::Rows::levels_start, crate::proofs::Rows::levels_turn))]
     fn gather_levels(&self, first: Span, most: usize, found: &mut [u32]) -> usize
         requires { Small first × (first.level ≡ 0) × (most ≤ 513) }
@@ -128,6 +144,24 @@ impl<'a> Search<'a> {
             s = s.halved();
         }
         r
+    }
+}
+
+impl<'b, 'a> Iterator for Chain<'b, 'a> {
+    ghost use Rattle.std.specs.Iterator.{YieldsFirst, item_count};
+    ghost use Rattle.strips.specs.Chain.{chain_left};
+
+    type Item = usize;
+
+    ghost next_gives = { YieldsFirst chain_left };
+
+    ghost remaining = { item_count chain_left };
+
+    #[tactic(auto, using(crate::proofs::Walk::one_given, crate::proofs::Walk::at_end))]
+    fn next(&mut self) -> Option<usize> {
+        let j = self.at;
+        self.at = *self.search.nexts.get(j)? as usize;
+        Some(j)
     }
 }
 
