@@ -3,7 +3,7 @@
 
 // A slot of a table, at the node `src`: a neighbour, and a mark, set where the slot may not be walked any more. The mark
 // stands beside the nodes, which a marked slot has too.
-#[derive(Clone, Copy, Debug, PartialEq, Eq)]
+#[derive(Clone, Copy, Debug, Default, PartialEq, Eq)]
 pub struct Slot {
     pub src: u32,
     pub dst: u32,

@@ -5,7 +5,7 @@ use mathlib.Core.List.{List, [], ◌∷◌, ◌++◌, map, append-nil, append_as
 use Prim.Native.Nat.{ℕ, ◌+◌, ◌*◌, ◌-◌, ◌≤◌, ◌<◌}
 use native.Mathlib.Omega.{arith}
 use lib.Dec.{eqb}
-use lib.ListN.{length, get_or, set, take, drop, length-append, length-set, length-map}
+use lib.ListN.{length, get_or, take, drop, length-append, length-map}
 use lib.Ieee.{Float}
 use borrow.Author.Tests.{eq-eqb, ne_eqb, lt-ltb, le-ltb, ltb-true, ltb-false}
 use Rattle.std.proofs.Common.{Result, Ok, Err, is_err}
@@ -21,7 +21,6 @@ use Rattle.cutting.specs.Lent.{flat_edges}
 use Rattle.dart_table.specs.Table.{Darts, darts, Table, full, table_in, with_darts, with_edge, with_edges, outline_with}
 use Rattle.cutting.proofs.CellLaws.{slots_append, slots_length}
 use Rattle.cutting.proofs.Pairs.{windows_length, ends_length, ends_append}
-use Rattle.cutting.proofs.Runs.{take_push}
 
 -- ---- along a list of nodes
 
@@ -52,13 +51,6 @@ unfolding darts_along
 darts_length second ns h = omega (arith, length-map (windows ns) (reversed_if (eqb second (get_or ns 0 0))), windows_count ns h)
 
 -- ---- an own edge's darts, as they are added one after the other
-
--- two entries written behind the first n of a list
-pub two_behind : (w : List ℕ) (n a b : ℕ) → n + 2 ≤ length w → take (n + 2) (set (set w n a) (n + 1) b) ≡ take n w ++ a ∷ b ∷ []
-two_behind w n a b h =
-    let next : n + 2 ≡ n + 1 + 1 = omega arith in
-    ap (λ (k : ℕ). take k (set (set w n a) (n + 1) b)) next ∙ take_push (set w n a) (n + 1) b (omega (arith, length-set w n a))
-    ∙ ap (λ (l : List ℕ). l ++ b ∷ []) (take_push w n a (omega arith)) ∙ append_assoc (take n w) (a ∷ []) (b ∷ [])
 
 -- `rest` are the nodes from the last that was reached on
 pub record Laying (coords : List Float) (inv : Bool) (nodes : List ℕ) (d₀ : Darts) (rest : List ℕ) (d : Darts) : Type 0 where
@@ -100,16 +92,15 @@ module _ (coords : List Float) (inv : Bool) (nodes : List ℕ) (d₀ : Darts) wh
       module _ (e : Edge) (ee : e ≡ reversed_if inv (get_or w 0 0, get_or w 1 0)) (d' : Darts)
           (added : d' ≡ darts (sort_onto (stands_before coords) d.slots (edge_slots reverse_mark (e ∷ []))) d.outline) where
         -- and in the outline
-        pub lay_fits : length d₀.outline ≤ length d₀.slots → length d'.outline + 2 ≤ length d'.slots
-        lay_fits short = omega (
-          arith,
-          ap (λ (x : Darts). length x.slots) added,
-          ap (λ (x : Darts). length x.outline) added,
-          length_sort_onto (stands_before coords) d.slots (edge_slots reverse_mark (e ∷ [])),
-          slots_length reverse_mark (e ∷ []),
-          count,
-          entries,
-        )
+        pub lay_fits : length d₀.outline ≤ length d₀.slots → length d₀.slots + 2 * length nodes ≤ 1026 → (length d'.outline + 2 ≤ length d'.slots) × (length d'.slots ≤ 1024)
+        lay_fits short few =
+            let slots : length d'.slots ≡ length d.slots + 2 = omega (
+              arith,
+              ap (λ (x : Darts). length x.slots) added,
+              length_sort_onto (stands_before coords) d.slots (edge_slots reverse_mark (e ∷ [])),
+              slots_length reverse_mark (e ∷ []),
+            ) in
+            (omega (arith, slots, ap (λ (x : Darts). length x.outline) added, count, entries), omega (arith, slots, lay_room few))
 
         pub lay_turn : (d'' : Darts) → d'' ≡ darts d'.slots (d'.outline ++ e.0 ∷ e.1 ∷ []) → Laying coords inv nodes d₀ (drop 1 rest) d''
         unfolding flat_edges joined

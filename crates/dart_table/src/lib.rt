@@ -10,6 +10,7 @@ ghost use Rattle.cutting.specs.Lent.{flat_edges};
 ghost use Rattle.refusals.specs.declared.Refusal.TheVariants.{FullTable};
 ghost use Rattle.dart_table.specs.Table.{Darts, darts, table_in, with_darts, with_edge, with_edges, outline_with};
 
+use arrayvec::ArrayVec;
 use cutting::Slot;
 use keys::SortedKey;
 use refusals::Refusal;
@@ -65,39 +66,29 @@ impl From<Full> for Refusal {
     }
 }
 
-// A table of at most 1,024 slots, and the darts of the cell's outline as a flat list of pairs, each of which has two slots: seen as the two lists. Memory is
-// fixed, so they are arrays and counts, as edge_nodes' `Nodes` and dart_walk's `Heap` are of other elements, each in its own order. Coordinates come with
-// each call: as a field they would be no part of what the table is seen as.
+// A table of at most 1,024 slots, and the darts of the cell's outline as a flat list of pairs, each of which has two slots: seen as the two lists.
+// Coordinates come with each call: as a field they would be no part of what the table is seen as.
 #[derive(Drop)]
 pub struct DartTable {
-    slots: [Slot; 1024],
-    count: usize,
-    outline: [u32; 1024],
-    entries: usize,
+    slots: ArrayVec<Slot, 1024>,
+    outline: ArrayVec<u32, 1024>,
 }
 
 impl Model for DartTable {
     ghost Value = { Darts };
 
-    ghost view = { λ t. darts (take t.count t.slots) (take t.entries t.outline) };
+    ghost view = { λ t. darts t.slots.items t.outline.items };
 
-    ghost invariant = { λ t. (t.count ≤ 1024) × (t.entries ≤ t.count) };
+    ghost invariant = { λ t. length t.outline.items ≤ length t.slots.items };
 }
 
 impl DartTable {
     pub fn new() -> Self
         ensures { result ≡ darts [] [] }
     {
-        let none = Slot {
-            src: 0,
-            dst: 0,
-            marked: false,
-        };
         DartTable {
-            slots: [none; 1024],
-            count: 0,
-            outline: [0; 1024],
-            entries: 0,
+            slots: ArrayVec::new(),
+            outline: ArrayVec::new(),
         }
     }
 
@@ -106,24 +97,23 @@ impl DartTable {
         ensures few { length self.now.slots ≤ 1024 }
         ensures short { length self.now.outline ≤ length self.now.slots }
     {
-        &self.slots[..self.count]
+        self.slots.as_slice()
     }
 
     pub fn outline(&self) -> &[u32]
         ensures { result.now ≡ self.now.outline }
     {
-        &self.outline[..self.entries]
+        self.outline.as_slice()
     }
 
     // Puts a slot in its place.
+    #[tactic(auto, using(crate::proofs::Slots::put_among))]
     fn insert(&mut self, coords: &[f64], slot: Slot)
         requires { length self.old.slots < 1024 }
         ensures { self.new ≡ darts (insert (stands_before coords.now) slot self.old.slots) self.old.outline }
     {
-        let n = self.count;
-        let k = place(coords, &self.slots[..n], slot).unwrap_or(n);
-        lists::insert_at(&mut self.slots, n, k, slot);
-        self.count = n + 1;
+        let k = place(coords, self.slots.as_slice(), slot).unwrap_or(self.slots.len());
+        self.slots.insert(k, slot);
     }
 
     // Adds the slot from a to b, and the one from b to a, marked if `back` is true.
@@ -147,14 +137,12 @@ impl DartTable {
     }
 
     // Puts a dart behind the others of the outline.
-    #[tactic(auto, using(crate::proofs::Adds::two_behind))]
     fn outline_dart(&mut self, a: u32, b: u32)
-        requires { length self.old.outline + 2 ≤ length self.old.slots }
+        requires { (length self.old.outline + 2 ≤ length self.old.slots) × (length self.old.slots ≤ 1024) }
         ensures { self.new ≡ darts self.old.slots (self.old.outline ++ a ∷ b ∷ []) }
     {
-        self.outline[self.entries] = a;
-        self.outline[self.entries + 1] = b;
-        self.entries += 2;
+        self.outline.push(a);
+        self.outline.push(b);
     }
 
     // Adds the darts along the nodes, each the other way where `inv` is true, also to the outline.

@@ -30,7 +30,7 @@ outline_dart-requires c =
     let a = c.args in
     let l = c.loop-pair in
     let step = c.in-Some.ensures.steps.1 in
-    lay_fits a.coords.now a.inv a.nodes.now a.self.now _ l.self l.invariant.3 c.in-Some.pair.now l.invariant.2 step.0 step.1 _ c.turned-a.ensures _ c.add_dart.ensures c.requires.1
+    lay_fits a.coords.now a.inv a.nodes.now a.self.now _ l.self l.invariant.3 c.in-Some.pair.now l.invariant.2 step.0 step.1 _ c.turned-a.ensures _ c.add_dart.ensures c.requires.1 c.requires.0
 
 pub loop-pair-preserved : goal.loop-pair-preserved
 loop-pair-preserved c =
