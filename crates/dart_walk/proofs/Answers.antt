@@ -19,22 +19,20 @@ use Rattle.dart_walk.specs.declared.Counts.{Counts}
 
 -- ---- the walk of a copy of the slots t, from the heap that the outline's darts make
 
-module _ (t own : List Slot) (copied : own ≡ t) (outline none heap : List ℕ) (empty : none ≡ []) (filled : heap ≡ starts (length t) (srcs t) (dsts t) (pairs outline) none) where
+module _ (t own : List Slot) (copied : own ≡ t) (outline heap : List ℕ) (filled : heap ≡ starts (length t) (srcs t) (dsts t) (pairs outline) []) where
   pub room_for : (nodes stops₀ : List ℕ) → length t ≤ 1024 → length outline ≤ 2048 → length t ≤ length nodes → length t ≤ length stops₀ → Room (length own) heap nodes stops₀
   room_for nodes stops₀ small few corners stopped =
       let size = ap length copied in
       record {
         small = omega arith;
-        heaps = omega (arith, ap length filled, length_starts (length t) (srcs t) (dsts t) (pairs outline) none, ap length empty, pairs_length outline);
+        heaps = omega (arith, ap length filled, length_starts (length t) (srcs t) (dsts t) (pairs outline) [], pairs_length outline);
         corners = omega arith;
         stopped = omega arith;
       }
 
   same_walk : walk_from true (length own) (srcs own) (dsts own) (marks_of own) heap ≡ walk (pairs outline) t
   unfolding walk_with
-  same_walk =
-      let full = filled ∙ ap (starts (length t) (srcs t) (dsts t) (pairs outline)) empty in
-      λ u. walk_from true (length (copied u)) (srcs (copied u)) (dsts (copied u)) (marks_of (copied u)) (full u)
+  same_walk = λ u. walk_from true (length (copied u)) (srcs (copied u)) (dsts (copied u)) (marks_of (copied u)) (filled u)
 
   pub walked_as : (w : Result Counts Refusal) (nodes₀ stops₀ nodes stops' : List ℕ)
       → (by_number w ≡ answer (walked_from own heap)) × Written (walked_from own heap) nodes₀ stops₀ nodes stops'

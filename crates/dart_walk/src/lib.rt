@@ -1,18 +1,18 @@
 // The walk of a cell's table, which is seen as the list of its slots.
 #![tactic(auto)]
 
-ghost use Rattle.std.specs.Prelude.{◌≡◌, true, [], ◌∷◌, List, ℕ, ◌+◌, ◌*◌, ◌≤◌, ◌<◌, length, unwrap_or, IfSome, MatchOption};
+ghost use Rattle.std.specs.Prelude.{◌≡◌, true, [], ◌+◌, ◌≤◌, ◌<◌, length, reverse, unwrap_or, IfSome, MatchOption};
 ghost use Rattle.std.specs.List.{position};
 ghost use Rattle.cutting.specs.Walk.{opens_from, next_open, starts, walk, slot, srcs, dsts, marks_of};
 ghost use Rattle.cutting.specs.Outcome.{of_walk};
-ghost use Rattle.cutting.specs.Lent.{pairs, stacked};
+ghost use Rattle.cutting.specs.Lent.{pairs};
 ghost use Rattle.refusals.specs.Numbers.{by_number};
 ghost use Rattle.dart_walk.specs.Answer.{Followed, reverse_in, Room, Written, answer, walked_from, corners_in, ends_in};
 
+use arrayvec::ArrayVec;
 use cutting::Slot;
 use dart_table::find_slot;
 use refusals::Refusal;
-use std::marker::Model;
 
 // How many pieces a cell comes to, and corners in them.
 #[derive(Clone, Copy, Debug, PartialEq, Eq)]
@@ -48,95 +48,51 @@ fn next_open(slots: &[Slot], a: u32, r: usize) -> Option<usize>
         .or_else(|| if slots[r].marked { None } else { Some(r) })
 }
 
-// The slots that pieces may begin at, the one put on last first. At most 2,048: memory is fixed, so it is an array and a count. The definition's word.
-#[derive(Drop)]
-struct Heap {
-    slots: [u32; 2048],
-    count: usize,
-}
-
-impl Model for Heap {
-    ghost Value = { List ℕ };
-
-    ghost view = { λ h. stacked h.slots h.count };
-
-    ghost invariant = { λ h. h.count ≤ 2048 };
-}
-
-impl Heap {
-    #[tactic(auto, unfolding(cutting::specs::Lent::stacked))]
-    fn new() -> Self
-        ensures { result ≡ [] }
-    {
-        Heap {
-            slots: [0; 2048],
-            count: 0,
-        }
+// The heap that a walk begins with, its end first as the definition has it: the first slots of the outline's darts. The number of the slots stands for none,
+// as on the definition's heap, which is this list: a list of options would be another.
+#[tactic(auto, using(cutting::proofs::Chunks::chunked, crate::proofs::Heaps::slot_le))]
+fn starts(slots: &[Slot], outline: &[u32]) -> ArrayVec<u32, 2048>
+    requires { (length slots.now ≤ 1024) × (length outline.now ≤ 4096) }
+    ensures { reverse result.items ≡ starts (length slots.now) (srcs slots.now) (dsts slots.now) (pairs outline.now) [] }
+{
+    let mut heap = ArrayVec::new();
+    for dart in outline.as_chunks::<2>().0 {
+        let [a, b] = *dart;
+        heap.push(find(slots, a, b).unwrap_or(slots.len()) as u32);
     }
-
-    #[tactic(auto, using(crate::proofs::Heaps::heap_pushed, crate::proofs::Heaps::heap_fits))]
-    fn push(&mut self, slot: usize)
-        requires { (length self.old < 2048) × (slot ≤ 1024) }
-        ensures { self.new ≡ slot ∷ self.old }
-    {
-        self.slots[self.count] = slot as u32;
-        self.count += 1;
-    }
-
-    #[tactic(auto, using(crate::proofs::Heaps::stacked_pop), unfolding(cutting::specs::Lent::stacked))]
-    fn pop(&mut self) -> Option<usize>
-        ensures { MatchOption result (self.old ≡ []) (λ i. self.old ≡ i ∷ self.new) }
-    {
-        if self.count == 0 {
-            return None;
-        }
-        self.count -= 1;
-        Some(self.slots[self.count] as usize)
-    }
-
-    // Puts on the first slots of the outline's darts; the number of the slots stands for none, as on the definition's heap, which is this list: a list of
-    // options would be another.
-    #[tactic(auto, using(cutting::proofs::Chunks::chunked, crate::proofs::Heaps::slot_le, crate::proofs::Heaps::start_turn))]
-    fn fill(&mut self, slots: &[Slot], outline: &[u32])
-        requires { (length slots.now ≤ 1024) × (2 * length self.old + length outline.now ≤ 4096) }
-        ensures { self.new ≡ starts (length slots.now) (srcs slots.now) (dsts slots.now) (pairs outline.now) self.old }
-    {
-        for dart in outline.as_chunks::<2>().0 {
-            let [a, b] = *dart;
-            self.push(find(slots, a, b).unwrap_or(slots.len()));
-        }
-    }
+    heap
 }
 
 // Goes along slot i, which goes by its number, as on the heap: marks it, and puts its reverse onto the heap. Answers the node that it leads to, and the reverse.
 #[tactic(auto, using(crate::proofs::Slots::none_there))]
-fn follow(slots: &mut [Slot], heap: &mut Heap, i: usize) -> Option<(u32, usize)>
-    requires { (i < length slots.old) × (length slots.old ≤ 1024) × (length heap.old < 2048) }
-    ensures { MatchOption result (length slots.old ≤ reverse_in slots.old i) (λ p. Followed slots.old heap.old i slots.new heap.new p.0 p.1) }
+fn follow(slots: &mut [Slot], heap: &mut ArrayVec<u32, 2048>, i: usize) -> Option<(u32, usize)>
+    requires { (i < length slots.old) × (length slots.old ≤ 1024) × (length heap.old.items < 2048) }
+    ensures { MatchOption result (length slots.old ≤ reverse_in slots.old i)
+        (λ p. Followed slots.old (reverse heap.old.items) i slots.new (reverse heap.new.items) p.0 p.1) }
 {
     let Slot { src, dst, .. } = slots[i];
     slots[i].marked = true;
     let back = find(slots, dst, src)?;
-    heap.push(back);
+    heap.push(back as u32);
     Some((dst, back))
 }
 
 // Walks the slots from those on the heap: each that is unmarked begins a piece, which goes on until it is back at its first node. A turn of a loop is a
 // step of the definition. `nodes` and `stops` are filled in part, which no ghost field beside a `&mut` can say.
-#[tactic(auto, using(crate::proofs::Turns::turn_skip, crate::proofs::Turns::turn_open))]
 fn walk_on(
     slots: &mut [Slot],
-    heap: &mut Heap,
+    heap: &mut ArrayVec<u32, 2048>,
     nodes: &mut [u32],
     stops: &mut [u32],
 ) -> Result<Counts, Refusal>
-    requires { Room (length slots.old) heap.old nodes.old stops.old }
-    ensures { (by_number result ≡ answer (walked_from slots.old heap.old))
-        × Written (walked_from slots.old heap.old) nodes.old stops.old nodes.new stops.new }
+    requires { Room (length slots.old) (reverse heap.old.items) nodes.old stops.old }
+    ensures { (by_number result ≡ answer (walked_from slots.old (reverse heap.old.items)))
+        × Written (walked_from slots.old (reverse heap.old.items)) nodes.old stops.old nodes.new stops.new }
 {
     let mut pieces: usize = 0;
     let mut entries: usize = 0;
     while let Some(first) = heap.pop() {
+        let first = first as usize;
         if slots.len() <= first {
             return Err(Refusal::OpenWalk);
         }
@@ -163,7 +119,8 @@ fn walk_on(
     Ok(Counts { pieces, entries })
 }
 
-// Walks a copy of the slots, which takes the marks, with a heap of its own. Slots, outline, nodes and stops are four lists, each with its own length.
+// Walks a copy of the slots, which takes the marks, with a heap of its own. The copy is an array: a list's answer whether all fit would have to be
+// dropped. Slots, outline, nodes and stops are four lists, each with its own length.
 #[tactic(auto, using(crate::proofs::Answers::room_for))]
 fn walk_table(
     slots: &[Slot],
@@ -175,16 +132,10 @@ fn walk_table(
     ensures { (by_number result ≡ answer (of_walk (walk (pairs outline.now) slots.now)))
         × Written (of_walk (walk (pairs outline.now) slots.now)) nodes.old stops.old nodes.new stops.new }
 {
-    let none = Slot {
-        src: 0,
-        dst: 0,
-        marked: false,
-    };
-    let mut own = [none; 1024];
+    let mut own = [Slot::default(); 1024];
     let own = &mut own[..slots.len()];
     own.copy_from_slice(slots);
-    let mut heap = Heap::new();
-    heap.fill(slots, outline);
+    let mut heap = starts(slots, outline);
     walk_on(own, &mut heap, nodes, stops)
 }
 
