@@ -53,8 +53,8 @@ impl<'a> Cell<'a> {
         edges_repeat(&sides[..2 * corners.len()])
     }
 
-    // The cell itself as its one piece, unless its own edges repeat (19). `runs` and `stops` come one by one, here and below, as cells' `cut_cell` takes them: in
-    // a struct of the two each contract would have to say that they are the same lists.
+    // The cell itself as its one piece, unless its own edges repeat (19). `runs` and `stops` come one by one, here and below, as cells' `cut_cell` takes them: a
+    // struct of the two arrays would be taken apart there.
     fn copy(&self, runs: &mut [u32; 1024], stops: &mut [u32; 1024]) -> Result<Counts, Refusal>
         ensures { cut result runs.new stops.new ≡ cut_as (copied_outcome self.now.corners.now) runs.old stops.old }
     {
@@ -95,7 +95,7 @@ struct Treatment<'a> {
 impl<'a> Treatment<'a> {
     ghost use Rattle.cutting_cells.specs.Treated.{near_to, outcome_of, Readable, yield_for, all_yield, CellsAsk};
 
-    // The other mesh's edges.
+    // The other mesh's edges. Two functions, this and the next: one of the runs would have to ask for either what `ready` says of both.
     fn edges(&self) -> Index<'a>
         ensures { (result.things.coords.now ≡ self.now.scene.coords.now) × (result.things.nodes.now ≡ run_in self.now.scene.work.now self.now.other.edges)
             × (result.things.ends.now ≡ []) }

@@ -116,7 +116,8 @@ impl DartTable {
         self.slots.insert(k, slot);
     }
 
-    // Adds the slot from a to b, and the one from b to a, marked if `back` is true.
+    // Adds the slot from a to b, and the one from b to a, marked if `back` is true. An edge comes as its two nodes, here and below, which are looked at one by one: a
+    // struct of them would be taken apart in each.
     #[tactic(auto, using(lists::proofs::Sort::length_insert), unfolding(lists::specs::Sort::sort_onto, cutting::specs::Cell::edge_slots))]
     fn add_dart(&mut self, coords: &[f64], a: u32, b: u32, back: bool)
         requires { length self.old.slots + 2 ≤ 1024 }
@@ -189,7 +190,8 @@ impl DartTable {
         self.add_darts(coords, b, nodes)
     }
 
-    // Adds the edge from a to b, with a slot at both its ends, if it is new to the table.
+    // Adds the edge from a to b, with a slot at both its ends, if it is new to the table. That the outline stays is said by each that adds such edges: a type of the
+    // slots alone would spare it, and have to be lent by each of the table's methods.
     #[tactic(auto, using(crate::proofs::Slots::found, crate::proofs::Adds::edge_loop, crate::proofs::Adds::edge_known))]
     fn add_edge(&mut self, coords: &[f64], a: u32, b: u32) -> Result<(), Full>
         ensures table { table_in result self.new.slots ≡ with_edge coords.now (a, b) self.old.slots }

@@ -78,7 +78,8 @@ fn follow(slots: &mut [Slot], heap: &mut ArrayVec<u32, 2048>, i: usize) -> Optio
 }
 
 // Walks the slots from those on the heap: each that is unmarked begins a piece, which goes on until it is back at its first node. A turn of a loop is a
-// step of the definition. `nodes` and `stops` are filled in part, which no ghost field beside a `&mut` can say.
+// step of the definition. `nodes` and `stops` are filled in part, with a count each: a struct of lists and counts would have to say besides that they are the same
+// lists.
 fn walk_on(
     slots: &mut [Slot],
     heap: &mut ArrayVec<u32, 2048>,
@@ -141,7 +142,8 @@ fn walk_table(
 
 // Walks the slots of a table from the outline's darts, a flat list of pairs. The corners of the pieces go to the front of `nodes`, one piece after the
 // other, and where each piece ends among them to the front of `stops`; both are zero on a refusal. They come one by one: in a struct of the two each
-// contract would have to say that they are the same lists, and arrays would ask more of callers. That the slots are at most 1,024 stands in each contract:
+// contract would have to say that they are the same lists, arrays would ask more of callers, and an answer that owned both would leave nothing to promise of the
+// lists lent, zeros on a refusal among it. That the slots are at most 1,024 stands in each contract:
 // a struct around the slice, with that as a ghost field, is one that callers would have to make.
 pub fn walk_dart_map(
     slots: &[Slot],

@@ -103,7 +103,8 @@ pub struct SceneLists<'a> {
 }
 
 impl<'a> SceneLists<'a> {
-    // Writes the sorted nodes of the key of a, b to the front of `out`. Answers how many they are.
+    // Writes the sorted nodes of the key of a, b to the front of `out`. Answers how many they are. That is what is promised, of any list long enough, so no `ArrayVec`
+    // is given back.
     #[tactic(auto, using(crate::proofs::InRegions::lists_few))]
     pub fn nodes_on(&self, a: u32, b: u32, out: &mut [u32]) -> usize
         requires { Few self.now.work.now self.now.regions (a, b) × (258 ≤ length out.old) }

@@ -37,7 +37,8 @@ fn renumber(cn: &[u32], w: &mut [u32], at: usize)
 }
 
 // Writes the edges of the cells that end at `cells`, whose node numbers are the entries, from `from` on. Answers where they stand. Heads and nexts are zero then.
-// By places among the nets, which `NetPlaces` tells the others; the part before `from` is read meanwhile.
+// By places among the nets, which `NetPlaces` tells the others; the part before `from` is read meanwhile. Heads and nexts come apart, as `compute_descending`
+// takes them.
 fn mesh_edges(
     w: &mut [u32],
     cells: &[u32],

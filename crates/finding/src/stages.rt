@@ -77,7 +77,8 @@ fn either_overfull(m: &LinkedMeetings) -> bool
     m.overfull(m.subject) || m.overfull(m.cutter)
 }
 
-// Refusal 9, by the working list.
+// Refusal 9, by the working list. Its meetings are put together as in edge_nodes' `nodes_on`: one function for both would be public, and ask of the regions what
+// each asks for itself.
 #[tactic(auto, using(crate::proofs::Ends::parts_asked, crate::proofs::Ends::parts_full))]
 fn crowded(w: &[u32], g: Regions) -> bool
     requires { LinkedIn w.now g }
@@ -158,7 +159,7 @@ fn stages(
 }
 
 // The coordinates of both meshes and the new points go to the front of `coords`, the edges, the meetings and their links to the working list. A refusal
-// leaves zeros.
+// leaves zeros. By the operation's number, as the promise is for each number.
 #[tactic(auto, using(crate::proofs::Ends::kept_all))]
 pub fn find(
     op: u32,

@@ -24,7 +24,8 @@ pub struct PieceLists<'a> {
 impl<'a> PieceLists<'a> {
     ghost use Rattle.pieces.specs.Pieces.{runs_of, cells_in, is_kept, tagged, left, left_by, refused_in, placed_on, BeforeZeroing, SameLists};
 
-    // Places one piece behind those that stand there. Nothing is counted where it has no place.
+    // Places one piece behind those that stand there. Nothing is counted where it has no place. That the ends stay below 2^32 each asks for what it places: a ghost
+    // field could only bound the lists lent, which asks more of callers.
     #[tactic(auto, using(crate::proofs::Piece::no_end, crate::proofs::Piece::no_corners))]
     fn place(&mut self, piece: &[u32], tag: u32) -> Result<(), Refusal>
         requires { self.old.placed.entries + length piece.now < 2 ^ 32 }

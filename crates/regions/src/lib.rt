@@ -4,7 +4,7 @@
 ghost use Rattle.std.specs.Prelude.{◌≡◌, length};
 ghost use Rattle.regions.specs.Runs.{Within, run_in};
 
-// From `from` up to `end`.
+// From `from` up to `end`. No `Range`: runs are copied, and a range is not `Copy`.
 #[derive(Clone, Copy, Debug, PartialEq, Eq)]
 pub struct Run {
     pub from: usize,
