@@ -8,7 +8,7 @@ use native.Mathlib.Omega.{arith}
 use lib.ListN.{length, take, drop, length-append}
 use lib.Ieee.{Float}
 use Rattle.lists.specs.Gather.{joined}
-use Rattle.lists.specs.Regions.{front}
+use Rattle.lists.specs.Regions.{front, FrontIs}
 use Rattle.lists.proofs.Regions.{take_front_of}
 use Rattle.cutting.specs.Edges.{Edge}
 use Rattle.cutting.specs.Cell.{Laid, new_to, inner_with, cell_table, repeats}
@@ -24,7 +24,6 @@ use Rattle.dart_walk.specs.declared.Counts.{Counts}
 use Rattle.cutting.proofs.Pairs.{pairs_ends}
 use Rattle.cutting.proofs.Chunks.{chunked}
 use Rattle.dart_table.proofs.Joins.{cell_length, cut_repeats, cut_over, cut_fits}
-use Rattle.edge_nodes.specs.Lent.{FrontIs}
 use Rattle.regions.specs.declared.Run.{Run}
 use Rattle.regions.specs.Runs.{run_in}
 use Rattle.regions.specs.declared.Regions.{Regions}

@@ -16,8 +16,9 @@ use Rattle.rules.specs.SpatialIndex.{candidates}
 use Rattle.spatial_index.specs.Candidates.{places_from, meets}
 use Rattle.spatial_index.proofs.Candidates.{candidates_from_lem}
 use Rattle.strips.specs.Things.{thing_count, thing_box}
-use Rattle.strips.specs.Meeting.{things_meeting, FrontIs}
+use Rattle.strips.specs.Meeting.{things_meeting}
 use Rattle.cells.specs.Cells.{Places}
+use Rattle.lists.specs.Regions.{FrontIs}
 
 module _ (coords : List Float) (near : List ℕ) (b : Bounds) where
   abbrev es : List Edge

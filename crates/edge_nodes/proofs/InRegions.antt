@@ -12,8 +12,9 @@ use Rattle.rules.specs.Nodes.{along_edge}
 use Rattle.regions.specs.declared.Regions.{Regions}
 use Rattle.regions.specs.Runs.{run_in}
 use Rattle.edge_nodes.specs.Links.{Linked}
-use Rattle.edge_nodes.specs.Lent.{collected_in, unless_none, sorted_in, FrontIs, nodes_on, Few}
+use Rattle.edge_nodes.specs.Lent.{collected_in, unless_none, sorted_in, nodes_on, Few}
 use Rattle.edge_nodes.proofs.Scene.{same_collected}
+use Rattle.lists.specs.Regions.{FrontIs}
 
 key_again : (e : Edge) → key (key e) ≡ key e
 key_again e =

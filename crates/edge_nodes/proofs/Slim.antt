@@ -13,10 +13,10 @@ use lib.Seq.{drop-cons, length-take-le, take-suc, take_all}
 use borrow.Author.Tests.{eq-eqb, ne_eqb, eqb-true}
 use Rattle.std.specs.List.{ends_with}
 use Rattle.lists.specs.Gather.{slim, slim_after}
-use Rattle.lists.specs.Regions.{front}
+use Rattle.lists.specs.Regions.{front, FrontIs}
 use Rattle.lists.proofs.Gather.{slim_snoc, slim_some, length_slim}
 use Rattle.lists.proofs.Regions.{front_take, front_store, front_front, take_front_of}
-use Rattle.edge_nodes.specs.Lent.{node_of, pushed, FrontIs}
+use Rattle.edge_nodes.specs.Lent.{node_of, pushed}
 use Rattle.edge_nodes.specs.declared.nodes.Placed.{Placed}
 
 -- ---- `push`

@@ -11,7 +11,7 @@ use lib.Seq.{drop-cons}
 use Rattle.std.proofs.Common.{Option, unwrap_or}
 use Rattle.std.specs.List.{position, position_or_len}
 use Rattle.std.specs.List.{insert as put_at}
-use Rattle.lists.specs.Regions.{put_in}
+use Rattle.lists.specs.Regions.{put_in, FrontIs}
 use Rattle.lists.proofs.InPlace.{insert_there, place_is}
 use Rattle.std.proofs.lemmas.List.{drop_all, map-append, nil_from_length}
 use lib.Ieee.{Float}
@@ -24,7 +24,7 @@ use Rattle.keys.specs.declared.SortedKey.{SortedKey}
 use Rattle.rules.specs.Nodes.{Projected, projected, by_projection, along_edge}
 use Rattle.edge_nodes.specs.declared.nodes.Placed.{Placed}
 use Rattle.edge_nodes.specs.Chained.{edge_of}
-use Rattle.edge_nodes.specs.Lent.{placed, stands_before, node_of, under, under_in, collected_in, unless_none, sorted_in, FrontIs}
+use Rattle.edge_nodes.specs.Lent.{placed, stands_before, node_of, under, under_in, collected_in, unless_none, sorted_in}
 use Rattle.cutting.specs.Lent.{pairs}
 use Rattle.edge_nodes.specs.declared.sides.Meetings.{Meetings}
 use Rattle.edge_nodes.specs.declared.chains.LinkedMeetings.{LinkedMeetings}

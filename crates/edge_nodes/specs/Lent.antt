@@ -63,11 +63,6 @@ crowded_at es subject cutter met i = ltb most_nodes (length (collected_in subjec
 unfoldable pub pushed : List ℕ → ℕ → List ℕ
 pushed xs v = cond (eqb (length xs) 0) (v ∷ []) (xs ++ cond (eqb (get_or xs (length xs - 1) 0) v) [] (v ∷ []))
 
--- a list comes to hold xs in front; the answer is how many they are
-pub record FrontIs (xs out : List ℕ) (r : ℕ) (out' : List ℕ) : Type 0 where
-  pub count : r ≡ length xs
-  pub fits : r ≤ length out
-  pub held : out' ≡ front out xs
 
 -- ---- where edges, meetings and links stand in regions of the working list
 

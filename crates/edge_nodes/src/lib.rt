@@ -13,7 +13,8 @@ ghost use Rattle.lists.specs.Sort.{sort_onto};
 ghost use Rattle.cutting.specs.Edges.{key};
 ghost use Rattle.cutting.specs.Lent.{pairs, pair_of};
 ghost use Rattle.edge_nodes.specs.Chained.{edge_of};
-ghost use Rattle.edge_nodes.specs.Lent.{placed, stands_before, under_in, most_nodes, crowded_at, FrontIs, nodes_on, Few};
+ghost use Rattle.edge_nodes.specs.Lent.{placed, stands_before, under_in, most_nodes, crowded_at, nodes_on, Few};
+ghost use Rattle.lists.specs.Regions.{FrontIs};
 
 use chains::Chains;
 pub use chains::{LinkedMeetings, link_meetings};

@@ -6,7 +6,8 @@ ghost use Rattle.lists.specs.Sort.{insert, sort_onto};
 ghost use Rattle.rules.specs.Nodes.{total_before};
 ghost use Rattle.edge_nodes.specs.declared.nodes.Placed.{Placed};
 ghost use Rattle.edge_nodes.specs.Chained.{edge_of};
-ghost use Rattle.edge_nodes.specs.Lent.{placed, stands_before, node_of, pushed, FrontIs};
+ghost use Rattle.edge_nodes.specs.Lent.{placed, stands_before, node_of, pushed};
+ghost use Rattle.lists.specs.Regions.{FrontIs};
 
 use arrayvec::ArrayVec;
 use keys::SortedKey;

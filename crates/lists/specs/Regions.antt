@@ -1,5 +1,5 @@
 -- Parts of a lent list: a run of it, its front, a region in its middle, and a list of zeros. Assumes nothing.
-use Rattle.std.specs.Prelude.{ℕ, ◌+◌, ◌&&◌, cond, List, ◌∷◌, ◌++◌, leb, ltb, length, take, drop, replicate, Float}
+use Rattle.std.specs.Prelude.{◌≡◌, ◌≤◌, ℕ, ◌+◌, ◌&&◌, cond, List, ◌∷◌, ◌++◌, leb, ltb, length, take, drop, replicate, Float}
 use Rattle.std.specs.Float.{binary64}
 use Rattle.std.specs.Float.Ieee.{of_bits}
 
@@ -27,6 +27,12 @@ module _ {A : Type 0} where
   -- the first n elements with x put in at k, where k is no larger than n and w longer; w where not
   unfoldable pub insert_at : List A → ℕ → ℕ → A → List A
   insert_at w n k x = cond (leb k n && ltb n (length w)) (front w (put_in k x (take n w))) w
+
+-- a list comes to hold xs in front; the answer is how many they are
+pub record FrontIs (xs out : List ℕ) (r : ℕ) (out' : List ℕ) : Type 0 where
+  pub count : r ≡ length xs
+  pub fits : r ≤ length out
+  pub held : out' ≡ front out xs
 
 abbrev pub zeros : ℕ → List ℕ
 zeros n = replicate n 0

@@ -8,9 +8,9 @@ use native.Mathlib.Omega.{arith}
 use lib.Dec.{ltb, eqb}
 use lib.ListN.{length, take}
 use lib.Seq.{take_all, length-take-le}
-use Rattle.strips.specs.Meeting.{FrontIs}
 use Rattle.strips.specs.Gathering.{Rises, Risen, put_rising, with_thing, with_things}
 use Rattle.strips.proofs.Rising.{front_here, front_taken, front_long, front_then, rises_put, rises_take}
+use Rattle.lists.specs.Regions.{FrontIs}
 
 length_put : (v : ℕ) (xs : List ℕ) → length xs ≤ length (put_rising v xs)
 unfolding put_rising

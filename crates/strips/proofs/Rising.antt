@@ -15,11 +15,10 @@ use Rattle.std.specs.Ordering.{nat_cmp}
 use Rattle.std.proofs.lemmas.List.Sorted.{searched}
 use Rattle.std.proofs.Common.{Ok, Err}
 use Rattle.lists.specs.Search.{seek, first}
-use Rattle.lists.specs.Regions.{front, put_in, insert_at}
+use Rattle.lists.specs.Regions.{front, put_in, insert_at, FrontIs}
 use Rattle.lists.proofs.Search.{first_le, first_turn, first_here, first_shift}
 use Rattle.lists.proofs.Insert.{insert_at_fits, length_put_in}
 use Rattle.lists.proofs.Regions.{front_take, front_front, length_front, take_front_of}
-use Rattle.strips.specs.Meeting.{FrontIs}
 use Rattle.strips.specs.Gathering.{Rises, Risen, put_rising}
 
 -- ---- where it goes

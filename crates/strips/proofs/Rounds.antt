@@ -9,9 +9,9 @@ use native.Mathlib.Omega.{arith}
 use lib.ListN.{length, get_or, take, drop, length-take, drop_of_length-le}
 use lib.Seq.{drop-cons, get_or-take, length-take-le}
 use Rattle.spatial_index.specs.Candidates.{places_from}
-use Rattle.strips.specs.Meeting.{FrontIs}
 use Rattle.strips.proofs.Rising.{front_taken}
 use Rattle.strips.proofs.Uses.{all_taken, goes_on}
+use Rattle.lists.specs.Regions.{FrontIs}
 
 -- those found are given
 pub used_up : (k i : ℕ) (xs : List ℕ) → k ≤ i → drop i (take k xs) ≡ []

@@ -6,12 +6,12 @@ use native.Mathlib.Omega.{arith}
 use lib.ListN.{length, take}
 use Rattle.strips.specs.declared.squares.Span.{Span}
 use Rattle.strips.specs.Squares.{halved, square_chain, Small}
-use Rattle.strips.specs.Meeting.{FrontIs}
 use Rattle.strips.specs.declared.gathering.Search.{Search}
 use Rattle.strips.specs.Gathering.{Risen, with_things, in_row, in_level, in_levels}
 use Rattle.strips.specs.Search.{wanted, chain, row, level, levels}
 use Rattle.strips.proofs.Gathered.{Holds, holds_none, holds_more, holds_risen}
 use Rattle.strips.proofs.Walk.{Going, going_start, going_risen, going_turn, going_end}
+use Rattle.lists.specs.Regions.{FrontIs}
 
 module _ (g : Search) where
   -- ---- a row

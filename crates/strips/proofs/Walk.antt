@@ -18,9 +18,9 @@ use Rattle.spatial_index.proofs.Candidates.{places_from_lem}
 use Rattle.strips.specs.declared.gathering.Search.{Search}
 use Rattle.strips.specs.Index.{on_chain}
 use Rattle.strips.specs.Search.{chain, chain_of, count}
-use Rattle.strips.specs.Meeting.{FrontIs}
 use Rattle.strips.specs.Gathering.{Risen, with_thing, with_things}
 use Rattle.strips.proofs.Gathered.{Holds, holds_none, holds_more, holds_risen, one_thing}
+use Rattle.lists.specs.Regions.{FrontIs}
 
 -- ---- along a chain
 

@@ -9,8 +9,3 @@ use Rattle.strips.specs.Things.{thing_count, thing_meets}
 abbrev pub things_meeting : List Float → List ℕ → List ℕ → Bounds → ℕ → List ℕ
 things_meeting coords nodes ends b from = places_from (thing_meets coords nodes ends b) from (thing_count nodes ends)
 
--- a list comes to hold xs in front; the answer is how many they are
-pub record FrontIs (xs out : List ℕ) (r : ℕ) (out' : List ℕ) : Type 0 where
-  pub count : r ≡ length xs
-  pub fits : r ≤ length out
-  pub held : out' ≡ front out xs

@@ -2,8 +2,9 @@
 ghost use Rattle.std.specs.Prelude.{◌≡◌, [], ◌≤◌, ◌<◌, length, take};
 ghost use Rattle.strips.specs.Squares.{Small};
 ghost use Rattle.strips.specs.Index.{index_of};
-ghost use Rattle.strips.specs.Meeting.{things_meeting, FrontIs};
+ghost use Rattle.strips.specs.Meeting.{things_meeting};
 ghost use Rattle.strips.specs.Gathering.{Risen, put_rising, with_thing, with_things, Chains};
+ghost use Rattle.lists.specs.Regions.{FrontIs};
 
 use crate::building::chain_count;
 use crate::squares::{Span, Strips};
