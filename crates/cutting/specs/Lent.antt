@@ -1,5 +1,5 @@
--- A cell's outline and heap in lent lists. Assumes nothing.
-use Rattle.std.specs.Prelude.{List, [], ◌∷◌, ℕ, zero, suc, get_or}
+-- A cell's outline in lent lists. Assumes nothing.
+use Rattle.std.specs.Prelude.{List, [], ◌∷◌, ℕ, get_or}
 use Rattle.lists.specs.Gather.{joined}
 use Rattle.cutting.specs.Edges.{Edge}
 
@@ -15,8 +15,3 @@ pairs (a ∷ b ∷ xs) = (a, b) ∷ pairs xs
 -- an edge as its two nodes stand in an array
 abbrev pub pair_of : List ℕ → Edge
 pair_of e = (get_or e 0 0, get_or e 1 0)
-
--- the first k entries of a list, the last of them first
-unfoldable pub stacked : List ℕ → ℕ → List ℕ
-stacked xs zero = []
-stacked xs (suc k) = get_or xs k 0 ∷ stacked xs k

@@ -6,13 +6,8 @@ use Prim.Native.Nat.{ℕ, ◌+◌, ◌≤◌, ◌<◌}
 use native.Mathlib.Omega.{arith}
 use lib.ListN.{length}
 use borrow.Author.Tests.{ltb-true, ltb-false}
-use Rattle.std.proofs.Common.{Option, Some, None, is_some, nat_lt, unwrap_or}
+use Rattle.std.proofs.Common.{Option, Some, None, is_some, nat_lt}
 use Rattle.std.specs.List.{position, position_or_len}
-use Rattle.std.specs.List.{insert as put_at}
-use Rattle.cutting.specs.declared.Slot.{Slot}
-use Rattle.lists.specs.Regions.{put_in}
-use Rattle.lists.specs.Sort.{insert}
-use Rattle.lists.proofs.InPlace.{insert_there, place_is}
 use Rattle.lists.specs.Search.{bit}
 use Rattle.lists.specs.Gather.{tally}
 
@@ -41,11 +36,3 @@ module _ {A : Type 0} where
       go : (t : Bool) → nat_lt (position_or_len p xs) (length xs) ≡ t → is_some {T = ℕ} (cond t (Some (position_or_len p xs)) None) ≡ false → tally p xs ≡ 0
       go true e h = cc
       go false e h = (tally_at p xs).1 (ltb-false (position_or_len p xs) (length xs) e)
-
--- one put among slots in order, before the first that it stands before
-pub put_among : (before : Slot → Slot → Bool) (x : Slot) (t ts : List Slot) (k : ℕ) (p : Option ℕ) → p ≡ position (before x) t → k ≡ unwrap_or p (length t) → ts ≡ put_at t k x
-    → ts ≡ insert before x t
-unfolding put_in
-put_among before x t ts k p p-is k-is e =
-    let at : k ≡ position_or_len (before x) t = k-is ∙ ap (λ (q : Option ℕ). unwrap_or q (length t)) p-is ∙ place_is (before x) t in
-    e ∙ ap (λ (j : ℕ). put_at t j x) at ∙ sym (insert_there before x t)

@@ -107,7 +107,7 @@ impl DartTable {
     }
 
     // Puts a slot in its place.
-    #[tactic(auto, using(crate::proofs::Slots::put_among))]
+    #[tactic(auto, using(lists::proofs::InPlace::put_among))]
     fn insert(&mut self, coords: &[f64], slot: Slot)
         requires { length self.old.slots < 1024 }
         ensures { self.new ≡ darts (insert (stands_before coords.now) slot self.old.slots) self.old.outline }

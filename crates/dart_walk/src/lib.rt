@@ -78,8 +78,7 @@ fn follow(slots: &mut [Slot], heap: &mut ArrayVec<u32, 2048>, i: usize) -> Optio
 }
 
 // Walks the slots from those on the heap: each that is unmarked begins a piece, which goes on until it is back at its first node. A turn of a loop is a
-// step of the definition. `nodes` and `stops` are filled in part, with a count each: a struct of lists and counts would have to say besides that they are the same
-// lists.
+// step of the definition. `nodes` and `stops` are filled in part, here alone: a struct of a list and its count would be more than the three writes.
 fn walk_on(
     slots: &mut [Slot],
     heap: &mut ArrayVec<u32, 2048>,
@@ -120,8 +119,9 @@ fn walk_on(
     Ok(Counts { pieces, entries })
 }
 
-// Walks a copy of the slots, which takes the marks, with a heap of its own. The copy is an array: a list's answer whether all fit would have to be
-// dropped. Slots, outline, nodes and stops are four lists, each with its own length.
+// Walks a copy of the slots, which takes the marks, with a heap of its own. The copy is an array: an `ArrayVec` is filled
+// with blanks just the same, and its answer whether all slots fit would have to be dropped. Slots, outline, nodes and stops are four lists, each with its
+// own length.
 #[tactic(auto, using(crate::proofs::Answers::room_for))]
 fn walk_table(
     slots: &[Slot],

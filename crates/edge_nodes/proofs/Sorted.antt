@@ -8,11 +8,7 @@ use native.Mathlib.Omega.{arith}
 use lib.Dec.{eqb}
 use lib.ListN.{length, get_or, drop, length-map}
 use lib.Seq.{drop-cons}
-use Rattle.std.proofs.Common.{Option, unwrap_or}
-use Rattle.std.specs.List.{position, position_or_len}
-use Rattle.std.specs.List.{insert as put_at}
-use Rattle.lists.specs.Regions.{put_in, FrontIs}
-use Rattle.lists.proofs.InPlace.{insert_there, place_is}
+use Rattle.lists.specs.Regions.{FrontIs}
 use Rattle.std.proofs.lemmas.List.{drop_all, map-append, nil_from_length}
 use lib.Ieee.{Float}
 use Rattle.lists.specs.Gather.{slim}
@@ -31,15 +27,6 @@ use Rattle.edge_nodes.specs.declared.chains.LinkedMeetings.{LinkedMeetings}
 use Rattle.edge_nodes.specs.Sides.{subject_meetings, cutter_meetings}
 use Rattle.edge_nodes.proofs.Count.{length_collected}
 use Rattle.edge_nodes.proofs.Under.{sorted_key}
-
--- ---- one put in its place
-
-pub put_among : (x : Placed) (t ts : List Placed) (k : ℕ) (p : Option ℕ) → p ≡ position (stands_before x) t → k ≡ unwrap_or p (length t) → ts ≡ put_at t k x
-    → ts ≡ insert stands_before x t
-unfolding put_in
-put_among x t ts k p p-is k-is e =
-    let at : k ≡ position_or_len (stands_before x) t = k-is ∙ ap (λ (q : Option ℕ). unwrap_or q (length t)) p-is ∙ place_is (stands_before x) t in
-    e ∙ ap (λ (j : ℕ). put_at t j x) at ∙ sym (insert_there stands_before x t)
 
 -- ---- one after the other
 

@@ -84,7 +84,7 @@ impl Nodes {
     }
 
     // Puts one in its place.
-    #[tactic(auto, using(crate::proofs::Sorted::put_among))]
+    #[tactic(auto, using(lists::proofs::InPlace::put_among))]
     pub(crate) fn insert(&mut self, x: Placed)
         requires { length self.old < 257 }
         ensures { self.new ≡ insert stands_before x self.old }

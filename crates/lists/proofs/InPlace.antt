@@ -2,24 +2,22 @@
 use mathlib.Core.Path.{◌≡◌, refl, sym, ap, ◌∙◌}
 use mathlib.Core.Bool.{Bool, true, false, cond, not}
 use mathlib.Core.List.{List, [], ◌∷◌, ◌++◌}
-use Prim.Native.Nat.{ℕ, suc, ◌+◌, ◌≤◌, ◌<◌}
+use Prim.Native.Nat.{ℕ, suc, ◌+◌, ◌≤◌}
 use native.Mathlib.Omega.{arith}
 use lib.ListN.{length, take, drop}
-use lib.Seq.{length-take-le}
 use borrow.Author.Tests.{ltb-false}
-use Rattle.std.proofs.Common.{Some, None, unwrap_or, nat_lt}
+use Rattle.std.proofs.Common.{Option, Some, None, unwrap_or, nat_lt}
 use Rattle.std.specs.List.{position, position_or_len}
+use Rattle.std.specs.List.{insert as put_at}
 use Rattle.lists.specs.Sort.{insert}
-use Rattle.lists.specs.Regions.{put_in, insert_at}
-use Rattle.lists.proofs.Regions.{take_front_of}
-use Rattle.lists.proofs.Insert.{insert_at_fits, length_put_in}
+use Rattle.lists.specs.Regions.{put_in}
 
 one_more : (k : ℕ) → suc k ≡ 1 + k
 one_more k = omega arith
 
 module _ {A : Type 0} where
   -- before the first that it stands before
-  pub insert_there : (before : A → A → Bool) (x : A) (xs : List A) → insert before x xs ≡ put_in (position_or_len (before x) xs) x xs
+  insert_there : (before : A → A → Bool) (x : A) (xs : List A) → insert before x xs ≡ put_in (position_or_len (before x) xs) x xs
   unfolding insert put_in
   insert_there before x [] = refl
   insert_there before x (y ∷ ys) = go (before x y) (insert_there before x ys)
@@ -37,20 +35,17 @@ module _ {A : Type 0} where
       go true ih = omega arith
       go false ih = omega (arith, ih)
 
-  pub place_is : (p : A → Bool) (xs : List A) → unwrap_or (position p xs) (length xs) ≡ position_or_len p xs
+  place_is : (p : A → Bool) (xs : List A) → unwrap_or (position p xs) (length xs) ≡ position_or_len p xs
   place_is p xs = go (nat_lt (position_or_len p xs) (length xs)) refl
     where
       go : (t : Bool) → nat_lt (position_or_len p xs) (length xs) ≡ t → unwrap_or (cond t (Some (position_or_len p xs)) None) (length xs) ≡ position_or_len p xs
       go true e = refl
       go false e = omega (arith, ltb-false (position_or_len p xs) (length xs) e, place_le p xs)
 
-  -- put in among the first n of a list, it is in their order
-  pub put_there : (before : A → A → Bool) (x : A) (w w' : List A) (n k : ℕ) → n < length w → k ≡ position_or_len (before x) (take n w)
-      → w' ≡ insert_at w n k x → take (n + 1) w' ≡ insert before x (take n w)
-  put_there before x w w' n k room at e =
-      let t : List A = take n w in
-      let long : length t ≡ n = length-take-le n w (omega (arith, room)) in
-      let low : k ≤ length t = omega (arith, at, place_le (before x) t) in
-      ap (take (n + 1)) (e ∙ insert_at_fits w n k x (omega (arith, low, long)) room)
-      ∙ take_front_of w (put_in k x t) (n + 1) (omega (arith, length_put_in k x t low, long))
-      ∙ ap (λ (j : ℕ). put_in j x t) at ∙ sym (insert_there before x t)
+  -- the library's `insert` at what `position` finds, or behind all, puts one in their order
+  pub put_among : (before : A → A → Bool) (x : A) (xs ys : List A) (k : ℕ) (p : Option ℕ) → p ≡ position (before x) xs → k ≡ unwrap_or p (length xs)
+      → ys ≡ put_at xs k x → ys ≡ insert before x xs
+  unfolding put_in
+  put_among before x xs ys k p p-is k-is e =
+      let at : k ≡ position_or_len (before x) xs = k-is ∙ ap (λ (q : Option ℕ). unwrap_or q (length xs)) p-is ∙ place_is (before x) xs in
+      e ∙ ap (λ (j : ℕ). put_at xs j x) at ∙ sym (insert_there before x xs)
