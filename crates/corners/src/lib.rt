@@ -141,7 +141,8 @@ pub fn next_corner(cell: &[u32], i: usize) -> u32
 }
 
 // The corners of a ring that are still to come. Edges count in the same way: a counter below both would promise its own rest, which each `next` then turns into
-// its items, and that is no plainer.
+// its items, and that is no plainer. Structs, since of a function that returns `impl Iterator` nothing is proved; `at` alone, as a `Range` would hold the ring's length
+// once more, and each promise would have to say that both agree.
 #[derive(Drop)]
 pub struct Points<'a> {
     ring: Ring<'a>,

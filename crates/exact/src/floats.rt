@@ -14,7 +14,7 @@ pub fn is_finite(x: f64) -> bool
     x.is_finite()
 }
 
-// The sign, the significand and the exponent of a float. What is not finite counts as 0.
+// The sign, the significand and the exponent of a float. No `From`: what is not finite counts as 0.
 #[tactic(auto, using(crate::proofs::Fields::none_apart, crate::proofs::Fields::none_coord, crate::proofs::Fields::settled, crate::proofs::Fields::coord_of))]
 pub(crate) fn take_apart(x: f64) -> Parts
     ensures value { (result.neg, result.m, result.e) ≡ take_apart x }

@@ -11,7 +11,7 @@ use crate::vectors::Vector;
 use plane::Point;
 use std::cmp::Ordering;
 
-// The least and the greatest exponent of some numbers that are not zero.
+// The least and the greatest exponent of some numbers that are not zero. Of no numbers it is 2045 and 0, no Option: min and max widen that as any other.
 #[derive(Clone, Copy)]
 pub(crate) struct Window {
     pub(crate) base: usize,

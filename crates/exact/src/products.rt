@@ -25,7 +25,7 @@ impl Product {
     }
 
     // By the places of the leading bits, and where those are the same, by the digits, each number
-    // moved up until its leading bit is at the top.
+    // moved up until its leading bit is at the top. No `Ord`: one size has many `w` and `e`, so `==` would have to be written too, for this one use.
     #[tactic(auto, using(crate::proofs::Leading::without_lead, crate::proofs::Leading::by_place, crate::proofs::Leading::by_digits))]
     pub(crate) fn compare(self, other: Product) -> Ordering
         ensures { result ≡ ordered (product_size self) (product_size other) }

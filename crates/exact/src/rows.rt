@@ -13,7 +13,7 @@ use std::cmp::Ordering;
 // What a cell is worth in units of the one before.
 const CELL: u64 = 0x1_0000_0000;
 
-// The number of the first row less that of the second.
+// The number of the first row less that of the second. Two rows, not one of signed cells: what is only added to needs no borrow, and `sign` carries upward alone.
 #[derive(Drop)]
 pub(crate) struct Rows {
     pub(crate) more: [u64; 136],

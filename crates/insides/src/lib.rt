@@ -75,6 +75,7 @@ fn nearest(ring: Ring, p: Point) -> Near
     ensures { result ≡ of_ring nearest ring.entry p }
 {
     let n = ring.len();
+    // No Option: an infinite distance is not closer than none either, and where none is closer, corner 0 is the answer (document 01).
     let none = Near {
         d: f64::INFINITY,
         place: Place::Corner(0),

@@ -23,7 +23,7 @@ pub fn copy_at<T: Copy>(dst: &mut [T], at: usize, src: &[T]) -> bool
 }
 
 // Puts x into the first n entries at k; those from k on move up. Answers whether k and n have their place; nothing changes where not.
-// How many entries there are stands beside the list, as the place does above.
+// How many entries there are stands beside the list: fixed memory, filled in part, as above.
 pub fn insert_at<T: Copy>(xs: &mut [T], n: usize, k: usize, x: T) -> bool
     ensures fits { result ≡ (leb k n && ltb n (length xs.old)) }
     ensures after { xs.new ≡ insert_at xs.old n k x }

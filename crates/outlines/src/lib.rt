@@ -18,7 +18,8 @@ fn lay_along(inv: bool, nodes: &[u32], darts: &mut [u32]) -> usize
     ensures { (result ≡ 2 * length (map (reversed_if inv) (windows nodes.now)))
         × (darts.new ≡ front darts.old (flat_edges (map (reversed_if inv) (windows nodes.now)))) }
 {
-    // The darts are written by index: of a list written through `chunks_exact_mut` a proof knows the length alone.
+    // The darts are written by index: of a list written through `chunks_exact_mut` a proof knows the length alone. `k` is the answer too, which `enumerate` would
+    // leave to be said once more.
     let mut k = 0;
     for pair in nodes.windows(2) {
         // as dart_table's `turned`: a public function and its two edits would be more than the line

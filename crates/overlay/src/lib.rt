@@ -29,7 +29,8 @@ pub struct Counts {
     pub points: u32,
 }
 
-// What the cells are cut by: the number that the next point has, where edges, cells, meetings and links stand in the working list, and the indexes there.
+// What the cells are cut by: the number that the next point has, where edges, cells, meetings and links stand in the working list, and the indexes there. The fields
+// of finding's `Found` stand here by name, since each contract speaks of them.
 #[derive(Clone, Copy)]
 struct Prepared {
     next: usize,
@@ -158,7 +159,8 @@ fn piece_room(out: &OutputView) -> usize
     out.ends.len().min(of_each)
 }
 
-// Operation, meeting limit M, subject, cutter, output lists, working list. The operation by its number: any number is answered.
+// Operation, meeting limit M, subject, cutter, output lists, working list. The operation by its number: any number is answered. The first four come one by one, as
+// `entry` takes them: a struct of them would be made for each call. Behind the entry they are a `Call`.
 #[tactic(auto, using(rules::proofs::Endings::input_refused, refusals::proofs::Numbers::number_positive))]
 pub fn overlay(
     op: u32,

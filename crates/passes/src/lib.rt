@@ -42,7 +42,8 @@ fn entry_at<T: Copy>(a: &[T], b: &[T], k: usize, none: T) -> T
     }
 }
 
-// A copied cell keeps its kind, and what is cut out of a cell is a PGON.
+// A copied cell keeps its kind, and what is cut out of a cell is a PGON. The subject's list and the cutter's come as two: a struct of both would be made by the caller
+// for one call each, once of u8 and once of u32.
 fn kind_by(subject: &[u8], cutter: &[u8], tag: u32) -> u8
     ensures { result ≡ kind_by subject.now cutter.now tag }
 {
@@ -100,7 +101,7 @@ pub fn write_parents(tags: &[u32], n: usize, meshes: &mut [u32], cells: &mut [u3
     }
 }
 
-// The families of the pieces in the place of their tags, by those of the subject's and the cutter's cells.
+// The families of the pieces in the place of their tags, by those of the subject's and the cutter's cells: one list behind the other, as at the kinds.
 pub fn write_families(subject: &[u32], cutter: &[u32], tags: &mut [u32])
     ensures { tags.new ≡ map (family_by subject.now cutter.now) tags.old }
 {

@@ -13,7 +13,8 @@ ghost use Rattle.polygons.specs.Scans.{lower, closer, first_above, climb_to, tak
 use corners::Ring;
 use plane::Point;
 
-// How far the heights have been climbed, and the widest gap on the way with its middle.
+// How far the heights have been climbed, and the widest gap on the way with its middle. `widest` is 0 and `middle` None until a gap is above 0: an Option of both
+// would be opened at each comparison.
 #[derive(Clone, Copy)]
 pub struct Climb {
     pub at: Option<f64>,
@@ -81,7 +82,7 @@ fn passed(c: Climb, y: f64) -> Climb
     Climb { at, ..c }
 }
 
-// From height to height, until none is above.
+// From height to height, until none is above. The heights are not sorted first: there is no memory for a list of them (no heap), and a ring may have any length.
 #[tactic(auto, using(crate::proofs::Steps::length_heights, crate::proofs::Steps::at_foot, crate::proofs::Steps::fewer_left, crate::proofs::Steps::one_up))]
 fn climbs(ring: Ring) -> Climb
     ensures { result ≡ climb_to (length (as_read ring.entry)) (sorted lt (of_ring heights ring.entry)) }

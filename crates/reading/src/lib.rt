@@ -10,7 +10,8 @@ ghost use Rattle.reading.specs.Seen.{limits_of, mesh_seen, mesh_of, input_as, su
 use reading_lines::lines::{CellCounts, CellLists, First, read_cells, read_first, read_nodes};
 use reading_lines::words::{CLOSE, MESH, read_word};
 
-// the lists that a mesh is read into: coordinates (x then y), node numbers (flat), cell ends, kinds, families
+// the lists that a mesh is read into, those of a `MeshView`, lent to be written: coordinates (x then y), node numbers (flat), cell ends, kinds, families. Each contract
+// says that the lists are the same still, as a struct of `&mut` lists needs. The counts are an answer beside it: who lends lists has none to give yet
 #[derive(Drop)]
 pub struct MeshLists<'a> {
     pub coords: &'a mut [f64],

@@ -63,7 +63,7 @@ impl From<Meeting> for u8 {
 
 // ---- Sizes
 
-// Four numbers one after the other: a fold from 0 is another answer where the first is no number, and `larger` keeps it there.
+// Four numbers one after the other: a fold from 0 is another answer where the first is no number, and one that begins with the first is no shorter.
 #[tactic(auto, unfolding(plane::specs::Plane::scale))]
 fn scale(v: Point, w: Point) -> f64
     ensures { result ≡ scale v w }
@@ -126,7 +126,7 @@ fn orderable(ts: [f64; 4]) -> bool
     ts.iter().all(|t| is_number(*t))
 }
 
-// The four ends, and beside each its parameter: the two lists are the definition's, which exchanges in both at one place.
+// The four ends by id, and the parameter of each: two arrays by value, put in order together, are document 01's form.
 #[derive(Clone, Copy)]
 struct Ends {
     ts: [f64; 4],

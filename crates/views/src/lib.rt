@@ -14,7 +14,8 @@ pub struct MeshView<'a> {
     pub families: &'a [u32],
 }
 
-// The lists that the pieces go to: those of a mesh, and for each piece its parent, the mesh (0 subject, 1 cutter) and the cell there.
+// The lists that the pieces go to: those of a mesh, and for each piece its parent, the mesh (0 subject, 1 cutter) and the cell there. Each contract says that the lists
+// are the same still, as a struct of `&mut` lists needs.
 #[derive(Drop)]
 pub struct OutputView<'a> {
     pub coords: &'a mut [f64],
