@@ -35,7 +35,7 @@ module _ {A : Type 0} where
       go true ih = omega arith
       go false ih = omega (arith, ih)
 
-  place_is : (p : A → Bool) (xs : List A) → unwrap_or (position p xs) (length xs) ≡ position_or_len p xs
+  pub place_is : (p : A → Bool) (xs : List A) → unwrap_or (position p xs) (length xs) ≡ position_or_len p xs
   place_is p xs = go (nat_lt (position_or_len p xs) (length xs)) refl
     where
       go : (t : Bool) → nat_lt (position_or_len p xs) (length xs) ≡ t → unwrap_or (cond t (Some (position_or_len p xs)) None) (length xs) ≡ position_or_len p xs
