@@ -4,37 +4,36 @@
 ghost use Rattle.std.specs.Prelude.{◌≡◌};
 ghost use Rattle.refusals.specs.Numbers.{number};
 
-use std::error::Error;
-use std::fmt;
+use thiserror::Error;
 
 // By the numbers that the rules give them: 1 to 7 are of the input, 8 to 12 and 19 of the state.
-#[derive(Clone, Copy, Debug, PartialEq, Eq, PartialOrd, Ord)]
+#[derive(Clone, Copy, Debug, PartialEq, Eq, PartialOrd, Ord, Error)]
 pub enum Refusal {
-    // an operation or a limit of meetings that there isn't
+    #[error("no such operation, or no such limit of meetings")]
     Call = 1,
-    // lists that don't go together, or too long ones
+    #[error("the lists do not go together, or are too long")]
     Lists = 2,
-    // a coordinate that isn't finite, is too large or is −0
+    #[error("a coordinate is not finite, too large or -0")]
     Coordinates = 3,
-    // a kind that isn't taken, out of order, or with a wrong node count
+    #[error("a kind is not taken, out of order or has a wrong node count")]
     Kinds = 4,
-    // a node number not below the node count
+    #[error("a node number is not below the node count")]
     NodeNumbers = 5,
-    // a node twice in one cell or line
+    #[error("a node stands twice in one cell or line")]
     NodeTwice = 6,
-    // a working list that is too short
+    #[error("the working list is too short")]
     WorkingList = 7,
-    // a meeting beyond the limit
+    #[error("there are more meetings than the limit")]
     TooManyMeetings = 8,
-    // over 256 nodes collected under one edge key
+    #[error("over 256 nodes are collected on one edge")]
     CrowdedEdge = 9,
-    // over 1,024 slots in a cell's table
+    #[error("a cell's table has over 1,024 slots")]
     FullTable = 10,
-    // a walk that can't go on
+    #[error("the walk round a cell cannot go on")]
     OpenWalk = 11,
-    // the next item has no place in its output list
+    #[error("an output list has no place for the next item")]
     NoPlace = 12,
-    // an outline that passes between the same two nodes twice, or from a node to itself
+    #[error("a cell's outline repeats an edge, or has one from a node to itself")]
     RepeatedEdge = 19,
 }
 
@@ -46,6 +45,7 @@ impl Refusal {
     }
 }
 
+// As std has it, for Rust programs; `number` is the form with a clause, and the one that contracts cite.
 impl From<Refusal> for u32 {
     ghost from_gives = { λ r n. n ≡ number r };
 
@@ -53,27 +53,3 @@ impl From<Refusal> for u32 {
         r.number()
     }
 }
-
-// A sentence for each: no derive writes them.
-impl fmt::Display for Refusal {
-    fn fmt<W: fmt::Write>(&self, f: &mut fmt::Formatter<W>) -> fmt::Result {
-        f.write_str(match self {
-            Refusal::Call => "no such operation, or no such limit of meetings",
-            Refusal::Lists => "the lists do not go together, or are too long",
-            Refusal::Coordinates => "a coordinate is not finite, too large or -0",
-            Refusal::Kinds => "a kind is not taken, out of order or has a wrong node count",
-            Refusal::NodeNumbers => "a node number is not below the node count",
-            Refusal::NodeTwice => "a node stands twice in one cell or line",
-            Refusal::WorkingList => "the working list is too short",
-            Refusal::TooManyMeetings => "there are more meetings than the limit",
-            Refusal::CrowdedEdge => "over 256 nodes are collected on one edge",
-            Refusal::FullTable => "a cell's table has over 1,024 slots",
-            Refusal::OpenWalk => "the walk round a cell cannot go on",
-            Refusal::NoPlace => "an output list has no place for the next item",
-            Refusal::RepeatedEdge =>
-                "a cell's outline repeats an edge, or has one from a node to itself",
-        })
-    }
-}
-
-impl Error for Refusal {}
