@@ -3,86 +3,57 @@
 use mathlib.Core.Path.{◌≡◌, refl, sym, ap, ap₂, ◌∙◌, subst}
 use mathlib.Core.Bool.{Bool, true, false, not, cond}
 use mathlib.Core.List.{List, [], ◌∷◌, ◌++◌, append-nil}
-use Prim.Native.Nat.{ℕ, ◌+◌, ◌-◌, ◌/◌, ◌≤◌, ◌<◌}
-use native.Mathlib.Nat.{add-zero}
+use Prim.Native.Nat.{ℕ, ◌+◌, ◌/◌, ◌≤◌, ◌<◌}
 use native.Mathlib.Omega.{arith}
-use lib.Dec.{eqb, ltb}
+use lib.Dec.{eqb}
 use lib.ListN.{length, get_or, take, drop, length-append, take-append-drop, drop_of_length-le}
 use lib.Seq.{length-take-le, take_all, take-append-le, drop-append-le}
 use lib.Ieee.{Float}
-use borrow.Author.Tests.{eq-eqb, ne_eqb, lt-ltb, le-ltb, ltb-true, ltb-false}
+use borrow.Author.Tests.{ne_eqb, eqb-false}
+use Rattle.std.specs.List.{insert as put_at}
 use Rattle.lists.specs.Gather.{gathered, places}
 use Rattle.lists.specs.Sort.{insert, sort_onto, sorted}
-use Rattle.lists.specs.Regions.{front, put_in, insert_at}
+use Rattle.lists.specs.Regions.{front, put_in}
 use Rattle.lists.proofs.Gather.{places_more, places_le}
-use Rattle.lists.proofs.Insert.{insert_at_fits}
 use Rattle.lists.proofs.Regions.{length_front, take_front_of, front_front, front_behind}
 use Rattle.lists.proofs.Sort.{length_insert, insert_is, length_sorted, sorted_snoc}
 use Rattle.lists.proofs.Rising.{All, all_take, all_drop}
 use Rattle.lists.proofs.Merging.{sorted_both}
-use Rattle.snap.specs.Steps.{AllPlaced, NodePlaced, InOrder, place_of, marked, before, indices_in_order, with_node, counted, merged, merged_full, counted_full}
+use Rattle.snap.specs.Steps.{AllPlaced, NodePlaced, InOrder, place_of, marked, before, indices_in_order, with_node, merged, merged_full, not_merged}
 use Rattle.snap.proofs.Orders.{before_asym, before_through, marked_placed, sorted_in_order, order_end}
 
 -- ---- one node put in
 
-module _ (coords : List Float) (marks block : List ℕ) (k i : ℕ) where
-  -- it isn't marked
-  pub left_out : get_or marks i 0 ≡ 0 → (k ≡ counted marks k i) × (block ≡ with_node coords marks block k i)
-  unfolding counted with_node
-  left_out e =
-      let off : marked marks i ≡ false = ap not (eq-eqb (get_or marks i 0) 0 e) in
-      (rw off (omega arith), rw off)
-
-  pub put_in_lem : (r : ℕ) (t : List ℕ) → (get_or marks i 0 ≡ 0 → ⊥) → k < length block → r ≡ place_of coords (take k block) i → r ≤ length (take k block) → t ≡ insert_at block k r i
-      → (k + 1 ≡ counted marks k i) × (t ≡ with_node coords marks block k i)
-  unfolding counted with_node place_of
-  put_in_lem r t ne h re rl te =
+module _ (coords : List Float) (marks block : List ℕ) (i : ℕ) where
+  pub put_in_lem : (r : ℕ) (t : List ℕ) → (get_or marks i 0 ≡ 0 → ⊥) → r ≡ place_of coords block i → t ≡ put_at block r i → t ≡ with_node coords marks block i
+  unfolding with_node place_of put_in
+  put_in_lem r t ne re te =
       let on : marked marks i ≡ true = ap not (ne_eqb (get_or marks i 0) 0 ne) in
-      let len : length (take k block) ≡ k = length-take-le k block (omega arith) in
-      let ins : insert_at block k r i ≡ front block (insert (before coords) i (take k block)) =
-      insert_at_fits block k r i (omega arith) h ∙ ap (front block) (ap (λ (j : ℕ). put_in j i (take k block)) re ∙ sym (insert_is (before coords) i (take k block) 0)) in
-      (rw on, rw on (te ∙ ins))
+      rw on (te ∙ ap (λ (j : ℕ). put_in j i block) re ∙ sym (insert_is (before coords) i block 0))
 
--- ---- a full block put in
-
-module _ (coords : List Float) (s : List ℕ) (k : ℕ) (block : List ℕ) (b : ℕ) where
-  pub not_full : b < length block → (0 ≡ counted_full block b) × (s ≡ merged_full coords s k block b)
-  unfolding counted_full merged_full
-  not_full h = let on : ltb b (length block) ≡ true = lt-ltb b (length block) h in (rw on, rw on)
-
-  pub full : (t : List ℕ) → length block ≤ b → t ≡ merged coords s k block → (length block ≡ counted_full block b) × (t ≡ merged_full coords s k block b)
-  unfolding counted_full merged_full
-  full t h e = let off : ltb b (length block) ≡ false = le-ltb b (length block) h in (rw off, rw off e)
-
-full_le : (block : List ℕ) (b : ℕ) → counted_full block b ≤ b
-unfolding counted_full
-full_le block b = go (ltb b (length block)) refl
-  where
-    go : (f : Bool) → ltb b (length block) ≡ f → cond f 0 (length block) ≤ b
-    go true e = omega arith
-    go false e = ltb-false b (length block) e
-
--- what `merge` asks of it
-pub full_in_order : (coords : List Float) (block : List ℕ) (b : ℕ) → length block ≤ b → InOrder coords (take b block) → InOrder coords block
-full_in_order coords block b h o = subst (InOrder coords) (take_all b block h) o
+  more_by_one : length (with_node coords marks block i) ≤ length block + 1
+  unfolding with_node
+  more_by_one = go (marked marks i)
+    where
+      go : (t : Bool) → length (cond t (insert (before coords) i block) block) ≤ length block + 1
+      go true = omega (arith, length_insert (before coords) i block)
+      go false = omega arith
 
 -- ---- the sort
 
-pub record Blocks (coords : List Float) (marks s block xs : List ℕ) (k b : ℕ) : Type 0 where
+pub record Blocks (coords : List Float) (marks s block xs : List ℕ) (k : ℕ) : Type 0 where
   pub size : length s ≡ length marks
   pub few : length xs ≤ length marks
-  pub within : b ≤ length block
-  pub count : k + b ≡ length xs
+  pub count : k + length block ≡ length xs
   pub front_is : s ≡ front marks (sorted (before coords) (take k xs))
-  pub block_is : take b block ≡ sorted (before coords) (drop k xs)
+  pub block_is : block ≡ sorted (before coords) (drop k xs)
 
 module _ (coords : List Float) (marks : List ℕ) where
-  pub blocks_start : (block : List ℕ) → Blocks coords marks marks block (places (marked marks) 0) 0 0
+  pub blocks_start : (block : List ℕ) → block ≡ [] → Blocks coords marks marks block (places (marked marks) 0) 0
   unfolding front sort_onto gathered
-  blocks_start block =
-      record { size = refl; few = omega arith; within = omega arith; count = refl; front_is = refl; block_is = refl }
+  blocks_start block none = record { size = refl; few = omega arith; count = omega (arith, ap length none); front_is = refl; block_is = none }
 
-  module _ (s block xs : List ℕ) (k b : ℕ) (h : Blocks coords marks s block xs k b) where
+  module _ (s block xs : List ℕ) (k : ℕ) (h : Blocks coords marks s block xs k) where
     length_first : length (sorted (before coords) (take k xs)) ≡ k
     length_first = length_sorted (before coords) (take k xs) ∙ length-take-le k xs (omega (arith, h.count))
 
@@ -93,14 +64,14 @@ module _ (coords : List Float) (marks : List ℕ) where
       blocks_first : InOrder coords (take k s)
       blocks_first = subst (InOrder coords) (sym first_is) (sorted_in_order coords (take k xs) (all_take (NodePlaced coords) k xs good))
 
-      blocks_last : InOrder coords (take b block)
+      blocks_last : InOrder coords block
       blocks_last = subst (InOrder coords) (sym h.block_is) (sorted_in_order coords (drop k xs) (all_drop (NodePlaced coords) k xs good))
 
       -- all in order at the front
-      blocks_merged : (t : List ℕ) → t ≡ merged coords s k (take b block) → t ≡ front marks (sorted (before coords) xs)
+      blocks_merged : (t : List ℕ) → t ≡ merged coords s k block → t ≡ front marks (sorted (before coords) xs)
       unfolding merged
       blocks_merged t e =
-          let both : sort_onto (before coords) (take k s) (take b block) ≡ sorted (before coords) xs =
+          let both : sort_onto (before coords) (take k s) block ≡ sorted (before coords) xs =
           ap₂ (sort_onto (before coords)) first_is h.block_is
           ∙ sorted_both (before coords) (NodePlaced coords) (before_asym coords) (before_through coords) (take k xs) (drop k xs) (all_take (NodePlaced coords) k xs good)
           (all_drop (NodePlaced coords) k xs good)
@@ -108,68 +79,56 @@ module _ (coords : List Float) (marks : List ℕ) where
           e ∙ ap₂ (front {A = ℕ}) h.front_is both
           ∙ front_front marks (sorted (before coords) (take k xs)) (sorted (before coords) xs) (omega (arith, length_first, length_sorted (before coords) xs, h.count))
 
-    blocks_put : (v : ℕ) → b < length block → length xs < length marks
-        → Blocks coords marks s (front block (insert (before coords) v (take b block))) (xs ++ v ∷ []) k (b + 1)
-    blocks_put v l m =
-        let ins : List ℕ = insert (before coords) v (take b block) in
-        let len : length ins ≡ b + 1 = length_insert (before coords) v (take b block) ∙ ap (λ (n : ℕ). n + 1) (length-take-le b block (omega arith)) in
+    blocks_put : (v : ℕ) → length xs < length marks → Blocks coords marks s (insert (before coords) v block) (xs ++ v ∷ []) k
+    blocks_put v m =
         let in_xs : k ≤ length xs = omega (arith, h.count) in
         record {
           size = h.size;
           few = omega (arith, length-append xs (v ∷ []));
-          within = omega (arith, length_front block ins (omega (arith, len)));
-          count = omega (arith, h.count, length-append xs (v ∷ []));
+          count = omega (arith, h.count, length-append xs (v ∷ []), length_insert (before coords) v block);
           front_is = h.front_is ∙ ap (λ (l : List ℕ). front marks (sorted (before coords) l)) (sym (take-append-le k xs (v ∷ []) in_xs));
-          block_is = take_front_of block ins (b + 1) len ∙ ap (insert (before coords) v) h.block_is ∙ sym (sorted_snoc (before coords) (drop k xs) v)
+          block_is = ap (insert (before coords) v) h.block_is ∙ sym (sorted_snoc (before coords) (drop k xs) v)
               ∙ ap (sorted (before coords)) (sym (drop-append-le k xs (v ∷ []) in_xs));
         }
 
     -- all of them at the front, none in the block
-    blocks_whole : (t : List ℕ) → t ≡ front marks (sorted (before coords) xs) → Blocks coords marks t block xs (k + b) 0
+    blocks_whole : (t left : List ℕ) (r : ℕ) → t ≡ front marks (sorted (before coords) xs) → left ≡ [] → r ≡ length xs → Blocks coords marks t left xs r
     unfolding sort_onto
-    blocks_whole t e =
+    blocks_whole t left r e none all =
         let len = length_sorted (before coords) xs in
         record {
           size = ap length e ∙ length_front marks (sorted (before coords) xs) (omega (arith, len, h.few));
           few = h.few;
-          within = omega arith;
-          count = omega (arith, h.count);
-          front_is = e ∙ ap (λ (l : List ℕ). front marks (sorted (before coords) l)) (sym (take_all (k + b) xs (omega (arith, h.count))));
-          block_is = ap (sorted (before coords)) (sym (drop_of_length-le xs {i = k + b} (omega (arith, h.count))));
+          count = omega (arith, all, ap length none);
+          front_is = e ∙ ap (λ (l : List ℕ). front marks (sorted (before coords) l)) (sym (take_all r xs (omega (arith, all))));
+          block_is = none ∙ ap (sorted (before coords)) (sym (drop_of_length-le xs {i = r} (omega (arith, all))));
         }
 
     -- a full block put in
-    blocks_turn : All (NodePlaced coords) xs → (t : List ℕ) (r : ℕ) → 0 < length block → r ≡ counted_full block b → t ≡ merged_full coords s k block b
-        → Blocks coords marks t block xs (k + r) (b - r) × (b - r < length block)
-    unfolding counted_full merged_full
-    blocks_turn good t r some re te = go (ltb b (length block)) refl
+    blocks_turn : All (NodePlaced coords) xs → length block ≤ 128 → (t left : List ℕ) (r : ℕ) → r + length left ≡ k + length block → left ≡ not_merged block
+        → t ≡ merged_full coords s k block → Blocks coords marks t left xs r × (length left < 128)
+    unfolding not_merged merged_full
+    blocks_turn good most t left r re le te = go (eqb (length block) 128) refl
       where
-        go : (f : Bool) → ltb b (length block) ≡ f → Blocks coords marks t block xs (k + r) (b - r) × (b - r < length block)
-        go true e =
-            let none : r ≡ 0 = rw e at re in
-            let same : t ≡ s = rw e at te in
-            let lt : b < length block = ltb-true b (length block) e in
-            let kr : k ≡ k + r = omega arith in
-            let br : b ≡ b - r = omega arith in (
-              subst (λ (n : ℕ). Blocks coords marks t block xs (k + r) n) br
-                  (subst (λ (n : ℕ). Blocks coords marks t block xs n b) kr (subst (λ (u : List ℕ). Blocks coords marks u block xs k b) (sym same) h)),
-              omega arith,
-            )
+        go : (f : Bool) → eqb (length block) 128 ≡ f → Blocks coords marks t left xs r × (length left < 128)
         go false e =
-            let all : r ≡ length block = rw e at re in
+            let kept : left ≡ block = rw e at le in
+            let same : t ≡ s = rw e at te in
+            let kr : k ≡ r = omega (arith, re, ap length kept) in (
+              subst (λ (n : ℕ). Blocks coords marks t left xs n) kr
+                  (subst (λ (l : List ℕ). Blocks coords marks t l xs k) (sym kept) (subst (λ (u : List ℕ). Blocks coords marks u block xs k) (sym same) h)),
+              omega (arith, most, ap length kept, eqb-false (length block) 128 e),
+            )
+        go true e =
+            let none : left ≡ [] = rw e at le in
             let done : t ≡ merged coords s k block = rw e at te in
-            let le : length block ≤ b = ltb-false b (length block) e in
-            let w : Blocks coords marks t block xs (k + b) 0 =
-            blocks_whole t (blocks_merged good t (done ∙ ap (merged coords s k) (sym (take_all b block le)))) in
-            let kr : k + b ≡ k + r = omega (arith, h.within) in
-            let br : 0 ≡ b - r = omega (arith, h.within) in
-            (subst (λ (n : ℕ). Blocks coords marks t block xs (k + r) n) br (subst (λ (n : ℕ). Blocks coords marks t block xs n 0) kr w), omega arith)
+            (blocks_whole t left r (blocks_merged good t done) none (omega (arith, re, ap length none, h.count)), omega (arith, ap length none))
 
   -- the next node
-  blocks_next : (s block : List ℕ) (k b i : ℕ) → Blocks coords marks s block (places (marked marks) i) k b → b < length block → i < length marks
-      → (r : ℕ) (t : List ℕ) → r ≡ counted s b i → t ≡ with_node coords s block b i → Blocks coords marks s t (places (marked marks) (i + 1)) k r
-  unfolding counted with_node
-  blocks_next s block k b i h l m r t re te = subst (λ (ys : List ℕ). Blocks coords marks s t ys k r) (sym (places_more i (marked marks))) (go (marked marks i) refl)
+  blocks_next : (s block : List ℕ) (k i : ℕ) → Blocks coords marks s block (places (marked marks) i) k → i < length marks
+      → (t : List ℕ) → t ≡ with_node coords s block i → Blocks coords marks s t (places (marked marks) (i + 1)) k
+  unfolding with_node
+  blocks_next s block k i h m t te = subst (λ (ys : List ℕ). Blocks coords marks s t ys k) (sym (places_more i (marked marks))) (go (marked marks i) refl)
     where
       xs : List ℕ
       xs = places (marked marks) i
@@ -177,71 +136,64 @@ module _ (coords : List Float) (marks : List ℕ) where
       seen : marked s i ≡ marked marks i
       seen =
           ap (λ (n : ℕ). not (eqb n 0)) (ap (λ (u : List ℕ). get_or u i 0) h.front_is
-          ∙ front_behind marks (sorted (before coords) (take k xs)) i 0 (omega (arith, length_first s block xs k b h, h.count, places_le (marked marks) i)))
+          ∙ front_behind marks (sorted (before coords) (take k xs)) i 0 (omega (arith, length_first s block xs k h, h.count, places_le (marked marks) i)))
 
-      go : (u : Bool) → marked marks i ≡ u → Blocks coords marks s t (xs ++ cond u (i ∷ []) []) k r
+      go : (u : Bool) → marked marks i ≡ u → Blocks coords marks s t (xs ++ cond u (i ∷ []) []) k
       go false e =
           let off : marked s i ≡ false = seen ∙ e in
-          let none : r ≡ b = rw off at re ∙ add-zero b in
           let same : t ≡ block = rw off at te in
-          subst (λ (ys : List ℕ). Blocks coords marks s t ys k r) (sym (append-nil xs))
-          (subst (λ (n : ℕ). Blocks coords marks s t xs k n) (sym none) (subst (λ (u : List ℕ). Blocks coords marks s u xs k b) (sym same) h))
+          subst (λ (ys : List ℕ). Blocks coords marks s t ys k) (sym (append-nil xs)) (subst (λ (u : List ℕ). Blocks coords marks s u xs k) (sym same) h)
       go true e =
           let on : marked s i ≡ true = seen ∙ e in
-          let one : r ≡ b + 1 = rw on at re in
-          let put : t ≡ front block (insert (before coords) i (take b block)) = rw on at te in
-          subst (λ (n : ℕ). Blocks coords marks s t (xs ++ i ∷ []) k n) (sym one)
-          (subst (λ (u : List ℕ). Blocks coords marks s u (xs ++ i ∷ []) k (b + 1)) (sym put) (blocks_put s block xs k b h i l (omega (arith, places_le (marked marks) i))))
+          let put : t ≡ insert (before coords) i block = rw on at te in
+          subst (λ (u : List ℕ). Blocks coords marks s u (xs ++ i ∷ []) k) (sym put) (blocks_put s block xs k h i (omega (arith, places_le (marked marks) i)))
 
   -- the marked ones of the first i nodes stand in order, the first k at the front of s, the others in the block
-  pub record InBlocks (s block : List ℕ) (k b i : ℕ) : Type 0 where
+  pub record InBlocks (s block : List ℕ) (k i : ℕ) : Type 0 where
     pub within : i ≤ length marks
-    pub long : length block ≡ 128
-    pub free : b < length block
-    pub blocks : Blocks coords marks s block (places (marked marks) i) k b
+    pub free : length block < 128
+    pub blocks : Blocks coords marks s block (places (marked marks) i) k
 
-  module _ (placed : AllPlaced coords) (most : length marks ≤ length coords / 2) (s block : List ℕ) (k b i : ℕ) (v : InBlocks s block k b i) where
+  module _ (placed : AllPlaced coords) (few : length marks ≤ length coords / 2) (s block : List ℕ) (k i : ℕ) (v : InBlocks s block k i) where
     good : All (NodePlaced coords) (places (marked marks) i)
     good = marked_placed coords marks i placed (omega (arith, v.within))
 
-    in_order : InOrder coords (take k s) × InOrder coords (take b block)
+    in_order : InOrder coords (take k s) × InOrder coords block
     in_order =
         let xs : List ℕ = places (marked marks) i in
-        (blocks_first s block xs k b v.blocks good, blocks_last s block xs k b v.blocks good)
+        (blocks_first s block xs k v.blocks good, blocks_last s block xs k v.blocks good)
 
     -- what `put_in_order` asks
-    pub put_asks : length marks ≤ 16384 → i < length marks → (b < length block) × (i < length s) × (length s ≤ 16384) × InOrder coords (take b block)
-    put_asks few here = (v.free, omega (arith, here, v.blocks.size), omega (arith, few, v.blocks.size), in_order.1)
+    pub put_asks : length marks ≤ 16384 → i < length marks → (length block < 128) × (i < length s) × (length s ≤ 16384) × InOrder coords block
+    put_asks most here = (v.free, omega (arith, here, v.blocks.size), omega (arith, most, v.blocks.size), in_order.1)
 
     -- what `merge` asks for the rest, and leaves
-    pub rest_asks : (k + length (take b block) ≤ length s) × InOrder coords (take k s) × InOrder coords (take b block)
-    rest_asks = let h = v.blocks in (omega (arith, h.count, h.few, h.size, length-take-le b block h.within), in_order.0, in_order.1)
+    pub rest_asks : (rest : List ℕ) → rest ≡ block → (k + length rest ≤ length s) × InOrder coords (take k s) × InOrder coords rest
+    rest_asks rest e = let h = v.blocks in (omega (arith, h.count, h.few, h.size, ap length e), in_order.0, subst (InOrder coords) (sym e) in_order.1)
 
-    pub blocks_end : length marks ≤ i → (t : List ℕ) → t ≡ merged coords s k (take b block)
-        → (k + b ≡ length (indices_in_order coords marks)) × (t ≡ front marks (indices_in_order coords marks))
-    blocks_end ge t e =
-        order_end coords marks t (k + b) i v.within ge (v.blocks.count ∙ sym (length_sorted (before coords) (places (marked marks) i)))
-        (blocks_merged s block (places (marked marks) i) k b v.blocks good t e)
+    pub blocks_end : length marks ≤ i → (rest : List ℕ) → rest ≡ block → (t : List ℕ) → t ≡ merged coords s k rest → (n : ℕ) → n ≡ length block
+        → (k + n ≡ length (indices_in_order coords marks)) × (t ≡ front marks (indices_in_order coords marks))
+    blocks_end ge rest same t e n all =
+        order_end coords marks t (k + n) i v.within ge (ap (λ (m : ℕ). k + m) all ∙ v.blocks.count ∙ sym (length_sorted (before coords) (places (marked marks) i)))
+        (blocks_merged s block (places (marked marks) i) k v.blocks good t (e ∙ ap (merged coords s k) same))
 
     -- the next node put in
-    module _ (here : i < length marks) (c : ℕ) (next : List ℕ) (ce : c ≡ counted s b i) (ne : next ≡ with_node coords s block b i) (long : length next ≡ length block) where
-      after : Blocks coords marks s next (places (marked marks) (i + 1)) k c
-      after = blocks_next s block k b i v.blocks v.free here c next ce ne
+    module _ (here : i < length marks) (next : List ℕ) (ne : next ≡ with_node coords s block i) where
+      after : Blocks coords marks s next (places (marked marks) (i + 1)) k
+      after = blocks_next s block k i v.blocks here next ne
 
       all_good : All (NodePlaced coords) (places (marked marks) (i + 1))
       all_good = marked_placed coords marks (i + 1) placed (omega (arith, here))
 
       -- what `merge_full` asks
-      pub next_ready : (k + c ≤ length s) × (c ≤ length next) × InOrder coords (take k s) × InOrder coords (take c next)
+      pub next_ready : (k + length next ≤ length s) × InOrder coords (take k s) × InOrder coords next
       next_ready =
           let xs : List ℕ = places (marked marks) (i + 1) in
-          (omega (arith, after.count, after.few, after.size), after.within, blocks_first s next xs k c after all_good, blocks_last s next xs k c after all_good)
+          (omega (arith, after.count, after.few, after.size), blocks_first s next xs k after all_good, blocks_last s next xs k after all_good)
 
-      -- what it answers
-      pub next_fits : (r : ℕ) → r ≡ counted_full next c → (r ≤ c) × (k + r ≤ length marks)
-      next_fits r e = let l = full_le next c in (omega (arith, l, e), omega (arith, l, e, after.count, after.few))
-
-      pub next_full : (t : List ℕ) (r : ℕ) → r ≡ counted_full next c → t ≡ merged_full coords s k next c → InBlocks t next (k + r) (c - r) (i + 1)
-      next_full t r re te =
-          let turned = blocks_turn s next (places (marked marks) (i + 1)) k c after all_good t r (omega (arith, long, v.long)) re te in
-          record { within = omega (arith, here); long = long ∙ v.long; free = turned.1; blocks = turned.0 }
+      pub next_full : (t left : List ℕ) (r : ℕ) → r + length left ≡ k + length next → left ≡ not_merged next → t ≡ merged_full coords s k next
+          → InBlocks t left r (i + 1)
+      next_full t left r re le te =
+          let most : length next ≤ 128 = omega (arith, v.free, ap length ne, more_by_one coords s block i) in
+          let turned = blocks_turn s next (places (marked marks) (i + 1)) k after all_good most t left r re le te in
+          record { within = omega (arith, here); free = turned.1; blocks = turned.0 }

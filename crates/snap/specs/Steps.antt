@@ -1,5 +1,5 @@
 -- What the inner functions of module 4 come to, each over the lists lent to it. Assumes nothing.
-use Rattle.std.specs.Prelude.{◌≡◌, Bool, false, cond, not, List, ℕ, ◌+◌, ◌/◌, ◌<◌, eqb, ltb, length, get_or, take, Float}
+use Rattle.std.specs.Prelude.{◌≡◌, Bool, false, cond, not, List, [], ℕ, ◌+◌, ◌/◌, ◌<◌, eqb, length, get_or, take, Float}
 use Rattle.std.specs.Float.{nan}
 use Rattle.std.specs.Float.Ieee.{lt}
 use Rattle.lists.specs.Search.{bit, first}
@@ -49,23 +49,20 @@ place_of coords order v = first (λ i. before coords v (get_or order i 0)) 0 (le
 unfoldable pub indices_in_order : List Float → List ℕ → List ℕ
 indices_in_order coords marks = sorted (before coords) (places (marked marks) (length marks))
 
--- the first k entries of `block` are nodes in order: with node i, where it is marked; and how many they are then
-unfoldable pub with_node : List Float → List ℕ → List ℕ → ℕ → ℕ → List ℕ
-with_node coords marks block k i = cond (marked marks i) (front block (insert (before coords) i (take k block))) block
-
-unfoldable pub counted : List ℕ → ℕ → ℕ → ℕ
-counted marks k i = k + bit (marked marks i)
+-- `block` has nodes in order: with node i, where it is marked
+unfoldable pub with_node : List Float → List ℕ → List ℕ → ℕ → List ℕ
+with_node coords marks block i = cond (marked marks i) (insert (before coords) i block) block
 
 -- the first k entries of s are nodes in order: with those of `order` put in among them
 unfoldable pub merged : List Float → List ℕ → ℕ → List ℕ → List ℕ
 merged coords s k order = front s (sort_onto (before coords) (take k s) order)
 
--- the same where a block with b nodes is full; and how many were put in
-unfoldable pub merged_full : List Float → List ℕ → ℕ → List ℕ → ℕ → List ℕ
-merged_full coords s k block b = cond (ltb b (length block)) s (merged coords s k block)
+-- the same where a block is full; and what is left in it
+unfoldable pub merged_full : List Float → List ℕ → ℕ → List ℕ → List ℕ
+merged_full coords s k block = cond (eqb (length block) 128) (merged coords s k block) s
 
-unfoldable pub counted_full : List ℕ → ℕ → ℕ
-counted_full block b = cond (ltb b (length block)) 0 (length block)
+unfoldable pub not_merged : List ℕ → List ℕ
+not_merged block = cond (eqb (length block) 128) [] block
 
 -- ---- `closest_within`
 

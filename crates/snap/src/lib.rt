@@ -6,9 +6,9 @@ ghost use Rattle.lists.specs.Gather.{each};
 ghost use Rattle.lists.specs.Regions.{front, zeros};
 ghost use Rattle.entry.specs.Mesh.{mesh};
 ghost use Rattle.rules.specs.Snap.{precedes, distance2, nearer, closest_within, weld};
-ghost use Rattle.snap.specs.Steps.{Below, AllPlaced, InOrder, used, place_of, indices_in_order, with_node, counted, merged, merged_full, counted_full, window_start, number_by};
+ghost use Rattle.snap.specs.Steps.{Below, AllPlaced, InOrder, used, place_of, indices_in_order, with_node, merged, merged_full, not_merged, window_start, number_by};
 
-use lists::insert_at;
+use arrayvec::ArrayVec;
 use plane::{Point, point_at};
 use rules::Nearest;
 use views::MeshView;
@@ -57,23 +57,22 @@ impl<'a> Nodes<'a> {
     }
 }
 
-// Node i is put in among the first k entries of the block, which are in order, if its mark isn't 0. Answers how many they are then.
-// Block and count are no struct: `InOrder` can be no ghost field of it, so that each contract would say the same of both.
-fn put_in_order(coords: &[f64], marks: &[u32], block: &mut [u32], k: usize, i: usize) -> usize
-    requires { (k < length block.old) × (i < length marks.now) × (length marks.now ≤ 16384) × InOrder coords.now (take k block.old) }
-    ensures { (result ≡ counted marks.now k i) × (block.new ≡ with_node coords.now marks.now block.old k i) }
+// Node i is put in among those of the block, which are in order, if its mark isn't 0.
+#[tactic(auto, unfolding(crate::specs::Steps::with_node), using(crate::proofs::Blocks::put_in_lem))]
+fn put_in_order(coords: &[f64], marks: &[u32], block: &mut ArrayVec<u32, 128>, i: usize)
+    requires { (length block.old.items < 128) × (i < length marks.now) × (length marks.now ≤ 16384) × InOrder coords.now block.old.items }
+    ensures { block.new.items ≡ with_node coords.now marks.now block.old.items i }
 {
     if marks[i] == 0 {
-        return k;
+        return;
     }
     let v = i as u32;
     let nodes = Nodes {
         coords,
-        order: &block[..k],
+        order: block.as_slice(),
     };
     let p = nodes.place(v);
-    insert_at(block, k, p, v);
-    k + 1
+    block.insert(p, v);
 }
 
 // More nodes are put in among the first k of s, the caller's list, from the last down: each goes to its place, and what stands behind that moves up by as many
@@ -98,46 +97,46 @@ fn merge(more: &Nodes, s: &mut [u32], k: usize)
     }
 }
 
-// A block of b nodes in order is put in among the first k of s if it is full. Answers how many nodes were put in.
-#[tactic(auto, using(crate::proofs::Blocks::full_in_order))]
-fn merge_full(coords: &[f64], s: &mut [u32], k: usize, block: &[u32], b: usize) -> usize
-    requires { (k + b ≤ length s.old) × (b ≤ length block.now) × InOrder coords.now (take k s.old) × InOrder coords.now (take b block.now) }
-    ensures { (result ≡ counted_full block.now b) × (s.new ≡ merged_full coords.now s.old k block.now b) }
+// A block of nodes in order is put in among the first k of s if it is full, and is empty then. Answers how many stand in order at the front of s.
+#[tactic(auto, unfolding(crate::specs::Steps::merged_full, crate::specs::Steps::not_merged))]
+fn merge_full(coords: &[f64], s: &mut [u32], k: usize, block: &mut ArrayVec<u32, 128>) -> usize
+    requires { (k + length block.old.items ≤ length s.old) × InOrder coords.now (take k s.old) × InOrder coords.now block.old.items }
+    ensures { (result + length block.new.items ≡ k + length block.old.items) × (block.new.items ≡ not_merged block.old.items)
+        × (s.new ≡ merged_full coords.now s.old k block.old.items) }
 {
-    if b < block.len() {
-        return 0;
+    if !block.is_full() {
+        return k;
     }
     let more = Nodes {
         coords,
-        order: block,
+        order: block.as_slice(),
     };
     merge(&more, s, k);
-    block.len()
+    let end = k + block.len();
+    block.clear();
+    end
 }
 
 // s has a mark for each node. The marked ones are put at its front, by x, then y; equal ones stay rising. Answers how many they are. They are sorted in blocks
 // of 128, each put in among those before it, so that a node is moved some √n times, not n.
-#[tactic(auto, using(crate::proofs::Blocks::next_fits))]
+// No sort of the library: the stable one takes memory, and the other leaves equal nodes in any order.
 fn sorted_indices_for(coords: &[f64], s: &mut [u32]) -> usize
     requires { (length s.old ≤ 16384) × (length s.old ≤ length coords.now / 2) × AllPlaced coords.now }
     ensures { (result ≡ length (indices_in_order coords.now s.old)) × (s.new ≡ front s.old (indices_in_order coords.now s.old)) }
 {
-    let mut block = [0u32; 128];
+    let mut block = ArrayVec::new();
     let mut k: usize = 0;
-    let mut b: usize = 0;
     // By index: of s, whose marks are read, the front is written.
     for i in 0..s.len() {
-        b = put_in_order(coords, s, &mut block, b, i);
-        let full = merge_full(coords, s, k, &block, b);
-        k += full;
-        b -= full;
+        put_in_order(coords, s, &mut block, i);
+        k = merge_full(coords, s, k, &mut block);
     }
     let rest = Nodes {
         coords,
-        order: &block[..b],
+        order: block.as_slice(),
     };
     merge(&rest, s, k);
-    k + b
+    k + block.len()
 }
 
 // ---- The nearest of them

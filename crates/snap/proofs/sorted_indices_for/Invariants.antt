@@ -3,4 +3,4 @@ use Rattle.snap.proofs.Blocks.{InBlocks}
 use Rattle.snap.proofs.sorted_indices_for.Given as goal
 
 abbrev pub invariant-loop-i : goal.invariant-loop-i
-invariant-loop-i l = InBlocks l.coords l.initial.s l.s l.block l.k l.b l.i
+invariant-loop-i l = InBlocks l.coords l.initial.s l.s l.block.items l.k l.i
