@@ -1,41 +1,40 @@
 -- How many strips there are, and how large the index is. Assumes nothing.
-use mathlib.Core.Path.{◌≡◌, refl, sym, ◌∙◌}
+use mathlib.Core.Path.{◌≡◌}
 use mathlib.Core.Bool.{Bool, false}
-use Prim.Native.Nat.{ℕ, ◌+◌, ◌*◌, ◌-◌, ◌/◌, ◌≤◌, ◌<◌}
-use native.Mathlib.Nat.{mul-le-mul, mul-le-mul_right, div-le_of_le-mul, le-mul_of_pos_right}
+use Prim.Native.Nat.{ℕ, ◌+◌, ◌*◌, ◌-◌, ◌/◌, ◌≤◌, ◌<◌, min, max}
+use native.Mathlib.Nat.{le_trans, lt_of_lt_of_le, mul-le-mul, mul-le-mul_right, div-le_of_le-mul, le-mul_of_pos_right}
 use native.Mathlib.Decide.{dec_le}
 use native.Mathlib.Omega.{arith}
 use lib.Dec.{ltb}
 use borrow.Author.Tests.{lt-ltb, le-ltb, ltb-false}
-use Rattle.lists.specs.Search.{first}
-use Rattle.lists.proofs.Search.{first_on, first_here, first_end_lem, first_none, first_from_lem, first_le}
+use Rattle.lists.proofs.Search.{first_turn, first_none, first_from_lem, first_le}
 use Rattle.strips.specs.Index.{strip_count, index_size}
+
+-- ---- products and quotients that stay small
+
+pub product_small : (a b m n : ℕ) → a ≤ m → b ≤ n → a * b ≤ m * n
+product_small a b m n h l = mul-le-mul {n₁ = a} {m₁ = b} {n₂ = m} {m₂ = n} h l
+
+-- a share of n
+pub share_small : (i n k : ℕ) → i ≤ k → i * n / k ≤ n
+share_small i n k h = div-le_of_le-mul k {m = i * n} {n = n} (mul-le-mul_right n h)
+
+-- ---- how many
 
 -- n is below the square of the next number
 abbrev below : ℕ → ℕ → Bool
 below n s = ltb n ((s + 1) * (s + 1))
 
--- ---- the loop of `side_of`
-
-abbrev pub Rooting : ℕ → ℕ → Type 0
-Rooting n s = (1 ≤ s) × (s ≤ 256) × (first (below n) s 256 ≡ strip_count n)
+-- the root of n, at least 1 and at most 256, is how many
+pub root_is : (n r : ℕ) → r * r ≤ n → n < (r + 1) * (r + 1) → max 1 (min r 256) ≡ strip_count n
+unfolding strip_count
+root_is n r low high =
+    let s : ℕ = max 1 (min r 256) in
+    first_turn (below n) 1 s 256 (omega arith) (omega arith)
+    (λ i h l. le-ltb n ((i + 1) * (i + 1)) (le_trans (product_small (i + 1) (i + 1) r r (omega (arith, h, l)) (omega (arith, h, l))) low))
+    (λ l. lt-ltb n ((s + 1) * (s + 1)) (lt_of_lt_of_le high (product_small (r + 1) (r + 1) (s + 1) (s + 1) (omega (arith, l)) (omega (arith, l)))))
 
 module _ (n : ℕ) where
-  pub root_start : Rooting n 1
-  unfolding strip_count
-  root_start = (omega arith, omega arith, refl)
-
-  pub root_turn : (s : ℕ) → Rooting n s → s < 256 → (s + 1) * (s + 1) ≤ n → Rooting n (s + 1)
-  root_turn s inv h l = (omega arith, omega arith, first_on (below n) s 256 h (le-ltb n ((s + 1) * (s + 1)) l) ∙ inv.2)
-
-  pub root_here : (s : ℕ) → Rooting n s → s < 256 → n < (s + 1) * (s + 1) → (s ≡ strip_count n) × (1 ≤ s) × (s ≤ 256)
-  root_here s inv h l = (sym (first_here (below n) s 256 h (lt-ltb n ((s + 1) * (s + 1)) l)) ∙ inv.2, inv.0, inv.1)
-
-  pub root_end : (s : ℕ) → Rooting n s → 256 ≤ s → (256 ≡ strip_count n) × (1 ≤ 256) × (256 ≤ 256)
-  root_end s inv h =
-      let z : 256 ≡ s = omega (arith, inv.1) in
-      (z ∙ sym (first_end_lem (below n) s 256 h) ∙ inv.2, omega arith, omega arith)
-
   -- ---- how large
 
   pub side_range : (1 ≤ strip_count n) × (strip_count n ≤ 256)
@@ -74,12 +73,3 @@ module _ (n : ℕ) where
 
   pub size_bound : index_size n ≤ 6 * n + 64
   size_bound = omega (arith, side_low)
-
--- ---- products and quotients that stay small
-
-pub product_small : (a b m n : ℕ) → a ≤ m → b ≤ n → a * b ≤ m * n
-product_small a b m n h l = mul-le-mul {n₁ = a} {m₁ = b} {n₂ = m} {m₂ = n} h l
-
--- a share of n
-pub share_small : (i n k : ℕ) → i ≤ k → i * n / k ≤ n
-share_small i n k h = div-le_of_le-mul k {m = i * n} {n = n} (mul-le-mul_right n h)

@@ -12,17 +12,11 @@ use crate::things::{Things, number_at};
 use lists::insert_at;
 
 // How many strips there are for n things: the root of n, at least 1 and at most 256.
-#[tactic(auto, using(crate::proofs::Sizes::root_start, crate::proofs::Sizes::root_turn, crate::proofs::Sizes::root_here, crate::proofs::Sizes::root_end))]
+#[tactic(auto, using(crate::proofs::Sizes::root_is, crate::proofs::Sizes::side_range))]
 fn side_of(n: usize) -> usize
     ensures { (result ≡ strip_count n) × (1 ≤ result) × (result ≤ 256) }
 {
-    // No `find`: over a range it promises its steps alone, and the check found no proof (tried) that what it gives is the first.
-    for s in 1..256 {
-        if n < (s + 1) * (s + 1) {
-            return s;
-        }
-    }
-    256
+    n.isqrt().clamp(1, 256)
 }
 
 // How many chains there are.
@@ -88,7 +82,8 @@ impl<'a> Things<'a> {
         number_at(self.nodes, s)
     }
 
-    // Fills the list with samples in order. By index: those before it are lent while one is put in.
+    // Fills the list with samples in order. No sort of the library: the stable one takes memory, the other leaves equal ones in any order. By index: those before it
+    // are lent while one is put in.
     #[tactic(auto, using(crate::proofs::Samples::sorting_start, crate::proofs::Samples::sorting_end))]
     fn sort_samples(&self, axis: Axis, order: &mut [u32])
         requires { length order.old ≤ 1024 }
@@ -117,6 +112,7 @@ impl<'a> Things<'a> {
     // ---- The chains
 
     // Puts thing j before those on its chain. Answers its level. A chain is a number in each of two lists, its head and the links: memory is fixed.
+    // Where a chain ends the number of things stands, as the list has no other word for none.
     #[tactic(auto, using(crate::proofs::Linking::thing_chain))]
     fn link_thing(&self, strips: &Strips, heads: &mut [u32], nexts: &mut [u32], j: usize) -> usize
         requires { (j < length nexts.old) × (length nexts.old ≡ count_of self.now) × (length heads.old ≡ chain_count (length nexts.old)) }
@@ -131,7 +127,8 @@ impl<'a> Things<'a> {
         s.level
     }
 
-    // Puts all of them on chains. Answers how many levels there are.
+    // Puts all of them on chains. Answers how many levels there are. `xs` and `ys` come apart and are a struct here: lent in one by `build`, whose list they are
+    // parts of, that list wouldn't be known in the end.
     #[tactic(auto, using(crate::proofs::Sizes::side_range))]
     fn link(&self, xs: &[u32], ys: &[u32], heads: &mut [u32], nexts: &mut [u32]) -> usize
         requires { (length nexts.old ≡ count_of self.now) × (length heads.old ≡ chain_count (length nexts.old))

@@ -9,8 +9,8 @@ use rules::Bounds;
 // How many are looked for at a time.
 const ROUND: usize = 64;
 
-// Those that are still to come: of those found, from place `at` on; then those from number `from` on, unless there are none. An array with its count, since
-// memory is fixed.
+// Those that are still to come: of those found, from place `at` on; then those from number `from` on, unless there are none. An array with its count,
+// no `ArrayVec`: `gather` writes to the front of a list and answers how many.
 #[derive(Drop)]
 pub struct Near<'a> {
     index: Index<'a>,
