@@ -11,7 +11,7 @@ use Rattle.lists.specs.Search.{has}
 use Rattle.lists.specs.Regions.{front, zeros}
 use Rattle.lists.specs.Runs.{runs}
 use Rattle.lists.proofs.Regions.{front_take, front_store, front_front, take_front_of}
-use Rattle.corners.specs.Corners.{corner_after, next_corner}
+use Rattle.corners.specs.Corners.{next_corner}
 use Rattle.cutting.specs.Edges.{Edge, edge_at, same_key, ring}
 use Rattle.cutting.specs.Lent.{pairs, flat_edges}
 use Rattle.cutting.proofs.Pairs.{pairs_length, ends_length, pairs_ends}
@@ -177,11 +177,11 @@ module _ (cell : List ℕ) (l₀ : EdgeLists) where
   cell_start r = record { adding = adding_none (length cell - 0) l₀ (room_less (length cell) (length cell - 0) l₀ (omega arith) r); rest = refl }
 
   module _ (l : EdgeLists) (i : ℕ) (inv : InCell cell l₀ l i) where
-    pub cell_turn : i < length cell → (j : ℕ) → j ≡ corner_after (length cell) i → (l' : EdgeLists) → Holds (added (edges_in l) (get_or cell i 0, get_or cell j 0)) l l'
+    pub cell_turn : i < length cell → (b : ℕ) → b ≡ next_corner cell i → (l' : EdgeLists) → Holds (added (edges_in l) (get_or cell i 0, b)) l l'
         → InCell cell l₀ l' (i + 1)
-    unfolding next_corner added_all
-    cell_turn h j after l' t =
-        let is : Holds (added (edges_in l) (side cell i)) l l' = rw after at t in
+    unfolding added_all
+    cell_turn h b next l' t =
+        let is : Holds (added (edges_in l) (side cell i)) l l' = rw next at t in
         let m = adding_more (length cell - i) 1 (length cell - (i + 1)) l₀ l l' (added (edges_in l) (side cell i)) (omega (arith, h)) inv.adding
         (length_added (edges_in l) (side cell i)) is in
         record {

@@ -12,7 +12,7 @@ ghost use Rattle.rules.specs.Mesh.{cells_of};
 ghost use Rattle.rules.specs.Neighbours.{added, added_all, compute_descending};
 ghost use Rattle.neighbours.specs.Chains.{Chained};
 
-use corners::after;
+use corners::next_corner;
 use keys::{SortedKey, edge_chain};
 use lists::Runs;
 
@@ -90,14 +90,12 @@ impl<'a> EdgeLists<'a> {
     }
 
     // Adds the edges of a cell.
-    #[tactic(auto, using(corners::proofs::Remainders::after_inside))]
     fn add_cell(&mut self, cell: &[u32])
         requires { Room (length cell.now) self.old }
         ensures { Holds (added_all (edges_in self.old) (ring cell.now)) self.old self.new }
     {
         for (i, a) in cell.iter().enumerate() {
-            let b = cell[after(cell.len(), i)];
-            self.add_edge(*a, b);
+            self.add_edge(*a, next_corner(cell, i));
         }
     }
 
