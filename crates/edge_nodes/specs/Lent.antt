@@ -1,7 +1,6 @@
 -- The nodes of an edge as they stand in lent lists: what only this crate's contracts cite. Assumes nothing.
-use Rattle.std.specs.Prelude.{◌≡◌, Bool, cond, List, [], ◌∷◌, ◌++◌, ℕ, ◌+◌, ◌*◌, ◌-◌, ◌/◌, ◌≤◌, ltb, eqb, length, get_or, take, Float}
+use Rattle.std.specs.Prelude.{Bool, cond, List, [], ◌∷◌, ◌++◌, ℕ, ◌+◌, ◌*◌, ◌-◌, ◌/◌, ◌≤◌, ltb, eqb, length, get_or, take, Float}
 use Rattle.lists.specs.Gather.{gathered}
-use Rattle.lists.specs.Regions.{front}
 use Rattle.cutting.specs.Edges.{Edge, edge_at, key, same_key}
 use Rattle.cutting.specs.Lent.{pairs}
 use Rattle.rules.specs.Nodes.{total_before, projected, along_edge}

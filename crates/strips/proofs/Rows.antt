@@ -1,6 +1,6 @@
 -- The squares that a search goes over: row by row, level by level. Assumes nothing.
 use mathlib.Core.Path.{◌≡◌, sym, ap, ◌∙◌}
-use mathlib.Core.List.{List, [], ◌++◌, append-nil, append_assoc}
+use mathlib.Core.List.{List, [], ◌++◌}
 use Prim.Native.Nat.{ℕ, suc, ◌+◌, ◌-◌, ◌≤◌, ◌<◌}
 use native.Mathlib.Omega.{arith}
 use lib.ListN.{length, take}
@@ -9,9 +9,8 @@ use Rattle.strips.specs.Squares.{halved, square_chain, Small}
 use Rattle.strips.specs.declared.gathering.Search.{Search}
 use Rattle.strips.specs.Gathering.{Risen, with_things, in_row, in_level, in_levels}
 use Rattle.strips.specs.Search.{wanted, chain, row, level, levels}
-use Rattle.strips.proofs.Gathered.{Holds, holds_none, holds_more, holds_risen}
-use Rattle.strips.proofs.Walk.{Going, going_start, going_risen, going_turn, going_end}
 use Rattle.lists.specs.Regions.{FrontIs}
+use Rattle.strips.proofs.Walk.{Putting, putting_start, putting_risen, putting_more, putting_end, Going, going_start, going_risen, going_turn, going_end}
 
 module _ (g : Search) where
   -- ---- a row
@@ -80,19 +79,18 @@ module _ (g : Search) where
     pub low : l ≤ most
     pub small : Small s
     pub at : s.level ≡ l
-    pub gone : List ℕ
-    pub whole : gone ++ levels g s (most - l) ≡ levels g first most
-    pub holds : Holds (wanted g) [] gone found₀ r found
+    pub putting : Putting (wanted g) (levels g first most) 0 found₀ (levels g s (most - l)) r found
 
   module _ (first : Span) (most : ℕ) (found₀ : List ℕ) where
     pub levels_start : Small first → first.level ≡ 0 → InLevels first most found₀ 0 first 0 found₀
     levels_start small e =
         let z : most - 0 ≡ most = omega arith in
-        record { low = omega arith; small = small; at = e; gone = []; whole = ap (levels g first) z; holds = holds_none (wanted g) found₀ 0 (omega arith) }
+        let none : Risen 0 found₀ = record { fits = omega arith; rises = λ i k a b. absurd (omega arith) } in
+        record { low = omega arith; small = small; at = e; putting = putting_start _ _ 0 found₀ (levels g first (most - 0)) (ap (levels g first) z) none }
 
     module _ (r l : ℕ) (s : Span) (found : List ℕ) (inv : InLevels first most found₀ r s l found) where
       pub levels_asks : Small s × Risen r found
-      levels_asks = (inv.small, holds_risen (wanted g) [] inv.gone found₀ found r inv.holds (λ i k a b. absurd (omega arith)))
+      levels_asks = (inv.small, putting_risen _ _ 0 found₀ _ r found inv.putting)
 
       pub levels_turn : (q : ℕ) (t : Span) (found' : List ℕ) → l < most → t ≡ halved s → Small t
           → FrontIs (with_things (length found) (wanted g) (take r found) (level g s)) found q found' → InLevels first most found₀ q t (l + 1) found'
@@ -103,15 +101,12 @@ module _ (g : Search) where
             low = omega arith;
             small = small;
             at = ap (λ (u : Span). u.level) e ∙ ap (λ (i : ℕ). i + 1) inv.at;
-            gone = inv.gone ++ level g s;
-            whole = ap (λ (u : Span). inv.gone ++ level g s ++ levels g u (most - (l + 1))) e
-                ∙ append_assoc inv.gone (level g s) (levels g (halved s) (most - (l + 1))) ∙ ap (λ (i : ℕ). inv.gone ++ levels g s i) (sym z) ∙ inv.whole;
-            holds = holds_more (wanted g) [] inv.gone found₀ found r inv.holds (level g s) found' q (omega arith) next;
+            putting = putting_more _ _ 0 found₀ _ r found inv.putting (level g s) (levels g t (most - (l + 1)))
+                (ap (levels g s) z ∙ ap (λ (u : Span). level g s ++ levels g u (most - (l + 1))) (sym e)) q found' next;
           }
 
       pub levels_end : most ≤ l → FrontIs (with_things (length found₀) (wanted g) [] (levels g first most)) found₀ r found
       unfolding in_levels
       levels_end done =
           let z : most - l ≡ 0 = omega arith in
-          let all : inv.gone ≡ levels g first most = sym (append-nil inv.gone) ∙ ap (λ (i : ℕ). inv.gone ++ levels g s i) (sym z) ∙ inv.whole in
-          rw (sym all) inv.holds
+          putting_end _ _ 0 found₀ _ r found inv.putting (ap (levels g s) z)

@@ -1,7 +1,7 @@
 -- The things on one chain, one after the other. Assumes nothing.
 use mathlib.Core.Path.{◌≡◌, refl, sym, ap, ◌∙◌}
 use mathlib.Core.Bool.{Bool, true, false, cond}
-use mathlib.Core.List.{List, [], ◌∷◌, ◌++◌, append_assoc}
+use mathlib.Core.List.{List, [], ◌∷◌, ◌++◌, append-nil, append_assoc}
 use Prim.Native.Nat.{ℕ, zero, suc, ◌+◌, ◌-◌, ◌≤◌, ◌<◌}
 use native.Mathlib.Nat.{min-le_right}
 use native.Mathlib.Decide.{dec_lt}
@@ -87,7 +87,7 @@ module _ (g : Search) where
 
 -- ---- things put in one after the other
 
--- of the things `all`, put in where they pass, those on the left are still to come
+-- of the things `all`, each put in where it passes, those in `left` are still to come
 pub record Putting (p : ℕ → Bool) (all : List ℕ) (k : ℕ) (found₀ : List ℕ) (left : List ℕ) (r : ℕ) (found : List ℕ) : Type 0 where
   pub gone : List ℕ
   pub whole : gone ++ left ≡ all
@@ -102,19 +102,29 @@ module _ (p : ℕ → Bool) (all : List ℕ) (k : ℕ) (found₀ : List ℕ) whe
     pub putting_risen : Risen r found
     putting_risen = holds_risen p (take k found₀) inv.gone found₀ found r inv.holds inv.risen.rises
 
-    pub putting_turn : (j : ℕ) (rest : List ℕ) → left ≡ j ∷ rest → (q : ℕ) (found' : List ℕ) → FrontIs (with_thing (length found) p (take r found) j) found q found'
+    pub putting_more : (js rest : List ℕ) → left ≡ js ++ rest → (q : ℕ) (found' : List ℕ) → FrontIs (with_things (length found) p (take r found) js) found q found'
         → Putting p all k found₀ rest q found'
-    putting_turn j rest e q found' put =
-        let one : FrontIs (with_things (length found) p (take r found) (j ∷ [])) found q found' = rw (sym (one_thing (length found) p (take r found) j)) put in
+    putting_more js rest e q found' put =
         record {
-          gone = inv.gone ++ j ∷ [];
-          whole = append_assoc inv.gone (j ∷ []) rest ∙ ap (λ (js : List ℕ). inv.gone ++ js) (sym e) ∙ inv.whole;
+          gone = inv.gone ++ js;
+          whole = append_assoc inv.gone js rest ∙ ap (λ (ks : List ℕ). inv.gone ++ ks) (sym e) ∙ inv.whole;
           risen = inv.risen;
-          holds = holds_more p (take k found₀) inv.gone found₀ found r inv.holds (j ∷ []) found' q short one;
+          holds = holds_more p (take k found₀) inv.gone found₀ found r inv.holds js found' q short put;
         }
       where
         short : length (take k found₀) ≤ length found₀
         short = omega (arith, length-take k found₀, min-le_right k (length found₀))
+
+    pub putting_turn : (j : ℕ) (rest : List ℕ) → left ≡ j ∷ rest → (q : ℕ) (found' : List ℕ) → FrontIs (with_thing (length found) p (take r found) j) found q found'
+        → Putting p all k found₀ rest q found'
+    putting_turn j rest e q found' put =
+        let one : FrontIs (with_things (length found) p (take r found) (j ∷ [])) found q found' = rw (sym (one_thing (length found) p (take r found) j)) put in
+        putting_more (j ∷ []) rest e q found' one
+
+    pub putting_end : left ≡ [] → FrontIs (with_things (length found₀) p (take k found₀) all) found₀ r found
+    putting_end e =
+        let z : inv.gone ≡ all = sym (append-nil inv.gone) ∙ ap (λ (js : List ℕ). inv.gone ++ js) (sym e) ∙ inv.whole in
+        rw (sym z) inv.holds
 
 -- the next one on a chain is a thing
 module _ (p on : ℕ → Bool) (n k : ℕ) (found₀ left : List ℕ) (r : ℕ) (found : List ℕ) (inv : Putting p (places on n) k found₀ left r found) where
