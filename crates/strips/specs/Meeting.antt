@@ -1,6 +1,5 @@
 -- The things whose boxes meet a box, rising: what `gather` finds. Assumes nothing.
-use Rattle.std.specs.Prelude.{◌≡◌, List, ℕ, ◌≤◌, length, Float}
-use Rattle.lists.specs.Regions.{front}
+use Rattle.std.specs.Prelude.{List, ℕ, Float}
 use Rattle.rules.specs.declared.Bounds.{Bounds}
 use Rattle.spatial_index.specs.Candidates.{places_from}
 use Rattle.strips.specs.Things.{thing_count, thing_meets}
