@@ -35,9 +35,9 @@ fn precedes(p: Point, q: Point) -> bool
     (p.x < q.x) | ((p.x == q.x) & (p.y < q.y))
 }
 
-// Some nodes over a list of coordinates. That they are in order is asked by the methods: `InOrder` says what each coordinate is, as three numbers, and a ghost
-// field takes only what has one proof; as its truncation it could be one, but each law that reads a coordinate would have to open it. That nodes are few is
-// none: `number_of` alone needs it, and all that make such a struct would be asked for it.
+// Some nodes over a list of coordinates. That they are in order is asked by each method: `InOrder` says what each coordinate is, as three numbers, so that a ghost
+// field would need a proof beside it (`by`) that these are one way only, which is longer than the five clauses. That nodes are few is no ghost field: `number_of`
+// alone needs it, and all that make such a struct would be asked for it.
 #[derive(Clone, Copy)]
 struct Nodes<'a> {
     coords: &'a [f64],
@@ -77,6 +77,7 @@ fn put_in_order(coords: &[f64], marks: &[u32], block: &mut ArrayVec<u32, 128>, i
 
 // More nodes are put in among the first k of s, the caller's list, from the last down: each goes to its place, and what stands behind that moves up by as many
 // places as nodes are left. All are in order.
+// s and k are no struct: behind the first k stand the marks that are still read, and each contract would have to say that it is the same list.
 #[tactic(auto, using(crate::proofs::Moves::copied_within, crate::proofs::Moves::merge_start, crate::proofs::Moves::merge_room))]
 fn merge(more: &Nodes, s: &mut [u32], k: usize)
     requires { (k + length more.now.order.now ≤ length s.old) × InOrder more.now.coords.now (take k s.old) × InOrder more.now.coords.now more.now.order.now }
