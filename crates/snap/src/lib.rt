@@ -28,11 +28,10 @@ fn mark_used(nodes: &[u32], marks: &mut [u32])
 }
 
 // By x, then y. Not derived: the order would be one of all points, and only nodes are sorted, and here alone.
-#[tactic(auto, unfolding(rules::specs::Snap::precedes))]
 fn precedes(p: Point, q: Point) -> bool
     ensures { result ≡ precedes p q }
 {
-    (p.x < q.x) | ((p.x == q.x) & (p.y < q.y))
+    (p.x, p.y) < (q.x, q.y)
 }
 
 // Some nodes over a list of coordinates. That they are in order is asked by each method: `InOrder` says what each coordinate is, as three numbers, so that a ghost
