@@ -1,9 +1,10 @@
 -- Edges held at the front of a list, on their chains: one more, those of a cell, those of all cells. Assumes nothing.
-use mathlib.Core.Path.{◌≡◌, refl, sym, ap, ◌∙◌}
-use mathlib.Core.Bool.{true, false}
+use mathlib.Core.Path.{◌≡◌, refl, sym, ap, ap₂, ◌∙◌}
+use mathlib.Core.Bool.{Bool, true, false, ◌&&◌}
 use mathlib.Core.List.{List, [], ◌∷◌, ◌++◌, append_assoc}
 use Prim.Native.Nat.{ℕ, ◌+◌, ◌*◌, ◌-◌, ◌≤◌, ◌<◌}
 use native.Mathlib.Omega.{arith}
+use lib.Dec.{eqb}
 use lib.ListN.{length, get_or, set, take, drop, length-append, get_or-replicate}
 use lib.Seq.{length-take-le, get_or-set_other}
 use Rattle.std.proofs.lemmas.List.{drop_all, take-set-le, length-set}
@@ -12,14 +13,15 @@ use Rattle.lists.specs.Regions.{front, zeros}
 use Rattle.lists.specs.Runs.{runs}
 use Rattle.lists.proofs.Regions.{front_take, front_store, front_front, take_front_of}
 use Rattle.corners.specs.Corners.{next_corner}
-use Rattle.cutting.specs.Edges.{Edge, edge_at, same_key, ring}
+use Rattle.cutting.specs.Edges.{Edge, edge_at, key, same_key, ring}
 use Rattle.cutting.specs.Lent.{pairs, flat_edges}
 use Rattle.cutting.proofs.Pairs.{pairs_length, ends_length, pairs_ends}
 use Rattle.entry.specs.Mesh.{mesh, Rising}
 use Rattle.rules.specs.Mesh.{cells_of}
 use Rattle.rules.specs.Neighbours.{added, added_all, compute_descending}
 use Rattle.rules.proofs.Rings.{side, ring_from, length_ring}
-use Rattle.keys.specs.Chains.{edge_chain}
+use Rattle.keys.specs.Chains.{chain_of, edge_chain}
+use Rattle.keys.specs.declared.SortedKey.{SortedKey}
 use Rattle.neighbours.specs.declared.EdgeLists.{EdgeLists}
 use Rattle.neighbours.specs.Chains.{Chained}
 use Rattle.neighbours.specs.Held.{edges_in, Room, SameLists, Holds, cells_added}
@@ -64,23 +66,33 @@ module _ (l : EdgeLists) where
 
 -- ---- one more edge
 
-module _ (l : EdgeLists) (a b : ℕ) where
+-- a key is the key of itself
+pub own_key : (sk : SortedKey) → (sk.first, sk.second) ≡ key (sk.first, sk.second)
+own_key sk = ap₂ (λ (x y : ℕ). (x, y)) (omega (arith, sk.sorted)) (omega (arith, sk.sorted))
+
+pub linked_yet : (l : EdgeLists) (v : ℕ) → l.count ≤ length (set l.nexts.now l.count v)
+linked_yet l v = omega (arith, length-set l.nexts.now l.count v, l.linked)
+
+-- edges are searched for the key of the edge a, b
+module _ (l : EdgeLists) (a b : ℕ) (sk : SortedKey) (is : (sk.first, sk.second) ≡ key (a, b)) (r : Bool)
+    (found : r ≡ has (λ i. same_key (edge_at (edges_in l) i) (sk.first, sk.second)) (length (edges_in l))) where
   abbrev es : List Edge
   es = edges_in l
 
   abbrev k : ℕ
   k = l.count
 
-  pub linked_yet : (v : ℕ) → l.count ≤ length (set l.nexts.now l.count v)
-  linked_yet v = omega (arith, length-set l.nexts.now l.count v, l.linked)
+  sought : has (λ i. same_key (edge_at es i) (a, b)) (length es) ≡ r
+  sought =
+      let with : Edge → Bool = λ f. has (λ i. eqb (key (edge_at es i)).0 f.0 && eqb (key (edge_at es i)).1 f.1) (length es) in
+      sym (found ∙ ap with (sym (own_key sk) ∙ is))
 
-  pub hit : has (λ i. same_key (edge_at es i) (a, b)) (length es) ≡ true → Holds (added (edges_in l) (a, b)) l l
+  pub hit : r ≡ true → Holds (added (edges_in l) (a, b)) l l
   unfolding added
-  hit t = rw t (as_it_stands l)
+  hit t = rw (sought ∙ t) (as_it_stands l)
 
   -- it is written behind the others
-  module _ (room : Room 1 l) (miss : has (λ i. same_key (edge_at es i) (a, b)) (length es) ≡ false) (edges : List ℕ)
-      (e : edges ≡ set (set l.edges.now (2 * l.count) a) (2 * l.count + 1) b) where
+  module _ (room : Room 1 l) (miss : r ≡ false) (edges : List ℕ) (e : edges ≡ set (set l.edges.now (2 * l.count) a) (2 * l.count + 1) b) where
     abbrev ys : List ℕ
     ys = take (2 * l.count) l.edges.now
 
@@ -104,14 +116,14 @@ module _ (l : EdgeLists) (a b : ℕ) where
         ap (λ (xs : List ℕ). pairs (take (2 * (k + 1)) xs)) whole
         ∙ ap pairs (take_front_of l.edges.now (flat_edges (es ++ (a, b) ∷ [])) (2 * (k + 1)) (omega (arith, ends_length (es ++ (a, b) ∷ []), longer))) ∙ pairs_ends (es ++ (a, b) ∷ [])
 
-    pub chained_now : (d : ℕ) → d ≡ edge_chain (length l.heads.now) (a, b)
+    pub chained_now : (d : ℕ) → d ≡ chain_of (length l.heads.now) sk.first
         → Chained (pairs (take (2 * (l.count + 1)) edges)) (set l.heads.now d (l.count + 1)) (set l.nexts.now l.count (get_or l.heads.now d 0))
     chained_now d at =
         let n : length es ≡ k = count l in
         let more : Chained (es ++ (a, b) ∷ []) (set l.heads.now (edge_chain (length l.heads.now) (a, b)) (length es + 1))
         (set l.nexts.now (length es) (get_or l.heads.now (edge_chain (length l.heads.now) (a, b)) 0)) =
         chained_more es l.heads.now l.nexts.now (a, b) l.some (omega (arith, room.nexts, n)) l.chained in
-        rw (now_held, at) (rw n at more)
+        rw (now_held, at ∙ ap (λ (x : Edge). chain_of (length l.heads.now) x.0) is) (rw n at more)
 
     -- before they are counted, those there are stay on theirs
     pub chained_yet : (v : ℕ) → Chained (pairs (take (2 * l.count) edges)) l.heads.now (set l.nexts.now l.count v)
@@ -124,7 +136,7 @@ module _ (l : EdgeLists) (a b : ℕ) where
 
     pub missed : (m : EdgeLists) → SameLists m l → m.count ≡ l.count + 1 → m.edges.now ≡ edges → Holds (added (edges_in l) (a, b)) l m
     unfolding added
-    missed m same more is = rw miss (record { count = more ∙ sym longer; edges = is ∙ whole; same = same })
+    missed m same more at = rw (sought ∙ miss) (record { count = more ∙ sym longer; edges = at ∙ whole; same = same })
 
 -- ---- more edges, one call after the other
 

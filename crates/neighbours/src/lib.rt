@@ -13,7 +13,7 @@ ghost use Rattle.rules.specs.Neighbours.{added, added_all, compute_descending};
 ghost use Rattle.neighbours.specs.Chains.{Chained};
 
 use corners::next_corner;
-use keys::{SortedKey, edge_chain};
+use keys::SortedKey;
 use lists::Runs;
 
 // Edges at the front of a list, how many they are, and their chains: the last edge of each, and for each edge the one before it. Links are numbers, 1 and
@@ -49,7 +49,8 @@ impl<'a> EdgeLists<'a> {
         requires { i < self.now.count }
         ensures { result ≡ edge_at (edges_in self.now) i }
     {
-        (self.edges[2 * i], self.edges[2 * i + 1])
+        let [a, b] = self.edges.as_chunks::<2>().0[i];
+        (a, b)
     }
 
     // The edges on the key's chain: no others have the key.
@@ -63,11 +64,10 @@ impl<'a> EdgeLists<'a> {
         }
     }
 
-    // Whether some edge has the key of the edge a, b.
-    fn has_key(&self, a: u32, b: u32) -> bool
-        ensures { result ≡ has (λ i. same_key (edge_at (edges_in self.now) i) (a, b)) (length (edges_in self.now)) }
+    // Whether some edge has the key.
+    fn has_key(&self, key: SortedKey) -> bool
+        ensures { result ≡ has (λ i. same_key (edge_at (edges_in self.now) i) (key.first, key.second)) (length (edges_in self.now)) }
     {
-        let key = SortedKey::new(a, b);
         self.chain(key).any(|(x, y)| SortedKey::new(x, y) == key)
     }
 
@@ -76,11 +76,12 @@ impl<'a> EdgeLists<'a> {
         requires { Room 1 self.old }
         ensures { Holds (added (edges_in self.old) (a, b)) self.old self.new }
     {
-        if self.has_key(a, b) {
+        let key = SortedKey::new(a, b);
+        if self.has_key(key) {
             return;
         }
         let k = self.count;
-        let c = edge_chain(self.heads.len(), a, b);
+        let c = key.chain(self.heads.len());
         let last = self.heads[c];
         self.edges[2 * k] = a;
         self.edges[2 * k + 1] = b;
