@@ -7,6 +7,7 @@ use crate::words::{
     CELL, CLOSE, NEWLINE, NODE, OVERLAY, SPACE, coordinate_of, read_decimal, read_hex, read_word,
 };
 
+// Not plane's Point: the crates of the text rest on no geometry, and its two numbers alone go on.
 #[derive(Clone, Copy)]
 pub struct Node {
     pub x: f64,

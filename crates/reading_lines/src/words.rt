@@ -22,13 +22,10 @@ pub const OVERLAY: &[u8] = b"(overlay ";
 pub fn digit_of(b: u8) -> Option<u32>
     ensures { MatchOption result (10 ≤ digit_val b) (λ d. (d ≡ digit_val b) × (d < 10)) }
 {
-    match b {
-        b'0'..=b'9' => Some(u32::from(b - b'0')),
-        _ => None,
-    }
+    char::from(b).to_digit(10)
 }
 
-// a small hexadecimal digit
+// a small hexadecimal digit: std's to_digit(16) takes capital letters too
 #[tactic(auto, using(std::proofs::lemmas::Bool::Decides::nat_tests), unfolding(text::specs::Read::hex_val, text::specs::Read::digit_val))]
 pub fn hex_of(b: u8) -> Option<u64>
     ensures { MatchOption result (16 ≤ hex_val b) (λ d. (d ≡ hex_val b) × (d < 16)) }
@@ -47,7 +44,7 @@ pub fn read_word<'a>(s: &'a [u8], w: &[u8]) -> Option<&'a [u8]>
     s.strip_prefix(w)
 }
 
-// the digits after the first ones, whose number is v
+// the digits after the first ones, whose number is `first`
 #[tactic(auto, using(crate::proofs::Loops::more_steps))]
 pub fn read_more(first: u32, s: &[u8]) -> Option<(u32, &[u8])>
     ensures { read_as result ≡ more_from first s.now }
@@ -62,6 +59,7 @@ pub fn read_more(first: u32, s: &[u8]) -> Option<(u32, &[u8])>
     Some((v, &[]))
 }
 
+// No `parse`: it wants a `str` that ends with the number, and takes a sign and zeros in front.
 #[tactic(auto, using(crate::proofs::Loops::decimal_steps))]
 pub fn read_decimal(s: &[u8]) -> Option<(u32, &[u8])>
     ensures { read_as result ≡ decimal_from s.now }
@@ -74,6 +72,7 @@ pub fn read_decimal(s: &[u8]) -> Option<(u32, &[u8])>
     read_more(d, rest)
 }
 
+// No `from_str_radix`: it takes a sign and capital letters.
 #[tactic(auto, using(crate::proofs::Loops::hex_steps))]
 pub fn read_hex(s: &[u8]) -> Option<(u64, &[u8])>
     ensures { read_as result ≡ hex_from 16 0 s.now }
