@@ -16,7 +16,7 @@ use writer::Writer;
 #[derive(Clone, Copy, Debug, PartialEq, Eq)]
 pub struct Full;
 
-// what an overlay counts
+// what an overlay counts: the text has doubled cells besides, of which overlay's own `Counts` says nothing, as there are none
 #[derive(Clone, Copy, Debug, PartialEq, Eq)]
 pub struct Counts {
     pub pieces: u32,
@@ -33,7 +33,8 @@ pub enum Answer {
     Overlay { nodes: u32, counts: Counts },
 }
 
-// the lists of an overlay: coordinates, the pieces' corners, where those of each piece end, and of each piece its kind, family and parent
+// the lists of an `OutputView`, lent to be read only, as who prints need not lend them to be written: coordinates, the pieces' corners, where those of
+// each piece end, and of each piece its kind, family and parent
 #[derive(Clone, Copy, Default)]
 pub struct Listing<'a> {
     pub coords: &'a [f64],

@@ -14,7 +14,7 @@ pub(crate) struct Writer<'a> {
     pub(crate) place: Result<usize, Full>,
 }
 
-// The text from `at` on, as far as there is room: the place after it. std's `write!` says nothing of a list that is too short.
+// The text from `at` on, as far as there is room: the place after it. std's `Write` for a lent list says how many bytes it takes, and not what the list holds then.
 #[tactic(auto, using(crate::proofs::Pages::copied_short, crate::proofs::Pages::copied_whole))]
 fn put_at(out: &mut [u8], at: usize, text: &[u8]) -> Result<usize, Full>
     ensures { page result out.new ≡ page_with (page (Ok at) out.old) text.now }
