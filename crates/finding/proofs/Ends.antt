@@ -84,9 +84,8 @@ module _ (es fs ms : List ℕ) where
 
 -- of parts of the working list
 module _ (w : List ℕ) (g : Regions) (es fs ms : List ℕ) (is-es : es ≡ run_in w g.subject.edges) (is-fs : fs ≡ run_in w g.cutter.edges) (is-ms : ms ≡ run_in w g.met) where
-  -- what `either_overfull` asks
-  pub parts_asked : (ls : List ℕ) → ls ≡ run_in w g.links → LinkedIn w g → Linked (pairs es) (pairs fs) ms ls × (length ms ≤ 327680)
-  parts_asked ls is-ls ok = rw (is-es, is-fs, is-ms, is-ls) (ok.linked, ok.few)
+  pub parts_linked : (ls : List ℕ) → ls ≡ run_in w g.links → LinkedIn w g → Linked (pairs es) (pairs fs) ms ls
+  parts_linked ls is-ls ok = rw (is-es, is-fs, is-ms, is-ls) ok.linked
 
   pub parts_full : (r : Bool) → r ≡ both_full es fs ms → r ≡ both_full (run_in w g.subject.edges) (run_in w g.cutter.edges) (run_in w g.met)
   parts_full r e = e ∙ ap₂ (λ (x y : List ℕ). both_full x y ms) is-es is-fs ∙ ap (both_full (run_in w g.subject.edges) (run_in w g.cutter.edges)) is-ms

@@ -71,7 +71,6 @@ fn meet(
 // Whether over 256 nodes are collected under the key of an edge of either mesh.
 #[tactic(auto, using(crate::proofs::Ends::first_full, crate::proofs::Ends::second_full))]
 fn either_overfull(m: &LinkedMeetings) -> bool
-    requires { length m.now.met.now ≤ 327680 }
     ensures { result ≡ both_full m.now.subject.now m.now.cutter.now m.now.met.now }
 {
     m.overfull(m.subject) || m.overfull(m.cutter)
@@ -79,7 +78,7 @@ fn either_overfull(m: &LinkedMeetings) -> bool
 
 // Refusal 9, by the working list. Its meetings are put together as in edge_nodes' `nodes_on`: one function for both would be public, and ask of the regions what
 // each asks for itself.
-#[tactic(auto, using(crate::proofs::Ends::parts_asked, crate::proofs::Ends::parts_full))]
+#[tactic(auto, using(crate::proofs::Ends::parts_linked, crate::proofs::Ends::parts_full))]
 fn crowded(w: &[u32], g: Regions) -> bool
     requires { LinkedIn w.now g }
     ensures { result ≡ both_full (run_in w.now g.subject.edges) (run_in w.now g.cutter.edges) (run_in w.now g.met) }

@@ -32,6 +32,7 @@ struct EdgeLists<'a> {
 }
 
 // The edges on one chain that are still to come, from the last to the first. `at` is a link, as in the lists.
+// edge_nodes' `Chain` goes along links too: one iterator for both would promise the numbers on a chain alone, and each would have to say besides what they number.
 #[derive(Drop)]
 struct Chain<'b, 'a> {
     lists: &'b EdgeLists<'a>,

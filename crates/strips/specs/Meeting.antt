@@ -7,4 +7,3 @@ use Rattle.strips.specs.Things.{thing_count, thing_meets}
 -- the things from `from` on whose boxes meet b, rising
 abbrev pub things_meeting : List Float → List ℕ → List ℕ → Bounds → ℕ → List ℕ
 things_meeting coords nodes ends b from = places_from (thing_meets coords nodes ends b) from (thing_count nodes ends)
-

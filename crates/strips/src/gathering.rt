@@ -33,6 +33,7 @@ struct Search<'a> {
 }
 
 // The things on one chain that are still to come, rising: the next is `at`, and none where that is the number of things.
+// edge_nodes' `Chain` goes along links too: one iterator for both would promise the numbers on a chain alone, and each would have to say besides what they number.
 #[derive(Drop)]
 struct Chain<'b, 'a> {
     search: &'b Search<'a>,
