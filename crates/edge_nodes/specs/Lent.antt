@@ -62,7 +62,6 @@ crowded_at es subject cutter met i = ltb most_nodes (length (collected_in subjec
 unfoldable pub pushed : List ℕ → ℕ → List ℕ
 pushed xs v = cond (eqb (length xs) 0) (v ∷ []) (xs ++ cond (eqb (get_or xs (length xs - 1) 0) v) [] (v ∷ []))
 
-
 -- ---- where edges, meetings and links stand in regions of the working list
 
 -- the nodes collected under the key of e
