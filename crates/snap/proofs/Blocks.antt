@@ -168,8 +168,11 @@ module _ (coords : List Float) (marks : List ℕ) where
     put_asks most here = (v.free, omega (arith, here, v.blocks.size), omega (arith, most, v.blocks.size), in_order.1)
 
     -- what `merge` asks for the rest, and leaves
-    pub rest_asks : (rest : List ℕ) → rest ≡ block → (k + length rest ≤ length s) × InOrder coords (take k s) × InOrder coords rest
-    rest_asks rest e = let h = v.blocks in (omega (arith, h.count, h.few, h.size, ap length e), in_order.0, subst (InOrder coords) (sym e) in_order.1)
+    pub rest_in_order : (rest : List ℕ) → rest ≡ block → InOrder coords rest
+    rest_in_order rest e = subst (InOrder coords) (sym e) in_order.1
+
+    pub rest_asks : (rest : List ℕ) → rest ≡ block → (k + length rest ≤ length s) × InOrder coords (take k s)
+    rest_asks rest e = let h = v.blocks in (omega (arith, h.count, h.few, h.size, ap length e), in_order.0)
 
     pub blocks_end : length marks ≤ i → (rest : List ℕ) → rest ≡ block → (t : List ℕ) → t ≡ merged coords s k rest → (n : ℕ) → n ≡ length block
         → (k + n ≡ length (indices_in_order coords marks)) × (t ≡ front marks (indices_in_order coords marks))

@@ -6,6 +6,7 @@ ghost use Rattle.lists.specs.Gather.{each};
 ghost use Rattle.lists.specs.Regions.{front, zeros};
 ghost use Rattle.entry.specs.Mesh.{mesh};
 ghost use Rattle.rules.specs.Snap.{precedes, distance2, nearer, closest_within, weld};
+ghost use Rattle.snap.specs.Ways.{InOrder-prop};
 ghost use Rattle.snap.specs.Steps.{Below, AllPlaced, InOrder, used, place_of, indices_in_order, with_node, merged, merged_full, not_merged, window_start, number_by};
 
 use arrayvec::ArrayVec;
@@ -34,19 +35,18 @@ fn precedes(p: Point, q: Point) -> bool
     (p.x, p.y) < (q.x, q.y)
 }
 
-// Some nodes over a list of coordinates. That they are in order is asked by each method: `InOrder` says what each coordinate is, as three numbers, so that a ghost
-// field would need a proof beside it (`by`) that these are one way only, which is longer than the five clauses. That nodes are few is no ghost field: `number_of`
-// alone needs it, and all that make such a struct would be asked for it.
+// Some nodes over a list of coordinates, in order. That they are few is no ghost field: `number_of` alone needs it, and all that make such a struct would be asked
+// for it.
 #[derive(Clone, Copy)]
 struct Nodes<'a> {
     coords: &'a [f64],
     order: &'a [u32],
+    ghost ordered: { InOrder coords.now order.now } by { InOrder-prop coords.now order.now },
 }
 
 impl<'a> Nodes<'a> {
     // Where the node v goes among them: before the first that it precedes.
     fn place(&self, v: u32) -> usize
-        requires { InOrder self.now.coords.now self.now.order.now }
         ensures { (result ≡ place_of self.now.coords.now self.now.order.now v) × (result ≤ length self.now.order.now) }
     {
         let coords = self.coords;
@@ -79,7 +79,7 @@ fn put_in_order(coords: &[f64], marks: &[u32], block: &mut ArrayVec<u32, 128>, i
 // s and k are no struct: behind the first k stand the marks that are still read, and each contract would have to say that it is the same list.
 #[tactic(auto, using(crate::proofs::Moves::copied_within, crate::proofs::Moves::merge_start, crate::proofs::Moves::merge_room))]
 fn merge(more: &Nodes, s: &mut [u32], k: usize)
-    requires { (k + length more.now.order.now ≤ length s.old) × InOrder more.now.coords.now (take k s.old) × InOrder more.now.coords.now more.now.order.now }
+    requires { (k + length more.now.order.now ≤ length s.old) × InOrder more.now.coords.now (take k s.old) }
     ensures { s.new ≡ merged more.now.coords.now s.old k more.now.order.now }
 {
     let mut end = k;
@@ -163,7 +163,6 @@ fn nearer(d: f64, v: u32, best: Nearest) -> Nearest
 impl<'a> Nodes<'a> {
     // The first of them that isn't 1e-12 or more to the left of p.
     fn window_start(&self, p: Point) -> usize
-        requires { InOrder self.now.coords.now self.now.order.now }
         ensures { (result ≡ window_start self.now.coords.now self.now.order.now p) × (result ≤ length self.now.order.now) }
     {
         let coords = self.coords;
@@ -175,7 +174,6 @@ impl<'a> Nodes<'a> {
     // From the first on that lies 1e-12 or more to the right of p, all are too far.
     #[tactic(auto, unfolding(rules::specs::Snap::nearest_to), using(crate::proofs::Near::near_turn, crate::proofs::Near::near_end))]
     fn nearest(&self, p: Point) -> Option<u32>
-        requires { InOrder self.now.coords.now self.now.order.now }
         ensures { result ≡ closest_within self.now.coords.now self.now.order.now p }
     {
         let coords = self.coords;
@@ -196,7 +194,6 @@ impl<'a> Nodes<'a> {
     // The same, of nodes of which many may lie to the left of p. Nodes on one vertical line are all looked at: to weld such meshes stays quadratic.
     #[tactic(auto, using(crate::proofs::Near::window_whole, crate::proofs::Near::window_order))]
     fn closest_within(&self, p: Point) -> Option<u32>
-        requires { InOrder self.now.coords.now self.now.order.now }
         ensures { result ≡ closest_within self.now.coords.now self.now.order.now p }
     {
         let from = self.window_start(p);
@@ -210,7 +207,7 @@ impl<'a> Nodes<'a> {
     // The number of the cutter's node j, by its mark, where these are the used subject nodes.
     #[tactic(auto, unfolding(crate::specs::Steps::number_by), using(crate::proofs::Numbers::unwrap_shifted))]
     fn number_of(&self, cc: &[f64], mark: u32, j: usize) -> u32
-        requires { (length self.now.coords.now / 2 ≤ 16384) × (j < 16384) × InOrder self.now.coords.now self.now.order.now }
+        requires { (length self.now.coords.now / 2 ≤ 16384) × (j < 16384) }
         ensures { result ≡ number_by self.now.coords.now self.now.order.now cc.now mark j }
     {
         let shifted = (j + self.coords.len() / 2) as u32;

@@ -1,7 +1,7 @@
 use mathlib.Core.Path.{ap}
 use native.Mathlib.Omega.{arith}
 use lib.ListN.{length}
-use Rattle.snap.proofs.Blocks.{blocks_start, put_asks, rest_asks, blocks_end, next_ready, next_full}
+use Rattle.snap.proofs.Blocks.{blocks_start, put_asks, rest_asks, rest_in_order, blocks_end, next_ready, next_full}
 use Rattle.snap.proofs.sorted_indices_for.Goals as goal
 
 pub loop-i-init : goal.loop-i-init
@@ -20,6 +20,9 @@ loop-i-preserved c =
 
 pub merge-requires : goal.merge-requires
 merge-requires c = rest_asks _ _ c.requires.2 c.requires.1 _ _ _ _ c.loop-i.invariant _ c.as_slice.ensures.value
+
+pub invariant_of-rest : goal.invariant_of-rest
+invariant_of-rest c = record { ordered = rest_in_order _ _ c.requires.2 c.requires.1 _ _ _ _ c.loop-i.invariant _ c.as_slice.ensures.value }
 
 pub returns : goal.returns
 returns c = blocks_end _ _ c.requires.2 c.requires.1 _ _ _ _ c.loop-i.invariant c.loop-i-test.false _ c.as_slice.ensures.value _ c.merge.ensures _ c.len.ensures.value

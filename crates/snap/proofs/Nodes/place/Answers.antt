@@ -10,5 +10,5 @@ unfolding place_of
 returns c =
     let n = c.args.self.now in
     let r = c.partition_point in
-    partition_of (before n.coords.now c.args.v) n.order.now r.result (place_turns n.coords.now n.order.now c.args.v c.requires) r.ensures.partitioned
+    partition_of (before n.coords.now c.args.v) n.order.now r.result (place_turns n.coords.now n.order.now c.args.v n.ordered) r.ensures.partitioned
     (λ u t f k. search rules) r.ensures.bound

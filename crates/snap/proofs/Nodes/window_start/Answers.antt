@@ -13,5 +13,5 @@ returns c =
     let n = c.args.self.now in
     let p = c.args.p in
     let r = c.partition_point in
-    partition_of (λ v. lt (ahead n.coords.now p v) weld_eps) n.order.now r.result (window_turns n.coords.now n.order.now p c.requires) r.ensures.partitioned
+    partition_of (λ v. lt (ahead n.coords.now p v) weld_eps) n.order.now r.result (window_turns n.coords.now n.order.now p n.ordered) r.ensures.partitioned
     (λ v t f k. search rules) r.ensures.bound
