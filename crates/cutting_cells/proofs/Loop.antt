@@ -46,7 +46,7 @@ pub record Going (t : Treatment) (own stops : List ℕ) (from : ℕ) (l l' : Pie
   pub few : Few i l.placed l'.placed
   pub placed : left_by (Ok l'.placed) l' ≡ placed_on (all_of i (λ j. yield_for t (from + j) (get_or (runs_of own stops) j []))) l
 
-module _ (t : Treatment) (own stops : List ℕ) (from : ℕ) (l : PieceLists) (asks : CellsAsk t own stops from l) where
+module _ {t : Treatment} {own stops : List ℕ} {from : ℕ} {l : PieceLists} (asks : CellsAsk t own stops from l) where
   abbrev n : ℕ
   n = length stops
 
@@ -69,7 +69,7 @@ module _ (t : Treatment) (own stops : List ℕ) (from : ℕ) (l : PieceLists) (a
         placed = sym (placed_nothing l.placed l.corners.now l.ends.now l.tags.now);
       }
 
-  module _ (l' : PieceLists) (i : ℕ) (rest : List (List ℕ)) (inv : Going t own stops from l l' i rest) where
+  module _ (l' : PieceLists) {i : ℕ} {rest : List (List ℕ)} (inv : Going t own stops from l l' i rest) where
     so_far : Steady (all_of i f)
     so_far = steady_all f i (λ j h. steady j)
 
@@ -79,7 +79,7 @@ module _ (t : Treatment) (own stops : List ℕ) (from : ℕ) (l : PieceLists) (a
         inv.placed ∙ ap (λ (k : ℕ). placed_on (all_of k f) l) all
 
     -- the cell x is the next, number k
-    module _ (x : List ℕ) (ys : List (List ℕ)) (here : rest ≡ x ∷ ys) (k : ℕ) (at : k ≡ i) where
+    module _ {x : List ℕ} {ys : List (List ℕ)} (here : rest ≡ x ∷ ys) {k : ℕ} (at : k ≡ i) where
       next : (i < length (runs_of own stops)) × (get_or (runs_of own stops) i [] ≡ x) × (drop (suc i) (runs_of own stops) ≡ ys)
       next = left_some [] (runs_of own stops) i x ys (inv.others ∙ here)
 

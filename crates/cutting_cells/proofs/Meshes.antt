@@ -60,7 +60,7 @@ meshes_steady op coords work g se ce =
     go true = cells_steady op coords work g the_cutter se ce
     go false = steady_nothing
 
-module _ (op : ℕ) (coords : List Float) (work : List ℕ) (g : Regions) (x : Indexes) (se ce : List ℕ) (l : PieceLists)
+module _ {op : ℕ} {coords : List Float} {work : List ℕ} {g : Regions} (x : Indexes) {se ce : List ℕ} (l : PieceLists)
     (ready : MeshesReady op coords work g x se ce) (none : l.placed ≡ none_yet) where
   abbrev first : Yield
   first = cells_yield op coords work g the_subject ce se
@@ -81,7 +81,7 @@ module _ (op : ℕ) (coords : List Float) (work : List ℕ) (g : Regions) (x : I
       })
 
   -- the subject's cells as they are lent
-  module _ (k₁ : Keep) (own₁ : List ℕ) (ek₁ : k₁ ≡ keep_of op the_subject) (eo₁ : own₁ ≡ run_in work g.subject.entries) (l₁ : PieceLists) where
+  module _ {k₁ : Keep} {own₁ : List ℕ} (ek₁ : k₁ ≡ keep_of op the_subject) (eo₁ : own₁ ≡ run_in work g.subject.entries) (l₁ : PieceLists) where
     abbrev pub lent₁ : Yield
     lent₁ = all_of (length se) (λ i. yield_of coords work g g.cutter ce k₁ (0 + i) (get_or (runs_of own₁ se) i []))
 
@@ -106,7 +106,7 @@ module _ (op : ℕ) (coords : List Float) (work : List ℕ) (g : Regions) (x : I
           behind_none = λ s. record { events = append-nil first.events s; pieces = append-nil first.pieces s; tags = append-nil first.tags s }
 
       -- and the cutter's
-      module _ (e : cuts op the_cutter ≡ true) (own₂ : List ℕ) (eo₂ : own₂ ≡ run_in work g.cutter.entries) where
+      module _ (e : cuts op the_cutter ≡ true) {own₂ : List ℕ} (eo₂ : own₂ ≡ run_in work g.cutter.entries) where
         pub asks_second : Few (length se) l.placed l₁.placed → (t : Treatment) → t.scene.work.now ≡ work → t.scene.regions ≡ g → CellsAsk t own₂ ce (length se) l₁
         asks_second few t ew eg =
             rw eo₂ (record {
@@ -116,7 +116,7 @@ module _ (op : ℕ) (coords : List Float) (work : List ℕ) (g : Regions) (x : I
               short = omega (arith, few.corners, ready.most_subject, ready.most_cutter, ap (λ (p : Listed). p.entries) none);
             })
 
-        module _ (k₂ : Keep) (ek₂ : k₂ ≡ keep_of op the_cutter) where
+        module _ {k₂ : Keep} (ek₂ : k₂ ≡ keep_of op the_cutter) where
           abbrev pub lent₂ : Yield
           lent₂ = all_of (length ce) (λ i. yield_of coords work g g.subject se k₂ (length se + i) (get_or (runs_of own₂ ce) i []))
 

@@ -43,15 +43,12 @@ pub record Going (f : List ℕ → Bool) (ps : List (List ℕ)) (p : Listed) (t 
   pub same : SameLists l' l
   pub placed : left_by (Ok q) l' ≡ placed_in p (tagged t (passing f done)) l
 
-module _ (f : List ℕ → Bool) (runs ends : List ℕ) (up : Rising ends (length runs)) (p : Listed) (t : ℕ) (l : PieceLists) (space : Space p (length runs) l) where
-  abbrev ps : List (List ℕ)
-  ps = runs_of runs ends
-
+module _ (runs ends : List ℕ) (up : Rising ends (length runs)) {f : List ℕ → Bool} {p : Listed} (t : ℕ) (l : PieceLists) (space : Space p (length runs) l) where
   pub begin : (rest : List (List ℕ)) → rest ≡ runs_of runs ends → Going f (runs_of runs ends) p t l l p rest
   unfolding passing
   begin rest e = record { done = []; all = sym e; same = same_none l; placed = sym (placed_nothing p l.corners.now l.ends.now l.tags.now) }
 
-  module _ (l' : PieceLists) (q : Listed) (rest : List (List ℕ)) (inv : Going f (runs_of runs ends) p t l l' q rest) where
+  module _ (l' : PieceLists) {q : Listed} {rest : List (List ℕ)} (inv : Going f (runs_of runs ends) p t l l' q rest) where
     abbrev kept : List (List ℕ)
     kept = passing f inv.done
 
@@ -61,8 +58,8 @@ module _ (f : List ℕ → Bool) (runs ends : List ℕ) (up : Rising ends (lengt
         (sym (inv.all ∙ ap (λ (ks : List (List ℕ)). inv.done ++ ks) none ∙ append-nil inv.done))
 
     -- piece x is the next
-    module _ (x : List ℕ) (ys : List (List ℕ)) (here : rest ≡ x ∷ ys) where
-      all_with : ps ≡ (inv.done ++ x ∷ []) ++ ys
+    module _ {x : List ℕ} {ys : List (List ℕ)} (here : rest ≡ x ∷ ys) where
+      all_with : runs_of runs ends ≡ (inv.done ++ x ∷ []) ++ ys
       all_with = inv.all ∙ ap (λ (ks : List (List ℕ)). inv.done ++ ks) here ∙ sym (append_assoc inv.done (x ∷ []) ys)
 
       kept_with : (ks : List (List ℕ)) → passing f (x ∷ []) ≡ ks → passing f (inv.done ++ x ∷ []) ≡ kept ++ ks
@@ -75,7 +72,7 @@ module _ (f : List ℕ → Bool) (runs ends : List ℕ) (up : Rising ends (lengt
           let a = all_placed p (tagged t kept) l.corners.now l.ends.now l.tags.now q l'.corners.now l'.ends.now l'.tags.now inv.placed in
           let k = fit p (tagged t kept) l.corners.now l.ends.now l.tags.now q l'.corners.now l'.ends.now l'.tags.now inv.placed
           (steady_tagged t kept) space.counted space.corners in
-          let long : length (flat ps) ≡ length (flat inv.done) + (length x + length (flat ys)) =
+          let long : length (flat (runs_of runs ends)) ≡ length (flat inv.done) + (length x + length (flat ys)) =
           omega (
             arith,
             ap (λ (ks : List (List ℕ)). length (flat ks)) (inv.all ∙ ap (λ (ks : List (List ℕ)). inv.done ++ ks) here),

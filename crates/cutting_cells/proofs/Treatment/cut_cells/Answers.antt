@@ -16,7 +16,7 @@ all_left c =
     ∙ runs_one_by_one c.args.own.now c.args.stops.now
 
 pub loop-i-init : goal.loop-i-init
-loop-i-init c = begin _ _ _ _ _ c.requires _ _ (ap (λ e. e.count) c.into_iter-i-iterator.ensures.into_iter_gives ∙ c.enumerate-i-items.ensures.count) (all_left c)
+loop-i-init c = begin c.requires _ _ (ap (λ e. e.count) c.into_iter-i-iterator.ensures.into_iter_gives ∙ c.enumerate-i-items.ensures.count) (all_left c)
 
 pub loop-i-init-derived : goal.loop-i-init-derived
 loop-i-init-derived c = (
@@ -39,30 +39,30 @@ pub invariant_of-cell : goal.invariant_of-cell
 invariant_of-cell c =
     let l = c.loop-i in
     let s = c.in-Some.ensures.steps in
-    let n = next_cell _ _ _ _ _ c.requires l.lists _ _ l.invariant _ _ s.0 _ s.1 in
+    let n = next_cell c.requires l.lists l.invariant s.0 s.1 in
     record { numbered = n.0; short = n.1 }
 
 pub overlay_cell-requires : goal.overlay_cell-requires
 overlay_cell-requires c =
     let l = c.loop-i in
     let s = c.in-Some.ensures.steps in
-    next_asks _ _ _ _ _ c.requires l.lists _ _ l.invariant _ _ s.0 _ s.1
+    next_asks c.requires l.lists l.invariant s.0 s.1
 
 pub returns-in_err-overlay_cell-clause-placed : goal.returns-in_err-overlay_cell-clause-placed
 returns-in_err-overlay_cell-clause-placed c =
     let l = c.loop-i in
     let s = c.in-Some.ensures.steps in
     rw (passed_on c.from_residual.result _ c.from_residual.ensures.1)
-    (stopped _ _ _ _ _ c.requires l.lists _ _ l.invariant _ _ s.0 _ s.1 _ c.overlay_cell.new.lists c.in_err-overlay_cell.ensures.placed)
+    (stopped c.requires l.lists l.invariant s.0 s.1 _ c.overlay_cell.new.lists c.in_err-overlay_cell.ensures.placed)
 
 pub loop-i-preserved : goal.loop-i-preserved
 loop-i-preserved c =
     let l = c.loop-i in
     let s = c.in-Some.ensures.steps in
     let e = c.in_ok-overlay_cell.ensures in
-    turn _ _ _ _ _ c.requires l.lists _ _ l.invariant _ _ s.0 _ s.1 _ e.placed e.few e.same_lists _ s.2
+    turn c.requires l.lists l.invariant s.0 s.1 _ e.placed e.few e.same_lists _ s.2
 
 pub returns-clause-placed : goal.returns-clause-placed
 returns-clause-placed c =
     let l = c.loop-i in
-    end _ _ _ _ _ c.requires l.lists _ _ l.invariant c.in-None.ensures.steps.0.0
+    end c.requires l.lists l.invariant c.in-None.ensures.steps.0.0
