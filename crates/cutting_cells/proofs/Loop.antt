@@ -69,7 +69,7 @@ module _ {t : Treatment} {own stops : List ℕ} {from : ℕ} {l : PieceLists} (a
         placed = sym (placed_nothing l.placed l.corners.now l.ends.now l.tags.now);
       }
 
-  module _ (l' : PieceLists) {i : ℕ} {rest : List (List ℕ)} (inv : Going t own stops from l l' i rest) where
+  module _ {l' : PieceLists} {i : ℕ} {rest : List (List ℕ)} (inv : Going t own stops from l l' i rest) where
     so_far : Steady (all_of i f)
     so_far = steady_all f i (λ j h. steady j)
 

@@ -60,7 +60,7 @@ meshes_steady op coords work g se ce =
     go true = cells_steady op coords work g the_cutter se ce
     go false = steady_nothing
 
-module _ {op : ℕ} {coords : List Float} {work : List ℕ} {g : Regions} (x : Indexes) {se ce : List ℕ} (l : PieceLists)
+module _ {op : ℕ} {coords : List Float} {work : List ℕ} {g : Regions} {x : Indexes} {se ce : List ℕ} (l : PieceLists)
     (ready : MeshesReady op coords work g x se ce) (none : l.placed ≡ none_yet) where
   abbrev first : Yield
   first = cells_yield op coords work g the_subject ce se

@@ -43,12 +43,12 @@ pub record Going (f : List ℕ → Bool) (ps : List (List ℕ)) (p : Listed) (t 
   pub same : SameLists l' l
   pub placed : left_by (Ok q) l' ≡ placed_in p (tagged t (passing f done)) l
 
-module _ (runs ends : List ℕ) (up : Rising ends (length runs)) {f : List ℕ → Bool} {p : Listed} (t : ℕ) (l : PieceLists) (space : Space p (length runs) l) where
+module _ (runs ends : List ℕ) (up : Rising ends (length runs)) {f : List ℕ → Bool} {p : Listed} {t : ℕ} {l : PieceLists} (space : Space p (length runs) l) where
   pub begin : (rest : List (List ℕ)) → rest ≡ runs_of runs ends → Going f (runs_of runs ends) p t l l p rest
   unfolding passing
   begin rest e = record { done = []; all = sym e; same = same_none l; placed = sym (placed_nothing p l.corners.now l.ends.now l.tags.now) }
 
-  module _ (l' : PieceLists) {q : Listed} {rest : List (List ℕ)} (inv : Going f (runs_of runs ends) p t l l' q rest) where
+  module _ {l' : PieceLists} {q : Listed} {rest : List (List ℕ)} (inv : Going f (runs_of runs ends) p t l l' q rest) where
     abbrev kept : List (List ℕ)
     kept = passing f inv.done
 

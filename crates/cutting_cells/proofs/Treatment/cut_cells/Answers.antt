@@ -39,30 +39,30 @@ pub invariant_of-cell : goal.invariant_of-cell
 invariant_of-cell c =
     let l = c.loop-i in
     let s = c.in-Some.ensures.steps in
-    let n = next_cell c.requires l.lists l.invariant s.0 s.1 in
+    let n = next_cell c.requires l.invariant s.0 s.1 in
     record { numbered = n.0; short = n.1 }
 
 pub overlay_cell-requires : goal.overlay_cell-requires
 overlay_cell-requires c =
     let l = c.loop-i in
     let s = c.in-Some.ensures.steps in
-    next_asks c.requires l.lists l.invariant s.0 s.1
+    next_asks c.requires l.invariant s.0 s.1
 
 pub returns-in_err-overlay_cell-clause-placed : goal.returns-in_err-overlay_cell-clause-placed
 returns-in_err-overlay_cell-clause-placed c =
     let l = c.loop-i in
     let s = c.in-Some.ensures.steps in
     rw (passed_on c.from_residual.result _ c.from_residual.ensures.1)
-    (stopped c.requires l.lists l.invariant s.0 s.1 _ c.overlay_cell.new.lists c.in_err-overlay_cell.ensures.placed)
+    (stopped c.requires l.invariant s.0 s.1 _ c.overlay_cell.new.lists c.in_err-overlay_cell.ensures.placed)
 
 pub loop-i-preserved : goal.loop-i-preserved
 loop-i-preserved c =
     let l = c.loop-i in
     let s = c.in-Some.ensures.steps in
     let e = c.in_ok-overlay_cell.ensures in
-    turn c.requires l.lists l.invariant s.0 s.1 _ e.placed e.few e.same_lists _ s.2
+    turn c.requires l.invariant s.0 s.1 _ e.placed e.few e.same_lists _ s.2
 
 pub returns-clause-placed : goal.returns-clause-placed
 returns-clause-placed c =
     let l = c.loop-i in
-    end c.requires l.lists l.invariant c.in-None.ensures.steps.0.0
+    end c.requires l.invariant c.in-None.ensures.steps.0.0
