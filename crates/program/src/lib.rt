@@ -40,7 +40,7 @@ fn told(nodes: u32, answer: Result<overlay::Counts, Refusal>) -> Answer
     }
 }
 
-// the lists of the pieces, as they are printed
+// the lists of the pieces, as they are printed. No From: both types are of other crates.
 fn listing<'a>(pieces: &'a OutputView) -> Listing<'a>
     ensures { (result.coords.now ≡ pieces.now.coords.now) × (result.nodes.now ≡ pieces.now.nodes.now) × (result.ends.now ≡ pieces.now.ends.now)
         × (result.kinds.now ≡ pieces.now.kinds.now) × (result.families.now ≡ pieces.now.families.now)

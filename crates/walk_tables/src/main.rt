@@ -48,7 +48,7 @@ fn walk(
     walk_dart_map(table.slots(), table.outline(), nodes, stops)
 }
 
-// The pieces' nodes, a line for each piece.
+// The pieces' nodes, a line for each piece. Node by node: by `Runs` the last node of each piece would be split off, as a line has no space at its end.
 fn show_pieces<W: Write>(out: &mut W, nodes: &[u32], stops: &[u32]) -> io::Result<()>
     requires { length nodes.now ≤ 1024 }
 {
@@ -63,7 +63,7 @@ fn show_pieces<W: Write>(out: &mut W, nodes: &[u32], stops: &[u32]) -> io::Resul
     Ok(())
 }
 
-// Shows the pieces of such a cell, or its refusal.
+// Shows the pieces of such a cell, or its refusal; the lists are as `walk` has them.
 fn show<W: Write>(
     out: &mut W,
     coords: &[f64],
