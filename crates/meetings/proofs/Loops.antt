@@ -75,7 +75,7 @@ module _ (cs : List Float) (es fs : List ℕ) (i : ℕ) where
   walk_start l js ks e b = rw e (record { done = []; grown = grown_none l; left = refl; low = b })
 
   -- edge j is the next
-  module _ (whole : List Met) (l₀ l : MetLists) (j : ℕ) (now rest : List ℕ) (is : now ≡ j ∷ rest) (v : Walked whole l₀ l now) where
+  module _ {whole : List Met} {l₀ l : MetLists} {j : ℕ} {now rest : List ℕ} (is : now ≡ j ∷ rest) (v : Walked whole l₀ l now) where
     next : Walked whole l₀ l (j ∷ rest)
     next = rw is at v
 
@@ -143,7 +143,7 @@ module _ (cs : List Float) (es fs : List ℕ) where
   unfolding meetings_to
   begin l = record { within = omega arith; grown = grown_none l }
 
-  module _ (even_coords : 2 * (length cs / 2) ≡ length cs) (l₀ l : MetLists) (none : l₀.found.points ≡ 0) (i : ℕ) (inv : Through l₀ l i) (more : i < length es / 2) where
+  module _ (even_coords : 2 * (length cs / 2) ≡ length cs) {l₀ l : MetLists} (none : l₀.found.points ≡ 0) {i : ℕ} (inv : Through l₀ l i) (more : i < length es / 2) where
     abbrev js : List ℕ
     js = candidates cs (pairs fs) (edge_box cs (edge_at (pairs es) i))
 
