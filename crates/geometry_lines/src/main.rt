@@ -19,7 +19,7 @@ const MOST_POINTS: usize = 512;
 
 // ---- Numbers
 
-// An f64 as 16 hexadecimal digits; any NaN as one NaN.
+// An f64 as 16 hexadecimal digits; any NaN as one NaN. printing's own `bits_of` and `hex_digits` are inner, and write bytes.
 #[derive(Clone, Copy)]
 struct Bits(f64);
 
@@ -128,6 +128,7 @@ fn answer<W: Write>(alloc: Global, out: &mut W, line: &[u8]) -> io::Result<()> {
         coords.push(number(word))?;
     }
     let points = (coords.len() / 2).min(MOST_POINTS) as u32;
+    // By the letter itself: an enum of the forms would be made by one match and taken apart by the next.
     match (form, coords.len()) {
         (Some(b'e'), 8) => write!(out, "{}", Met(meet(&coords))),
         (Some(b'n'), _) => inner(alloc, out, &coords, points),
