@@ -118,7 +118,7 @@ unfolding front
 front_fits w xs = omega (arith, length-append xs (drop (length xs) w))
 
 -- what stands in front of a list
-module _ (xs out out' : List ℕ) (r : ℕ) (h : FrontIs xs out r out') where
+module _ {xs out out' : List ℕ} {r : ℕ} (h : FrontIs xs out r out') where
   pub read_front : take r out' ≡ xs
   read_front = ap (take r) h.held ∙ take_front_of out xs r (sym h.count)
 

@@ -76,7 +76,7 @@ module _ (n : NearEdges) (outline : List Edge) where
           sym (append_assoc (near_by (take k js)) (laid e ∷ []) (near_by (drop (k + 1) js))) ∙ ap (λ (l : List Laid). l ++ near_by (drop (k + 1) js)) more
           ∙ sym (map-append (λ (i : ℕ). laid (edge_at near i)) (take (k + 1) js) (drop (k + 1) js)) ∙ ap near_by (take-append-drop (k + 1) js)
 
-      module _ (ns : List ℕ) (en : ns ≡ nodes_on n.scene.coords.now n.scene.work.now n.scene.regions
+      module _ {ns : List ℕ} (en : ns ≡ nodes_on n.scene.coords.now n.scene.work.now n.scene.regions
           (pair_of (get_or n.edges.now (get_or n.places.now k 0) []))) (r : Result (Unit {0}) Full) (t' : List Slot)
           (lent : table_in r t' ≡ with_edges n.scene.coords.now
           (near_darts (record { edge = pair_of (get_or n.edges.now (get_or n.places.now k 0) []); nodes = ns })) t) where

@@ -46,14 +46,14 @@ module _ (o : OwnEdges) where
   pub few_at : (i : ℕ) → i < length o.cell.now → Few o.scene.work.now o.scene.regions (get_or o.cell.now i 0, next_corner o.cell.now i)
   few_at i h = subst (λ (f : Edge). Few o.scene.work.now o.scene.regions f) (ring_at cell i h) (o.few i (omega (arith, h, length_ring cell)))
 
-  module _ (d : Darts) (i : ℕ) (v : Outlining o d i) where
+  module _ {d : Darts} {i : ℕ} (v : Outlining o d i) where
     abbrev done : List Edge
     done = sides cell i
 
     abbrev ls : List Laid
     ls = map laid done
 
-    module _ (b : ℕ) (h : i < length o.cell.now) (eb : b ≡ next_corner o.cell.now i) where
+    module _ {b : ℕ} (h : i < length o.cell.now) (eb : b ≡ next_corner o.cell.now i) where
       abbrev e : Edge
       e = (get_or cell i 0, b)
 
@@ -66,7 +66,7 @@ module _ (o : OwnEdges) where
       laid_split : ls ++ laid e ∷ map laid rest ≡ map laid (ring cell)
       laid_split = sym (map-append laid done (e ∷ rest)) ∙ ap (map laid) (ap (λ (f : Edge). done ++ f ∷ rest) e_is ∙ sides_next cell i h)
 
-      module _ (ns : List ℕ) (en : ns ≡ nodes_on o.scene.coords.now o.scene.work.now o.scene.regions (get_or o.cell.now i 0, b)) (r : Result (Unit {0}) Full) (d' : Darts)
+      module _ {ns : List ℕ} (en : ns ≡ nodes_on o.scene.coords.now o.scene.work.now o.scene.regions (get_or o.cell.now i 0, b)) (r : Result (Unit {0}) Full) (d' : Darts)
           (lent : table_in r d'.slots ≡ with_darts o.scene.coords.now true (own_darts (record { edge = (get_or o.cell.now i 0, b); nodes = ns })) d.slots)
           (laid_lent : d'.outline ≡ outline_with (own_darts (record { edge = (get_or o.cell.now i 0, b); nodes = ns })) (length d.slots) d.outline) where
         got : table_in r d'.slots ≡ with_darts coords true (own_darts (laid e)) d.slots

@@ -7,13 +7,13 @@ use Rattle.cells.proofs.NearEdges.add_darts.Goals as goal
 
 pub returns-in_err-add_near_edge-clause-held : goal.returns-in_err-add_near_edge-clause-held
 returns-in_err-add_near_edge-clause-held c =
-    let over = near_many c.args.self.now (pairs c.args.table.now.outline) c.loop-place.invariant.0 c.loop-place-test.true _ (read_front _ _ _ _ c.nodes_on-count.ensures) _ _
+    let over = near_many c.args.self.now (pairs c.args.table.now.outline) c.loop-place.invariant.0 c.loop-place-test.true (read_front c.nodes_on-count.ensures) _ _
     c.in_err-add_near_edge.ensures.table refl in
     rw (passed_on c.from_residual.result _ c.from_residual.ensures.1) (record { fits = λ f. cc; over = λ f. over })
 
 pub loop-place-preserved : goal.loop-place-preserved
 loop-place-preserved c = (
-  near_step c.args.self.now (pairs c.args.table.now.outline) c.loop-place.invariant.0 c.loop-place-test.true _ (read_front _ _ _ _ c.nodes_on-count.ensures) _ _
+  near_step c.args.self.now (pairs c.args.table.now.outline) c.loop-place.invariant.0 c.loop-place-test.true (read_front c.nodes_on-count.ensures) _ _
       c.in_ok-add_near_edge.ensures.table refl,
   c.in_ok-add_near_edge.ensures.outline ∙ c.loop-place.invariant.1,
 )

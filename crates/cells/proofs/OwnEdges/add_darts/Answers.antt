@@ -13,16 +13,16 @@ nodes_on-count-requires c = rw (c.next_corner-b.ensures) (few_at c.args.self.now
 
 pub returns-in_err-add_own_edge-clause-held : goal.returns-in_err-add_own_edge-clause-held
 returns-in_err-add_own_edge-clause-held c =
-    let over = outline_over c.args.self.now _ _ c.loop-i.invariant _ c.loop-i-test.true c.next_corner-b.ensures _ (read_front _ _ _ _ c.nodes_on-count.ensures) _ _
+    let over = outline_over c.args.self.now c.loop-i.invariant c.loop-i-test.true c.next_corner-b.ensures (read_front c.nodes_on-count.ensures) _ _
     c.in_err-add_own_edge.ensures.table c.in_err-add_own_edge.ensures.outline refl in
     rw (passed_on c.from_residual.result _ c.from_residual.ensures.1) (record { fits = λ f. cc; over = λ f. over })
 
 pub loop-i-preserved : goal.loop-i-preserved
 loop-i-preserved c =
-    outline_turn c.args.self.now _ _ c.loop-i.invariant _ c.loop-i-test.true c.next_corner-b.ensures _ (read_front _ _ _ _ c.nodes_on-count.ensures) _ _
+    outline_turn c.args.self.now c.loop-i.invariant c.loop-i-test.true c.next_corner-b.ensures (read_front c.nodes_on-count.ensures) _ _
     c.in_ok-add_own_edge.ensures.table c.in_ok-add_own_edge.ensures.outline refl
 
 pub returns : goal.returns
 returns c =
-    let all = outline_end c.args.self.now _ _ c.loop-i.invariant c.loop-i-test.false in
+    let all = outline_end c.args.self.now c.loop-i.invariant c.loop-i-test.false in
     record { held = record { fits = λ f. all.0; over = λ f. cc }; outlined = λ f. all.1 }

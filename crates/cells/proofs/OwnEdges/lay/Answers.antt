@@ -9,7 +9,7 @@ nodes_on-count-requires c = rw (c.next_corner-b.ensures) (few_at c.args.self.now
 
 pub shared_ref_as_front-result : goal.shared_ref_as_front-result
 shared_ref_as_front-result c =
-    laid_fits c.args.self.now c.args.i c.requires c.next_corner-b.ensures (read_front _ _ _ _ c.nodes_on-count.ensures) _ c.lay_own_edge-entries.ensures.0
+    laid_fits c.args.self.now c.args.i c.requires c.next_corner-b.ensures (read_front c.nodes_on-count.ensures) _ c.lay_own_edge-entries.ensures.0
 
 pub returns : goal.returns
-returns c = laid_at c.args.self.now c.args.i c.requires c.next_corner-b.ensures (read_front _ _ _ _ c.nodes_on-count.ensures) _ c.lay_own_edge-entries.ensures
+returns c = laid_at c.args.self.now c.args.i c.requires c.next_corner-b.ensures (read_front c.nodes_on-count.ensures) _ c.lay_own_edge-entries.ensures
