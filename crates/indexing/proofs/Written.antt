@@ -40,7 +40,7 @@ module _ (coords : List Float) (w : List ℕ) (r : Run) (ends : List ℕ) (at : 
 
 -- ---- `index_mesh`
 
-module _ (coords : List Float) (w : List ℕ) (m : MeshRuns) (ends : List ℕ) (at : ℕ) (ok : MeshAsks w m ends at) where
+module _ (coords : List Float) {w : List ℕ} {m : MeshRuns} {ends : List ℕ} {at : ℕ} (ok : MeshAsks w m ends at) where
   abbrev ix : List ℕ
   ix = edge_index coords w m ends
 
@@ -56,7 +56,7 @@ module _ (coords : List Float) (w : List ℕ) (m : MeshRuns) (ends : List ℕ) (
   pub edges_asked : RunAsks w m.edges [] at
   edges_asked = record { lies = ok.edges; rising = λ i h. absurd (omega (arith, h)); few = ok.few_edges; room = omega (arith, ok.room) }
 
-  module _ (x : Run) (w₁ : List ℕ) (one : Built coords w m.edges [] at x w₁) where
+  module _ {x : Run} {w₁ : List ℕ} (one : Built coords w m.edges [] at x w₁) where
     middle_is : x.end ≡ at + length ix
     middle_is = ap (λ (r : Run). r.end) one.0
 
@@ -96,12 +96,12 @@ module _ (coords : List Float) (w : List ℕ) (g : Regions) (se ce : List ℕ) (
   subject_long : length ixs ≡ mesh_size w g.subject se
   subject_long =
       length-append (edge_index coords w g.subject se) (cell_index coords w g.subject se)
-      ∙ ap₂ (λ (a b : ℕ). a + b) (edges_size coords w g.subject se at₀ ok.subject) (cells_size coords w g.subject se at₀ ok.subject)
+      ∙ ap₂ (λ (a b : ℕ). a + b) (edges_size coords ok.subject) (cells_size coords ok.subject)
 
   low : at₀ ≤ length w
   low = omega (arith, ok.room)
 
-  module _ (x : MeshIndex) (w₁ : List ℕ) (one : (x ≡ mesh_index_at coords w g.subject se at₀) × (w₁ ≡ put w at₀ (mesh_index coords w g.subject se))) where
+  module _ {x : MeshIndex} {w₁ : List ℕ} (one : (x ≡ mesh_index_at coords w g.subject se at₀) × (w₁ ≡ put w at₀ (mesh_index coords w g.subject se))) where
     end₁ : x.cells.end ≡ at₀ + length ixs
     end₁ =
         ap (λ (y : MeshIndex). y.cells.end) one.0
@@ -152,7 +152,7 @@ module _ (coords : List Float) (w : List ℕ) (g : Regions) (se ce : List ℕ) (
   cutter_long : length (mesh_index coords w g.cutter ce) ≡ mesh_size w g.cutter ce
   cutter_long =
       length-append (edge_index coords w g.cutter ce) (cell_index coords w g.cutter ce)
-      ∙ ap₂ (λ (a b : ℕ). a + b) (edges_size coords w g.cutter ce at₀ ok.cutter) (cells_size coords w g.cutter ce at₀ ok.cutter)
+      ∙ ap₂ (λ (a b : ℕ). a + b) (edges_size coords ok.cutter) (cells_size coords ok.cutter)
 
   pub length_after : length after ≡ length w
   length_after =
