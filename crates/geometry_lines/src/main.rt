@@ -45,6 +45,11 @@ fn number(word: &[u8]) -> f64 {
 
 // ---- Answers
 
+// How many points there are, of which no more are taken than a line has.
+fn count(coords: &[f64]) -> u32 {
+    (coords.len() / 2).min(MOST_POINTS) as u32
+}
+
 // A meeting, as a line has it.
 #[derive(Clone, Copy)]
 struct Met(Meeting);
@@ -81,8 +86,8 @@ fn orient(coords: &[f64]) -> Ordering {
     )
 }
 
-fn inner<W: Write>(alloc: Global, out: &mut W, coords: &[f64], points: u32) -> io::Result<()> {
-    let corners: Vec<u32> = (0..points).collect(alloc)?;
+fn inner<W: Write>(alloc: Global, out: &mut W, coords: &[f64]) -> io::Result<()> {
+    let corners: Vec<u32> = (0..count(coords)).collect(alloc)?;
     match polygons::strict_interior_point(Ring::new(coords, &corners)) {
         None => out.write_all(b"none"),
         Some(p) => write!(out, "{} {}", Bits(p.x), Bits(p.y)),
@@ -90,8 +95,8 @@ fn inner<W: Write>(alloc: Global, out: &mut W, coords: &[f64], points: u32) -> i
 }
 
 // Whether the first point is inside the polygon of the others.
-fn inside<W: Write>(alloc: Global, out: &mut W, coords: &[f64], points: u32) -> io::Result<()> {
-    let corners: Vec<u32> = (1..points).collect(alloc)?;
+fn inside<W: Write>(alloc: Global, out: &mut W, coords: &[f64]) -> io::Result<()> {
+    let corners: Vec<u32> = (1..count(coords)).collect(alloc)?;
     write!(
         out,
         "{}",
@@ -100,9 +105,9 @@ fn inside<W: Write>(alloc: Global, out: &mut W, coords: &[f64], points: u32) -> 
 }
 
 // The places of the neighbours, those after the first point, by their directions from it, equal ones as given.
-fn around<W: Write>(alloc: Global, out: &mut W, coords: &[f64], points: u32) -> io::Result<()> {
+fn around<W: Write>(alloc: Global, out: &mut W, coords: &[f64]) -> io::Result<()> {
     let centre = point_at(coords, 0);
-    let mut neighbours: Vec<(usize, Point)> = (1..points)
+    let mut neighbours: Vec<(usize, Point)> = (1..count(coords))
         .enumerate()
         .map(|(place, node)| (place, point_at(coords, node)))
         .collect(alloc)?;
@@ -127,14 +132,13 @@ fn answer<W: Write>(alloc: Global, out: &mut W, line: &[u8]) -> io::Result<()> {
     for word in words.take(2 * MOST_POINTS) {
         coords.push(number(word))?;
     }
-    let points = (coords.len() / 2).min(MOST_POINTS) as u32;
     // By the letter itself: an enum of the forms would be made by one match and taken apart by the next.
     match (form, coords.len()) {
         (Some(b'e'), 8) => write!(out, "{}", Met(meet(&coords))),
-        (Some(b'n'), _) => inner(alloc, out, &coords, points),
-        (Some(b's'), 2..) => inside(alloc, out, &coords, points),
+        (Some(b'n'), _) => inner(alloc, out, &coords),
+        (Some(b's'), 2..) => inside(alloc, out, &coords),
         (Some(b'i'), 6) => write!(out, "{}", orient(&coords) as i8),
-        (Some(b'o'), 2..) => around(alloc, out, &coords, points),
+        (Some(b'o'), 2..) => around(alloc, out, &coords),
         _ => unread(out),
     }
 }
