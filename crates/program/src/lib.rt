@@ -4,7 +4,7 @@
 ghost use Rattle.std.specs.Prelude.{◌≡◌, ◌+◌, ◌*◌, ◌≤◌, length, IfOk};
 ghost use Rattle.lists.specs.Regions.{front};
 ghost use Rattle.entry.specs.Mesh.{mesh_of};
-ghost use Rattle.reading.specs.Seen.{mesh_of as read_of};
+ghost use Rattle.reading.specs.Seen.{mesh_of as read_of, Within};
 ghost use Rattle.text.specs.Text.{answer_text};
 ghost use Rattle.printing.specs.Page.{Prints};
 ghost use Rattle.program.specs.Answered.{overlay_told, answer_to, lent};
@@ -59,11 +59,7 @@ fn listing<'a>(pieces: &'a OutputView) -> Listing<'a>
 
 // a mesh as read: as much of the lists as the counts say. It stands here, as `listing` does: the program alone shows a mesh that it has read.
 fn view<'a>(lists: &'a MeshLists, counts: reading::Counts) -> MeshView<'a>
-    requires coords { 2 * counts.points ≤ length lists.now.coords.now }
-    requires nodes { counts.entries ≤ length lists.now.nodes.now }
-    requires ends { counts.cells ≤ length lists.now.ends.now }
-    requires kinds { counts.cells ≤ length lists.now.kinds.now }
-    requires families { counts.cells ≤ length lists.now.families.now }
+    requires { Within counts lists.now }
     ensures mesh { mesh_of result ≡ lent (read_of counts lists.now) }
     ensures long { length result.coords.now ≤ length lists.now.coords.now }
 {
