@@ -14,7 +14,7 @@ use crate::shape::shape_ok;
 use refusals::Refusal;
 use views::MeshView;
 
-// Whether a mesh, of lines or of cells, passes 2 to 6.
+// Whether a mesh, of lines or of cells, passes 2 to 6. `Few` goes up from check to check: a type of a mesh that passed would be made twice and opened once.
 #[tactic(auto, unfolding(crate::specs::ByMesh::mesh_refusal))]
 fn check(lines: bool, mesh: &MeshView) -> Result<(), Refusal>
     ensures refusal { refused_with result ≡ mesh_refusal lines (mesh_of mesh.now) }

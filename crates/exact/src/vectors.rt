@@ -14,6 +14,7 @@ pub(crate) struct Vector {
 }
 
 impl Vector {
+    // No `From`, as `take_apart` is none: what is not finite counts as 0.
     pub(crate) fn of(p: Point) -> Vector
         ensures x { signed_size result.x ≡ coord p.x }
         ensures y { signed_size result.y ≡ coord p.y }

@@ -11,7 +11,8 @@ ghost use Rattle.outlines.specs.Meets.{edges_meet};
 
 use keys::SortedKey;
 
-// Writes the darts along the nodes, each the other way where `inv` is true, to the front of a flat list of pairs. Answers how many entries they take.
+// Writes the darts along the nodes, each the other way where `inv` is true, to the front of a flat list of pairs. Answers how many entries they take: a part
+// handed back would be a `&mut` whose clause says what the list ends as.
 #[tactic(auto, using(crate::proofs::Flat::laying_start))]
 fn lay_along(inv: bool, nodes: &[u32], darts: &mut [u32]) -> usize
     requires { 2 * length nodes.now ≤ length darts.old + 2 }
