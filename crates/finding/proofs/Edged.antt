@@ -18,7 +18,7 @@ use Rattle.finding.proofs.Cells.{cells_in}
 module _ (w ends : List ℕ) (entries : Run) (from h n : ℕ) (ok : EdgesAsk w ends entries from h n) (before edges : List ℕ) (before-is : before ≡ take from w) (edges-are : edges ≡ drop from w)
     (ns : List ℕ) (ns-are : ns ≡ run_in before entries) where
   same : ns ≡ run_in w entries
-  same = ns-are ∙ run_of_front w before from entries before-is (omega (arith, ok.room)) ok.before
+  same = ns-are ∙ run_of_front w before from entries before-is (omega (arith, ok.room)) ok.lies
 
   -- what `compute_descending` asks
   pub asked : (2 * length ns ≤ length edges) × (length ns ≤ n) × (length ns ≤ 65536) × (0 < h) × Rising ends (length ns)

@@ -66,7 +66,6 @@ holds_linked op s c g w h =
     record {
       lies = h.lies;
       linked = rw (h.subject_edges_lem, h.cutter_edges_lem, h.met, h.links, pairs_ends es, pairs_ends fs) (linked (chains s c) es fs (booked ms) (omega arith));
-      few = omega (arith, ap length h.met, length_booked ms, h.few);
     }
 
 -- the regions stand before the end of the links, which isn't far, and no mesh has more edges than entries

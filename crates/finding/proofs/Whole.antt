@@ -213,7 +213,7 @@ module _ (lines : Bool) (sc cc : List Float) (sn se cn ce : List ℕ) where
         subject_asks h n a b =
             let m = ap length l.subject in
             record {
-              before = record { rises = omega arith; fits = omega arith };
+              lies = record { rises = omega arith; fits = omega arith };
               room = omega (arith, l.long, m);
               rising = rw l.subject (rising false s fs);
               most = omega (arith, m, fs.most_entries);
@@ -244,7 +244,7 @@ module _ (lines : Bool) (sc cc : List Float) (sn se cn ce : List ℕ) where
           cutter_asks h n a b =
               let m : length (run_in nets₁ (between (node_count c) (copied_at s c))) ≡ length cn = ap length cutter_kept ∙ length_entries in
               record {
-                before = record { rises = omega arith; fits = omega arith };
+                lies = record { rises = omega arith; fits = omega arith };
                 room = omega (arith, long₁, m);
                 rising = rw cutter_kept up;
                 most = omega (arith, m, fc.most_entries);

@@ -79,11 +79,10 @@ found_of op m s c oc w =
 unfoldable pub both_full : List ℕ → List ℕ → List ℕ → Bool
 both_full es fs ms = has (crowded_at (pairs es) (pairs es) (pairs fs) ms) (length es / 2) || has (crowded_at (pairs fs) (pairs es) (pairs fs) ms) (length fs / 2)
 
--- the regions g stand in w, the links are those of the meetings, and there are at most 65,536 of these
+-- the regions g stand in w, and the links are those of the meetings
 pub record LinkedIn (w : List ℕ) (g : Regions) : Type 0 where
   pub lies : Lies g (length w)
   pub linked : Linked (mesh_edges w g.subject) (mesh_edges w g.cutter) (run_in w g.met) (run_in w g.links)
-  pub few : length (run_in w g.met) ≤ 327680
 
 -- lists of `coords` and `work` numbers: whole points are placed, the edges stand before the meetings, and there is room for m of these
 pub record MeetingsRoom (n : NetPlaces) (coords work placed m : ℕ) : Type 0 where

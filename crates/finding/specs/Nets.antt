@@ -119,7 +119,7 @@ edges_from w ends entries = compute_descending (cells_of (mesh [] (run_in w entr
 
 -- what writing them from `from` on asks: entries before, room for two numbers each, h chains and links for n edges
 pub record EdgesAsk (w ends : List ℕ) (entries : Run) (from h n : ℕ) : Type 0 where
-  pub before : Within entries from
+  pub lies : Within entries from
   pub room : from + 2 * length (run_in w entries) ≤ length w
   pub rising : Rising ends (length (run_in w entries))
   pub most : length (run_in w entries) ≤ 65536
