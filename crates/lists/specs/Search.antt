@@ -1,6 +1,6 @@
 -- "Lists searched by key": the first index that passes a test, and how many do. Every search of the library is this one, with another test.
 -- Assumes nothing.
-use Rattle.std.specs.Prelude.{Bool, true, false, ◌&&◌, ℕ, zero, suc, ◌+◌, ◌-◌, ltb}
+use Rattle.std.specs.Prelude.{Bool, true, false, ◌&&◌, List, ℕ, zero, suc, ◌+◌, ◌-◌, eqb, ltb, length, get_or}
 
 -- the first of the m indices k, k + 1, .. that passes p; k + m where none does
 unfoldable pub seek : (ℕ → Bool) → ℕ → ℕ → ℕ
@@ -14,6 +14,10 @@ first p k n = seek p k (n - k)
 -- some index below n passes p
 abbrev pub has : (ℕ → Bool) → ℕ → Bool
 has p n = ltb (first p 0 n) n
+
+-- some entry of the list is the node n
+abbrev pub named : List ℕ → ℕ → Bool
+named nodes n = has (λ k. eqb (get_or nodes k 0) n) (length nodes)
 
 -- every index below n passes p
 unfoldable pub every : ℕ → (ℕ → Bool) → Bool

@@ -1,9 +1,11 @@
 -- Document 01, the public call: the answer, and every list at exit, for refusals too. Assumes nothing.
-use Rattle.std.specs.Prelude.{cond, List, map, ℕ, ◌/◌, min, eqb, length, Float}
+use Rattle.std.specs.Prelude.{cond, ◌&&◌, List, map, ℕ, ◌+◌, ◌/◌, min, eqb, leb, length, Float}
+use Rattle.lists.specs.Search.{named}
+use Rattle.lists.specs.Gather.{places}
 use Rattle.lists.specs.Regions.{front, zeros, fzeros}
 use Rattle.cutting.specs.Setting.{Setting, ours}
 use Rattle.cutting.specs.Outcome.{flat, stops}
-use Rattle.entry.specs.Mesh.{Mesh}
+use Rattle.entry.specs.Mesh.{Mesh, node_count}
 use Rattle.entry.specs.Refused.{entry_of}
 use Rattle.rules.specs.Mesh.{side_number}
 use Rattle.rules.specs.Meetings.{added_by}
@@ -22,19 +24,20 @@ pub record Lists : Type 0 where
   pub cells : List ℕ
   pub work : List ℕ
 
--- the refusal's number or 0; the counts of pieces, new points and doubled cells; the lists at exit
+-- the refusal's number or 0; the counts of pieces, of new points that a piece names, of doubled cells and of all new points; the lists at exit
 pub record Result : Type 0 where
   pub code : ℕ
   pub pieces : ℕ
   pub points : ℕ
   pub doubled : ℕ
+  pub added : ℕ
   pub lists : Lists
 
 abbrev pub lent_lists : List Float → List ℕ → List ℕ → List ℕ → List ℕ → List ℕ → List ℕ → List ℕ → Lists
 lent_lists c n e k f m i w = record { coords = c; nodes = n; ends = e; kinds = k; families = f; meshes = m; cells = i; work = w }
 
-abbrev pub result_of : ℕ → ℕ → ℕ → ℕ → Lists → Result
-result_of r p q d l = record { code = r; pieces = p; points = q; doubled = d; lists = l }
+abbrev pub result_of : ℕ → ℕ → ℕ → ℕ → ℕ → Lists → Result
+result_of r p q d a l = record { code = r; pieces = p; points = q; doubled = d; added = a; lists = l }
 
 -- ---- refused because of the state: "Counts are 0; output and working lists are all zero"
 
@@ -64,13 +67,23 @@ written coords ps l =
     (front l.kinds (map (λ p. p.kind) ps)) (front l.families (map (λ p. p.family) ps))
     (front l.meshes (map (λ p. side_number p.mesh) ps)) (front l.cells (map (λ p. p.cell) ps)) (zeros (length l.work))
 
--- "The answer also counts pieces, new points and doubled cells"; "new points are all coordinates added". W14: "The third count is 0 ever after", since
--- no table of an accepted cell names a neighbour twice (`never_doubled`, proofs/Demand3.antt).
+-- W5: "the added points that at least one listed piece names, each once", by their numbers, rising; of `all` nodes the first `lent` are lent, the others
+-- added
+unfoldable pub named_points : (lent all : ℕ) → List Piece → List ℕ
+named_points lent all ps =
+    let entries = flat (map (λ p. p.nodes) ps) in
+    places (λ n. leb lent n && named entries n) all
+
+-- "The answer also counts pieces, new points and doubled cells". W14: "The third count is 0 ever after", since no table of an accepted cell names a
+-- neighbour twice (`never_doubled`, proofs/Demand3.antt). W5: "the answer counts all added points as a fourth number"; it is document 01's count of
+-- new points, "all coordinates added".
 unfoldable pub answered_with : Setting → ℕ → Mesh → Mesh → Lists → Result
 answered_with v op s c l =
     let sc = scene_for op s c in
     let ps = listing_with v op s c in
-    result_of 0 (length ps) (length (added_by sc.met) / 2) (cond v.once 0 (length (doubled_cells op s c))) (written sc.coords ps l)
+    let points = named_points (node_count s + node_count c) (length sc.coords / 2) ps in
+    let doubled = cond v.once 0 (length (doubled_cells op s c)) in
+    result_of 0 (length ps) (length points) doubled (length (added_by sc.met) / 2) (written sc.coords ps l)
 
 abbrev pub answered : ℕ → Mesh → Mesh → Lists → Result
 answered op s c l = answered_with ours op s c l
@@ -84,8 +97,8 @@ overlay_with v op m s c l =
     let entry = entry_of op m s c (length l.work) in
     let state = state_with v op m s c l in
     cond (eqb entry 0)
-    (cond (eqb state 0) (answered_with v op s c l) (result_of state 0 0 0 (cleared l)))
-    (result_of entry 0 0 0 l)
+    (cond (eqb state 0) (answered_with v op s c l) (result_of state 0 0 0 0 (cleared l)))
+    (result_of entry 0 0 0 0 l)
 
 -- the overlay
 abbrev pub overlay_of : ℕ → ℕ → Mesh → Mesh → Lists → Result

@@ -1,8 +1,8 @@
 -- Document 01, module 4 (snap.rs): the numbers of the cutter's nodes, where near nodes of the two meshes share one. Assumes nothing.
-use Rattle.std.specs.Prelude.{Option, None, Some, Bool, cond, ◌&&◌, ◌||◌, List, ℕ, zero, suc, ◌+◌, eqb, length, get_or, Float}
+use Rattle.std.specs.Prelude.{Option, None, Some, Bool, cond, ◌&&◌, ◌||◌, List, ℕ, zero, suc, ◌+◌, length, get_or, Float}
 use Rattle.std.specs.Float.Ieee as Ieee
 use Rattle.std.specs.Float.{binary64}
-use Rattle.lists.specs.Search.{has}
+use Rattle.lists.specs.Search.{named}
 use Rattle.lists.specs.Gather.{each, places}
 use Rattle.lists.specs.Sort.{sorted}
 use Rattle.plane.specs.Plane.{◌⊗◌, between, dot, point_at}
@@ -13,10 +13,6 @@ use Rattle.rules.specs.declared.Nearest.{Nearest}
 -- 1e-12
 abbrev pub weld_eps : Float
 weld_eps = Ieee.of_bits binary64 0x3d71_9799_812d_ea11
-
--- some element names the node n
-abbrev pub named : List ℕ → ℕ → Bool
-named nodes n = has (λ k. eqb (get_or nodes k 0) n) (length nodes)
 
 -- "Used nodes are those some element names, rising"
 unfoldable pub used_nodes : Mesh → List ℕ

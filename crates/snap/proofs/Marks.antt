@@ -10,12 +10,11 @@ use lib.Dec.{eqb}
 use lib.ListN.{length, get_or, set, length-set, length-replicate, get_or-replicate}
 use lib.Seq.{ext_get_or, get_or-set_same, get_or-set_other}
 use borrow.Author.Tests.{eq-eqb, ne_eqb}
-use Rattle.lists.specs.Search.{seek, first, has, bit}
+use Rattle.lists.specs.Search.{seek, first, has, bit, named}
 use Rattle.lists.specs.Gather.{each}
 use Rattle.lists.specs.Regions.{zeros}
 use Rattle.lists.proofs.Search.{has_at}
 use Rattle.lists.proofs.Gather.{length_each, get_or_each}
-use Rattle.rules.specs.Snap.{named}
 use Rattle.snap.specs.Steps.{used, marked}
 use Rattle.snap.proofs.Places.{has_skip}
 

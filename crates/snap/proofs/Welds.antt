@@ -8,7 +8,7 @@ use lib.Dec.{ltb}
 use lib.ListN.{length, get_or}
 use lib.Ieee.{Float, lt}
 use borrow.Author.Tests.{ltb-true, lt-ltb}
-use Rattle.lists.specs.Search.{many}
+use Rattle.lists.specs.Search.{many, named}
 use Rattle.lists.specs.Gather.{tally}
 use Rattle.lists.specs.Sort.{sorted}
 use Rattle.lists.proofs.Search.{many_has, many_some}
@@ -19,7 +19,7 @@ use Rattle.plane.specs.Plane.{point_at}
 use Rattle.entry.specs.Mesh.{Mesh, mesh, node_count}
 use Rattle.std.specs.Prelude.{Some}
 use Rattle.rules.specs.declared.Nearest.{Nearest}
-use Rattle.rules.specs.Snap.{named, used_nodes, sorted_indices_for, distance2, nearest_to, closest_within, or_shifted, number_of, weld}
+use Rattle.rules.specs.Snap.{used_nodes, sorted_indices_for, distance2, nearest_to, closest_within, or_shifted, number_of, weld}
 use Rattle.snap.specs.Steps.{Below, before}
 
 -- only coordinates and node numbers count

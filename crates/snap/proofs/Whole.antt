@@ -8,7 +8,7 @@ use lib.Dec.{eqb}
 use lib.ListN.{length, get_or, take, drop, length-append, length-replicate}
 use lib.Seq.{drop-drop}
 use lib.Ieee.{Float}
-use Rattle.lists.specs.Search.{bit}
+use Rattle.lists.specs.Search.{bit, named}
 use Rattle.lists.specs.Gather.{each, places}
 use Rattle.lists.specs.Sort.{sorted}
 use Rattle.lists.specs.Regions.{front, zeros}
@@ -16,7 +16,7 @@ use Rattle.lists.proofs.Gather.{each_ext, length_each, places_ext}
 use Rattle.lists.proofs.Regions.{length_front, take_front_of}
 use Rattle.plane.specs.Plane.{point_at}
 use Rattle.entry.specs.Mesh.{mesh}
-use Rattle.rules.specs.Snap.{named, used_nodes, sorted_indices_for, closest_within, or_shifted, number_of, weld}
+use Rattle.rules.specs.Snap.{used_nodes, sorted_indices_for, closest_within, or_shifted, number_of, weld}
 use Rattle.snap.specs.Steps.{AllPlaced, InOrder, used, marked, before, indices_in_order, number_by}
 use Rattle.snap.proofs.Marks.{length_used, get_or_used, marked_used}
 use Rattle.snap.proofs.Orders.{length_order_to, order_rises}

@@ -2,14 +2,14 @@
 use Rattle.std.specs.Prelude.{◌≡◌, Bool, false, cond, not, List, [], ℕ, ◌+◌, ◌/◌, ◌<◌, eqb, length, get_or, take, Float}
 use Rattle.std.specs.Float.{nan}
 use Rattle.std.specs.Float.Ieee.{lt}
-use Rattle.lists.specs.Search.{bit, first}
+use Rattle.lists.specs.Search.{bit, first, named}
 use Rattle.lists.specs.Gather.{each, places}
 use Rattle.lists.specs.Sort.{insert, sort_onto, sorted}
 use Rattle.lists.specs.Regions.{front}
 use Rattle.plane.specs.Plane.{◌⊖◌, x_of, y_of, point_at}
 use Rattle.plane.specs.declared.Point.{Point}
 use Rattle.entry.specs.Passed.{Placed}
-use Rattle.rules.specs.Snap.{weld_eps, named, precedes, or_shifted, closest_within}
+use Rattle.rules.specs.Snap.{weld_eps, precedes, or_shifted, closest_within}
 
 -- each node number is below n
 abbrev pub Below : ℕ → List ℕ → Type 0
