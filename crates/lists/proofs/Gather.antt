@@ -351,6 +351,9 @@ length_places p (suc n) =
     let r : many p (suc n) ≡ many p (n + 1) = ap (many p) (sym (add-one n)) in
     omega (arith, length-append (places p n) (cond (p n) (n ∷ []) []), length_cond (p n) n, length_places p n)
 
+pub many_ext : (p q : ℕ → Bool) (n : ℕ) → ((i : ℕ) → i < n → p i ≡ q i) → many p n ≡ many q n
+many_ext p q n h = sym (length_places p n) ∙ ap length (places_ext p q n h) ∙ length_places q n
+
 pub places_le : (p : ℕ → Bool) (n : ℕ) → length (places p n) ≤ n
 places_le p n = omega (arith, length_places p n, many_bound p n)
 

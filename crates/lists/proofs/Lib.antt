@@ -8,3 +8,4 @@ pub mod Rising
 pub mod Merging
 pub mod Library
 pub mod InPlace
+pub mod Marking

@@ -74,6 +74,24 @@ many_suc p (suc n) = omega (arith, many_suc (λ i. p (suc i)) n)
 pub many_more : (p : ℕ → Bool) (n : ℕ) → many p (n + 1) ≡ many p n + bit (p n)
 many_more p n = ap (many p) (add-one n) ∙ many_suc p n
 
+-- those of the first a + n are those of the first a and of the n behind
+pub many_append : (p : ℕ → Bool) (a n : ℕ) → many p (a + n) ≡ many p a + many (λ k. p (a + k)) n
+unfolding many
+many_append p a zero = ap (many p) (let e : a + 0 ≡ a = omega arith in e) ∙ (let e : many p a ≡ many p a + 0 = omega arith in e)
+many_append p a (suc n) =
+    let at : a + suc n ≡ suc (a + n) = omega arith in
+    omega (arith, ap (many p) at, many_suc p (a + n), many_suc (λ k. p (a + k)) n, many_append p a n)
+
+pub many_none : (p : ℕ → Bool) (n : ℕ) → ((i : ℕ) → i < n → p i ≡ false) → many p n ≡ 0
+unfolding many
+many_none p zero h = refl
+many_none p (suc n) h = omega (arith, many_suc p n, ap bit (h n (omega arith)), many_none p n (λ i l. h i (omega (arith, l))))
+
+pub many_all : (p : ℕ → Bool) (n : ℕ) → ((i : ℕ) → i < n → p i ≡ true) → many p n ≡ n
+unfolding many
+many_all p zero h = refl
+many_all p (suc n) h = omega (arith, many_suc p n, ap bit (h n (omega arith)), many_all p n (λ i l. h i (omega (arith, l))))
+
 -- ---- the first that passes
 
 -- what the search finds lies in its range, and passes unless it is the range's end
@@ -217,6 +235,24 @@ has_some p n h =
 
 pub has_none : (p : ℕ → Bool) (n i : ℕ) → has p n ≡ false → i < n → p i ≡ false
 has_none p n i h l = first_none p 0 n i (omega arith) l (omega (arith, ltb-false (first p 0 n) n h))
+
+-- a test that the last index fails
+pub has_skip : (p : ℕ → Bool) (n : ℕ) → p n ≡ false → has p (n + 1) ≡ has p n
+has_skip p n off = go (has p n) refl (has p (n + 1)) refl
+  where
+    clash : true ≡ false → has p (n + 1) ≡ has p n
+    clash e = absurd (true≢false e)
+
+    go : (s : Bool) → has p n ≡ s → (t : Bool) → has p (n + 1) ≡ t → has p (n + 1) ≡ has p n
+    go true e true f = f ∙ sym e
+    go false e false f = f ∙ sym e
+    go true e false f = let r = has_some p n e in clash (sym r.2 ∙ has_none p (n + 1) r.0 f (omega (arith, r.1)))
+    go false e true f =
+        let r = has_some p (n + 1) f in
+        elim (dec_lt r.0 n) [
+          | yes l ↦ clash (sym r.2 ∙ has_none p n r.0 e l)
+          | no l ↦ let last : r.0 ≡ n = le_antisymm {n = r.0} {m = n} (omega (arith, r.1)) (omega arith) in clash (sym r.2 ∙ ap p last ∙ off)
+        ]
 
 -- ---- every index passes
 

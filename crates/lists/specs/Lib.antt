@@ -4,3 +4,4 @@ pub mod Sort
 pub mod Regions
 pub mod Runs
 pub mod Same
+pub mod Marks

@@ -1,11 +1,13 @@
-// What every layer does with lent lists: one copied into another, an element put in, and one cut into runs.
+// What every layer does with lent lists: one copied into another, an element put in, one cut into runs, and the nodes that one names marked.
 #![tactic(auto)]
 
 ghost use Rattle.std.specs.Prelude.{◌≡◌, ◌&&◌, ◌+◌, length, leb, ltb};
 ghost use Rattle.lists.specs.Regions.{copied, insert_at};
 
+mod marks;
 mod runs;
 
+pub use marks::mark_named;
 pub use runs::Runs;
 
 // Copies src into dst, from `at` on. Answers whether it has its place there; nothing changes where not.

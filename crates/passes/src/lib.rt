@@ -1,10 +1,14 @@
-// Passes over the pieces once all cells are cut: what a piece's tag says of it goes to the output lists. The tag is twice the number of the piece's cell
+// Passes over the pieces once all cells are cut: what a piece's tag says of it goes to the output lists, and the nodes that they name are counted. The tag is twice the number of the piece's cell
 // among those of both meshes, the subject's first, and one more where the cell is cut.
 #![tactic(auto)]
 
-ghost use Rattle.std.specs.Prelude.{◌≡◌, ◌++◌, ◌*◌, ◌/◌, eqb, not, map, ◌≤◌, length, get_or};
+ghost use Rattle.std.specs.Prelude.{◌≡◌, ◌++◌, ◌+◌, ◌*◌, ◌/◌, eqb, not, map, ◌≤◌, length, get_or};
+ghost use Rattle.lists.specs.Search.{named, many};
+ghost use Rattle.lists.specs.Marks.{marks_from};
 ghost use Rattle.lists.specs.Regions.{front};
 ghost use Rattle.passes.specs.Tags.{kind_by, family_by, mesh_by, cell_by};
+
+use lists::mark_named;
 
 // The kind of what is cut out of a cell.
 const PGON: u8 = 11;
@@ -108,4 +112,14 @@ pub fn write_families(subject: &[u32], cutter: &[u32], tags: &mut [u32])
     for tag in tags.iter_mut() {
         *tag = family_by(subject, cutter, *tag);
     }
+}
+
+// How many of the nodes first, first + 1, .. some entry of the list is, each once; by a mark for each.
+#[tactic(auto, using(crate::proofs::Named::marks_counted))]
+pub fn count_named(nodes: &[u32], first: usize, marks: &mut [u32]) -> usize
+    ensures count { result ≡ many (λ k. named nodes.now (first + k)) (length marks.old) }
+    ensures marks { marks.new ≡ marks_from nodes.now first (length marks.old) }
+{
+    mark_named(nodes, first, marks);
+    marks.iter().filter(|mark| **mark != 0).count()
 }
