@@ -123,6 +123,11 @@ away = lent (iii ∷ iii ∷ iv ∷ iii ∷ iv ∷ iv ∷ []) (0 ∷ 1 ∷ 2 ∷
 abbrev twice : Mesh
 twice = lent (i ∷ -i ∷ i ∷ iii ∷ []) (0 ∷ 1 ∷ 0 ∷ 1 ∷ []) (2 ∷ 4 ∷ []) (1 ∷ 1 ∷ []) (0 ∷ 0 ∷ [])
 
+-- two cells that cover the square's left three quarters, whose common side cuts it too
+abbrev wall : Mesh
+wall =
+    lent (-i ∷ -i ∷ i ∷ -i ∷ i_half ∷ -i ∷ i_half ∷ iii ∷ i ∷ iii ∷ -i ∷ iii ∷ []) (0 ∷ 1 ∷ 4 ∷ 5 ∷ 1 ∷ 2 ∷ 3 ∷ 4 ∷ []) (4 ∷ 8 ∷ []) (8 ∷ 8 ∷ []) (1 ∷ 2 ∷ [])
+
 -- A triangle with a node 2^-27 before the first of another, on whose third edge it is collected: there it stands before that edge's first node, so
 -- the other's outline as cut doesn't close.
 abbrev corner : Mesh
@@ -164,7 +169,7 @@ noughts c n e k f m j w =
     on_lists (replicate c 0) (replicate n 0) (replicate e 0) (replicate k 0) (replicate f 0) (replicate m 0) (replicate j 0) (replicate w 0)
 
 abbrev refused : ℕ → Lists → Result
-refused r l = result_of r 0 0 0 l
+refused r l = result_of r 0 0 0 0 l
 
 -- the square's coordinates, and those of K1's answer
 abbrev square_coords : List ℕ
@@ -177,7 +182,7 @@ cut_coords = square_coords ++ i ∷ -i ∷ iii ∷ -i ∷ iii ∷ iii ∷ i ∷ 
 rows : List Row
 rows =
     -- K1, with one place more in each list than its answer takes
-    overlay (case 0 9 square strip (fives 21 9 3 3 3 3 3 500) (result_of 0 2 2 0
+    overlay (case 0 9 square strip (fives 21 9 3 3 3 3 3 500) (result_of 0 2 2 0 2
     (on_lists (cut_coords ++ ii ∷ []) (3 ∷ 0 ∷ 8 ∷ 9 ∷ 9 ∷ 8 ∷ 1 ∷ 2 ∷ 5 ∷ []) (4 ∷ 8 ∷ 5 ∷ []) (11 ∷ 11 ∷ 5 ∷ []) (7 ∷ 7 ∷ 5 ∷ []) (0 ∷ 0 ∷ 5 ∷ []) (0 ∷ 0 ∷ 5 ∷ []) (replicate 500 0))))
     -- its areas, in units of 2^-2148: the outline's is 8, each piece's 4; clockwise they are below 0
     ∷ areas_of_lem square strip (0 ∷ (8 * 2 ^ 2148) ∷ 0 ∷ (4 * 2 ^ 2148) ∷ 0 ∷ (4 * 2 ^ 2148) ∷ [])
@@ -195,7 +200,7 @@ rows =
     -- K9
     ∷ inner_of (o ∷ ii ∷ o ∷ o ∷ i ∷ o ∷ i ∷ ii ∷ []) (0 ∷ 1 ∷ 2 ∷ 3 ∷ []) (1 ∷ half ∷ i ∷ [])
     -- K10: the walk turns back at the line's end; by document 01 alone, refusal 11
-    ∷ overlay (case 5 9 square line (fives 15 8 2 2 2 2 2 500) (result_of 0 1 1 0 (on_lists
+    ∷ overlay (case 5 9 square line (fives 15 8 2 2 2 2 2 500) (result_of 0 1 1 0 1 (on_lists
     (square_coords ++ i ∷ -i ∷ i ∷ i ∷ i ∷ o ∷ ii ∷ []) (3 ∷ 0 ∷ 6 ∷ 5 ∷ 6 ∷ 1 ∷ 2 ∷ 5 ∷ []) (7 ∷ 5 ∷ []) (11 ∷ 5 ∷ []) (7 ∷ 5 ∷ []) (0 ∷ 5 ∷ []) (0 ∷ 5 ∷ []) (replicate 500 0))))
     ∷ set_to base (case 5 9 square line (fives 15 8 2 2 2 2 2 500) (refused 11 (noughts 15 8 2 2 2 2 2 500)))
     -- tempting: a piece closes when its first node returns, not its first dart
@@ -219,32 +224,36 @@ rows =
     -- the order of refusals: a meeting beyond M comes before its point that has no place
     ∷ overlay (case 0 1 square strip (fives 18 0 0 0 0 0 0 352) (refused 8 (noughts 18 0 0 0 0 0 0 352)))
     -- K1 with room for it and no more
-    ∷ overlay (case 0 2 square strip (fives 20 8 2 2 2 2 2 352) (result_of 0 2 2 0
+    ∷ overlay (case 0 2 square strip (fives 20 8 2 2 2 2 2 352) (result_of 0 2 2 0 2
     (on_lists cut_coords (3 ∷ 0 ∷ 8 ∷ 9 ∷ 9 ∷ 8 ∷ 1 ∷ 2 ∷ []) (4 ∷ 8 ∷ []) (11 ∷ 11 ∷ []) (7 ∷ 7 ∷ []) (0 ∷ 0 ∷ []) (0 ∷ 0 ∷ []) (replicate 352 0))))
     -- a line twice: lines aren't made unique, but an edge is in a table once; by document 01 alone the cell is doubled
-    ∷ overlay (case 5 9 square twice (fives 20 8 1 1 1 1 1 500) (result_of 0 1 4 0 (on_lists
+    ∷ overlay (case 5 9 square twice (fives 20 8 1 1 1 1 1 500) (result_of 0 1 4 0 4 (on_lists
     (square_coords ++ i ∷ -i ∷ i ∷ iii ∷ i ∷ o ∷ i ∷ o ∷ i ∷ ii ∷ i ∷ ii ∷ []) (3 ∷ 0 ∷ 6 ∷ 7 ∷ 1 ∷ 2 ∷ 8 ∷ 9 ∷ []) (8 ∷ []) (11 ∷ []) (7 ∷ []) (0 ∷ []) (0 ∷ []) (replicate 500 0))))
-    ∷ set_to base (case 5 9 square twice (fives 20 8 1 1 1 1 1 500) (result_of 0 1 4 1 (on_lists
+    ∷ set_to base (case 5 9 square twice (fives 20 8 1 1 1 1 1 500) (result_of 0 1 4 1 4 (on_lists
     (square_coords ++ i ∷ -i ∷ i ∷ iii ∷ i ∷ o ∷ i ∷ o ∷ i ∷ ii ∷ i ∷ ii ∷ []) (3 ∷ 0 ∷ 6 ∷ 7 ∷ 1 ∷ 2 ∷ 8 ∷ 9 ∷ []) (8 ∷ []) (11 ∷ []) (7 ∷ []) (0 ∷ []) (0 ∷ []) (replicate 500 0))))
     -- two cells, both cut
-    ∷ overlay (case 0 9 squares strip (fives 28 16 4 4 4 4 4 572) (result_of 0 4 4 0 (on_lists
+    ∷ overlay (case 0 9 squares strip (fives 28 16 4 4 4 4 4 572) (result_of 0 4 4 0 4 (on_lists
     (o ∷ o ∷ ii ∷ o ∷ iv ∷ o ∷ iv ∷ ii ∷ ii ∷ ii ∷ o ∷ ii ∷ i ∷ -i ∷ iii ∷ -i ∷ iii ∷ iii ∷ i ∷ iii ∷ i ∷ o ∷ i ∷ ii ∷ iii ∷ o ∷ iii ∷ ii ∷ [])
     (5 ∷ 0 ∷ 10 ∷ 11 ∷ 11 ∷ 10 ∷ 1 ∷ 4 ∷ 4 ∷ 1 ∷ 12 ∷ 13 ∷ 13 ∷ 12 ∷ 2 ∷ 3 ∷ []) (4 ∷ 8 ∷ 12 ∷ 16 ∷ []) (11 ∷ 11 ∷ 11 ∷ 11 ∷ []) (7 ∷ 7 ∷ 9 ∷ 9 ∷ [])
     (0 ∷ 0 ∷ 0 ∷ 0 ∷ []) (0 ∷ 0 ∷ 1 ∷ 1 ∷ []) (replicate 572 0))))
     -- K1's meshes under Union, Difference, Intersection and SymmetricDifference
-    ∷ overlay (case 1 9 square strip (fives 20 16 3 3 3 3 3 500) (result_of 0 3 2 0
+    ∷ overlay (case 1 9 square strip (fives 20 16 3 3 3 3 3 500) (result_of 0 3 2 0 2
     (on_lists cut_coords (3 ∷ 0 ∷ 8 ∷ 9 ∷ 9 ∷ 8 ∷ 1 ∷ 2 ∷ 7 ∷ 9 ∷ 2 ∷ 1 ∷ 8 ∷ 4 ∷ 5 ∷ 6 ∷ []) (4 ∷ 8 ∷ 16 ∷ []) (11 ∷ 11 ∷ 11 ∷ []) (7 ∷ 7 ∷ 0 ∷ [])
     (0 ∷ 0 ∷ 1 ∷ []) (0 ∷ 0 ∷ 0 ∷ []) (replicate 500 0))))
-    ∷ overlay (case 3 9 square strip (fives 20 4 1 1 1 1 1 500) (result_of 0 1 2 0 (on_lists cut_coords (3 ∷ 0 ∷ 8 ∷ 9 ∷ []) (4 ∷ []) (11 ∷ []) (7 ∷ []) (0 ∷ []) (0 ∷ []) (replicate 500 0))))
-    ∷ overlay (case 2 9 square strip (fives 20 4 1 1 1 1 1 500) (result_of 0 1 2 0 (on_lists cut_coords (9 ∷ 8 ∷ 1 ∷ 2 ∷ []) (4 ∷ []) (11 ∷ []) (7 ∷ []) (0 ∷ []) (0 ∷ []) (replicate 500 0))))
-    ∷ overlay (case 4 9 square strip (fives 20 12 2 2 2 2 2 500) (result_of 0 2 2 0
+    ∷ overlay (case 3 9 square strip (fives 20 4 1 1 1 1 1 500) (result_of 0 1 2 0 2 (on_lists cut_coords (3 ∷ 0 ∷ 8 ∷ 9 ∷ []) (4 ∷ []) (11 ∷ []) (7 ∷ []) (0 ∷ []) (0 ∷ []) (replicate 500 0))))
+    ∷ overlay (case 2 9 square strip (fives 20 4 1 1 1 1 1 500) (result_of 0 1 2 0 2 (on_lists cut_coords (9 ∷ 8 ∷ 1 ∷ 2 ∷ []) (4 ∷ []) (11 ∷ []) (7 ∷ []) (0 ∷ []) (0 ∷ []) (replicate 500 0))))
+    ∷ overlay (case 4 9 square strip (fives 20 12 2 2 2 2 2 500) (result_of 0 2 2 0 2
     (on_lists cut_coords (3 ∷ 0 ∷ 8 ∷ 9 ∷ 7 ∷ 9 ∷ 2 ∷ 1 ∷ 8 ∷ 4 ∷ 5 ∷ 6 ∷ []) (4 ∷ 12 ∷ []) (11 ∷ 11 ∷ []) (7 ∷ 0 ∷ []) (0 ∷ 1 ∷ []) (0 ∷ 0 ∷ []) (replicate 500 0))))
+    -- W5: of four new points Difference's one piece names two; the two where the cutter's cells meet belong to dropped pieces only
+    ∷ overlay (case 3 9 square wall (fives 28 4 1 1 1 1 1 560) (result_of 0 1 2 0 4 (on_lists
+    (square_coords ++ -i ∷ -i ∷ i ∷ -i ∷ i_half ∷ -i ∷ i_half ∷ iii ∷ i ∷ iii ∷ -i ∷ iii ∷ i ∷ o ∷ i_half ∷ o ∷ i ∷ ii ∷ i_half ∷ ii ∷ [])
+    (13 ∷ 11 ∷ 1 ∷ 2 ∷ []) (4 ∷ []) (11 ∷ []) (7 ∷ []) (0 ∷ []) (0 ∷ []) (replicate 560 0))))
     -- a cell copied
-    ∷ overlay (case 1 9 square away (fives 14 7 2 2 2 2 2 500) (result_of 0 2 0 0
+    ∷ overlay (case 1 9 square away (fives 14 7 2 2 2 2 2 500) (result_of 0 2 0 0 0
     (on_lists (o ∷ o ∷ ii ∷ o ∷ ii ∷ ii ∷ o ∷ ii ∷ iii ∷ iii ∷ iv ∷ iii ∷ iv ∷ iv ∷ []) (0 ∷ 1 ∷ 2 ∷ 3 ∷ 4 ∷ 5 ∷ 6 ∷ []) (4 ∷ 7 ∷ []) (8 ∷ 5 ∷ [])
     (7 ∷ 3 ∷ []) (0 ∷ 1 ∷ []) (0 ∷ 0 ∷ []) (replicate 500 0))))
     -- the cutter's cells are counted in their own mesh
-    ∷ overlay (case 1 9 away squares (fives 18 11 3 3 3 3 3 528) (result_of 0 3 0 0 (on_lists
+    ∷ overlay (case 1 9 away squares (fives 18 11 3 3 3 3 3 528) (result_of 0 3 0 0 0 (on_lists
     (iii ∷ iii ∷ iv ∷ iii ∷ iv ∷ iv ∷ o ∷ o ∷ ii ∷ o ∷ iv ∷ o ∷ iv ∷ ii ∷ ii ∷ ii ∷ o ∷ ii ∷ []) (0 ∷ 1 ∷ 2 ∷ 3 ∷ 4 ∷ 7 ∷ 8 ∷ 4 ∷ 5 ∷ 6 ∷ 7 ∷ [])
     (3 ∷ 7 ∷ 11 ∷ []) (5 ∷ 8 ∷ 8 ∷ []) (3 ∷ 7 ∷ 9 ∷ []) (0 ∷ 1 ∷ 1 ∷ []) (0 ∷ 0 ∷ 1 ∷ []) (replicate 528 0))))
     -- K1 with one number, one node entry, or one place for a piece less than its answer takes
@@ -263,18 +272,18 @@ rows =
     ∷ forward_of square strip the_subject true
     ∷ forward_of square strip the_cutter true
     -- a ditch with a bend and an end; one with a fork, where the walk turns back twice; one that reaches no side is never walked
-    ∷ overlay (case 5 9 square bent (fives 16 9 1 1 1 1 1 500) (result_of 0 1 1 0 (on_lists
+    ∷ overlay (case 5 9 square bent (fives 16 9 1 1 1 1 1 500) (result_of 0 1 1 0 1 (on_lists
     (square_coords ++ i ∷ -i ∷ i ∷ i ∷ half ∷ i ∷ i ∷ o ∷ []) (3 ∷ 0 ∷ 7 ∷ 5 ∷ 6 ∷ 5 ∷ 7 ∷ 1 ∷ 2 ∷ []) (9 ∷ []) (11 ∷ []) (7 ∷ []) (0 ∷ []) (0 ∷ []) (replicate 500 0))))
-    ∷ overlay (case 5 9 square forked (fives 18 11 1 1 1 1 1 500) (result_of 0 1 1 0 (on_lists
+    ∷ overlay (case 5 9 square forked (fives 18 11 1 1 1 1 1 500) (result_of 0 1 1 0 1 (on_lists
     (square_coords ++ i ∷ -i ∷ i ∷ i ∷ half ∷ i ∷ i_half ∷ i ∷ i ∷ o ∷ []) (3 ∷ 0 ∷ 8 ∷ 5 ∷ 6 ∷ 5 ∷ 7 ∷ 5 ∷ 8 ∷ 1 ∷ 2 ∷ []) (11 ∷ []) (11 ∷ []) (7 ∷ []) (0 ∷ []) (0 ∷ []) (replicate 500 0))))
-    ∷ overlay (case 5 9 square inner_line (fives 12 4 1 1 1 1 1 500) (result_of 0 1 0 0 (on_lists
+    ∷ overlay (case 5 9 square inner_line (fives 12 4 1 1 1 1 1 500) (result_of 0 1 0 0 0 (on_lists
     (square_coords ++ half ∷ i ∷ i ∷ i ∷ []) (3 ∷ 0 ∷ 1 ∷ 2 ∷ []) (4 ∷ []) (11 ∷ []) (7 ∷ []) (0 ∷ []) (0 ∷ []) (replicate 500 0))))
     -- a triangle whose first edge welding left from a node to itself: it isn't added to the square's table; as an outline it gives 19, and gave pieces of
     -- one and two corners before W14
-    ∷ overlay (case 0 9 square welded (fives 14 6 1 1 1 1 1 500) (result_of 0 1 0 0 (on_lists
+    ∷ overlay (case 0 9 square welded (fives 14 6 1 1 1 1 1 500) (result_of 0 1 0 0 0 (on_lists
     (square_coords ++ 0x3d61_9799_812d_ea11 ∷ o ∷ o ∷ 0x3d61_9799_812d_ea11 ∷ i ∷ i ∷ []) (3 ∷ 0 ∷ 6 ∷ 0 ∷ 1 ∷ 2 ∷ []) (6 ∷ []) (11 ∷ []) (7 ∷ []) (0 ∷ []) (0 ∷ []) (replicate 500 0))))
     ∷ overlay (case 1 9 square welded (fives 14 6 1 1 1 1 1 500) (refused 19 (noughts 14 6 1 1 1 1 1 500)))
-    ∷ set_to (record { turning = true; once = false }) (case 1 9 square welded (fives 14 9 3 3 3 3 3 500) (result_of 0 3 0 2 (on_lists
+    ∷ set_to (record { turning = true; once = false }) (case 1 9 square welded (fives 14 9 3 3 3 3 3 500) (result_of 0 3 0 2 0 (on_lists
     (square_coords ++ 0x3d61_9799_812d_ea11 ∷ o ∷ o ∷ 0x3d61_9799_812d_ea11 ∷ i ∷ i ∷ [])
     (3 ∷ 0 ∷ 6 ∷ 0 ∷ 1 ∷ 2 ∷ 0 ∷ 6 ∷ 0 ∷ []) (6 ∷ 8 ∷ 9 ∷ []) (11 ∷ 11 ∷ 11 ∷ []) (7 ∷ 3 ∷ 3 ∷ []) (0 ∷ 1 ∷ 1 ∷ []) (0 ∷ 0 ∷ 0 ∷ []) (replicate 500 0))))
     -- the limits, last since they take longest: 256 nodes on an edge pass, so that the next thing is that the first triangle has no place; 257 give 9

@@ -12,7 +12,7 @@ use Rattle.rules.specs.Overlay.{Lists, Result, result_of, cleared, answered_with
 
 -- what an overlay comes to, by the refusals of its input and of its state, and by its answer
 abbrev pub told : Lists → ℕ → ℕ → Result → Result
-told l entry state answer = cond (eqb entry 0) (cond (eqb state 0) answer (result_of state 0 0 0 (cleared l))) (result_of entry 0 0 0 l)
+told l entry state answer = cond (eqb entry 0) (cond (eqb state 0) answer (result_of state 0 0 0 0 (cleared l))) (result_of entry 0 0 0 0 l)
 
 module _ (v : Setting) (op m : ℕ) (s c : Mesh) (l : Lists) where
   abbrev entry : ℕ
@@ -23,7 +23,7 @@ module _ (v : Setting) (op m : ℕ) (s c : Mesh) (l : Lists) where
 
   -- by the two tests
   abbrev end : Bool → Bool → Result
-  end x y = cond x (cond y (answered_with v op s c l) (result_of state 0 0 0 (cleared l))) (result_of entry 0 0 0 l)
+  end x y = cond x (cond y (answered_with v op s c l) (result_of state 0 0 0 0 (cleared l))) (result_of entry 0 0 0 0 l)
 
   -- which the overlay is: each of its ways by itself
   decided : (x y : Bool) → eqb entry 0 ≡ x → eqb state 0 ≡ y → overlay_with v op m s c l ≡ end x y
@@ -36,10 +36,10 @@ module _ (v : Setting) (op m : ℕ) (s c : Mesh) (l : Lists) where
   pub overlay_told : overlay_with v op m s c l ≡ told l (entry_of op m s c (length l.work)) (state_with v op m s c l) (answered_with v op s c l)
   overlay_told = decided (eqb entry 0) (eqb state 0) refl refl
 
-  pub input_refused : (entry_of op m s c (length l.work) ≡ 0 → ⊥) → overlay_with v op m s c l ≡ result_of (entry_of op m s c (length l.work)) 0 0 0 l
+  pub input_refused : (entry_of op m s c (length l.work) ≡ 0 → ⊥) → overlay_with v op m s c l ≡ result_of (entry_of op m s c (length l.work)) 0 0 0 0 l
   input_refused n = decided false (eqb state 0) (ne_eqb entry 0 n) refl
 
-  pub state_refused : entry_of op m s c (length l.work) ≡ 0 → (state_with v op m s c l ≡ 0 → ⊥) → overlay_with v op m s c l ≡ result_of (state_with v op m s c l) 0 0 0 (cleared l)
+  pub state_refused : entry_of op m s c (length l.work) ≡ 0 → (state_with v op m s c l ≡ 0 → ⊥) → overlay_with v op m s c l ≡ result_of (state_with v op m s c l) 0 0 0 0 (cleared l)
   state_refused e n = decided true false (eq-eqb entry 0 e) (ne_eqb state 0 n)
 
   pub succeeds : entry_of op m s c (length l.work) ≡ 0 → state_with v op m s c l ≡ 0 → overlay_with v op m s c l ≡ answered_with v op s c l

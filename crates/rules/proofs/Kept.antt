@@ -3,7 +3,7 @@ use mathlib.Core.Path.{◌≡◌, refl, sym, ap, ap₂, ◌∙◌, subst}
 use mathlib.Core.Logic.{◌⊎◌, inl, inr}
 use mathlib.Core.Bool.{Bool, true, false, cond}
 use mathlib.Core.List.{List, [], ◌∷◌, ◌++◌, append_assoc}
-use Prim.Native.Nat.{ℕ, zero, suc, ◌-◌, ◌/◌, ◌≤◌, ◌<◌}
+use Prim.Native.Nat.{ℕ, zero, suc, ◌+◌, ◌-◌, ◌/◌, ◌≤◌, ◌<◌}
 use native.Mathlib.Omega.{arith}
 use native.Mathlib.Decide.{dec_le}
 use lib.Dec.{leb}
@@ -15,7 +15,7 @@ use Rattle.cutting.specs.Cell.{doubled}
 use Rattle.cutting.specs.Outcome.{Outcome, refusal}
 use Rattle.cutting.proofs.Turning.{outcome_turned}
 use Rattle.cutting.proofs.Before.{outcome_kept, copy_kept}
-use Rattle.entry.specs.Mesh.{Mesh}
+use Rattle.entry.specs.Mesh.{Mesh, node_count}
 use Rattle.entry.specs.Refused.{entry_of}
 use Rattle.rules.specs.Mesh.{Side, the_subject, the_cutter, other}
 use Rattle.rules.specs.Meetings.{Scene, net_of, added_by}
@@ -23,7 +23,7 @@ use Rattle.rules.specs.Nodes.{crowded}
 use Rattle.rules.specs.Cell.{darts_of, near_edges, near_of, treated_by, treated, outcome_with, table_with, cell_of, kind_of}
 use Rattle.rules.specs.Operations.{cuts, keeps, scene_for, Piece, piece_with, kept_with, lies_inside, over_cells, listing_with, outcome_pieces, doubled_cells}
 use Rattle.rules.specs.Refusals.{Event, meeting, point, piece, stop, of_meeting, of_cell, course_with, first_refusal}
-use Rattle.rules.specs.Overlay.{Lists, Result, result_of, cleared, piece_room, written, answered_with, state_with, overlay_with, overlay_of}
+use Rattle.rules.specs.Overlay.{Lists, Result, result_of, cleared, piece_room, written, named_points, answered_with, state_with, overlay_with, overlay_of}
 use Rattle.rules.specs.Demand3.{AcceptedWith}
 use Rattle.rules.proofs.Endings.{told, overlay_told, Ending, input, state_met, success, ending, input_refused, state_refused, succeeds, no_refusal}
 use Rattle.rules.proofs.Accepts.{Made, all_made, accepted}
@@ -70,7 +70,9 @@ module _ (u v : Setting) (op m : ℕ) (s c : Mesh) (l : Lists) where
 
     answer_as : third u ≡ third v → answered_with u op s c l ≡ answered_with v op s c l
     unfolding answered_with
-    answer_as e = ap₂ (λ (ps : List Piece) (d : ℕ). result_of 0 (length ps) (length (added_by sc.met) / 2) d (written sc.coords ps l)) listing_as e
+    answer_as e =
+        ap₂ (λ (ps : List Piece) (d : ℕ). result_of 0 (length ps) (length (named_points (node_count s + node_count c) (length sc.coords / 2) ps)) d
+        (length (added_by sc.met) / 2) (written sc.coords ps l)) listing_as e
 
     course_as : course_with u op s c ≡ course_with v op s c
     unfolding course_with
@@ -241,7 +243,7 @@ module _ (once : Bool) (op m : ℕ) (s c : Mesh) (l : Lists) where
       go (state_met e n) =
           let met = state_refused forth op m s c l e n in
           let same = states (code _ met) in
-          state_refused back op m s c l e (λ z. n (sym same ∙ z)) ∙ ap (λ (x : ℕ). result_of x 0 0 0 (cleared l)) same ∙ sym met
+          state_refused back op m s c l e (λ z. n (sym same ∙ z)) ∙ ap (λ (x : ℕ). result_of x 0 0 0 0 (cleared l)) same ∙ sym met
       go (success e f) =
           let done = succeeds forth op m s c l e f in
           let same = states (λ z. omega (arith, f, z)) in

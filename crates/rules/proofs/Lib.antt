@@ -10,6 +10,7 @@ pub mod Closing
 pub mod Distinct
 pub mod Rows
 pub mod Demand3
+pub mod Points
 pub mod Kept
 pub mod Rounds
 pub mod NeverEleven

@@ -51,10 +51,10 @@ module _ (op : ℕ) (s c : Mesh) where
   abbrev Among : Piece → Type 0
   Among p = Memᴰ p (listing op s c)
 
-  among : (p : Piece) → Listed p op s c → Among p
+  pub among : (p : Piece) → Listed p op s c → Memᴰ p (listing op s c)
   among p h = subst (λ (q : Piece). Among q) (h.1.is p) (in_list (listing op s c) h.0 h.1.below p)
 
-  listed : (p : Piece) → Among p → Listed p op s c
+  pub listed : (p : Piece) → Memᴰ p (listing op s c) → Listed p op s c
   listed p h = let r = mem_at (listing op s c) p h in (r.0, record { below = r.1; is = r.2 })
 
   among_kept : (p : Piece) → Among p → Kept sc op p

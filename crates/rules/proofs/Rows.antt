@@ -92,7 +92,8 @@ module _ (s c : Mesh) (p : Piece) where
 -- ---- a row is one piece's
 
 module _ (sc : Scene) (op : ℕ) where
-  at_place : (p : Piece) → Kept sc op p → p.nodes ≡ get_or (pieces_of sc p.mesh p.cell) p.place []
+  -- its node numbers are those of the cell's piece at its place
+  pub at_place : (p : Piece) → Kept sc op p → p.nodes ≡ get_or (pieces_of sc p.mesh p.cell) p.place []
   unfolding piece_with
   at_place p k = ap (λ (x : Piece). x.nodes) k.same
 

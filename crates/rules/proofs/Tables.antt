@@ -49,7 +49,7 @@ use Rattle.rules.specs.Cell.{darts_of, near_of, treated}
 use Rattle.rules.specs.Inside.{some_holds, point_inside}
 use Rattle.rules.specs.Operations.{piece_with, lies_inside, kept_with, listing_with, doubled_cells}
 use Rattle.rules.specs.Refusals.{course_with, first_refusal}
-use Rattle.rules.specs.Overlay.{Lists, Result, lent_lists, cleared, written, answered_with, state_with, overlay_with}
+use Rattle.rules.specs.Overlay.{Lists, Result, lent_lists, cleared, written, named_points, answered_with, state_with, overlay_with}
 
 abbrev pub floats : List ℕ → List Float
 floats bits = map (of_bits binary64) bits
@@ -85,7 +85,8 @@ same_lists l l' =
 
 unfoldable pub same_result : Result → Result → Bool
 same_result r r' =
-    both (same (r.code ∷ r.pieces ∷ r.points ∷ r.doubled ∷ []) (r'.code ∷ r'.pieces ∷ r'.points ∷ r'.doubled ∷ [])) (same_lists r.lists r'.lists)
+    both (same (r.code ∷ r.pieces ∷ r.points ∷ r.doubled ∷ r.added ∷ []) (r'.code ∷ r'.pieces ∷ r'.points ∷ r'.doubled ∷ r'.added ∷ []))
+    (same_lists r.lists r'.lists)
 
 -- an overlay gives the answers of the cases
 unfoldable pub right_by : (ℕ → ℕ → Mesh → Mesh → Lists → Result) → List Case → Bool
@@ -99,6 +100,6 @@ unfolding both same same_lists same_result add sub mul div neg lt le eq of_bits 
     every prior ends_ok coord_ok coords_ok kind_ok kinds_ok nodes_ok absent cell_ok cells_ok shape_ok call_ok work_ok mesh_refusal lower_refusal entry_of cell_at cells_of used_nodes
     sorted_indices_for nearest_to closest_within weld added added_all descending_to subject_net cutter_net box_to boxes_meet box_holds candidates met_pair met_all
     meetings_to meetings scene_of collected crowded along_edge sorted_nodes darts_of near_of treated some_holds point_inside piece_with
-    lies_inside kept_with listing_with doubled_cells course_with first_refusal cleared written answered_with state_with overlay_with
+    lies_inside kept_with listing_with doubled_cells course_with first_refusal cleared written named_points answered_with state_with overlay_with
 right_by overlay [] = true
 right_by overlay (case op m s c l r ∷ cs) = both (same_result (overlay op m s c l) r) (right_by overlay cs)
