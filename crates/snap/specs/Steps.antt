@@ -2,8 +2,9 @@
 use Rattle.std.specs.Prelude.{◌≡◌, Bool, false, cond, not, List, [], ℕ, ◌+◌, ◌/◌, ◌<◌, eqb, length, get_or, take, Float}
 use Rattle.std.specs.Float.{nan}
 use Rattle.std.specs.Float.Ieee.{lt}
-use Rattle.lists.specs.Search.{bit, first, named}
-use Rattle.lists.specs.Gather.{each, places}
+use Rattle.lists.specs.Search.{first}
+use Rattle.lists.specs.Marks.{marks_from}
+use Rattle.lists.specs.Gather.{places}
 use Rattle.lists.specs.Sort.{insert, sort_onto, sorted}
 use Rattle.lists.specs.Regions.{front}
 use Rattle.plane.specs.Plane.{◌⊖◌, x_of, y_of, point_at}
@@ -20,8 +21,8 @@ abbrev pub AllPlaced : List Float → Type 0
 AllPlaced coords = (i : ℕ) → i < length coords → Placed (get_or coords i nan)
 
 -- a mark for each of n nodes: 1 where some element names it
-unfoldable pub used : List ℕ → ℕ → List ℕ
-used nodes n = each n (λ i. bit (named nodes i))
+abbrev pub used : List ℕ → ℕ → List ℕ
+used nodes n = marks_from nodes 0 n
 
 abbrev pub marked : List ℕ → ℕ → Bool
 marked marks i = not (eqb (get_or marks i 0) 0)

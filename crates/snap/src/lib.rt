@@ -7,26 +7,15 @@ ghost use Rattle.lists.specs.Regions.{front, zeros};
 ghost use Rattle.entry.specs.Mesh.{mesh};
 ghost use Rattle.rules.specs.Snap.{precedes, distance2, nearer, closest_within, weld};
 ghost use Rattle.snap.specs.Ways.{InOrder-prop};
-ghost use Rattle.snap.specs.Steps.{Below, AllPlaced, InOrder, used, place_of, indices_in_order, with_node, merged, merged_full, not_merged, window_start, number_by};
+ghost use Rattle.snap.specs.Steps.{AllPlaced, InOrder, place_of, indices_in_order, with_node, merged, merged_full, not_merged, window_start, number_by};
 
 use arrayvec::ArrayVec;
+use lists::mark_named;
 use plane::{Point, point_at};
 use rules::Nearest;
 use views::MeshView;
 
 // ---- Used nodes, in order
-
-// 1 for each node that some element names, 0 for the others. Marks are numbers: they stand in the caller's list, whose places the nodes' numbers take.
-#[tactic(auto, using(crate::proofs::Marks::mark_zero))]
-fn mark_used(nodes: &[u32], marks: &mut [u32])
-    requires { Below (length marks.old) nodes.now }
-    ensures { marks.new ≡ used nodes.now (length marks.old) }
-{
-    marks.fill(0);
-    for v in nodes {
-        marks[*v as usize] = 1;
-    }
-}
 
 // By x, then y. Not derived: the order would be one of all points, and only nodes are sorted, and here alone.
 fn precedes(p: Point, q: Point) -> bool
@@ -238,7 +227,6 @@ fn number_nodes(coords: &[f64], order: &[u32], cc: &[f64], numbers: &mut [u32])
 pub fn duplicates_from(subject: &MeshView, cutter: &MeshView, w: &mut [u32])
     requires { (length subject.now.coords.now / 2 ≤ 16384) × (length cutter.now.coords.now / 2 ≤ 16384)
         × (length cutter.now.coords.now / 2 + length subject.now.coords.now / 2 ≤ length w.old)
-        × Below (length subject.now.coords.now / 2) subject.now.nodes.now × Below (length cutter.now.coords.now / 2) cutter.now.nodes.now
         × AllPlaced subject.now.coords.now }
     ensures { w.new ≡ front w.old (weld (mesh subject.now.coords.now subject.now.nodes.now [] [] []) (mesh cutter.now.coords.now cutter.now.nodes.now [] [] [])
         ++ zeros (length subject.now.coords.now / 2)) }
@@ -246,8 +234,8 @@ pub fn duplicates_from(subject: &MeshView, cutter: &MeshView, w: &mut [u32])
     let coords = subject.coords;
     let (numbers, rest) = w.split_at_mut(cutter.coords.len() / 2);
     let (marks, _) = rest.split_at_mut(coords.len() / 2);
-    mark_used(cutter.nodes, numbers);
-    mark_used(subject.nodes, marks);
+    mark_named(cutter.nodes, 0, numbers);
+    mark_named(subject.nodes, 0, marks);
     let count = sorted_indices_for(coords, marks);
     number_nodes(coords, &marks[..count], cutter.coords, numbers);
     marks.fill(0);
