@@ -1,7 +1,7 @@
 -- What `find` leaves in the lists is what the cells ask for. Assumes nothing.
 use mathlib.Core.Path.{◌≡◌, refl, sym, ap, ◌∙◌, subst}
 use mathlib.Core.List.{List, [], ◌∷◌, ◌++◌}
-use Prim.Native.Nat.{ℕ, zero, suc, ◌+◌, ◌*◌, ◌/◌, ◌^◌, ◌≤◌, ◌<◌}
+use Prim.Native.Nat.{ℕ, zero, suc, ◌+◌, ◌-◌, ◌*◌, ◌/◌, ◌^◌, ◌≤◌, ◌<◌}
 use native.Mathlib.Omega.{arith}
 use lib.Dec.{eqb}
 use lib.ListN.{length, take, drop, length-append}
@@ -135,6 +135,13 @@ module _ (op m : ℕ) (s c : Mesh) (w₀ : List ℕ) (ok : Passed op m s c (leng
       let few = met_few op m s c (length oc / 2) 0 0 (sym (code_is op m s c w₀ asks oc oc' w' r told 0 0) ∙ ap refused_with z) in
       omega (arith, next_long, k.1, k.2, few, ok.most, ok.subject.most_nodes, ok.cutter.most_nodes)
 
+  -- the working list has a place for each new point
+  marks : x.next - (length s.coords + length c.coords) / 2 ≤ length w₀
+  marks =
+      let k = coords_long op s c ok.subject.even ok.cutter.even in
+      let few = met_few op m s c (length oc / 2) 0 0 (sym (code_is op m s c w₀ asks oc oc' w' r told 0 0) ∙ ap refused_with z) in
+      omega (arith, next_long, k.1, k.2, few, ok.subject.even, ok.cutter.even, ok.room)
+
   -- ---- with the indexes
 
   index_ready : Asks w' x.regions s.ends c.ends
@@ -162,8 +169,18 @@ module _ (op m : ℕ) (s c : Mesh) (w₀ : List ℕ) (ok : Passed op m s c (leng
             (put w' x.regions.links.end (indexes (take (2 * x.next) oc') w' x.regions s.ends c.ends)) → P i w''
         both P h = subst (λ (y : Indexes). P y w'') (sym built.0) (subst (P (indexes_at (take (2 * x.next) oc') w' x.regions s.ends c.ends)) (sym built.1) h)
 
-    held_in : PreparedIn op s c oc oc' w'' (record { next = x.next; regions = x.regions; indexes = i })
-    held_in = record { placed = placed; long = next_long; fits = points_in_lem; least = least; most = most; stands = lists_hold; ready = lists_ready }
+    held_in : length w'' ≡ length w' → PreparedIn op s c oc oc' w'' (record { next = x.next; regions = x.regions; indexes = i })
+    held_in long =
+        record {
+          placed = placed;
+          long = next_long;
+          fits = points_in_lem;
+          least = least;
+          most = most;
+          marks = omega (arith, marks, work_long, long);
+          stands = lists_hold;
+          ready = lists_ready;
+        }
 
 -- ---- what `prepare` comes to, where the entry refuses nothing
 
@@ -191,5 +208,5 @@ module _ (op m : ℕ) (s c : Mesh) (w : List ℕ) (entered : entry_of op m s c (
 
       pub prepared : (i : Indexes) (w'' : List ℕ) → (i ≡ indexes_at (take (2 * x.next) oc') w' x.regions s.ends c.ends)
           × (w'' ≡ put w' x.regions.links.end (indexes (take (2 * x.next) oc') w' x.regions s.ends c.ends))
-          → PreparedIn op s c oc oc' w'' (record { next = x.next; regions = x.regions; indexes = i })
+          → length w'' ≡ length w' → PreparedIn op s c oc oc' w'' (record { next = x.next; regions = x.regions; indexes = i })
       prepared i w'' built = held_in op m s c w ok oc oc' w' (Ok x) told x refl i w'' built

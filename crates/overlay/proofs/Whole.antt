@@ -9,12 +9,13 @@ use lib.Dec.{leb}
 use lib.ListN.{length, take, drop, length-append, length-map, take-append-drop}
 use lib.Seq.{length-take-le, drop-append-le, drop-append_seam}
 use lib.Ieee.{Float}
+use Rattle.lists.specs.Search.{named, many}
 use Rattle.lists.specs.Gather.{gathered}
 use Rattle.lists.specs.Regions.{front, zeros}
 use Rattle.lists.proofs.Regions.{front_put, take_front_of}
 use Rattle.cutting.specs.Outcome.{Outcome, refusal, pieces, flat, stops}
 use Rattle.cutting.proofs.Runs.{stops_length}
-use Rattle.entry.specs.Mesh.{Mesh}
+use Rattle.entry.specs.Mesh.{Mesh, node_count}
 use Rattle.entry.specs.Passed.{Passed}
 use Rattle.rules.specs.Mesh.{Side, the_subject, the_cutter, side_number}
 use Rattle.rules.specs.Neighbours.{subject_net, cutter_net}
@@ -22,7 +23,8 @@ use Rattle.rules.specs.Meetings.{Scene, net_of, added_by, scene_of}
 use Rattle.rules.specs.Cell.{outcome_of}
 use Rattle.rules.specs.Operations.{Piece, cuts, scene_for, kept, over_cells, listing, listing_with}
 use Rattle.rules.specs.Refusals.{Event, meeting, point, piece, stop, of_cell, course, first_refusal}
-use Rattle.rules.specs.Overlay.{Lists, lent_lists, result_of, piece_room, written, state_of, state_with, answered, answered_with}
+use Rattle.rules.specs.Overlay.{Lists, lent_lists, result_of, piece_room, written, named_points, state_of, state_with, answered, answered_with}
+use Rattle.rules.proofs.Points.{points_counted}
 use Rattle.finding.specs.Found.{found_events}
 use Rattle.finding.proofs.Scenes.{course_is, found_passes}
 use Rattle.pieces.specs.declared.Listed.{Listed}
@@ -145,10 +147,10 @@ module _ (op : ℕ) (s c : Mesh) where
     pub yielded_events : (meshes_yield op (take (2 * p.next) oc) w p.regions s.ends c.ends).events ≡ over_both op (scene_for op s c) (cell_events op (scene_for op s c))
     yielded_events = meshes_events op sc₀ (take (2 * p.next) oc) w p.regions s.ends c.ends ready.stands
 
-    -- the points are those that the meetings add
-    points_are : (k : ℕ) → length s.coords + length c.coords ≡ 2 * k → p.next - k ≡ length (added_by sc₀.met) / 2
+    -- the points behind the lent ones are those that the meetings add
+    added_are : (k : ℕ) → length s.coords + length c.coords ≡ 2 * k → p.next - k ≡ length (added_by sc₀.met) / 2
     unfolding scene_of
-    points_are k even =
+    added_are k even =
         omega (arith, ready.long, even, length-append (s.coords ++ c.coords) (added_by sc₀.met), length-append s.coords c.coords)
 
     kinds_stand : (v : Side) → (net_of sc₀ v).kinds ≡ of_side s.kinds c.kinds v
@@ -161,23 +163,41 @@ module _ (op : ℕ) (s c : Mesh) where
     families_stand the_subject = refl
     families_stand the_cutter = refl
 
+    -- the corners of the pieces
+    corners_read : (on oe ot on' oe' ot' : List ℕ) (r : Listed) → AllPlaced none_yet (meshes_yield op (take (2 * p.next) oc) w p.regions s.ends c.ends) on oe ot r on' oe' ot'
+        → take r.entries on' ≡ flat (nodes_of ps)
+    corners_read on oe ot on' oe' ot' r a =
+        ap (take r.entries) (a.corners ∙ front_put on (flat y.pieces)) ∙ take_front_of on (flat y.pieces) r.entries (sym (a.entered ∙ zero-add (length (flat y.pieces))))
+        ∙ ap flat (meshes_pieces op sc₀ (take (2 * p.next) oc) w p.regions s.ends c.ends ready.stands)
+
+    -- the new points among them, counted behind the nodes lent
+    named_are : (lent points : ℕ) (entries : List ℕ) → lent ≡ node_count s + node_count c → lent ≤ p.next → entries ≡ flat (nodes_of ps)
+        → points ≡ many (λ k. named entries (lent + k)) (p.next - lent) → points ≡ length (named_points (node_count s + node_count c) (length sc₀.coords / 2) ps)
+    named_are lent points entries is low read e =
+        let all : lent + (p.next - lent) ≡ length sc₀.coords / 2 = omega (arith, ready.long, low) in
+        e ∙ ap (λ (ns : List ℕ). many (λ k. named ns (lent + k)) (p.next - lent)) read ∙ sym (points_counted lent (p.next - lent) ps)
+        ∙ ap₂ (λ (i n : ℕ). length (named_points i n ps)) is all
+
     pub placed_in : (m n : ℕ) → Passed op m s c n → (on oe ot on' oe' ot' : List ℕ) (r : Listed)
         → AllPlaced none_yet (meshes_yield op (take (2 * p.next) oc) w p.regions s.ends c.ends) on oe ot r on' oe' ot' → r.count ≤ length oe
-        → PlacedIn op s c (record { pieces = r.count; points = p.next - (length s.coords + length c.coords) / 2 }) oc₀ on oe ot oc on' oe' ot'
+        → (points : ℕ) → (let lent : ℕ = (length s.coords + length c.coords) / 2 in points ≡ many (λ k. named (take r.entries on') (lent + k)) (p.next - lent))
+        → PlacedIn op s c (record { pieces = r.count; points = points; added = p.next - (length s.coords + length c.coords) / 2 }) oc₀ on oe ot oc on' oe' ot'
     unfolding listing_with
-    placed_in m n ok on oe ot on' oe' ot' r a low =
+    placed_in m n ok on oe ot on' oe' ot' r a low points counted =
         let sc = sc₀ in
         let coords = take (2 * p.next) oc in
         let g = p.regions in
         let ins = ready.stands in
         let pieces : y.pieces ≡ nodes_of ps = meshes_pieces op sc coords w g s.ends c.ends ins in
-        let half : length s.coords + length c.coords ≡ 2 * ((length s.coords + length c.coords) / 2) = omega (arith, ok.subject.even, ok.cutter.even) in
+        let lent : ℕ = (length s.coords + length c.coords) / 2 in
+        let half : length s.coords + length c.coords ≡ 2 * lent = omega (arith, ok.subject.even, ok.cutter.even) in
         record {
           coords = ready.placed;
           corners = a.corners ∙ front_put on (flat y.pieces) ∙ ap (λ (ks : List (List ℕ)). front on (flat ks)) pieces;
           ends = a.ends ∙ front_put oe (stops 0 y.pieces) ∙ ap (λ (ks : List (List ℕ)). front oe (stops 0 ks)) pieces;
           pieces = a.counted ∙ zero-add (length y.pieces) ∙ ap length pieces ∙ length-map ps (λ p. p.nodes);
-          points = points_are ((length s.coords + length c.coords) / 2) half;
+          points = named_are lent points (take r.entries on') (omega (arith, half, ok.subject.even, ok.cutter.even)) ready.least (corners_read on oe ot on' oe' ot' r a) counted;
+          added = added_are lent half;
           room = low;
           tags = y.tags;
           tagged = a.tags ∙ front_put ot y.tags;
@@ -231,7 +251,7 @@ module _ (op : ℕ) (s c : Mesh) (l : Lists) (room : ℕ) (most : room ≡ piece
         → fs ≡ map (family_by s.families c.families) (take k.pieces (ot ++ drop room l.families))
         → (om ≡ front l.meshes (map (mesh_by (length s.ends)) (take k.pieces (ot ++ drop room l.families))))
         × (oi ≡ front l.cells (map (cell_by (length s.ends)) (take k.pieces (ot ++ drop room l.families))))
-        → result_of 0 k.pieces k.points 0 (lent_lists oc on (oe ++ drop room l.ends) ok (fs ++ drop k.pieces (ot ++ drop room l.families)) om oi (zeros (length l.work)))
+        → result_of 0 k.pieces k.points 0 k.added (lent_lists oc on (oe ++ drop room l.ends) ok (fs ++ drop k.pieces (ot ++ drop room l.families)) om oi (zeros (length l.work)))
         ≡ answered op s c l
     unfolding answered_with written
     answer_is ok fs om oi ek ef (em, ei) =
@@ -246,4 +266,5 @@ module _ (op : ℕ) (s c : Mesh) (l : Lists) (room : ℕ) (most : room ≡ piece
         let families : fs ++ drop k.pieces (ot ++ drop room l.families) ≡ front l.families (map (λ p. p.family) (listing op s c)) =
         ap₂ (λ (u v : List ℕ). u ++ drop k.pieces v) of tagged
         ∙ front_over l.families h.tags (map (λ p. p.family) (listing op s c)) k.pieces tags_long (long (λ p. p.family)) in
-        λ i. result_of 0 (h.pieces i) (h.points i) 0 (lent_lists (h.coords i) (h.corners i) (ends i) (kinds i) (families i) (meshes i) (cells i) (zeros (length l.work)))
+        λ i. result_of 0 (h.pieces i) (h.points i) 0 (h.added i)
+        (lent_lists (h.coords i) (h.corners i) (ends i) (kinds i) (families i) (meshes i) (cells i) (zeros (length l.work)))

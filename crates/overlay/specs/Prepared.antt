@@ -1,15 +1,16 @@
 -- What the cells are cut by, as it stands in the lists once both meshes are indexed: what only contracts of inner functions cite. Assumes nothing.
-use Rattle.std.specs.Prelude.{◌≡◌, List, map, ℕ, ◌+◌, ◌*◌, ◌/◌, ◌^◌, ◌≤◌, ◌<◌, length, take, Float}
+use Rattle.std.specs.Prelude.{◌≡◌, List, map, ℕ, ◌+◌, ◌-◌, ◌*◌, ◌/◌, ◌^◌, ◌≤◌, ◌<◌, length, take, Float}
 use Rattle.lists.specs.Regions.{front}
 use Rattle.cutting.specs.Edges.{Edge}
 use Rattle.cutting.specs.Outcome.{flat, stops}
-use Rattle.entry.specs.Mesh.{Mesh, mesh_of}
+use Rattle.entry.specs.Mesh.{Mesh, mesh_of, node_count}
 use Rattle.entry.specs.Named.{op_number}
 use Rattle.entry.specs.Refused.{entry_of}
 use Rattle.rules.specs.Mesh.{Side, the_subject, the_cutter, other, side_number}
 use Rattle.rules.specs.Meetings.{Scene, net_of, added_by}
 use Rattle.rules.specs.Nodes.{sorted_nodes}
 use Rattle.rules.specs.Operations.{Piece, scene_for, listing}
+use Rattle.rules.specs.Overlay.{named_points}
 use Rattle.regions.specs.declared.MeshRuns.{MeshRuns}
 use Rattle.regions.specs.declared.Regions.{Regions}
 use Rattle.regions.specs.Runs.{run_in, mesh_edges}
@@ -56,6 +57,7 @@ pub record PreparedIn (op : ℕ) (s c : Mesh) (oc₀ oc : List Float) (w : List 
   pub fits : 2 * p.next ≤ length oc
   pub least : (length s.coords + length c.coords) / 2 ≤ p.next
   pub most : p.next < 2 ^ 32
+  pub marks : p.next - (length s.coords + length c.coords) / 2 ≤ length w
   pub stands : MeshesIn (scene_for op s c) (take (2 * p.next) oc) w p.regions s.ends c.ends
   pub ready : MeshesReady op (take (2 * p.next) oc) w p.regions p.indexes s.ends c.ends
 
@@ -69,14 +71,15 @@ pub record Tagged (s c : Mesh) (ts : List ℕ) (ps : List Piece) : Type 0 where
   pub meshes : map (mesh_by (length s.ends)) ts ≡ map (λ p. side_number p.mesh) ps
   pub cells : map (cell_by (length s.ends)) ts ≡ map (λ p. p.cell) ps
 
--- The coordinates, corners, ends and tags of the pieces stand in the fronts of oc', on', oe' and ot', which were oc, on, oe and ot; k counts pieces and
--- new points.
+-- The coordinates, corners, ends and tags of the pieces stand in the fronts of oc', on', oe' and ot', which were oc, on, oe and ot; k counts pieces, the new
+-- points that they name, and all new points.
 pub record PlacedIn (op : ℕ) (s c : Mesh) (k : Counts) (oc : List Float) (on oe ot : List ℕ) (oc' : List Float) (on' oe' ot' : List ℕ) : Type 0 where
   pub coords : oc' ≡ front oc (scene_for op s c).coords
   pub corners : on' ≡ front on (flat (runs_in op s c))
   pub ends : oe' ≡ front oe (stops 0 (runs_in op s c))
   pub pieces : k.pieces ≡ length (listing op s c)
-  pub points : k.points ≡ length (added_by (scene_for op s c).met) / 2
+  pub points : k.points ≡ length (named_points (node_count s + node_count c) (length (scene_for op s c).coords / 2) (listing op s c))
+  pub added : k.added ≡ length (added_by (scene_for op s c).met) / 2
   pub room : k.pieces ≤ length oe
   pub tags : List ℕ
   pub tagged : ot' ≡ front ot tags

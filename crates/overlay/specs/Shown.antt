@@ -13,5 +13,5 @@ lists_of o w = lent_lists o.coords.now o.nodes.now o.ends.now o.kinds.now o.fami
 
 -- The answer, with the lists at exit. W14: "The third count is 0 ever after".
 abbrev pub answer_of : Result Counts Refusal → Lists → Rules.Result
-answer_of (Ok c) l = result_of 0 c.pieces c.points 0 l
-answer_of (Err r) l = result_of (number r) 0 0 0 l
+answer_of (Ok c) l = result_of 0 c.pieces c.points 0 c.added l
+answer_of (Err r) l = result_of (number r) 0 0 0 0 l

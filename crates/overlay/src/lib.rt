@@ -17,16 +17,17 @@ use edge_nodes::SceneLists;
 use entry::{Operation, entry};
 use finding::find;
 use indexing::index_meshes;
-use passes::{write_families, write_kinds, write_parents};
+use passes::{count_named, write_families, write_kinds, write_parents};
 use refusals::Refusal;
 use regions::{Indexes, Regions};
 use views::{MeshView, OutputView};
 
-// How many pieces there are, and how many new points.
+// How many pieces there are, how many of the new points they name, and how many new points there are.
 #[derive(Clone, Copy, Debug, PartialEq, Eq)]
 pub struct Counts {
     pub pieces: u32,
     pub points: u32,
+    pub added: u32,
 }
 
 // What the cells are cut by: the number that the next point has, where edges, cells, meetings and links stand in the working list, and the indexes there. The fields
@@ -80,7 +81,8 @@ impl Call<'_> {
         })
     }
 
-    // Places all pieces that the operation keeps, each with its tag; as many have a place as there is room for ends.
+    // Places all pieces that the operation keeps, each with its tag; as many have a place as there is room for ends. Counts them, and the new points: the working list,
+    // which no later stage reads, takes their marks.
     // The lists come one by one: a struct of parts of a lent struct's lists isn't covered by the borrow checker.
     #[tactic(auto, using(crate::proofs::Whole::refused_before, refusals::proofs::Numbers::number_positive))]
     fn place(
@@ -114,10 +116,13 @@ impl Call<'_> {
             ends,
             tags,
         )?;
-        let given = (self.subject.coords.len() + self.cutter.coords.len()) / 2;
+        let lent = (self.subject.coords.len() + self.cutter.coords.len()) / 2;
+        let added = p.next - lent;
+        let points = count_named(&nodes[..listed.entries], lent, &mut work[..added]);
         Ok(Counts {
             pieces: listed.count as u32,
-            points: (p.next - given) as u32,
+            points: points as u32,
+            added: added as u32,
         })
     }
 

@@ -119,6 +119,7 @@ pub fn write_families(subject: &[u32], cutter: &[u32], tags: &mut [u32])
 pub fn count_named(nodes: &[u32], first: usize, marks: &mut [u32]) -> usize
     ensures count { result ≡ many (λ k. named nodes.now (first + k)) (length marks.old) }
     ensures marks { marks.new ≡ marks_from nodes.now first (length marks.old) }
+    ensures few { result ≤ length marks.old }
 {
     mark_named(nodes, first, marks);
     marks.iter().filter(|mark| **mark != 0).count()

@@ -22,3 +22,4 @@ returns-clause-refusal c = refusal_is _ _ _ _ _ c.requires _ _ _ (Ok c.in_ok-fou
 
 pub returns-clause-prepared : goal.returns-clause-prepared
 returns-clause-prepared c = prepared _ _ _ _ _ c.requires _ _ _ _ (rw c.from-op.ensures at c.in_ok-found.ensures) _ _ (rw c.first_nodes-points.ensures at c.index_meshes-indexes.ensures)
+    c.index_meshes-indexes.auto.w
