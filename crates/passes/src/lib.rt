@@ -1,5 +1,5 @@
-// Passes over the pieces once all cells are cut: what a piece's tag says of it goes to the output lists, and the nodes that they name are counted. The tag is twice the number of the piece's cell
-// among those of both meshes, the subject's first, and one more where the cell is cut.
+// Passes over the pieces once all cells are cut: what a piece's tag says of it goes to the output lists, and the nodes that the pieces name are counted. The tag is
+// twice the number of the piece's cell among those of both meshes, the subject's first, and one more where the cell is cut.
 #![tactic(auto)]
 
 ghost use Rattle.std.specs.Prelude.{◌≡◌, ◌++◌, ◌+◌, ◌*◌, ◌/◌, eqb, not, map, ◌≤◌, length, get_or};
