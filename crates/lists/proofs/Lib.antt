@@ -9,3 +9,4 @@ pub mod Merging
 pub mod Library
 pub mod InPlace
 pub mod Marking
+pub mod Members
