@@ -4,6 +4,7 @@ pub mod CellLaws
 pub mod Cells
 pub mod Chunks
 pub mod Closing
+pub mod Distinct
 pub mod EdgeLaws
 pub mod Ends
 pub mod Kept

@@ -1,6 +1,6 @@
 -- Keys compared, and the order of two slots at one node. Assumes nothing.
-use mathlib.Core.Path.{◌≡◌, sym, ap, ap₂, ◌∙◌}
-use mathlib.Core.Bool.{Bool, false, ◌&&◌}
+use mathlib.Core.Path.{◌≡◌, refl, sym, ap, ap₂, ◌∙◌}
+use mathlib.Core.Bool.{Bool, true, false, ◌&&◌}
 use mathlib.Core.List.{List}
 use Prim.Native.Nat.{ℕ}
 use lib.Dec.{eqb}
@@ -13,6 +13,9 @@ use Rattle.plane.specs.declared.Point.{Point}
 use Rattle.cutting.specs.Edges.{Edge, key, same_key}
 use Rattle.exact.specs.Exact.{is_less}
 use Rattle.cutting.specs.Cell.{stands}
+
+pub own_key : (e : Edge) → same_key e e ≡ true
+own_key e = ap₂ ◌&&◌ (eq-eqb (key e).0 (key e).0 refl) (eq-eqb (key e).1 (key e).1 refl)
 
 module _ (a b c d k k' l l' : ℕ) (ek : ◌≡◌ {A = Edge} (k, k') (key (a, b))) (el : ◌≡◌ {A = Edge} (l, l') (key (c, d))) where
   pub keys_apart : (k ≡ l → ⊥) → false ≡ same_key (a, b) (c, d)
