@@ -22,7 +22,7 @@ le_not_lt : (x y : Float) → le x y ≡ true → lt y x ≡ false
 unfolding le
 le_not_lt x y h = one_of (lt x y) (eq x y) (lt_asym x y) (λ e. eq_not_lt y x (eq_sym x y e)) h
 
-not_lt_le : (x y : Float) → eq x x ≡ true → eq y y ≡ true → lt y x ≡ false → le x y ≡ true
+pub not_lt_le : (x y : Float) → eq x x ≡ true → eq y y ≡ true → lt y x ≡ false → le x y ≡ true
 unfolding le
 not_lt_le x y n m h = go (lt x y) (eq x y) refl (trichotomy x y n m h)
   where
