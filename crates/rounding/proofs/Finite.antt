@@ -5,13 +5,13 @@ use mathlib.Core.Logic.{◌⊎◌, inl, inr}
 use mathlib.Core.Bool.{true, false}
 use mathlib.Core.List.{List, [], ◌∷◌, ◌++◌, Memᴰ}
 use Prim.Native.Nat.{ℕ, ◌+◌, ◌*◌, ◌/◌, ◌^◌, ◌<◌}
-use native.Mathlib.Nat.{le_refl, le_of_eq}
+use native.Mathlib.Nat.{le_refl}
 use native.Mathlib.Omega.{arith}
 use lib.Dec.{eqb}
-use lib.ListN.{length, get_or, length-append}
+use lib.ListN.{length, get_or}
 use lib.Ieee.{Float, nan}
 use lib.Ieee.Exact.{HasValue}
-use Rattle.lists.proofs.Gather.{length_each, get_or_each, in_list}
+use Rattle.lists.proofs.Gather.{in_list}
 use Rattle.lists.proofs.Regions.{front_in}
 use Rattle.exact.specs.Exact.{mag, minus}
 use Rattle.exact.proofs.ExactUnits.{exact_units}
@@ -20,23 +20,22 @@ use Rattle.cutting.specs.Setting.{ours}
 use Rattle.plane.specs.Plane.{is_number, point_at}
 use Rattle.entry.specs.Mesh.{Mesh, node_count}
 use Rattle.entry.specs.Refused.{entry_of}
-use Rattle.entry.proofs.Passed.{passed, cell_some, corner_below}
-use Rattle.rules.specs.Mesh.{Side, the_subject, the_cutter, other, cell_at, cells_of}
+use Rattle.entry.proofs.Passed.{passed}
+use Rattle.rules.specs.Mesh.{Side}
 use Rattle.rules.specs.Neighbours.{subject_net, cutter_net}
 use Rattle.rules.specs.Meetings.{Met, net_of, segment_of, added_by, meetings, scene_of}
-use Rattle.rules.specs.Operations.{scene_for, pieces_of}
+use Rattle.rules.specs.Operations.{scene_for}
 use Rattle.rules.specs.Nodes.{projected, collected}
-use Rattle.rules.specs.Cell.{cell_of, outline_of}
 use Rattle.rules.specs.Overlay.{Lists, Result, written, answered, answered_with, overlay_of}
 use Rattle.rules.specs.Demand3.{Accepted}
 use Rattle.rules.proofs.Accepts.{accepted}
 use Rattle.rounding.specs.Points.{Doubles}
 use Rattle.rounding.specs.Finite.{Bounded, NodeOf, Ordered}
 use Rattle.rounding.proofs.Booked.{allowed_bounded, new_point_lem}
-use Rattle.rounding.proofs.Nodes.{each_joined, many_cells, cells_under, cutter_under, meetings_stand, collected_under, key_under, outline_under}
-use Rattle.rounding.proofs.Pieces.{pieces_under}
+use Rattle.rounding.proofs.Nodes.{each_joined, collected_under, key_under}
+use Rattle.rounding.proofs.InScene.{scene_length, met_nodes_lem, edge_nodes}
 use Rattle.rounding.proofs.Projections.{BoundedPoint, projection_finite, finite_number, numbers_ordered}
-use Rattle.rounding.proofs.Points.{Each, each_join, each_none, each_cons, Both, corners_under, edges_under, mesh_allowed, allowed_ends, Origin, meetings_origin}
+use Rattle.rounding.proofs.Points.{Each, each_join, each_none, each_cons, Both, edges_under, mesh_allowed, allowed_ends, Origin, meetings_origin}
 
 -- What every theorem below takes: the entry passes, and the coordinates are f64, as in every list of f64 that a caller lends.
 module _ (op m : ℕ) (s c : Mesh) (w : ℕ) (pass : entry_of op m s c w ≡ 0) (subject : Doubles s.coords) (cutter : Doubles c.coords) where
@@ -83,79 +82,11 @@ module _ (op m : ℕ) (s c : Mesh) (w : ℕ) (pass : entry_of op m s c w ≡ 0) 
   pub exact_at_new : (i : ℕ) → i < length (scene_for op s c).coords → let x = get_or (scene_for op s c).coords i nan in HasValue x (minus x) (mag x) (2 ^ 1074)
   exact_at_new i h = let b = scene_finite i h in exact_units (get_or scene i nan) b.fit b.end
 
-  scene_length : length (scene_for op s c).coords ≡ length s.coords + length c.coords + length (added_by (scene_for op s c).met)
-  unfolding scene_of
-  scene_length = omega (arith, length-append s.coords c.coords, length-append (s.coords ++ c.coords) (added_by (scene_for op s c).met))
-
-  -- ---- the nodes of the scene
-
-  abbrev Node : ℕ → Type 0
-  Node n = NodeOf (scene_for op s c) n
-
   -- Both coordinates of a node are numbers, and the exact ones are these themselves.
   pub exact_node : (n : ℕ) → NodeOf (scene_for op s c) n → let p = point_at (scene_for op s c).coords n in
       HasValue p.x (minus p.x) (mag p.x) (2 ^ 1074) × HasValue p.y (minus p.y) (mag p.y) (2 ^ 1074)
   unfolding point_at
   exact_node n h = (exact_at_new (2 * n) (omega arith), exact_at_new (2 * n + 1) (omega arith))
-
-  lent_even : length lent ≡ 2 * (node_count s + node_count c)
-  lent_even = let p = passed op m s c w pass in omega (arith, length-append s.coords c.coords, p.subject.even, p.cutter.even)
-
-  lent_node : (n : ℕ) → n < node_count s + node_count c → NodeOf (scene_for op s c) n
-  lent_node n h = omega (arith, h, scene_length, lent_even, length-append s.coords c.coords)
-
-  subject_all : Each (Both (node_count s + node_count c)) (subject_net s).edges
-  subject_all e h = let b = edges_under false s (passed op m s c w pass).subject e h in (omega (arith, b.0), omega (arith, b.1))
-
-  cutter_all : Each (Both (node_count s + node_count c)) (cutter_net (eqb op 5) s c).edges
-  cutter_all = cutter_under s c (eqb op 5) (passed op m s c w pass).cutter
-
-  -- those that meetings name
-  met_nodes_lem : (mt : Met) → Memᴰ mt (scene_for op s c).met → Each Node mt.nodes
-  unfolding scene_of meetings
-  met_nodes_lem mt h n k =
-      let a : 2 * n + 1 < length lent + length (added_by (scene_for op s c).met) =
-      meetings_stand lent (subject_net s) (cutter_net (eqb op 5) s c) (node_count s + node_count c) (le_of_eq (sym lent_even)) subject_all cutter_all
-      (length (subject_net s).edges) (le_refl (length (subject_net s).edges)) mt h n k in
-      omega (arith, a, scene_length, length-append s.coords c.coords)
-
-  -- the ends of edges
-  edge_nodes : (v : Side) → Each (Both (length (scene_for op s c).coords / 2)) (net_of (scene_for op s c) v).edges
-  unfolding scene_of
-  edge_nodes the_subject e h = let b = subject_all e h in (lent_node e.0 b.0, lent_node e.1 b.1)
-  edge_nodes the_cutter e h = let b = cutter_all e h in (lent_node e.0 b.0, lent_node e.1 b.1)
-
-  -- the corners of cells
-  cell_nodes : (v : Side) (i : ℕ) → i < length (net_of (scene_for op s c) v).cells → Each Node (cell_of (scene_for op s c) v i)
-  unfolding scene_of subject_net cutter_net cells_of
-  cell_nodes the_subject i h x k =
-      let n = length_each (length s.ends) (cell_at s) in
-      let l : i < length s.ends = omega (arith, n, h) in
-      lent_node x (let b = corners_under false s (passed op m s c w pass).subject i l x
-      (subst (Memᴰ x) (get_or_each (length s.ends) (cell_at s) i [] l) k) in omega (arith, b))
-  cell_nodes the_cutter i h x k = lent_node x (cells_under s c (eqb op 5) (passed op m s c w pass).cutter i h x k)
-
-  scene_some : (v : Side) (i : ℕ) → i < length (net_of (scene_for op s c) v).cells → NodeOf (scene_for op s c) 0
-  unfolding scene_of subject_net cutter_net cells_of
-  scene_some the_subject i h =
-      let ok = (passed op m s c w pass).subject in
-      let l : i < length s.ends = omega (arith, length_each (length s.ends) (cell_at s), h) in
-      lent_node 0 (omega (arith, corner_below false s ok i l 0 (cell_some false s ok i l)))
-  scene_some the_cutter i h =
-      let ok = (passed op m s c w pass).cutter in
-      let l : i < length c.ends = omega (arith, many_cells s c (eqb op 5) ok, h) in
-      lent_node 0 (omega (arith, corner_below (eqb op 5) c ok i l 0 (cell_some (eqb op 5) c ok i l)))
-
-  -- An outline as cut leads from node to node of the scene: its area is a sum of products of exact coordinates.
-  pub outline_nodes : (v : Side) (i : ℕ) → i < length (net_of (scene_for op s c) v).cells → (e : Edge) → Memᴰ e (outline_of (scene_for op s c) v i)
-      → NodeOf (scene_for op s c) e.0 × NodeOf (scene_for op s c) e.1
-  outline_nodes v i h = outline_under (scene_for op s c) (length (scene_for op s c).coords / 2) met_nodes_lem v i (cell_nodes v i h)
-
-  -- So do the pieces of a cell before any are dropped.
-  pub piece_nodes : (v : Side) (i : ℕ) → i < length (net_of (scene_for op s c) v).cells → (p : List ℕ) → Memᴰ p (pieces_of (scene_for op s c) v i)
-      → (n : ℕ) → Memᴰ n p → NodeOf (scene_for op s c) n
-  piece_nodes v i h p k n l =
-      pieces_under (length (scene_for op s c).coords / 2) (scene_some v i h) (scene_for op s c) met_nodes_lem v (edge_nodes (other v)) i (cell_nodes v i h) p k n l
 
   -- ---- the order along an edge
 
@@ -180,23 +111,24 @@ module _ (op m : ℕ) (s c : Mesh) (w : ℕ) (pass : entry_of op m s c w ≡ 0) 
       (is_number x ≡ true) × (is_number y ≡ true) × Ordered x y
   projections_ordered v e h a b i j =
       let n = length (scene_for op s c).coords / 2 in
-      let k : Both n (key e) = key_under (scene_for op s c) n met_nodes_lem e (edge_nodes v e h) in
-      let all : Each Node ((key e).0 ∷ collected (scene_for op s c) e) =
-      each_cons (key e).0 (collected (scene_for op s c) e) k.0 (collected_under (scene_for op s c) n met_nodes_lem e) in
+      let met = met_nodes_lem op m s c w pass in
+      let k : Both n (key e) = key_under (scene_for op s c) n met e (edge_nodes op m s c w pass v e h) in
+      let all : Each (NodeOf (scene_for op s c)) ((key e).0 ∷ collected (scene_for op s c) e) =
+      each_cons (key e).0 (collected (scene_for op s c) e) k.0 (collected_under (scene_for op s c) n met e) in
       nodes_ordered (key e) a b k.0 k.1 (all a i) (all b j)
 
   -- ---- the answer
 
-  answer_bounded : (l : Lists) (i : ℕ) → i < length s.coords + length c.coords + 2 * (answered op s c l).points → Bounded (get_or (answered op s c l).lists.coords i nan)
+  answer_bounded : (l : Lists) (i : ℕ) → i < length s.coords + length c.coords + 2 * (answered op s c l).added → Bounded (get_or (answered op s c l).lists.coords i nan)
   unfolding answered_with written
   answer_bounded l i h =
-      let within : i < length (scene_for op s c).coords = omega (arith, h, scene_length) in
+      let within : i < length (scene_for op s c).coords = omega (arith, h, scene_length op s c) in
       subst Bounded (sym (front_in l.coords (scene_for op s c).coords i nan within)) (scene_finite i within)
 
 -- No answer holds a NaN: the coordinates of an accepted overlay, lent nodes' and new points', are finite and at most 2^42 in size.
 pub no_nan : (op m : ℕ) (s c : Mesh) (l : Lists) → Accepted op m s c l → Doubles s.coords → Doubles c.coords
-    → (i : ℕ) → i < length s.coords + length c.coords + 2 * (overlay_of op m s c l).points → Bounded (get_or (overlay_of op m s c l).lists.coords i nan)
+    → (i : ℕ) → i < length s.coords + length c.coords + 2 * (overlay_of op m s c l).added → Bounded (get_or (overlay_of op m s c l).lists.coords i nan)
 no_nan op m s c l h subject cutter i =
     let t = accepted ours op m s c l h in
-    subst (λ (r : Result). i < length s.coords + length c.coords + 2 * r.points → Bounded (get_or r.lists.coords i nan)) (sym t.answer)
+    subst (λ (r : Result). i < length s.coords + length c.coords + 2 * r.added → Bounded (get_or r.lists.coords i nan)) (sym t.answer)
     (answer_bounded op m s c (length l.work) t.entry subject cutter l i)

@@ -6,5 +6,6 @@ pub mod Booked
 pub mod Points
 pub mod Nodes
 pub mod Pieces
+pub mod InScene
 pub mod Projections
 pub mod Finite

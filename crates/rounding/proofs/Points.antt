@@ -52,6 +52,28 @@ each_cons {A} {P} x xs h k y m = go (Memᴰ.cases_cons m)
     go (inl e) = subst P (sym e) h
     go (inr i) = k y i
 
+-- ---- the edges of a mesh are edges of its cells
+
+module _ (P : Edge → Type 0) where
+  added_each : (es : List Edge) (e : Edge) → Each P es → P e → Each P (added es e)
+  unfolding added
+  added_each es e h k = go (has (λ i. same_key (edge_at es i) e) (length es))
+    where
+      go : (b : Bool) → Each P (cond b es (es ++ e ∷ []))
+      go true = h
+      go false = each_join es (e ∷ []) h (each_cons e [] k (each_none P))
+
+  added_all_each : (es fs : List Edge) → Each P es → Each P fs → Each P (added_all es fs)
+  unfolding added_all
+  added_all_each es [] h k = h
+  added_all_each es (f ∷ fs) h k = added_all_each (added es f) fs (added_each es f h (k f (Memᴰ.head refl))) (λ z m. k z (Memᴰ.tail m))
+
+  -- what holds of each edge of every cell holds of those that `compute_descending` keeps
+  pub descending_each : (i : ℕ) (cells : List (List ℕ)) → i ≤ length cells → ((j : ℕ) → j < length cells → Each P (ring (get_or cells j []))) → Each P (descending_to i cells)
+  unfolding descending_to
+  descending_each zero cells h k = each_none P
+  descending_each (suc i) cells h k = added_all_each (descending_to i cells) (ring (get_or cells i [])) (descending_each i cells (omega arith) k) (k i (omega arith))
+
 -- ---- the nodes of a mesh's edges
 
 module _ (n : ℕ) where
@@ -72,24 +94,8 @@ module _ (n : ℕ) where
   ring_under (x ∷ xs) h =
       hops_under x (xs ++ x ∷ []) (h x (Memᴰ.head refl)) (each_join xs (x ∷ []) (λ z m. h z (Memᴰ.tail m)) (each_cons x [] (h x (Memᴰ.head refl)) (each_none Under)))
 
-  added_under : (es : List Edge) (e : Edge) → Each Both es → Both e → Each Both (added es e)
-  unfolding added
-  added_under es e h k = go (has (λ i. same_key (edge_at es i) e) (length es))
-    where
-      go : (b : Bool) → Each Both (cond b es (es ++ e ∷ []))
-      go true = h
-      go false = each_join es (e ∷ []) h (each_cons e [] k (each_none Both))
-
-  added_all_under : (es fs : List Edge) → Each Both es → Each Both fs → Each Both (added_all es fs)
-  unfolding added_all
-  added_all_under es [] h k = h
-  added_all_under es (f ∷ fs) h k = added_all_under (added es f) fs (added_under es f h (k f (Memᴰ.head refl))) (λ z m. k z (Memᴰ.tail m))
-
   pub descending_under : (i : ℕ) (cells : List (List ℕ)) → i ≤ length cells → ((j : ℕ) → j < length cells → Each Under (get_or cells j [])) → Each Both (descending_to i cells)
-  unfolding descending_to
-  descending_under zero cells h k = each_none Both
-  descending_under (suc i) cells h k =
-      added_all_under (descending_to i cells) (ring (get_or cells i [])) (descending_under i cells (omega arith) k) (ring_under (get_or cells i []) (k i (omega arith)))
+  descending_under i cells h k = descending_each Both i cells h (λ j l. ring_under (get_or cells j []) (k j l))
 
 -- those of a mesh of lines or of cells
 module _ (lines : Bool) (s : Mesh) (ok : Sound lines s) where

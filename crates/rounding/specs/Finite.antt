@@ -1,5 +1,5 @@
 -- What every coordinate of a scene is once the entry passes, its nodes, and what the order along an edge is then. The theorems stand in
--- proofs/Finite.antt. Assumes nothing.
+-- proofs/InScene.antt and proofs/Finite.antt. Assumes nothing.
 use Rattle.std.specs.Prelude.{◌⊎◌, ◌≡◌, true, ℕ, ◌*◌, ◌/◌, ◌^◌, ◌≤◌, ◌<◌, T, length, Float}
 use Rattle.std.specs.Float.{binary64}
 use Rattle.std.specs.Float.Ieee.{fits, eq}
