@@ -1,4 +1,4 @@
--- What stands in a list once it is sorted, joined or slimmed; the numbers that a list names, and those that pass a test. Assumes nothing.
+-- What stands in a list once it is sorted, joined or slimmed, and the numbers that a list names. Assumes nothing.
 use mathlib.Core.Path.{◌≡◌, refl, sym, ap, ◌∙◌, subst}
 use mathlib.Core.Logic.{◌⊎◌, inl, inr}
 use mathlib.Core.Bool.{Bool, true, false}
@@ -16,10 +16,10 @@ use lib.Dec.{eqb}
 use lib.ListN.{length, get_or}
 use borrow.Author.Tests.{eq-eqb, eqb-true}
 use Rattle.lists.specs.Search.{named, bit}
-use Rattle.lists.specs.Gather.{tally, joined, slim_after, slim, places}
+use Rattle.lists.specs.Gather.{tally, joined, slim_after, slim}
 use Rattle.lists.specs.Sort.{sorted}
 use Rattle.lists.proofs.Search.{has_at, has_some}
-use Rattle.lists.proofs.Gather.{in_list, mem_at, places_at, places_has}
+use Rattle.lists.proofs.Gather.{in_list, mem_at}
 use Rattle.lists.proofs.Sort.{sorted_tally}
 
 module _ {A : Type 0} where
@@ -76,7 +76,7 @@ unfolding slim
 slim_keeps n [] m = m
 slim_keeps n (x ∷ xs) m = slim_after_keeps n x xs m
 
--- ---- the numbers that a list names, and those that pass a test
+-- ---- the numbers that a list names
 
 pub named_in : (ns : List ℕ) (n : ℕ) → named ns n ≡ true → Memᴰ n ns
 named_in ns n e =
@@ -87,13 +87,3 @@ pub in_named : (ns : List ℕ) (n : ℕ) → Memᴰ n ns → named ns n ≡ true
 in_named ns n m =
     let r = mem_at ns n m in
     has_at (λ k. eqb (get_or ns k 0) n) (length ns) r.0 r.1 (eq-eqb (get_or ns r.0 0) n (r.2 0))
-
-pub of_places : (p : ℕ → Bool) (k n : ℕ) → Memᴰ n (places p k) → (n < k) × (p n ≡ true)
-of_places p k n m =
-    let r = mem_at (places p k) n m in
-    subst (λ (x : ℕ). (x < k) × (p x ≡ true)) (r.2 0) (places_at p k r.0 r.1)
-
-pub in_places : (p : ℕ → Bool) (k n : ℕ) → n < k → p n ≡ true → Memᴰ n (places p k)
-in_places p k n h e =
-    let r = places_has p k n h e in
-    subst (λ (x : ℕ). Memᴰ x (places p k)) r.2 (in_list (places p k) r.0 r.1 0)

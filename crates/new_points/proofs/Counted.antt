@@ -1,0 +1,187 @@
+-- W5: what the second number counts, in the words of specs/Counted.antt, and how it stands to the fourth. Assumes nothing.
+use mathlib.Core.Path.{◌≡◌, refl, sym, ap, ◌∙◌, subst}
+use mathlib.Core.Logic.{◌⊎◌, inl, inr}
+use mathlib.Core.Bool.{Bool, true, false, not, ◌&&◌}
+use mathlib.Core.List.{List, [], Memᴰ}
+use Prim.Native.Nat.{ℕ, ◌+◌, ◌/◌, ◌≤◌, ◌<◌}
+use native.Mathlib.Omega.{arith}
+use lib.Dec.{leb, eqb}
+use lib.ListN.{length, get_or, length-append}
+use borrow.Author.Tests.{le-leb, leb-true}
+use Rattle.lists.specs.Search.{named, many}
+use Rattle.lists.proofs.Search.{many_all, many_bound, and_true}
+use Rattle.lists.proofs.Gather.{in_list, mem_at, places_at, places_has, places_rise}
+use Rattle.lists.proofs.Members.{named_in, in_named}
+use Rattle.cutting.specs.Setting.{ours}
+use Rattle.entry.specs.Mesh.{Mesh, node_count}
+use Rattle.entry.specs.Refused.{entry_of}
+use Rattle.rules.specs.Mesh.{the_subject}
+use Rattle.rules.specs.Meetings.{Scene}
+use Rattle.rules.specs.Operations.{keeps, scene_for, pieces_of, piece_at, piece_with, lies_inside, listing}
+use Rattle.rules.specs.Overlay.{Lists, Result, named_points, answered, answered_with, overlay_of}
+use Rattle.rules.specs.Demand3.{Accepted}
+use Rattle.rules.proofs.Endings.{Ending, input, state_met, success, ending, input_refused, state_refused, succeeds, no_refusal}
+use Rattle.rules.proofs.Accepts.{Taken, accepted}
+use Rattle.rules.proofs.Parts.{among, listed, listed_kept, kept_listed}
+use Rattle.rules.proofs.Rows.{at_place}
+use Rattle.rules.proofs.Closing.{cells_lent}
+use Rattle.rules.proofs.Points.{points_counted}
+use Rattle.rounding.proofs.InScene.{scene_length, lent_even, piece_nodes}
+use Rattle.new_points.specs.Counted.{Among, Entered, CountsPoints}
+use Rattle.new_points.proofs.Entries.{entries_of, entry_of_lem, in_entries, entered_in, in_entered}
+use Rattle.new_points.proofs.Named.{new_point_named}
+
+-- ---- the listed pieces
+
+module _ (op : ℕ) (s c : Mesh) where
+  abbrev sc : Scene
+  sc = scene_for op s c
+
+  abbrev lent : ℕ
+  lent = node_count s + node_count c
+
+  abbrev all : ℕ
+  all = length sc.coords / 2
+
+  abbrev entries : List ℕ
+  entries = entries_of (listing op s c)
+
+  -- their corners are nodes of the scene
+  entry_node : (m w : ℕ) → entry_of op m s c w ≡ 0 → (n : ℕ) → Memᴰ n entries → n < all
+  entry_node m w pass n h =
+      let r = entry_of_lem (listing op s c) n h in
+      let p = r.0 in
+      let k = listed_kept op s c p (listed op s c p r.1) in
+      piece_nodes op m s c w pass p.mesh p.cell k.cell (get_or (pieces_of sc p.mesh p.cell) p.place [])
+      (in_list (pieces_of sc p.mesh p.cell) p.place k.place []) n (subst (Memᴰ n) (at_place sc op p k) r.2)
+
+  -- a piece of the subject that the operation keeps is listed, and its corners are entries
+  kept_entry : (i j : ℕ) → i < length s.ends → j < length (pieces_of sc the_subject i) → keeps op the_subject (lies_inside sc the_subject (piece_at sc the_subject i j)) ≡ true
+      → (n : ℕ) → Memᴰ n (get_or (pieces_of sc the_subject i) j []) → Memᴰ n entries
+  unfolding piece_with
+  kept_entry i j h k passes n m =
+      let q = piece_at sc the_subject i j in
+      in_entries (listing op s c) q n
+      (among op s c q
+      (kept_listed op s c q (record { cut = refl; cell = omega (arith, h, cells_lent (eqb op 5) s c the_subject); place = k; same = refl; passes = passes }))) m
+
+-- ---- the theorems
+
+-- W5: in an accepted overlay's answer the second number counts each point once, and exactly those whose number is not below the lent nodes' count and that some
+-- entry of the answer's node list is.
+pub counts_named : (op m : ℕ) (s c : Mesh) (l : Lists) → Accepted op m s c l → CountsPoints (overlay_of op m s c l) (node_count s + node_count c)
+    (named_points (node_count s + node_count c) (length (scene_for op s c).coords / 2) (listing op s c))
+unfolding named_points answered_with
+counts_named op m s c l h = subst (λ (r : Result). CountsPoints r (lent op s c) points) (sym t.answer) answer
+  where
+    t : Taken ours op m s c l
+    t = accepted ours op m s c l h
+
+    new : ℕ → Bool
+    new n = leb (lent op s c) n && named (entries op s c) n
+
+    points : List ℕ
+    points = named_points (lent op s c) (all op s c) (listing op s c)
+
+    -- the number of a counted point is not below the lent nodes' count, and an entry is it
+    counted : (n : ℕ) → Among points (length points) n → (lent op s c ≤ n) × Entered (answered op s c l) n
+    counted n (i, h, e) =
+        let passes : new n ≡ true = ap new (sym e) ∙ (places_at new (all op s c) i h).1 in
+        let b = and_true (leb (lent op s c) n) (named (entries op s c) n) passes in
+        (leb-true (lent op s c) n b.0, in_entered op s c l n (named_in (entries op s c) n b.1))
+
+    -- and each such number is counted
+    all_such : (n : ℕ) → (lent op s c ≤ n) × Entered (answered op s c l) n → Among points (length points) n
+    all_such n (low, k) =
+        let e = entered_in op s c l n k in
+        places_has new (all op s c) n (entry_node op s c m (length l.work) t.entry n e)
+        (ap (λ (b : Bool). b && named (entries op s c) n) (le-leb (lent op s c) n low) ∙ in_named (entries op s c) n e)
+
+    answer : CountsPoints (answered op s c l) (lent op s c) points
+    answer = record { count = refl; rising = places_rise new (all op s c); exactly = λ n. (counted n, all_such n) }
+
+-- ---- the second number and the fourth
+
+module _ (op m : ℕ) (s c : Mesh) (l : Lists) (h : Accepted op m s c l) where
+  abbrev r : Result
+  r = overlay_of op m s c l
+
+  answer_is : overlay_of op m s c l ≡ answered op s c l
+  answer_is = (accepted ours op m s c l h).answer
+
+  -- all nodes: those lent, and those added
+  all_are : all op s c ≡ lent op s c + (overlay_of op m s c l).added
+  unfolding answered_with
+  all_are =
+      let even = lent_even op m s c (length l.work) (accepted ours op m s c l h).entry in
+      omega (arith, even, scene_length op s c, length-append s.coords c.coords, ap (λ (x : Result). x.added) answer_is)
+
+  points_are : (overlay_of op m s c l).points ≡ many (λ k. named (entries op s c) (lent op s c + k)) (overlay_of op m s c l).added
+  unfolding answered_with
+  points_are =
+      ap (λ (x : Result). x.points) answer_is ∙ ap (λ (n : ℕ). length (named_points (lent op s c) n (listing op s c))) all_are
+      ∙ points_counted (lent op s c) (overlay_of op m s c l).added (listing op s c)
+
+  below_fourth : (overlay_of op m s c l).points ≤ (overlay_of op m s c l).added
+  below_fourth = omega (arith, points_are, many_bound (λ k. named (entries op s c) (lent op s c + k)) (overlay_of op m s c l).added)
+
+  -- a new point is a corner of a piece of the subject: at a cell and a place
+  corner_of : (n : ℕ) → lent op s c ≤ n → n < all op s c
+      → (i : ℕ) × (j : ℕ) × (i < length s.ends) × (j < length (pieces_of (sc op s c) the_subject i)) × Memᴰ n (get_or (pieces_of (sc op s c) the_subject i) j [])
+  corner_of n low high =
+      let (i, k, p, at, on) = new_point_named op m s c l h n low high in
+      let place = mem_at (pieces_of (sc op s c) the_subject i) p at in
+      (i, place.0, k, place.1, subst (Memᴰ n) (sym (place.2 [])) on)
+
+  -- Where every piece of the subject is listed, every added point is counted.
+  all_counted : ((inside : Bool) → keeps op the_subject inside ≡ true) → (overlay_of op m s c l).points ≡ (overlay_of op m s c l).added
+  all_counted whole = points_are ∙ many_all _ (overlay_of op m s c l).added at
+    where
+      at : (k : ℕ) → k < (overlay_of op m s c l).added → named (entries op s c) (lent op s c + k) ≡ true
+      at k b =
+          let n = lent op s c + k in
+          let (i, j, x, y, on) = corner_of n (omega arith) (omega (arith, b, all_are)) in
+          in_named (entries op s c) n (kept_entry op s c i j x y (whole (lies_inside (sc op s c) the_subject (piece_at (sc op s c) the_subject i j))) n on)
+
+-- Each entry of the answer's node list is a node of it: both coordinates of the node are listed.
+pub entries_listed : (op m : ℕ) (s c : Mesh) (l : Lists) → Accepted op m s c l
+    → (n : ℕ) → Entered (overlay_of op m s c l) n → n < node_count s + node_count c + (overlay_of op m s c l).added
+entries_listed op m s c l h n k =
+    let e = entered_in op s c l n (subst (λ (x : Result). Entered x n) (answer_is op m s c l h) k) in
+    let low = entry_node op s c m (length l.work) (accepted ours op m s c l h).entry n e in
+    omega (arith, low, all_are op m s c l h)
+
+-- The second number is never above the fourth, of a refusal too.
+pub never_above : (op m : ℕ) (s c : Mesh) (l : Lists) → (overlay_of op m s c l).points ≤ (overlay_of op m s c l).added
+never_above op m s c l = go (ending ours op m s c l)
+  where
+    go : Ending ours op m s c l → (overlay_of op m s c l).points ≤ (overlay_of op m s c l).added
+    go (input n) = rw (input_refused ours op m s c l n) (omega arith)
+    go (state_met e n) = rw (state_refused ours op m s c l e n) (omega arith)
+    go (success e f) = below_fourth op m s c l (ap (λ (x : Result). x.code) (succeeds ours op m s c l e f) ∙ no_refusal ours op m s c l)
+
+-- Imprint, Union and lines list every piece of the subject, so they count every added point.
+pub imprint_counts_all : (m : ℕ) (s c : Mesh) (l : Lists) → Accepted 0 m s c l → (overlay_of 0 m s c l).points ≡ (overlay_of 0 m s c l).added
+imprint_counts_all m s c l h = all_counted 0 m s c l h (λ inside. refl)
+
+pub union_counts_all : (m : ℕ) (s c : Mesh) (l : Lists) → Accepted 1 m s c l → (overlay_of 1 m s c l).points ≡ (overlay_of 1 m s c l).added
+union_counts_all m s c l h = all_counted 1 m s c l h (λ inside. refl)
+
+pub lines_count_all : (m : ℕ) (s c : Mesh) (l : Lists) → Accepted 5 m s c l → (overlay_of 5 m s c l).points ≡ (overlay_of 5 m s c l).added
+lines_count_all m s c l h = all_counted 5 m s c l h (λ inside. refl)
+
+-- Intersection and Difference may each count fewer, but together they miss none: of the same meshes each added point is named by a piece of one or of the other.
+pub either_counts : (m₂ m₃ : ℕ) (s c : Mesh) (l₂ l₃ : Lists) → Accepted 2 m₂ s c l₂ → Accepted 3 m₃ s c l₃
+    → (n : ℕ) → node_count s + node_count c ≤ n → n < node_count s + node_count c + (overlay_of 2 m₂ s c l₂).added
+    → Entered (overlay_of 2 m₂ s c l₂) n ⊎ Entered (overlay_of 3 m₃ s c l₃) n
+either_counts m₂ m₃ s c l₂ l₃ h₂ h₃ n low high =
+    let (i, j, x, y, on) = corner_of 2 m₂ s c l₂ h₂ n low (omega (arith, high, all_are 2 m₂ s c l₂ h₂)) in
+    go i j x y on (lies_inside (sc 2 s c) the_subject (piece_at (sc 2 s c) the_subject i j)) refl
+  where
+    go : (i j : ℕ) → i < length s.ends → j < length (pieces_of (sc 2 s c) the_subject i) → Memᴰ n (get_or (pieces_of (sc 2 s c) the_subject i) j [])
+        → (t : Bool) → lies_inside (sc 2 s c) the_subject (piece_at (sc 2 s c) the_subject i j) ≡ t
+        → Entered (overlay_of 2 m₂ s c l₂) n ⊎ Entered (overlay_of 3 m₃ s c l₃) n
+    go i j x y on true e =
+        inl (subst (λ (z : Result). Entered z n) (sym (answer_is 2 m₂ s c l₂ h₂)) (in_entered 2 s c l₂ n (kept_entry 2 s c i j x y e n on)))
+    go i j x y on false e =
+        inr (subst (λ (z : Result). Entered z n) (sym (answer_is 3 m₃ s c l₃ h₃)) (in_entered 3 s c l₃ n (kept_entry 3 s c i j x y (ap not e) n on)))

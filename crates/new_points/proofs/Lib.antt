@@ -1,0 +1,10 @@
+pub mod Boxes
+pub mod Rings
+pub mod Meetings
+pub mod Sorted
+pub mod Darts
+pub mod Near
+pub mod Outlines
+pub mod Named
+pub mod Entries
+pub mod Counted
