@@ -28,7 +28,7 @@ use Rattle.rules.proofs.Closing.{cells_lent}
 use Rattle.rules.proofs.Points.{points_counted}
 use Rattle.rounding.proofs.InScene.{scene_length, lent_even, piece_nodes}
 use Rattle.new_points.specs.Counted.{Among, Entered, CountsPoints}
-use Rattle.new_points.proofs.Entries.{entries_of, entry_of_lem, in_entries, entered_in, in_entered}
+use Rattle.new_points.proofs.Entries.{entries_of, entry_is_corner, corner_is_entry, entered_in, in_entered}
 use Rattle.new_points.proofs.Named.{new_point_named}
 
 -- ---- the listed pieces
@@ -49,7 +49,7 @@ module _ (op : ℕ) (s c : Mesh) where
   -- their corners are nodes of the scene
   entry_node : (m w : ℕ) → entry_of op m s c w ≡ 0 → (n : ℕ) → Memᴰ n entries → n < all
   entry_node m w pass n h =
-      let r = entry_of_lem (listing op s c) n h in
+      let r = entry_is_corner (listing op s c) n h in
       let p = r.0 in
       let k = listed_kept op s c p (listed op s c p r.1) in
       piece_nodes op m s c w pass p.mesh p.cell k.cell (get_or (pieces_of sc p.mesh p.cell) p.place [])
@@ -61,7 +61,7 @@ module _ (op : ℕ) (s c : Mesh) where
   unfolding piece_with
   kept_entry i j h k passes n m =
       let q = piece_at sc the_subject i j in
-      in_entries (listing op s c) q n
+      corner_is_entry (listing op s c) q n
       (among op s c q
       (kept_listed op s c q (record { cut = refl; cell = omega (arith, h, cells_lent (eqb op 5) s c the_subject); place = k; same = refl; passes = passes }))) m
 

@@ -10,8 +10,7 @@ use mathlib.Core.List.{
   map,
   Memᴰ,
 }
-use Prim.Native.Nat.{ℕ, zero, suc, ◌+◌, ◌<◌}
-use native.Mathlib.Nat.{zero-add}
+use Prim.Native.Nat.{ℕ, ◌+◌, ◌<◌}
 use native.Mathlib.Omega.{arith}
 use lib.ListN.{length, get_or, drop, length-append, length-map}
 use Rattle.lists.specs.Regions.{front}
@@ -29,10 +28,10 @@ abbrev pub entries_of : List Piece → List ℕ
 entries_of ps = flat (map (λ p. p.nodes) ps)
 
 -- an entry is a corner of a piece
-pub entry_of_lem : (ps : List Piece) (n : ℕ) → Memᴰ n (entries_of ps) → (p : Piece) × Memᴰ p ps × Memᴰ n p.nodes
+pub entry_is_corner : (ps : List Piece) (n : ℕ) → Memᴰ n (entries_of ps) → (p : Piece) × Memᴰ p ps × Memᴰ n p.nodes
 unfolding flat
-entry_of_lem [] n m = absurd (Memᴰ.not-nil m)
-entry_of_lem (p ∷ ps) n m = go (entry_of_lem ps n) (Memᴰ.append_cases p.nodes m)
+entry_is_corner [] n m = absurd (Memᴰ.not-nil m)
+entry_is_corner (p ∷ ps) n m = go (entry_is_corner ps n) (Memᴰ.append_cases p.nodes m)
   where
     go : (Memᴰ n (entries_of ps) → (q : Piece) × Memᴰ q ps × Memᴰ n q.nodes)
         → Memᴰ n p.nodes ⊎ Memᴰ n (entries_of ps) → (q : Piece) × Memᴰ q (p ∷ ps) × Memᴰ n q.nodes
@@ -40,10 +39,10 @@ entry_of_lem (p ∷ ps) n m = go (entry_of_lem ps n) (Memᴰ.append_cases p.node
     go ih (inr h) = let r = ih h in (r.0, Memᴰ.tail r.1, r.2)
 
 -- and a corner of a piece an entry
-pub in_entries : (ps : List Piece) (p : Piece) (n : ℕ) → Memᴰ p ps → Memᴰ n p.nodes → Memᴰ n (entries_of ps)
+pub corner_is_entry : (ps : List Piece) (p : Piece) (n : ℕ) → Memᴰ p ps → Memᴰ n p.nodes → Memᴰ n (entries_of ps)
 unfolding flat
-in_entries [] p n m h = absurd (Memᴰ.not-nil m)
-in_entries (q ∷ qs) p n m h = go (λ k. in_entries qs p n k h) (Memᴰ.cases_cons m)
+corner_is_entry [] p n m h = absurd (Memᴰ.not-nil m)
+corner_is_entry (q ∷ qs) p n m h = go (λ k. corner_is_entry qs p n k h) (Memᴰ.cases_cons m)
   where
     go : (Memᴰ p qs → Memᴰ n (entries_of qs)) → (p ≡ q) ⊎ Memᴰ p qs → Memᴰ n (q.nodes ++ entries_of qs)
     go ih (inl e) = Memᴰ.append_left (entries_of qs) (subst (λ (x : Piece). Memᴰ n x.nodes) e h)
@@ -51,16 +50,17 @@ in_entries (q ∷ qs) p n m h = go (λ k. in_entries qs p n k h) (Memᴰ.cases_c
 
 -- ---- in an answer's lists
 
--- where the last of some runs ends, the first starting at k
+-- where the last of some runs ends, the one before the first ending at k
 last_stop : (k : ℕ) (runs : List (List ℕ)) (rest : List ℕ) → get_or (k ∷ (stops k runs ++ rest)) (length runs) 0 ≡ k + length (flat runs)
 unfolding stops flat
 last_stop k [] rest = omega arith
 last_stop k (p ∷ ps) rest = last_stop (k + length p) ps rest ∙ (let e : k + length p + length (flat ps) ≡ k + length (p ++ flat ps) = omega (arith, length-append p (flat ps)) in e)
 
-prior_from : (es : List ℕ) (n : ℕ) → prior es n ≡ get_or (0 ∷ es) n 0
-unfolding prior
-prior_from es zero = refl
-prior_from es (suc n) = refl
+-- the first starting at 0
+all_stop : (runs : List (List ℕ)) (rest : List ℕ) → prior (stops 0 runs ++ rest) (length runs) ≡ length (flat runs)
+unfolding stops flat prior
+all_stop [] rest = refl
+all_stop (p ∷ ps) rest = last_stop (0 + length p) ps rest ∙ (let e : 0 + length p + length (flat ps) ≡ length (p ++ flat ps) = omega (arith, length-append p (flat ps)) in e)
 
 module _ (op : ℕ) (s c : Mesh) (l : Lists) where
   abbrev ps : List Piece
@@ -70,9 +70,7 @@ module _ (op : ℕ) (s c : Mesh) (l : Lists) where
   unfolding answered_with written front
   entries_counted =
       let runs = map (λ (p : Piece). p.nodes) ps in
-      let ends = (answered op s c l).lists.ends in
-      prior_from ends (length ps) ∙ ap (λ (n : ℕ). get_or (0 ∷ ends) n 0) (sym (length-map ps (λ (p : Piece). p.nodes)))
-      ∙ last_stop 0 runs (drop (length (stops 0 runs)) l.ends) ∙ zero-add (length (flat runs))
+      ap (prior (answered op s c l).lists.ends) (sym (length-map ps (λ (p : Piece). p.nodes))) ∙ all_stop runs (drop (length (stops 0 runs)) l.ends)
 
   entry_at : (i : ℕ) → i < length (entries_of ps) → get_or (answered op s c l).lists.nodes i 0 ≡ get_or (entries_of ps) i 0
   unfolding answered_with written

@@ -4,15 +4,15 @@ use mathlib.Core.Bool.{true, false}
 use mathlib.Core.List.{List, [], ◌++◌, Memᴰ}
 use Prim.Native.Nat.{ℕ, ◌+◌, ◌*◌, ◌/◌, ◌≤◌, ◌<◌}
 use native.Mathlib.Omega.{arith}
-use lib.Dec.{eqb}
-use lib.ListN.{length, length-append}
-use lib.Ieee.{Float, inf, fin, lt}
+use lib.Dec.{T, eqb}
+use lib.ListN.{length, get_or, length-append}
+use lib.Ieee.{Float, nan}
+use lib.Ieee.Scale.{finite}
 use Rattle.lists.proofs.Gather.{get_or_each, in_list}
 use Rattle.plane.specs.Plane.{is_number, point_at}
-use Rattle.plane.proofs.FloatOrder.{number_left}
 use Rattle.cutting.specs.Edges.{Edge, edge_at, key, ring}
 use Rattle.entry.specs.Mesh.{Mesh, node_count}
-use Rattle.entry.specs.Passed.{Placed, Sound}
+use Rattle.entry.specs.Passed.{Sound}
 use Rattle.entry.specs.Refused.{entry_of}
 use Rattle.entry.proofs.Passed.{passed, node_within}
 use Rattle.rules.specs.Mesh.{the_subject, cell_at, cells_of}
@@ -22,6 +22,7 @@ use Rattle.rules.specs.Meetings.{Met, Scene, added_by, scene_of}
 use Rattle.rules.specs.Cell.{cell_of, outline_of}
 use Rattle.rules.specs.Operations.{scene_for}
 use Rattle.rules.proofs.Closing.{cells_lent}
+use Rattle.rounding.proofs.Projections.{finite_number}
 use Rattle.rounding.proofs.Points.{Both, corners_under, edges_under}
 use Rattle.rounding.proofs.InScene.{scene_length, lent_even, cutter_all}
 use Rattle.new_points.proofs.Boxes.{Numbers}
@@ -31,16 +32,13 @@ use Rattle.new_points.proofs.Sorted.{met_sorted}
 use Rattle.new_points.proofs.Darts.{Touched, outline_touches}
 use Rattle.new_points.proofs.Near.{same_point, same_box, near_cut}
 
-placed_number : (x : Float) → Placed x → is_number x ≡ true
-unfolding lt
-placed_number x p = subst (λ (y : Float). is_number y ≡ true) (sym p.finite) (number_left (fin p.sign p.size p.power) (inf false) refl)
+-- the coordinates of a mesh are numbers
+coord_number : (m : Mesh) → Sound false m → (i : ℕ) → i < length m.coords → is_number (get_or m.coords i nan) ≡ true
+coord_number m ok i h = finite_number (get_or m.coords i nan) (subst (λ (x : Float). T (finite x)) (sym (ok.placed i h).finite) tt)
 
--- the coordinates of a mesh's nodes are numbers
 node_numbers : (m : Mesh) → Sound false m → (n : ℕ) → n < node_count m → Numbers (point_at m.coords n)
 unfolding point_at
-node_numbers m ok n h =
-    let w = node_within false m ok n h in
-    record { x = placed_number _ (ok.placed (2 * n) (omega arith)); y = placed_number _ (ok.placed (2 * n + 1) w) }
+node_numbers m ok n h = record { x = coord_number m ok (2 * n) (omega arith); y = coord_number m ok (2 * n + 1) (node_within false m ok n h) }
 
 module _ (op m : ℕ) (s c : Mesh) (w : ℕ) (pass : entry_of op m s c w ≡ 0) where
   abbrev sc : Scene
@@ -116,7 +114,7 @@ module _ (op m : ℕ) (s c : Mesh) (w : ℕ) (pass : entry_of op m s c w ≡ 0) 
       let cell = own_cell e at in
       let ends = subject_ends e at in
       let apart : n ≡ (key e).1 → ⊥ = λ q. omega (arith, q, low, ends.0, ends.1) in
-      let sorted = met_sorted sc mt k n (subst (Memᴰ n) (sym src.nodes) (mathlib.Core.List.Memᴰ.head refl)) in
+      let sorted = met_sorted sc mt k n (subst (Memᴰ n) (sym src.nodes) (Memᴰ.head refl)) in
       let darts = outline_touches sc (cell_of sc the_subject cell.0) e n (key e).1 cell.2 apart sorted.0 sorted.1 in
       let cut = near_cut sc the_subject cell.0 (corner_numbers cell.0 cell.1) e cell.2 mt.cutter_edge src.edges.cutter
       (close_boxes mt.subject_edge mt.cutter_edge src.edges) in

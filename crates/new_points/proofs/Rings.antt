@@ -2,11 +2,11 @@
 use mathlib.Core.Path.{◌≡◌, refl, sym, ap, ap₂, ◌∙◌}
 use mathlib.Core.Logic.{◌⊎◌, inl, inr}
 use mathlib.Core.Bool.{Bool, true, false, ◌&&◌}
+use mathlib.Core.List.Memᴰ
 use mathlib.Core.List.{
   List,
   [],
   ◌∷◌,
-  ◌++◌,
   Memᴰ,
 }
 use Prim.Native.Nat.{ℕ, ◌+◌, ◌<◌}
@@ -15,39 +15,24 @@ use native.Mathlib.Omega.{arith}
 use lib.Dec.{eqb}
 use lib.ListN.{length, get_or}
 use Rattle.lists.specs.Search.{bit}
-use Rattle.cutting.specs.Edges.{Edge, hops, ring, rings, hit, times}
+use Rattle.cutting.specs.Edges.{Edge, ring, rings, hit, times}
 use Rattle.cutting.proofs.EdgeLaws.{both, hit_self}
 use Rattle.rules.specs.Neighbours.{compute_descending}
-use Rattle.rounding.proofs.Points.{Each, each_join, each_none, each_cons, descending_each}
+use Rattle.rounding.proofs.Points.{ring_each, descending_each}
 
 -- ---- corners
 
--- both ends of an edge stand among the nodes ns
-abbrev pub EndsIn : List ℕ → Edge → Type 0
-EndsIn ns e = Memᴰ e.0 ns × Memᴰ e.1 ns
-
-hops_ends : (ns : List ℕ) (x : ℕ) (ys : List ℕ) → Memᴰ x ns → Each (λ (y : ℕ). Memᴰ y ns) ys → Each (EndsIn ns) (hops x ys)
-unfolding hops
-hops_ends ns x [] h k = each_none (EndsIn ns)
-hops_ends ns x (y ∷ ys) h k =
-    let at = k y (mathlib.Core.List.Memᴰ.head refl) in
-    each_cons (x, y) (hops y ys) (h, at) (hops_ends ns y ys at (λ z m. k z (mathlib.Core.List.Memᴰ.tail m)))
-
+-- both ends of a ring's edge are its corners
 pub ring_ends : (p : List ℕ) (e : Edge) → Memᴰ e (ring p) → Memᴰ e.0 p × Memᴰ e.1 p
-unfolding ring
-ring_ends [] e m = absurd (mathlib.Core.List.Memᴰ.not-nil m)
-ring_ends (x ∷ xs) e m =
-    let first : Memᴰ x (x ∷ xs) = mathlib.Core.List.Memᴰ.head refl in
-    hops_ends (x ∷ xs) x (xs ++ x ∷ []) first
-    (each_join xs (x ∷ []) (λ z i. mathlib.Core.List.Memᴰ.tail i) (each_cons x [] first (each_none (λ (y : ℕ). Memᴰ y (x ∷ xs))))) e m
+ring_ends p = ring_each (λ (x : ℕ). Memᴰ x p) p (λ x m. m)
 
 -- ---- edges that are used
 
 -- an edge of a list is used
 pub times_in : (e : Edge) (es : List Edge) → Memᴰ e es → 0 < times e.0 e.1 es
 unfolding times
-times_in e [] m = absurd (mathlib.Core.List.Memᴰ.not-nil m)
-times_in e (f ∷ fs) m = go (λ i. times_in e fs i) (mathlib.Core.List.Memᴰ.cases_cons m)
+times_in e [] m = absurd (Memᴰ.not-nil m)
+times_in e (f ∷ fs) m = go (λ i. times_in e fs i) (Memᴰ.cases_cons m)
   where
     go : (Memᴰ e fs → 0 < times e.0 e.1 fs) → (e ≡ f) ⊎ Memᴰ e fs → 0 < hit e.0 e.1 f.0 f.1 + times e.0 e.1 fs
     go ih (inl q) = let one : hit e.0 e.1 f.0 f.1 ≡ 1 = ap (λ (g : Edge). hit e.0 e.1 g.0 g.1) (sym q) ∙ hit_self e.0 e.1 in omega (arith, one)
@@ -60,19 +45,19 @@ in_times a b [] h = absurd (omega arith)
 in_times a b (e ∷ es) h = go (eqb e.0 a && eqb e.1 b) refl (λ l. in_times a b es l) h
   where
     go : (t : Bool) → eqb e.0 a && eqb e.1 b ≡ t → (0 < times a b es → Memᴰ (a, b) es) → 0 < bit t + times a b es → Memᴰ (a, b) (e ∷ es)
-    go true q ih l = let at = both e.0 a e.1 b q in mathlib.Core.List.Memᴰ.head (ap₂ (λ (x y : ℕ). (x, y)) (sym at.0) (sym at.1))
-    go false q ih l = mathlib.Core.List.Memᴰ.tail (ih (omega (arith, l)))
+    go true q ih l = let at = both e.0 a e.1 b q in Memᴰ.head (ap₂ (λ (x y : ℕ). (x, y)) (sym at.0) (sym at.1))
+    go false q ih l = Memᴰ.tail (ih (omega (arith, l)))
 
 -- an edge of some pieces is one of a piece's
 pub in_rings : (e : Edge) (ps : List (List ℕ)) → Memᴰ e (rings ps) → (p : List ℕ) × Memᴰ p ps × Memᴰ e (ring p)
 unfolding rings
-in_rings e [] m = absurd (mathlib.Core.List.Memᴰ.not-nil m)
-in_rings e (p ∷ ps) m = go (λ i. in_rings e ps i) (mathlib.Core.List.Memᴰ.append_cases (ring p) m)
+in_rings e [] m = absurd (Memᴰ.not-nil m)
+in_rings e (p ∷ ps) m = go (λ i. in_rings e ps i) (Memᴰ.append_cases (ring p) m)
   where
     go : (Memᴰ e (rings ps) → (q : List ℕ) × Memᴰ q ps × Memᴰ e (ring q)) → Memᴰ e (ring p) ⊎ Memᴰ e (rings ps)
         → (q : List ℕ) × Memᴰ q (p ∷ ps) × Memᴰ e (ring q)
-    go ih (inl i) = (p, mathlib.Core.List.Memᴰ.head refl, i)
-    go ih (inr i) = let r = ih i in (r.0, mathlib.Core.List.Memᴰ.tail r.1, r.2)
+    go ih (inl i) = (p, Memᴰ.head refl, i)
+    go ih (inr i) = let r = ih i in (r.0, Memᴰ.tail r.1, r.2)
 
 -- ---- edges of cells
 

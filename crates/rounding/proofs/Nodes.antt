@@ -32,7 +32,7 @@ use Rattle.rules.specs.Meetings.{Met, Scene, segment_of, node_of, added_by, reco
 use Rattle.rules.specs.Nodes.{Projected, projected, by_projection, along_edge, collected, unless_none, sorted_nodes}
 use Rattle.rules.specs.Cell.{laid, darts_of, treated_by, treated, cell_of, near_of, outline_of}
 use Rattle.snap.proofs.Welds.{length_weld, weld_below}
-use Rattle.rounding.proofs.Points.{Each, each_join, each_none, each_cons, Under, Both, hops_under, ring_under, descending_under, corners_under}
+use Rattle.rounding.proofs.Points.{Each, each_join, each_none, each_cons, hops_each, ring_each, Under, Both, descending_under, corners_under}
 
 pub each_joined : {A B : Type 0} (P : B → Type 0) (f : A → List B) (xs : List A) → ((x : A) → Memᴰ x xs → Each P (f x)) → Each P (joined f xs)
 unfolding joined
@@ -238,15 +238,15 @@ module _ (sc : Scene) (n : ℕ) (met : (m : Met) → Memᴰ m sc.met → Each (U
 
       go : (ns : List ℕ) → Each (Under n) ns → Each (Both n) (darts_along e.1 (or_ends e ns))
       go [] a = each_map (Both n) (reversed_if (eqb e.1 e.0)) _
-          (λ f m. turned (eqb e.1 e.0) f (hops_under n e.0 (e.1 ∷ []) h.0 (each_cons e.1 [] h.1 (each_none (Under n))) f m))
+          (λ f m. turned (eqb e.1 e.0) f (hops_each (Under n) e.0 (e.1 ∷ []) h.0 (each_cons e.1 [] h.1 (each_none (Under n))) f m))
       go (x ∷ ns) a = each_map (Both n) (reversed_if (eqb e.1 x)) _
-          (λ f m. turned (eqb e.1 x) f (hops_under n x ns (a x (Memᴰ.head refl)) (λ z i. a z (Memᴰ.tail i)) f m))
+          (λ f m. turned (eqb e.1 x) f (hops_each (Under n) x ns (a x (Memᴰ.head refl)) (λ z i. a z (Memᴰ.tail i)) f m))
 
   pub darts_under : (cell : List ℕ) → Each (Under n) cell → Each (Both n) (darts_of sc cell)
   unfolding darts_of outline_darts
   darts_under cell h =
       each_joined (Both n) own_darts (map (laid sc) (ring cell))
-      (each_map (λ (l : Laid). Each (Both n) (own_darts l)) (laid sc) (ring cell) (λ e m. own_under e (ring_under n cell h e m)))
+      (each_map (λ (l : Laid). Each (Both n) (own_darts l)) (laid sc) (ring cell) (λ e m. own_under e (ring_each (Under n) cell h e m)))
 
   -- an outline, where the corners of its cell are below n
   pub outline_under : (w : Side) (i : ℕ) → Each (Under n) (cell_of sc w i) → Each (Both n) (outline_of sc w i)
@@ -254,5 +254,5 @@ module _ (sc : Scene) (n : ℕ) (met : (m : Met) → Memᴰ m sc.met → Each (U
   outline_under w i h = go (near_of sc w i)
     where
       go : (js : List ℕ) → Each (Both n) (treated_by sc w i js).outline
-      go [] = ring_under n (cell_of sc w i) h
+      go [] = ring_each (Under n) (cell_of sc w i) h
       go (j ∷ js) = darts_under (cell_of sc w i) h

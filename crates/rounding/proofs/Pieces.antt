@@ -22,7 +22,7 @@ use Rattle.rules.specs.Meetings.{Met, Scene, net_of}
 use Rattle.rules.specs.Nodes.{sorted_nodes}
 use Rattle.rules.specs.Cell.{laid, treated_by, treated, cell_of, near_of}
 use Rattle.rules.specs.Operations.{outcome_pieces, pieces_of}
-use Rattle.rounding.proofs.Points.{Each, each_join, each_none, each_cons, Under, Both, hops_under}
+use Rattle.rounding.proofs.Points.{Each, each_join, each_none, each_cons, hops_each, Under, Both}
 use Rattle.rounding.proofs.Nodes.{each_joined, each_map, each_sorted, edge_any, key_under, sorted_under, darts_under}
 
 -- ---- a walk only names nodes of its table
@@ -155,7 +155,7 @@ module _ (n : ℕ) (some : 0 < n) where
       where
         pick : (ns : List ℕ) → Each (Under n) ns → Each (Both n) (or_whole e ns)
         pick [] a = each_cons _ [] (key_under sc n met e h) (each_none (Both n))
-        pick (x ∷ ns) a = hops_under n x ns (a x (Memᴰ.head refl)) (λ z m. a z (Memᴰ.tail m))
+        pick (x ∷ ns) a = hops_each (Under n) x ns (a x (Memᴰ.head refl)) (λ z m. a z (Memᴰ.tail m))
 
     -- the pieces of a cell whose corners are below n
     pub pieces_under : (i : ℕ) → Each (Under n) (cell_of sc w i) → Each (λ (p : List ℕ). Each (Under n) p) (pieces_of sc w i)

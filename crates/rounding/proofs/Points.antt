@@ -52,6 +52,23 @@ each_cons {A} {P} x xs h k y m = go (Memᴰ.cases_cons m)
     go (inl e) = subst P (sym e) h
     go (inr i) = k y i
 
+-- ---- what holds of nodes holds of both ends of the edges between them
+
+module _ (P : ℕ → Type 0) where
+  abbrev BothEnds : Edge → Type 0
+  BothEnds e = P e.0 × P e.1
+
+  pub hops_each : (x : ℕ) (ys : List ℕ) → P x → Each P ys → Each (λ (e : Edge). P e.0 × P e.1) (hops x ys)
+  unfolding hops
+  hops_each x [] h k = each_none BothEnds
+  hops_each x (y ∷ ys) h k = each_cons (x, y) (hops y ys) (h, k y (Memᴰ.head refl)) (hops_each y ys (k y (Memᴰ.head refl)) (λ z m. k z (Memᴰ.tail m)))
+
+  pub ring_each : (xs : List ℕ) → Each P xs → Each (λ (e : Edge). P e.0 × P e.1) (ring xs)
+  unfolding ring
+  ring_each [] h = each_none BothEnds
+  ring_each (x ∷ xs) h =
+      hops_each x (xs ++ x ∷ []) (h x (Memᴰ.head refl)) (each_join xs (x ∷ []) (λ z m. h z (Memᴰ.tail m)) (each_cons x [] (h x (Memᴰ.head refl)) (each_none P)))
+
 -- ---- the edges of a mesh are edges of its cells
 
 module _ (P : Edge → Type 0) where
@@ -83,19 +100,8 @@ module _ (n : ℕ) where
   abbrev pub Both : Edge → Type 0
   Both e = (e.0 < n) × (e.1 < n)
 
-  pub hops_under : (x : ℕ) (ys : List ℕ) → x < n → Each Under ys → Each Both (hops x ys)
-  unfolding hops
-  hops_under x [] h k = each_none Both
-  hops_under x (y ∷ ys) h k = each_cons (x, y) (hops y ys) (h, k y (Memᴰ.head refl)) (hops_under y ys (k y (Memᴰ.head refl)) (λ z m. k z (Memᴰ.tail m)))
-
-  pub ring_under : (xs : List ℕ) → Each Under xs → Each Both (ring xs)
-  unfolding ring
-  ring_under [] h = each_none Both
-  ring_under (x ∷ xs) h =
-      hops_under x (xs ++ x ∷ []) (h x (Memᴰ.head refl)) (each_join xs (x ∷ []) (λ z m. h z (Memᴰ.tail m)) (each_cons x [] (h x (Memᴰ.head refl)) (each_none Under)))
-
   pub descending_under : (i : ℕ) (cells : List (List ℕ)) → i ≤ length cells → ((j : ℕ) → j < length cells → Each Under (get_or cells j [])) → Each Both (descending_to i cells)
-  descending_under i cells h k = descending_each Both i cells h (λ j l. ring_under (get_or cells j []) (k j l))
+  descending_under i cells h k = descending_each Both i cells h (λ j l. ring_each Under (get_or cells j []) (k j l))
 
 -- those of a mesh of lines or of cells
 module _ (lines : Bool) (s : Mesh) (ok : Sound lines s) where
