@@ -3,13 +3,15 @@
 standard input.
 
 Cells are coloured by family and pieces outlined, y upwards. Of an input the subject's cells are filled and the cutter's outlines
-dashed; of an answer the new points are dots, and edges that a piece walks both ways, as a ditch that ends inside a cell, are heavy. TITLE
-stands in the place of "before" or "after", and an answer with a title has the cells of the input before it as thin outlines, so that what
-is missing shows. A text that is neither gives a message and exit status 1.
+dashed; of an answer the new points are dots, and edges that a piece walks both ways, as a ditch that ends inside a cell, are heavy. Added
+points that no piece names are rings, where the input stands before the answer: without it the listing doesn't tell them from lent nodes.
+TITLE stands in the place of "before" or "after", and an answer with a title has the cells of the input before it as thin outlines, so that
+what is missing shows. A text that is neither gives a message and exit status 1.
 
 With `--by parent` all pieces of one cell have one colour, its neighbours others, and its index stands in each piece that has room; pieces of
 the cutter's cells are hatched. An answer may also be a listing of differential/oracle, with two counts and without parents, or one with
-doubled cells, from before W14; these are drawn by family alone.
+doubled cells, from before W14; these are drawn by family alone. A listing from before W5, which counts all added points as new,
+is drawn rightly only behind its input.
 """
 import argparse
 import math
@@ -22,6 +24,7 @@ from typing import NamedTuple
 
 COLOURS = '#e8cf92 #d49a74 #9ecbe0 #b9d38f #b09bc8 #e3a9ae #8fc1ab #c9c3b4 #a8b5dd #d8b0d0'.split()
 LINE, DASH, DOT, TEXT, THIN = '#3a3a3a', '#1f5f9f', '#c8322b', '#222222', '#9a9a9a'
+RING = f'fill="#ffffff" stroke="{DOT}" stroke-width="1.2"'
 WIDTH, HEIGHT, LEAST, GAP, HEAD, FOOT, ROOM = 440, 340, 250, 28, 34, 40, 8
 MESHES = ('subject', 'cutter')
 HATCH = f'<pattern id="hatch" width="6" height="6" patternUnits="userSpaceOnUse" patternTransform="rotate(45)"><path d="M0 0v6" stroke="{DASH}" stroke-width="1.4" stroke-opacity="0.6"/></pattern>'
@@ -50,12 +53,13 @@ class Mesh:
 
 
 class Panel(NamedTuple):
-    """Cells to fill, outlines to dash, points to dot; thin outlines below them."""
+    """Cells to fill, outlines to dash, points to dot and to ring; thin outlines below them."""
 
     title: str
     filled: Mesh
     dashed: Mesh
     points: list
+    rings: list
     thin: Mesh
 
 
@@ -119,23 +123,40 @@ class Reader:
     def is_input(self):
         return bool(re.fullmatch(INPUT, self.lines[0]))
 
-    def panel(self, thin, by):
+    def added(self, mesh, counts, before):
+        """The numbers of an answer's added points, those that its pieces name and the others."""
+        named = {c for cell in mesh.cells for c in cell.corners}
+        lent = before.filled.nodes + before.dashed.nodes
+        if lent and mesh.nodes[:len(lent)] == lent:
+            added = range(len(lent), len(mesh.nodes))
+        elif counts.parents:        # without the input: of the nodes that pieces name the last ones
+            added = sorted(named)[max(len(named) - counts.points, 0):]
+        else:
+            added = range(max(len(mesh.nodes) - counts.points, 0), len(mesh.nodes))
+        new, unnamed = [n for n in added if n in named], [n for n in added if n not in named]
+        if counts.pieces != len(mesh.cells) or counts.points not in (len(new), len(added)):
+            self.fail('the counts are not those of the listing')
+        return new, unnamed
+
+    def panel(self, before, by):
         if not self.lines:
             self.fail('nothing to draw')
         if self.match(INPUT):
             subject, cutter = self.mesh(0), self.mesh(1)
             title = f'{self.title or "before"}: {count(len(subject.cells), "cell")}, cut by {len(cutter.cells)}'
-            panel = Panel(title, subject, cutter, [], Mesh())
+            panel = Panel(title, subject, cutter, [], [], Mesh())
         elif self.match(r'\(overlay'):
-            mesh, (pieces, points, doubled, parents) = self.body()
-            if pieces != len(mesh.cells) or points > len(mesh.nodes):
-                self.fail('the counts are not those of the listing')
-            if by == 'parent' and not parents:
+            mesh, counts = self.body()
+            new, unnamed = self.added(mesh, counts, before)
+            if by == 'parent' and not counts.parents:
                 self.fail('a listing without parents')
-            title = f'{self.title or "after"}: {count(pieces, "piece")}, {count(points, "new point")}'
-            if doubled:     # a listing from before W14
-                title += f', {count(doubled, "doubled cell")}'
-            panel = Panel(title, mesh, Mesh(), mesh.nodes[len(mesh.nodes) - points:], thin if self.title else Mesh())
+            title = f'{self.title or "after"}: {count(counts.pieces, "piece")}, {count(len(new), "new point")}'
+            if unnamed:
+                title += f' of {len(new) + len(unnamed)} added'
+            if counts.doubled:      # a listing from before W14
+                title += f', {count(counts.doubled, "doubled cell")}'
+            points, rings = ([mesh.nodes[n] for n in numbers] for numbers in (new, unnamed))
+            panel = Panel(title, mesh, Mesh(), points, rings, before.filled if self.title else Mesh())
         else:
             self.fail(f'nothing to draw: {self.lines[0][:60]}')
         self.need(r'\)', 'the last `)`')
@@ -150,7 +171,7 @@ def count(n, word):
 
 def used(panel):
     """The places that a panel draws."""
-    return [m.nodes[c] for m in (panel.filled, panel.dashed, panel.thin) for cell in m.cells for c in cell.corners] + panel.points
+    return [m.nodes[c] for m in (panel.filled, panel.dashed, panel.thin) for cell in m.cells for c in cell.corners] + panel.points + panel.rings
 
 
 def edges(mesh):
@@ -237,7 +258,7 @@ class Frame:
 
 
 def drawn(panel, frame, colour, by):
-    title, filled, dashed, points, thin = panel
+    title, filled, dashed, points, rings, thin = panel
     yield f'<text x="0" y="-12">{escape(title)}</text>'
     for edge in edges(thin):
         yield f'<path d="{frame.line(thin, edge)}" stroke="{THIN}" stroke-width="0.8"/>'
@@ -253,6 +274,9 @@ def drawn(panel, frame, colour, by):
     for p in points:
         x, y = frame.place(p).split(',')
         yield f'<circle cx="{x}" cy="{y}" r="2.6" fill="{DOT}"/>'
+    for p in rings:
+        x, y = frame.place(p).split(',')
+        yield f'<circle cx="{x}" cy="{y}" r="2.6" {RING}/>'
     for cell in filled.cells if by == 'parent' else ():
         name = str(cell.parent[1])
         room, (x, y) = roomiest([frame.on_page(filled.nodes[c]) for c in cell.corners])
@@ -260,7 +284,7 @@ def drawn(panel, frame, colour, by):
             yield f'<text x="{x:.2f}" y="{y + 3.5:.2f}" font-size="10" text-anchor="middle">{name}</text>'
 
 
-def legend(colour, by, dashed, dots, twice):
+def legend(colour, by, dashed, dots, rings, twice):
     x, keys = 0, sorted(colour)
     if len(keys) > 6:
         words = f'{len(keys)} families' if by == 'family' else f'{len(keys)} cells; a piece has its cell\'s colour and number'
@@ -279,6 +303,9 @@ def legend(colour, by, dashed, dots, twice):
     if dots:
         yield f'<circle cx="{x + 4}" cy="7" r="2.6" fill="{DOT}"/><text x="{x + 13}" y="11">new point</text>'
         x += 100
+    if rings:
+        yield f'<circle cx="{x + 4}" cy="7" r="2.6" {RING}/><text x="{x + 13}" y="11">added, in no piece</text>'
+        x += 150
     if twice:
         yield f'<path d="M{x} 7h26" stroke="{DASH}" stroke-width="2.6"/><text x="{x + 32}" y="11">walked both ways</text>'
 
@@ -286,7 +313,7 @@ def legend(colour, by, dashed, dots, twice):
 def picture(panels, by):
     colour = by_parent(panels) if by == 'parent' else by_family(panels)
     frame = Frame([q for p in panels for q in used(p)])
-    step = round(frame.width) + GAP
+    step = round(max(frame.width, *(7 * len(p.title) for p in panels))) + GAP
     width = max(len(panels) * step + GAP, 330)
     height = HEAD + frame.height + FOOT + 10
     yield f'<svg xmlns="http://www.w3.org/2000/svg" width="{width}" height="{height:.0f}" viewBox="0 0 {width} {height:.0f}" font-family="sans-serif" font-size="13" fill="{TEXT}">'
@@ -298,7 +325,8 @@ def picture(panels, by):
         yield from drawn(panel, frame, colour, by)
         yield '</g>'
     yield f'<g transform="translate({GAP} {HEAD + frame.height + 22:.0f})">'
-    yield from legend(colour, by, any(p.dashed.cells for p in panels), any(p.points for p in panels), any(map(ditches, panels)))
+    yield from legend(colour, by, any(p.dashed.cells for p in panels), any(p.points for p in panels), any(p.rings for p in panels),
+                      any(map(ditches, panels)))
     yield '</g>'
     yield '</svg>'
 
@@ -316,12 +344,12 @@ def main():
     parser.add_argument('--by', choices=('family', 'parent'), default='family', help='what has a colour')
     parser.add_argument('files', nargs='*', default=['-'], metavar='[TITLE=]FILE')
     options = parser.parse_args()
-    panels, cells = [], Mesh()
+    panels, before = [], Panel('', Mesh(), Mesh(), [], [], Mesh())
     try:
         for argument in options.files:
             reader = read(argument)
-            panels.append(reader.panel(cells, options.by))
-            cells = panels[-1].filled if reader.is_input() else cells
+            panels.append(reader.panel(before, options.by))
+            before = panels[-1] if reader.is_input() else before
     except (Malformed, OSError, UnicodeDecodeError) as e:
         sys.exit(f'draw.py: {e}')
     print('\n'.join(picture(panels, options.by)))
