@@ -13,7 +13,7 @@ int main(void)
     static const uint8_t skinds[] = {DAQWIMAY_QUAD4}, ckinds[] = {DAQWIMAY_PGON};
     static double coords[2 * (8 + LIMIT)];
     static const char *const names[] = {"subject", "cutter"};
-    static uint32_t out[64], oends[16], families[16], meshes[16], cells[16], work[DAQWIMAY_WORK(8, 8, LIMIT)], counts[3];
+    static uint32_t out[64], oends[16], families[16], meshes[16], cells[16], work[DAQWIMAY_WORK(8, 8, LIMIT)], counts[DAQWIMAY_COUNTS];
     static uint8_t kinds[16];
     uint32_t refused = daqwimay_overlay(
         DAQWIMAY_IMPRINT, LIMIT,
@@ -25,12 +25,13 @@ int main(void)
         fprintf(stderr, "refused: %u\n", (unsigned)refused);
         return 1;
     }
-    for (uint32_t i = 0, at = 0; i < counts[0]; i++) {
+    for (uint32_t i = 0, at = 0; i < counts[DAQWIMAY_PIECES]; i++) {
         printf("piece %u of family %u, from cell %u of the %s:", (unsigned)i, (unsigned)families[i], (unsigned)cells[i], names[meshes[i]]);
         for (; at < oends[i]; at++)
             printf(" (%g, %g)", coords[2 * out[at]], coords[2 * out[at] + 1]);
         printf("\n");
     }
-    printf("%u pieces, %u new points\n", (unsigned)counts[0], (unsigned)counts[1]);
+    printf("%u pieces, %u new points of %u added\n", (unsigned)counts[DAQWIMAY_PIECES], (unsigned)counts[DAQWIMAY_NEW_POINTS],
+           (unsigned)counts[DAQWIMAY_ADDED_POINTS]);
     return 0;
 }

@@ -25,6 +25,9 @@ enum { DAQWIMAY_SEG2 = 1, DAQWIMAY_TRI3 = 5, DAQWIMAY_QUAD4 = 8, DAQWIMAY_PGON =
 /* The mesh of the cell that a piece was cut from. */
 enum { DAQWIMAY_SUBJECT = 0, DAQWIMAY_CUTTER = 1 };
 
+/* Places in the list of counts, and how many there are. */
+enum { DAQWIMAY_PIECES = 0, DAQWIMAY_NEW_POINTS = 1, DAQWIMAY_ADDED_POINTS = 3, DAQWIMAY_COUNTS = 4 };
+
 /* Answers. At 1 to 7 every list keeps its content; at the others but 0 the output lists and the working list are all zero. */
 enum {
     DAQWIMAY_DONE = 0,
@@ -55,11 +58,16 @@ enum {
  * The output has two more lists, one number for each piece, which say from which cell it was cut, its parent:
  *   parent_meshes   DAQWIMAY_SUBJECT or DAQWIMAY_CUTTER
  *   parent_cells    the index of the cell in that mesh, from 0
- * The output's coordinates are those of the subject, of the cutter, then the new points: 2 x (nodes + limit) numbers always suffice.
+ * The output's coordinates are those of the subject, of the cutter, then of all points added where edges meet, pieces name them or not:
+ * 2 x (nodes + added points) numbers. 2 x (nodes + limit) always suffice.
  * A piece takes its node numbers and a place in each of ends, kinds, families, parent_meshes and parent_cells. Places behind the answer
  * are kept.
- * counts: pieces, new points and 0, where it has three places (all 0 at a refusal); kept as it is otherwise. The third was the count of
- * doubled cells: there are none any more, and it stays for readers of old listings.
+ * counts: as many of these four as it has places, all 0 at a refusal; places behind them are kept.
+ *   DAQWIMAY_PIECES         the pieces
+ *   DAQWIMAY_NEW_POINTS     the added points that at least one piece names, each once
+ *   2                       0. It was the count of doubled cells: there are none any more, and it stays for readers of old listings
+ *   DAQWIMAY_ADDED_POINTS   all added points: more than the new points where INTERSECTION, DIFFERENCE or SYMMETRIC_DIFFERENCE drop all
+ *                           pieces that name one, as many for the others
  *
  * Addresses are aligned and not null, and no written list overlaps another. Nothing else is asked of the caller: any content is
  * answered. The call keeps nothing, allocates nothing and may run in many threads at once.

@@ -65,7 +65,7 @@ struct Lists {
     meshes: Vec<u32>,
     cells: Vec<u32>,
     work: Vec<u32>,
-    counts: [u32; 3],
+    counts: [u32; 4],
 }
 
 fn lists(s: &Mesh, c: &Mesh) -> Lists {
@@ -83,7 +83,7 @@ fn lists(s: &Mesh, c: &Mesh) -> Lists {
         meshes: vec![0; pieces],
         cells: vec![0; pieces],
         work: vec![0; 16 * (given + entries + M as usize) + 64],
-        counts: [0; 3],
+        counts: [0; 4],
     }
 }
 
@@ -124,7 +124,7 @@ type Answer = (Vec<u64>, Vec<(u8, usize, Vec<usize>)>);
 
 fn answer_of(given: usize, l: &Lists) -> Answer {
     let o = &l.out;
-    let coords = o.coords[..2 * (given + l.counts[1] as usize)].iter().map(|x| x.to_bits()).collect();
+    let coords = o.coords[..2 * (given + l.counts[3] as usize)].iter().map(|x| x.to_bits()).collect();
     let mut pieces = Vec::new();
     let mut from = 0;
     for i in 0..l.counts[0] as usize {
@@ -216,7 +216,7 @@ fn row(first: &str, op: u32, n: usize) {
     let mut code = 0;
     let stack = stack_of(|| code = ours(op, &s, &c, &mut l));
     assert_eq!(code, 0, "refused");
-    let (pieces, points) = (l.counts[0], l.counts[1]);
+    let (pieces, added) = (l.counts[0], l.counts[3]);
     spatial_index::use_grid(false);
     let rust = answer_of_rust(&subject.overlay(cutter.clone(), operation));
     assert!(answer_of(given, &l) == rust, "the answers differ");
@@ -232,7 +232,7 @@ fn row(first: &str, op: u32, n: usize) {
         &mut || by_rust(true),
     ]);
     println!(
-        "| {first} | {} | {pieces} | {points} | {} | {} | {} | {:.2} | {:.2} | {} |",
+        "| {first} | {} | {pieces} | {added} | {} | {} | {} | {:.2} | {:.2} | {} |",
         n * n,
         milliseconds(t[0]),
         milliseconds(t[1]),
@@ -293,7 +293,7 @@ fn outline_row(teeth: usize, n: usize, folded: bool) {
 }
 
 fn table(first: &str) {
-    println!("| {first} | cells, each mesh | pieces | new points | Rattle ms | Rust ms | Rust ms, grid index | to Rust | to Rust, grid index | stack bytes |");
+    println!("| {first} | cells, each mesh | pieces | added points | Rattle ms | Rust ms | Rust ms, grid index | to Rust | to Rust, grid index | stack bytes |");
     println!("|---|---|---|---|---|---|---|---|---|---|");
 }
 

@@ -29,6 +29,18 @@ def test_the_same_pieces_as_one_call(meshes, operation, chunk):
     one, many = overlay(model, soils, operation), overlay_in_chunks(model, soils, operation, chunk=chunk)
     assert places(one) == places(many) and len(one) > 1000
     assert len(np.unique(one.nodes)) == len(np.unique(many.nodes))
+    assert one.new_points == many.new_points == many.added_points == len(many.xy) - len(model.xy) - len(soils.xy)
+    assert (one.new_points < one.added_points) == (operation == 'difference')
+
+
+@pytest.mark.parametrize('operation, new', [('imprint', 4), ('intersection', 4), ('difference', 2)])
+def test_points_that_no_piece_names_are_left_out(operation, new):
+    """Two soils side by side over two squares: outside of both soils no piece has a point of their common side."""
+    squares = Mesh.from_cells([[0, 0], [2, 0], [2, 2], [0, 2], [4, 0], [4, 2]], [[0, 1, 2, 3], [1, 4, 5, 2]])
+    soils = Mesh.from_cells([[-1, -1], [1, -1], [1.5, -1], [1.5, 3], [1, 3], [-1, 3]], [[0, 1, 4, 5], [1, 2, 3, 4]])
+    one, many = overlay(squares, soils, operation), overlay_in_chunks(squares, soils, operation, chunk=1)
+    assert places(one) == places(many) and (one.new_points, one.added_points) == (new, 4)
+    assert (many.new_points, many.added_points, len(many.xy)) == (new, new, 12 + new)
 
 
 def test_seams_between_chunks_share_their_nodes(meshes):

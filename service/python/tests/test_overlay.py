@@ -72,7 +72,42 @@ def test_every_operation_on_cells(operation, families, areas):
     pieces = overlay(SQUARE, RIGHT, operation)
     assert pieces.families.tolist() == families and pieces.areas().tolist() == areas
     assert pieces.parent_meshes.tolist() == [int(f == 9) for f in families] and not pieces.parent_cells.any()
-    assert (pieces.new_points, pieces.doubled_cells) == (2, 0)
+    assert (pieces.new_points, pieces.added_points, pieces.doubled_cells) == (2, 2, 0)
+
+
+# Two soils side by side: their common side crosses the square, and the piece outside of both has no point of it.
+SOILS = Mesh([[-1, -1], [1, -1], [1.5, -1], [1.5, 3], [1, 3], [-1, 3]], [0, 1, 4, 5, 1, 2, 3, 4], [4, 8], [Kind.QUAD4] * 2, [1, 2])
+
+
+@pytest.mark.parametrize('operation, pieces, new', [('imprint', 3, 4), ('union', 6, 4), ('intersection', 2, 4), ('difference', 1, 2), (4, 4, 4)])
+def test_new_points_are_those_that_a_piece_names(operation, pieces, new):
+    found = overlay(SQUARE, SOILS, operation)
+    assert (len(found), found.new_points, found.added_points) == (pieces, new, 4)
+    assert len(np.unique(found.nodes[found.nodes >= 10])) == new
+    assert found.xy[10:].tolist() == [[1, 0], [1.5, 0], [1, 2], [1.5, 2]]
+
+
+def test_the_program_counts_two_new_points_and_lists_all_four():
+    data = (ROOT / 'examples' / 'points.in').read_bytes()
+    lines = answer(data).splitlines()
+    assert lines[0] == '(overlay' and lines[15:] == ['(cell 11 7 0 0 13 11 1 2)', '(count 1 2 0)', ')']
+    assert lines[11:15] == [f'(node {x} {y})' for y in ('0' * 16, '4' + '0' * 15) for x in ('3ff0000000000000', '3ff8000000000000')]
+    assert listing(overlay(SQUARE, SOILS, 'difference', limit=20)) == answer(data)
+    assert explained(data) == (0, 'answered: 1 pieces, 2 new points')
+
+
+def test_new_points_of_every_stored_input():
+    """The numbers behind the lent ones that pieces name; where every piece of the subject is listed, all."""
+    fewer = 0
+    for name, text in stored().items():
+        if text.startswith('(overlay'):
+            q = read_question((CASES / 'data' / name).read_bytes())
+            pieces, lent = overlay(q.subject, q.cutter, q.operation, limit=q.limit), len(q.subject.xy) + len(q.cutter.xy)
+            assert len(pieces.xy) == lent + pieces.added_points, name
+            assert pieces.new_points == len(np.unique(pieces.nodes[pieces.nodes >= lent])) <= pieces.added_points, name
+            assert pieces.new_points == pieces.added_points or q.operation in (2, 3, 4), name
+            fewer += pieces.new_points < pieces.added_points
+    assert fewer > 10
 
 
 # A triangle, a square and a pentagon side by side, given in another order than by kind, all of one family; the cutter's squares lie over them and away.
@@ -102,12 +137,19 @@ def test_taken_pieces_keep_their_parents():
     assert pieces.parent_meshes.tolist() == [1, 0] and pieces.parent_cells.tolist() == [1, 1] and len(pieces) == 2
 
 
+def test_taken_pieces_count_the_new_points_that_they_name():
+    every = overlay(SQUARE, SOILS)
+    for piece, new in enumerate([2, 4, 2]):
+        taken, nodes = every.take(np.array([piece]))
+        assert (taken.new_points, taken.added_points) == (new, new) and (nodes >= 10).sum() == new
+
+
 def test_a_boundary_traced_twice_cuts_once():
     """The row of cells of the README: the sum was right before, two cells were not."""
     q = read_question((ROOT / 'examples' / 'traced.in').read_bytes())
     pieces = overlay(q.subject, q.cutter, q.operation)
     assert dict(zip(pieces.families.tolist(), pieces.areas().tolist())) == {2: 7750, 3: 10_000, 4: 10_000, 5: 2250}
-    assert (pieces.new_points, pieces.doubled_cells) == (0, 0)
+    assert (pieces.new_points, pieces.added_points, pieces.doubled_cells) == (0, 0, 0)
 
 
 def test_lines():

@@ -8,6 +8,7 @@ from pathlib import Path
 
 import pytest
 
+from daqwimay.program import answer
 from daqwimay.refusals import markdown
 
 HERE = Path(__file__).resolve().parents[1]
@@ -46,6 +47,22 @@ def test_the_pages_python(example, page):
     for code in re.findall(r'```python\n(.+?)```', page, re.S):
         done = subprocess.run([sys.executable, '-W', 'ignore', '-c', code], cwd=example, capture_output=True, text=True)
         assert done.returncode == 0 and done.stdout, done.stderr
+
+
+def drawn(*words):
+    return subprocess.run([sys.executable, ROOT / 'tools' / 'draw.py', *words], capture_output=True, text=True, check=True).stdout
+
+
+@pytest.mark.parametrize('name, picture, title, options', [
+    ('k1', 'k1', '', []), ('soil', 'soil', '', []), ('model', 'parents', '', ['--by', 'parent']), ('points', 'points', 'Difference=', []), ('ditch', 'ditch', '', [])])
+def test_pictures_of_listings(tmp_path, name, picture, title, options):
+    """As the README draws them. By itself an answer doesn't tell added points that no piece names from lent nodes: no rings."""
+    given, out = ROOT / 'examples' / f'{name}.in', tmp_path / 'answer.out'
+    out.write_text(answer(given.read_bytes()))
+    both = drawn(*options, given, f'{title}{out}')
+    assert both == (ROOT / 'docs' / 'pictures' / f'{picture}.svg').read_text()
+    alone, dot, ring = drawn(*options, out), 'r="2.6" fill="#c8322b"/>', 'r="2.6" fill="#ffffff" '
+    assert alone.count(dot) == both.count(dot) and ring not in alone and (ring in both) == (name == 'points')
 
 
 def test_links_lead_somewhere():

@@ -95,7 +95,7 @@ def test_one_output_list_that_is_too_short(short):
             a[...] = 9
         work = np.full(work_size(8 + 5, 8), 9, np.uint32)
         code, counts = call(0, 5, SQUARE.lists(), cutter.lists(), lists, work)
-        assert (code, counts.tolist()) == (number, [0, 0, 0] if number else [2, 2, 0]) and not work.any()
+        assert (code, counts.tolist()) == (number, [0] * 4 if number else [2, 2, 0, 2]) and not work.any()
         used = {'node': 10, 'corner': 8, 'cell': 2}
         assert all((a[used[r.per]:] == 9).all() for r, a in zip(OUTPUT_LISTS, lists)) if number == 0 else not any(a.any() for a in lists)
 
@@ -108,7 +108,7 @@ def test_lists_that_are_too_short(short, number):
     work = np.zeros(work_size(8 + 5, 8) - (short == 'work'), np.uint32)
     cutter = Mesh([[1, -1], [3, -1], [3, 3], [1, 3]], [0, 1, 2, 3], [4], [11], [0])
     code, counts = call(0, 5, SQUARE.lists(), cutter.lists(), lists, work)
-    assert code == number and counts.tolist() == [0, 0, 0]
+    assert code == number and counts.tolist() == [0] * 4
     with pytest.raises(Refused, match=f'refused {number}'):
         raise Refused(code)
 

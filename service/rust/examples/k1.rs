@@ -23,7 +23,7 @@ fn main() -> Result<(), Refusal> {
         }
         println!();
     }
-    println!("{} pieces, {} new points", answer.mesh.ends.len(), answer.new_points);
+    println!("{} pieces, {} new points of {} added", answer.mesh.ends.len(), answer.new_points, answer.added_points);
 
     // Two corners so close to the square's first that both become it: the triangle's outline runs along itself.
     let mut near = Mesh::default();

@@ -191,13 +191,17 @@ pub enum Parent {
 /// The answer.
 #[derive(Clone, Debug, PartialEq)]
 pub struct Overlay {
-    /// The coordinates of the subject, of the cutter and the new points, in this order; the pieces as its cells.
+    /// The coordinates of the subject, of the cutter and of all points added where edges meet, in this order; the pieces as its cells.
     pub mesh: Mesh,
     /// For each piece the mesh of the cell that it was cut from: 0 for the subject, 1 for the cutter.
     pub parent_meshes: Vec<u32>,
     /// For each piece the index of that cell in its mesh.
     pub parent_cells: Vec<u32>,
+    /// The added points that at least one piece names, each once: the stakes to order.
     pub new_points: u32,
+    /// All added points, with which `mesh.coords` ends: more than `new_points` where Intersection, Difference or SymmetricDifference drop all
+    /// pieces that name one, as many for the others.
+    pub added_points: u32,
     /// Always 0: an edge is in a cell's table once. Kept for readers of old listings.
     pub doubled_cells: u32,
 }
@@ -245,7 +249,7 @@ impl Overlayer {
             at_least(&mut self.out.families, room);
             at_least(&mut self.meshes, room);
             at_least(&mut self.cells, room);
-            let mut counts = [0; 3];
+            let mut counts = [0; 4];
             let code = self.call(operation, limit, subject, cutter, work, &mut counts);
             if code == 0 {
                 return Ok(self.answer(nodes, counts));
@@ -257,22 +261,23 @@ impl Overlayer {
         }
     }
 
-    fn answer(&self, nodes: usize, [pieces, new_points, doubled_cells]: [u32; 3]) -> Overlay {
+    fn answer(&self, nodes: usize, [pieces, new_points, doubled_cells, added_points]: [u32; 4]) -> Overlay {
         let n = pieces as usize;
         let ends = self.out.ends[..n].to_vec();
         let last = ends.last().map_or(0, |e| *e as usize);
         let mesh = Mesh {
-            coords: self.out.coords[..2 * (nodes + new_points as usize)].to_vec(),
+            coords: self.out.coords[..2 * (nodes + added_points as usize)].to_vec(),
             nodes: self.out.nodes[..last].to_vec(),
             ends,
             kinds: self.out.kinds[..n].to_vec(),
             families: self.out.families[..n].to_vec(),
         };
-        Overlay { mesh, parent_meshes: self.meshes[..n].to_vec(), parent_cells: self.cells[..n].to_vec(), new_points, doubled_cells }
+        let (parent_meshes, parent_cells) = (self.meshes[..n].to_vec(), self.cells[..n].to_vec());
+        Overlay { mesh, parent_meshes, parent_cells, new_points, added_points, doubled_cells }
     }
 
     #[rustfmt::skip]
-    fn call(&mut self, operation: Operation, limit: u32, s: &Mesh, c: &Mesh, work: usize, counts: &mut [u32; 3]) -> u32 {
+    fn call(&mut self, operation: Operation, limit: u32, s: &Mesh, c: &Mesh, work: usize, counts: &mut [u32; 4]) -> u32 {
         let (o, meshes, cells, work) = (&mut self.out, &mut self.meshes, &mut self.cells, &mut self.work[..work]);
         // Each pair is a list of its own, lent for the call; those that are written are borrowed mutably.
         unsafe {

@@ -42,7 +42,7 @@ fn filled(sizes: [usize; 7]) -> Lists {
         kinds: vec![FILLED as u8; kinds],
         numbers: [nodes, ends, families, meshes, cells].map(|n| vec![FILLED; n]),
         work: vec![FILLED; WORK],
-        counts: vec![FILLED; 3],
+        counts: vec![FILLED; 4],
     }
 }
 
@@ -68,7 +68,7 @@ fn call(operation: u32, subject: &[f64], l: &mut Lists) -> u32 {
 fn lists_that_just_fit() {
     let mut l = filled(TAKEN);
     assert_eq!(call(1, &SUBJECT, &mut l), 0);
-    assert_eq!((l.counts, l.kinds), (vec![3, 2, 0], vec![11; 3]));
+    assert_eq!((l.counts, l.kinds), (vec![3, 2, 0, 2], vec![11; 3]));
     let [nodes, ends, families, meshes, cells] = l.numbers;
     assert_eq!((nodes.len(), ends), (16, vec![4, 8, 16]));
     assert_eq!((families, meshes, cells), (vec![7, 7, 5], vec![0, 0, 1], vec![0, 0, 0]));
@@ -98,6 +98,18 @@ fn places_behind_the_answer_keep_their_content() {
     assert!(l.work.iter().all(|n| *n == 0));
 }
 
+/// As many counts as there are places, and no more than four; 0 at a refusal.
+#[test]
+fn counts_in_a_list_of_any_length() {
+    for (operation, want) in [(1, [3, 2, 0, 2]), (6, [0; 4])] {
+        for n in 0..7 {
+            let mut l = Lists { counts: vec![FILLED; n], ..filled(TAKEN) };
+            call(operation, &SUBJECT, &mut l);
+            assert_eq!(l.counts, [&want[..n.min(4)], &vec![FILLED; n.saturating_sub(4)]].concat());
+        }
+    }
+}
+
 /// Refusals because of the input touch no list; the counts are 0.
 #[test]
 fn a_refused_input_leaves_the_lists() {
@@ -106,6 +118,6 @@ fn a_refused_input_leaves_the_lists() {
     for (operation, subject, code) in [(6, &SUBJECT[..], 1), (1, &SUBJECT[..7], 2), (1, &bad[..], 3)] {
         let mut l = filled([0, 1, 2, 3, 4, 5, 6]);
         assert_eq!(call(operation, subject, &mut l), code);
-        assert_eq!(l, Lists { counts: vec![0; 3], ..filled([0, 1, 2, 3, 4, 5, 6]) });
+        assert_eq!(l, Lists { counts: vec![0; 4], ..filled([0, 1, 2, 3, 4, 5, 6]) });
     }
 }

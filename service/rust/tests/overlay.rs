@@ -55,10 +55,56 @@ fn two_pieces() {
     let o = overlay(Operation::Imprint, &s, &c).unwrap();
     let pieces: Vec<_> = o.mesh.cells().map(|p| (p.kind, p.family, p.nodes.to_vec())).collect();
     assert_eq!(pieces, [(11, 7, vec![3, 0, 8, 9]), (11, 7, vec![9, 8, 1, 2])]);
-    assert_eq!((o.new_points, o.doubled_cells), (2, 0));
+    assert_eq!((o.new_points, o.added_points, o.doubled_cells), (2, 2, 0));
     assert_eq!((o.parent_meshes, o.parent_cells), (vec![0, 0], vec![0, 0]));
     assert_eq!(o.mesh.node(8), Some([1.0, 0.0]));
     assert_eq!(o.mesh.node(10), None);
+}
+
+/// A square, and two soils side by side: their common side crosses the square, and the piece outside of both has no point of it.
+fn two_soils() -> (Mesh, Mesh) {
+    let mut soils = Mesh::default();
+    let [a, b, c, d, e, f] = [[-1.0, -1.0], [1.0, -1.0], [1.5, -1.0], [1.5, 3.0], [1.0, 3.0], [-1.0, 3.0]].map(|[x, y]| soils.add_node(x, y));
+    soils.add_cell(Kind::Quad4, 1, &[a, b, e, f]);
+    soils.add_cell(Kind::Quad4, 2, &[b, c, d, e]);
+    (k1().0, soils)
+}
+
+/// The numbers of the added points that pieces name, each once.
+fn named(o: &Overlay, lent: usize) -> Vec<u32> {
+    let mut nodes: Vec<u32> = o.mesh.nodes.iter().copied().filter(|n| *n as usize >= lent).collect();
+    nodes.sort();
+    nodes.dedup();
+    nodes
+}
+
+#[test]
+fn new_points_are_those_that_a_piece_names() {
+    let (s, c) = two_soils();
+    for (op, pieces, new_points) in [(Operation::Imprint, 3, 4), (Operation::Intersection, 2, 4), (Operation::Difference, 1, 2)] {
+        let o = overlay(op, &s, &c).unwrap();
+        assert_eq!((o.mesh.ends.len(), o.new_points, o.added_points), (pieces, new_points, 4));
+        assert_eq!((named(&o, 10).len(), o.mesh.node_count()), (new_points as usize, 14));
+    }
+    let o = overlay(Operation::Difference, &s, &c).unwrap();
+    let places: Vec<_> = named(&o, 10).into_iter().filter_map(|n| o.mesh.node(n)).collect();
+    assert_eq!(places, [[1.5, 0.0], [1.5, 2.0]]);
+}
+
+/// Two meshes that lie over each other in part: some added points are in no piece of their difference.
+#[test]
+fn every_operation_counts_the_points_that_its_pieces_name() {
+    use Operation::*;
+    let (s, c) = (strips(8, true), strips(6, false));
+    let lent = s.node_count() + c.node_count();
+    let added = overlay(Imprint, &s, &c).unwrap().added_points;
+    for op in [Imprint, Union, Intersection, Difference, SymmetricDifference] {
+        let o = overlay(op, &s, &c).unwrap();
+        assert_eq!((o.new_points as usize, o.added_points), (named(&o, lent).len(), added), "{op:?}");
+        assert_eq!(o.mesh.node_count(), lent + added as usize, "{op:?}");
+        assert!(o.new_points == added || !matches!(op, Imprint | Union), "{op:?}");
+    }
+    assert!(overlay(Difference, &s, &c).unwrap().new_points < added);
 }
 
 fn parents(o: &Overlay) -> Vec<Parent> {
@@ -119,7 +165,7 @@ fn a_ditch_that_ends_inside_is_walked_both_ways() {
     let o = overlay(Operation::Lines, &s, &line([1.0, -1.0], [1.0, 1.0])).unwrap();
     let pieces: Vec<_> = o.mesh.cells().map(|p| p.nodes.to_vec()).collect();
     assert_eq!(pieces, [vec![3, 0, 6, 5, 6, 1, 2]]);
-    assert_eq!((o.new_points, o.doubled_cells), (1, 0));
+    assert_eq!((o.new_points, o.added_points, o.doubled_cells), (1, 1, 0));
 }
 
 /// The left sides of two soils lie on x = 1, where the cell has nodes.
@@ -131,7 +177,7 @@ fn a_boundary_traced_twice_cuts_once() {
     let o = overlay(Operation::Imprint, &cell, &soil).unwrap();
     let pieces: Vec<_> = o.mesh.cells().map(|p| p.nodes.to_vec()).collect();
     assert_eq!(pieces, [vec![5, 0, 1, 4], vec![4, 1, 2, 3]]);
-    assert_eq!((o.new_points, o.doubled_cells), (0, 0));
+    assert_eq!((o.new_points, o.added_points, o.doubled_cells), (0, 0, 0));
 }
 
 #[test]

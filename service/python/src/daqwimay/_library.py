@@ -30,7 +30,7 @@ OUTPUT_LISTS = (
     ListRecord('parent_meshes', np.dtype(np.uint32), 'cell'),
     ListRecord('parent_cells', np.dtype(np.uint32), 'cell'),
 )
-COUNTS = 3          # pieces, new points, and 0, once the count of doubled cells
+COUNTS = 4          # pieces; added points that a piece names; 0, once the count of doubled cells; all added points
 
 _call = ctypes.CDLL(str(Path(__file__).with_name('libdaqwimay.so'))).daqwimay_overlay
 _call.restype = ctypes.c_uint32

@@ -23,6 +23,7 @@ def overlay_in_chunks(subject: Mesh, cutter: Mesh, operation: Union[Operation, s
     A chunk is lent with its rim: the earlier cells that have an edge in common with it. So each edge has the direction that it has in
     the whole mesh, and a point where two edges meet has the same bits in every chunk: points of equal bits are one node. Chunks are
     halved where a limit of the library asks for it. A refused cell is named. `progress` is told how many cells are done, of how many.
+    Added points that no piece names are left out, whichever chunk found them: `added_points` is `new_points`.
 
     With `parts` a cell that is cut by too many edges (refusals 9 and 10) is cut in triangles first: its pieces end at their sides too, and
     nodes on its own sides are not those of its neighbours. `Overlay.parted` has the families of such cells.
@@ -106,7 +107,7 @@ class _Whole:
         if _too_large(part) or _too_large(by):
             raise Refused(2)
         answer = overlay(part, by, self.operation)
-        numbers = np.concatenate([nodes, len(self.subject.xy) + by_nodes, np.full(answer.new_points, -1)])
+        numbers = np.concatenate([nodes, len(self.subject.xy) + by_nodes, np.full(answer.added_points, -1)])
         self.done.append((answer, numbers, cells))
 
     def halves(self, cells: np.ndarray) -> list[np.ndarray]:
@@ -130,7 +131,7 @@ class _Whole:
         return self._listed(known, *(np.concatenate(p) for p in zip(*parts)))
 
     def _listed(self, known: int, points: np.ndarray, corners: np.ndarray, counts: np.ndarray, kinds: np.ndarray, cells: np.ndarray) -> Overlay:
-        """In the order of the subject's cells; new points of equal bits one node, those that no piece names left out."""
+        """In the order of the subject's cells; added points of equal bits one node, those that no piece names left out."""
         order = np.argsort(cells, kind='stable')
         corners = corners[entries(counts, order)]
         fresh = corners >= known
@@ -138,7 +139,7 @@ class _Whole:
         corners[fresh] = known + numbers.reshape(-1)
         found = Overlay(np.concatenate([self.subject.xy, self.cutter.xy, used]), corners, np.cumsum(counts[order]), kinds[order],
                         self.subject.families[cells[order]], np.zeros(len(cells), np.uint32), cells[order])
-        found.new_points = len(used)
+        found.new_points = found.added_points = len(used)
         found.parted = self.subject.families[np.array(self.parted, np.int64)]
         return found
 

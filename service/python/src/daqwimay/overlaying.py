@@ -28,14 +28,15 @@ class Operation(IntEnum):
 
 
 class Overlay(Mesh):
-    """The pieces as a mesh: the subject's nodes, the cutter's, then the new points; each piece has its cell's family.
+    """The pieces as a mesh: the subject's nodes, the cutter's, then all points added where edges meet; each piece has its cell's family.
 
     The cell that a piece was cut from, its parent, is `parent_cells` of the mesh `parent_meshes`, counted as in the mesh that was given.
     """
 
     parent_meshes: np.ndarray   #: uint32: 0 for the subject, 1 for the cutter
     parent_cells: np.ndarray    #: uint32: the index of the cell there, from 0
-    new_points: int = 0
+    new_points: int = 0         #: the added points that at least one piece names, each once: the stakes to order
+    added_points: int = 0       #: all added points, with which `xy` ends: more where the operation drops all pieces that name one
     doubled_cells: int = 0      #: always 0, since an edge is in a cell's table once; kept for readers of old listings
     parted: Optional[np.ndarray] = None     #: overlay_in_chunks: the families of cells that were cut in triangles first
 
@@ -46,9 +47,11 @@ class Overlay(Mesh):
         self.parent_cells = lendable(parent_cells, np.dtype(np.uint32), 'parent_cells')
 
     def take(self, cells: np.ndarray) -> tuple[Overlay, np.ndarray]:
-        """Some of the pieces, in the order given, with their parents, and which nodes these have."""
+        """Some of the pieces, in the order given, with their parents, and which nodes these have: of the added points those that they name."""
         part, nodes = super().take(cells)
-        return Overlay(*part.lists(), self.parent_meshes[cells], self.parent_cells[cells]), nodes
+        found = Overlay(*part.lists(), self.parent_meshes[cells], self.parent_cells[cells])
+        found.new_points = found.added_points = int(np.count_nonzero(nodes >= len(self.xy) - self.added_points))
+        return found, nodes
 
 
 def overlay(subject: Mesh, cutter: Mesh, operation: Union[Operation, str, int] = Operation.IMPRINT, *,
@@ -101,10 +104,10 @@ def output_lists(points: int, corners: int, cells: int) -> list[np.ndarray]:
 
 def answer_of(lists: list[np.ndarray], nodes: int, counts: np.ndarray) -> Overlay:
     """What a call wrote, as parts of its lists; `nodes` are those of both meshes."""
-    pieces, new_points, doubled = map(int, counts)
+    pieces, new_points, doubled, added = map(int, counts)
     ends = lists[[r.name for r in OUTPUT_LISTS].index('ends')]
-    used = {'node': nodes + new_points, 'corner': int(ends[pieces - 1]) if pieces else 0, 'cell': pieces}
+    used = {'node': nodes + added, 'corner': int(ends[pieces - 1]) if pieces else 0, 'cell': pieces}
     fields = {r.name: a[:used[r.per]] for r, a in zip(OUTPUT_LISTS, lists)}
     found = Overlay(**fields)
-    found.new_points, found.doubled_cells = new_points, doubled
+    found.new_points, found.doubled_cells, found.added_points = new_points, doubled, added
     return found
