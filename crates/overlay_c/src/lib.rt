@@ -9,21 +9,19 @@ ghost use Rattle.overlay_c.specs.Answer.{AnswerOf, placed};
 use overlay::overlay;
 use views::{OutputView, view};
 
-// The counts and 0 are put into the first three places, where there are three.
-#[tactic(auto, unfolding(crate::specs::Answer::placed))]
-fn put(counts: &mut [u32], pieces: u32, points: u32)
-    ensures { counts.new ≡ placed pieces points 0 counts.old }
+// The counts are put into the first places, as many as there are. The third, once the count of doubled cells, is 0.
+#[tactic(auto, using(crate::proofs::Placed::in_places))]
+fn put(counts: &mut [u32], pieces: u32, points: u32, added: u32)
+    ensures { counts.new ≡ placed pieces points 0 added counts.old }
 {
-    if counts.len() > 2 {
-        counts[0] = pieces;
-        counts[1] = points;
-        counts[2] = 0;
-    }
+    let all = [pieces, points, 0, added];
+    let n = counts.len().min(4);
+    counts[..n].copy_from_slice(&all[..n]);
 }
 
 // Operation, meeting limit M; the subject's and the cutter's coordinates, node numbers, cell ends, kinds and families; the same five output lists, and
-// those of the parents' meshes and cells; the working list; the counts of pieces and new points, and 0. Plain lists, as C lends them; the output is
-// written out, not made by `output`, so that the prover knows what each list ends as.
+// those of the parents' meshes and cells; the working list; the counts of pieces, of new points that a piece names, 0, and of all new points. Plain lists, as C
+// lends them; the output is written out, not made by `output`, so that the prover knows what each list ends as.
 #[unsafe(no_mangle)]
 pub extern "C" fn daqwimay_overlay<'a, 'b, 'c>(
     op: u32,
@@ -67,11 +65,11 @@ pub extern "C" fn daqwimay_overlay<'a, 'b, 'c>(
     };
     match overlay(op, m, &subject, &cutter, &mut out, work) {
         Ok(k) => {
-            put(counts, k.pieces, k.points);
+            put(counts, k.pieces, k.points, k.added);
             0
         }
         Err(refusal) => {
-            put(counts, 0, 0);
+            put(counts, 0, 0, 0);
             refusal.number()
         }
     }
