@@ -49,16 +49,16 @@ module _ (op m : ℕ) (s c : Mesh) where
   unfolding scene_of
   coords_added = length-append (s.coords ++ c.coords) _
 
-  success_few : overlay_of op m s c lists ≡ succeeded op s c lists → (succeeded op s c lists).points ≤ 2048
+  success_few : overlay_of op m s c lists ≡ succeeded op s c lists → (succeeded op s c lists).added ≤ 2048
   unfolding answered_with
   success_few same =
       let fits = (accepted_fits op m s c lists (ap (λ (r : Answered). r.code) same)).coords in
       omega (arith, coords_added, fits)
 
-  points_few : (overlay_of op m s c lists).points ≤ 2048
-  points_few = go (ending ours op m s c lists)
+  added_few : (overlay_of op m s c lists).added ≤ 2048
+  added_few = go (ending ours op m s c lists)
     where
-      go : Ending ours op m s c lists → (overlay_of op m s c lists).points ≤ 2048
+      go : Ending ours op m s c lists → (overlay_of op m s c lists).added ≤ 2048
       go (input n) = rw (input_refused ours op m s c lists n) (omega arith)
       go (state_met e n) = rw (state_refused ours op m s c lists e n) (omega arith)
       go (success e f) = let same = succeeds ours op m s c lists e f in rw same (success_few same)
@@ -66,11 +66,11 @@ module _ (op m : ℕ) (s c : Mesh) where
   module _ (n : ℕ) (a : Result Counts Refusal) (l : Lists)
       (same : answer_of a l ≡ overlay_of op m s c
       (lent_lists (fzeros 4096) (zeros 8192) (zeros 2048) (zeros 2048) (zeros 2048) (zeros 2048) (zeros 2048) (zeros 16384))) where
-    pub nodes_fit_lem : n ≤ 1024 → IfOk a (λ k. n + k.points ≤ 4294967295)
+    pub nodes_fit_lem : n ≤ 1024 → IfOk a (λ k. n + k.added ≤ 4294967295)
     nodes_fit_lem h = go a same
       where
-        go : (a : Result Counts Refusal) → answer_of a l ≡ overlay_of op m s c lists → IfOk a (λ k. n + k.points ≤ 4294967295)
-        go (Ok k) e = omega (arith, h, points_few, ap (λ (r : Answered). r.points) e)
+        go : (a : Result Counts Refusal) → answer_of a l ≡ overlay_of op m s c lists → IfOk a (λ k. n + k.added ≤ 4294967295)
+        go (Ok k) e = omega (arith, h, added_few, ap (λ (r : Answered). r.added) e)
         go (Err r) e = tt
 
     pub cut_printed : (v : Listing) (r : Place) (o u : List ℕ) → n ≡ node_count s + node_count c → shown v l.work ≡ l

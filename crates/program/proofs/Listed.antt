@@ -72,10 +72,10 @@ module _ (op : ℕ) (s c : Mesh) (l : Lists) where
 
   -- and so what is told of it, where `nodes` nodes are lent.
   pub listing_told : (nodes m : ℕ) → Accepted op m s c l → let r = overlay_of op m s c l in
-      result_told nodes r ≡ overlay (bits (take (2 * (nodes + r.points)) r.lists.coords)) (map line_of (listing op s c)) r.pieces r.points r.doubled
+      result_told nodes r ≡ overlay (bits (take (2 * (nodes + r.added)) r.lists.coords)) (map line_of (listing op s c)) r.pieces r.points r.doubled
   unfolding result_told
   listing_told nodes m h =
       let r = overlay_of op m s c l in
-      let coords = bits (take (2 * (nodes + r.points)) r.lists.coords) in
+      let coords = bits (take (2 * (nodes + r.added)) r.lists.coords) in
       ap (λ (b : Bool). cond b (overlay coords (lines_of r) r.pieces r.points r.doubled) (refused r.code)) (eq-eqb r.code 0 h)
       ∙ ap (λ (ps : List PieceLine). overlay coords ps r.pieces r.points r.doubled) (listing_lines m h)

@@ -84,9 +84,9 @@ module _ (op m : ℕ) (s c : Mesh) where
   told_size n = go (eqb r.code 0) refl
     where
       go : (b : Bool) → eqb r.code 0 ≡ b → length (answer_text (cond b
-          (overlay (bits (take (2 * (n + r.points)) r.lists.coords)) (piece_lines 0 r.lists.nodes (take r.pieces r.lists.ends) r.lists.kinds
+          (overlay (bits (take (2 * (n + r.added)) r.lists.coords)) (piece_lines 0 r.lists.nodes (take r.pieces r.lists.ends) r.lists.kinds
           r.lists.families r.lists.meshes r.lists.cells) r.pieces r.points r.doubled) (refused r.code))) ≤ 278580
-      go true e = overlay_size _ _ _ _ _ _ _ r.pieces r.points r.doubled (coords_few (2 * (n + r.points))) (ends_few r.pieces) (rises (eqb-true r.code 0 e))
+      go true e = overlay_size _ _ _ _ _ _ _ r.pieces r.points r.doubled (coords_few (2 * (n + r.added))) (ends_few r.pieces) (rises (eqb-true r.code 0 e))
       go false e = omega (arith, refused_size r.code)
 
 unread_size : length (answer_text unread) ≤ 278580

@@ -20,12 +20,12 @@ lent m = mesh m.coords m.cells.nodes m.cells.ends m.cells.kinds m.cells.families
 unfoldable pub blank : Lists
 blank = lent_lists (fzeros 4096) (zeros 8192) (zeros 2048) (zeros 2048) (zeros 2048) (zeros 2048) (zeros 2048) (zeros 16384)
 
--- Of a refusal its number; else all nodes, `nodes` of them lent, the pieces and the counts.
+-- Of a refusal its number; else all nodes, `nodes` of them lent, the pieces and the first three counts. W5: "a fourth number, not printed".
 unfoldable pub result_told : ℕ → Result → Answer
 result_told nodes r =
     let l = r.lists in
     cond (eqb r.code 0)
-    (overlay (bits (take (2 * (nodes + r.points)) l.coords))
+    (overlay (bits (take (2 * (nodes + r.added)) l.coords))
     (piece_lines 0 l.nodes (take r.pieces l.ends) l.kinds l.families l.meshes l.cells) r.pieces r.points r.doubled)
     (refused r.code)
 

@@ -24,12 +24,12 @@ pub const MOST_WRITTEN: usize = 278580;
 
 // what is printed of an overlay's answer: `nodes` are those of both meshes
 fn told(nodes: u32, answer: Result<overlay::Counts, Refusal>) -> Answer
-    requires { IfOk answer (λ k. nodes + k.points ≤ 4294967295) }
+    requires { IfOk answer (λ k. nodes + k.added ≤ 4294967295) }
     ensures { result ≡ printed_of nodes answer }
 {
     match answer {
         Ok(k) => Answer::Overlay {
-            nodes: nodes + k.points,
+            nodes: nodes + k.added,
             counts: Counts {
                 pieces: k.pieces,
                 points: k.points,
