@@ -3,13 +3,13 @@
 
 OUT/data/NAME.in are the inputs, OUT/args their names in order, OUT/stdout each name and its answer. No answer comes from the
 program under test. Those of overlays are what LAW lists (`oracle-law`, as differential/oracle-02.sh builds it, by default into
-target/oracle-02: the published Rust with W1's turn back and W14's table), with 0 as the third count and the parents of W2; how many cells the
-published table doubles must be as stands here. LAW is asked with each cell's number as its family, and what it lists as a piece's family is its
-parent. Refusals 8 and 9, and 19, 10 and 11 cell by cell, are what LAW's counts and its stop give; where one stands
-here it must be that one. Other refusals, and text that can't be read, stand here, from document 01. The stored inputs and right answers are taken
-over from crates/overlay_cases, where LAW must list each accepted one alike, with its parents, and give each refusal 8, 9, 10, 11 and 19. The
-smallest are the oracle's cases/: islands, unmerged neighbours, and the smallest inputs on which the Rust and document 01's orders differ. Prints a table
-of what is made: name, answer, where it comes from.
+target/oracle-02: the published Rust with W1's turn back and W14's table), with 0 as the third count, the parents of W2 and W5's second count; how
+many cells the published table doubles must be as stands here. LAW is asked with each cell's number as its family, and what it lists as a piece's
+family is its parent; the second count is of the new points that its pieces name. Refusals 8 and 9, and 19, 10 and 11 cell by cell, are what LAW's
+counts and its stop give; where one stands here it must be that one. Other refusals, and text that can't be read, stand here, from document 01. The
+stored inputs and right answers are taken over from crates/overlay_cases, where LAW must list each accepted one alike, with its parents and counts,
+and give each refusal 8, 9, 10, 11 and 19. The smallest are the oracle's cases/: islands, unmerged neighbours, and the smallest inputs on which the
+Rust and document 01's orders differ. Prints a table of what is made: name, answer, where it comes from.
 """
 import math
 import os
@@ -25,7 +25,7 @@ SMALLEST = os.path.join(ROOT, 'differential', 'oracle', 'cases')
 sys.path.insert(0, os.path.join(ROOT, 'differential', 'overlay'))
 sys.dont_write_bytecode = True
 
-from closing import numbered, parent
+from closing import named_points, numbered, parent
 
 
 def bits(x):
@@ -56,6 +56,7 @@ TURNING = 'W1, and the published Rust that turns back'
 W14 = 'W14, document 02'
 ONCE = 'W14, and the published Rust with its table'
 CARRIED = 'W2, and the families of the published Rust'
+NAMED = 'W5, and the pieces of the published Rust'
 SQUARE = box(0., 0., 2., 2., 7, 8)
 STRIP = box(1., -1., 3., 3.)
 K1 = overlay(0, 9, SQUARE, STRIP)
@@ -397,19 +398,57 @@ def descended():
     yield 'limit-2049-pieces-of-both', overlay(1, 200, joined(tips, away, away, away, away), bars(16)), refused(12), doc
 
 
+def strips(places, low, high, across=False):
+    """Cells side by side between lines at these places, with common nodes; `across`: the lines run along x."""
+    ends = [(p, e) for p in places for e in (low, high)]
+    # each counterclockwise
+    turn = (0, 1, 3, 2) if across else (0, 2, 3, 1)
+    return [(y, x) if across else (x, y) for x, y in ends], [(11, 0, [2 * i + k for k in turn]) for i in range(len(places) - 1)]
+
+
+def pointed():
+    """W5: which new points a piece names. (name, text, answer, where the answer comes from)"""
+    # a cutter of two cells whose common side cuts the subject: a square that it covers in part, or two cells with a common side that it covers whole
+    part, whole = strips([-1., 1., 1.5], -1., 3.), strips([-1., 1., 3.], -1., 3.)
+    for name, subject, cutter in ('side', SQUARE, part), ('cross', strips([0., 1., 2.], 0., 2., across=True), whole):
+        for op in range(5):
+            yield f'points-{name}-op{op}', overlay(op, 20, subject, cutter), Listed(), NAMED
+    yield 'points-side-lines', overlay(5, 20, SQUARE, cells([(1., -1.), (1., 3.)], [(1.5, -1.), (1.5, 3.)], kind=1)), Listed(), NAMED
+    # the common side twice, by nodes of its own: new points twice
+    apart = joined(strips([-1., 1.], -1., 3.), strips([1., 3.], -1., 3.))
+    for op in 2, 3:
+        yield f'points-apart-op{op}', overlay(op, 20, SQUARE, apart), Listed(), NAMED
+    # the pieces also name the cutter's corner, which is no new point
+    for op in 2, 3, 4:
+        yield f'points-corner-op{op}', overlay(op, 20, SQUARE, box(1., 1., 3., 3.)), Listed(), NAMED
+    # a hair across: no point that is inside it is found between its sides
+    hair = cells([(-1., 1.), (3., 1.), (3., 1 + 2. ** -52)])
+    for op in 2, 3:
+        yield f'points-hair-op{op}', overlay(op, 20, SQUARE, hair), Listed(), NAMED
+    beside = joined(hair, box(5., -1., 7., 3.))
+    yield 'points-hair-beside-op2', overlay(2, 20, joined(SQUARE, box(4., 0., 6., 2., 7, 8)), beside), Listed(), NAMED
+    # upright cells and one above them; the cutter's lie across and reach beyond all but that one. The working list is exactly full
+    nodes, upright = strips([float(i) for i in range(20)], 0., 1.)
+    subject = nodes + [(18., 3.), (19., 3.)], upright + [(11, 9, (37, 39, 41, 40))]
+    level = strips([-1., *(i / 22 for i in range(1, 22)), 2.], -1., 20., across=True)
+    for op in 3, 4:
+        yield f'limit-points-op{op}', overlay(op, 764, subject, level), Listed(), NAMED
+
+
 CELL = re.compile(r'^(?:copied )?cell (\d+)( doubled)?( repeats)?$', re.M)
 PIECE = re.compile(r'^\(cell (\d+) (\d+)', re.M)
 
 
 def ordered(text, listing):
     """What is listed for the text with its cells' numbers as families: pieces in the cells' order, under the cells' own families, with the mesh
-    and the index of the cell that the number is of (W2)."""
+    and the index of the cell that the number is of (W2); the count is of the new points that these pieces name (W5), the nodes are all."""
     families = {n: old for (_, old), (_, n) in zip(PIECE.findall(text), PIECE.findall(numbered(text, text[len('(overlay ')])))}
     lines = listing.splitlines(keepends=True)
     pieces = sorted((line for line in lines if line.startswith('(cell ')), key=lambda line: int(line.split()[2]))
     pieces = [PIECE.sub(lambda m: '(cell {} {} {} {}'.format(m[1], families[m[2]], *parent(int(m[2]))), line) for line in pieces]
     nodes = [line for line in lines if line.startswith('(node ')]
-    return ''.join(['(overlay\n', *nodes, *pieces, lines[-2].replace(')', ' 0)'), lines[-1]])
+    assert lines[-2] == f'(count {len(pieces)} {len(nodes) - text.count("(node ")})\n'
+    return ''.join(['(overlay\n', *nodes, *pieces, f'(count {len(pieces)} {len(named_points(text, listing))} 0)\n', lines[-1]])
 
 
 def told(law, name, text):
@@ -446,12 +485,12 @@ TOLD = [refused(n) for n in (8, 9, 10, 11, 19)]
 
 
 def stored(law):
-    """(name, text, answer) of the stored ones, 001-... to 355-..., and w2-..."""
+    """(name, text, answer) of the stored ones, 001-... to 355-..., w2-... and w5-..."""
     names = read(f'{REPLAYED}/args').decode().split()
     answers = re.split('^(' + '|'.join(map(re.escape, names)) + ')\n', read(f'{REPLAYED}/stdout').decode(), flags=re.M)[1:]
     assert answers[::2] == names
     for name, answer in zip(names, answers[1::2]):
-        if re.match(r'(w2-)?\d{3}-', name):
+        if re.match(r'(w[25]-)?\d{3}-', name):
             text = read(f'{REPLAYED}/data/{name}')
             if answer.startswith('(overlay') or answer in TOLD:
                 if told(law, name, text.decode())[0] != answer:
@@ -476,7 +515,7 @@ def answers(law):
     rows = [(f, f'{SMALLEST}/{f}', 'the published Rust') for f in sorted(os.listdir(SMALLEST))]
     rows += [(f, f'{ROOT}/examples/{f}', source) for f, source in (('soil.in', 'the published Rust'), ('model.in', 'the published Rust'), ('ditch.in', TURNING), ('traced.in', ONCE))]
     rows = [(f, read(path), refused(19) if f in REPEATS else Listed(DOUBLED.get(f, 0)), source) for f, path, source in rows]
-    rows += [(f'{name}.in', text.encode(), answer, source) for name, text, answer, source in [*made(), *traced(), *descended()]]
+    rows += [(f'{name}.in', text.encode(), answer, source) for name, text, answer, source in [*made(), *traced(), *descended(), *pointed()]]
     for name, text, answer, source in rows:
         if isinstance(answer, Listed):
             answer, source = listed(law, name, text.decode(), answer.doubled, source)

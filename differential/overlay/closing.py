@@ -58,6 +58,12 @@ def parents_of_rust(answer):
     return [parent(int(family)) for family, _ in CELL.findall(answer)]
 
 
+def named_points(form, answer):
+    """The added points that the pieces of the Rust's answer name, each once (W5): the nodes numbered from those of both meshes on."""
+    first = form.count('(node ')
+    return {n for _, corners in CELL.findall(answer) for n in map(int, corners.split()) if n >= first}
+
+
 def in_the_family(form, answer):
     """Whether each piece has the family of its parent, which is one of the cells that the operation cuts."""
     families = [[int(family) for family, _ in CELL.findall(mesh)] for mesh in form.split('(mesh\n')[1:]]
@@ -185,6 +191,9 @@ def selftest():
     for wrong in ['0 1 0 1 2', '0 0 0 2 3'], ['0 0 0 1 2', '0 0 0 2 3'], ['0 0 0 1 2', '1 1 0 2 3']:
         assert told(halves, cells, wrong), wrong
         assert in_the_family(halves, '(overlay\n(cell 5 7 %s)\n(cell 5 7 %s)\n' % tuple(wrong)) == ('1 1' not in wrong[1])
+    # of the points from 6 on, which K10's nodes end before, each once, whatever else the pieces name
+    for corners, points in (['3 0 6 5 6 1 2'], {6}), (['0 6 7', '2 7 8 7'], {6, 7, 8}), (['0 1 5'], set()), ([], set()):
+        assert named_points(K10, '(overlay\n' + ''.join('(cell 11 7 %s)\n' % c for c in corners) + '(count %d 9)\n)\n' % len(corners)) == points
     print('closing up: K10 passes, %d wrong answers and 6 wrong parents are told' % (len(wrongs) + 1))
 
 
