@@ -9,8 +9,8 @@ families whose names start with NAME), the known refusals and the named inputs (
 because of the state and each answer is held to the copy's, each accepted answer to closing up in every cell (closing.py). Where no cell's
 table is doubled in the Rust, the answer is also held to the published Rust's, and each difference gets its cause. The Rust answers no parents, so
 answers are compared without them; the parents are held to the copy's families where each cell has its number as its family, and of
-operations 0 and 5 to the list of parents that the copy keeps. The last line has the counts; the exit status is 1 where one is
-unexplained."""
+operations 0 and 5 to the list of parents that the copy keeps. The Rust's count of new points is our fourth, and our second must be how many of
+them the copy's pieces name. The last line has the counts; the exit status is 1 where one is unexplained."""
 import argparse
 import collections
 import glob
@@ -26,19 +26,24 @@ ROOT = os.path.dirname(os.path.dirname(HERE))
 sys.path.insert(0, HERE)
 sys.dont_write_bytecode = True
 
-from closing import (BOTH_CUT, Told, bare, faults, in_the_family, looked_at, numbered, operation, parents, parents_of_rust, pieces, pieces_of_rust,
-                     with_all_pieces)
+from closing import (BOTH_CUT, Told, bare, faults, in_the_family, looked_at, named_points, numbered, operation, parents, parents_of_rust,
+                     pieces, pieces_of_rust, with_all_pieces)
 from limits import known
 from made import Made, text
 
 BATCH = 4000
 ANSWER = re.compile(r'\(overlay\n.*?\n\)\n|\([^\n]*\)\n', re.S)
+# What the program reads; the driver and the oracle also read other layouts, and several forms.
+FORM = re.compile(r'\(overlay \d+ \d+\n(\(mesh\n(\(node \w+ \w+\)\n)*(\(cell( \d+)+\)\n)*\)\n){2}\)\n')
+COUNT = re.compile(r'^\(count (\d+) (\d+)\)$', re.M)
 STOPPED = '(panic no next dart)\n'
 ORDER, ANGLES, BOTH = 'map order at equal projections', 'rounded angles', 'map order and rounded angles'
 CAUSES = [ORDER, ANGLES, BOTH]
 TURNED, ALIKE = 'turns back and closes up, where the Rust stops', 'stops alike (11)'
 DOUBLED, DOUBLED_11 = "doubled in the Rust's table; the copy's answer, and closes up", "doubled in the Rust's table; the copy stops alike (11)"
 MOST = 65536
+# The operations that drop no piece of the subject, on whose edges all new points are.
+ALL_NAMED = '015'
 # What the copy of the Rust writes of an overlay, and of each of its cells.
 OVERLAY = re.compile(r'meetings (\d+) collected (\d+)\n((?:(?:copied )?cell \d+(?: doubled)?(?: repeats)?\noutline[\d ]*\n)*)(?:parents([\d ]*)\n)?')
 CELL = re.compile(r'(copied )?cell (\d+)( doubled)?( repeats)?\noutline([\d ]*)\n')
@@ -177,6 +182,11 @@ def code(answer):
     return int(answer[9:-2]) if answer.startswith('(refused') else 0
 
 
+def count_line(answer):
+    """The pieces and all new points of an answer."""
+    return tuple(map(int, COUNT.search(answer).groups()))
+
+
 def limit(form):
     return int(form[:form.index('\n')].split()[2])
 
@@ -194,20 +204,29 @@ def wanted(form, later):
     return 11 if later.answer == STOPPED else 0
 
 
-def counted(sides, forms, later, ours, rust, third):
-    """For each form what the copy says of our answer: a refusal explained, that the published table is doubled, that it is unexplained, or
-    nothing: then the published Rust is the measure as well."""
+def points_right(form, answer, points, copy):
+    """Whether the second count is that of the points that the copy's pieces name (W5), all of them where no piece of the subject is dropped."""
+    return points == len(named_points(form, copy)) and (operation(form) not in ALL_NAMED or points == count_line(answer)[1])
+
+
+def counted(sides, forms, later, ours, rust, beside):
+    """For each form what the copy says of our answer and its second and third counts: a refusal explained, that the published table is doubled,
+    that it is unexplained, or nothing: then the published Rust is the measure as well."""
     out = []
-    for form, told, a, r, n in zip(forms, later, ours, rust, third):
+    for form, told, a, r, (points, third) in zip(forms, later, ours, rust, beside):
         want, got = wanted(form, told), code(a)
         doubled = sum(c.doubled for c in told.cells)
         sides.compared['overlays'] += 1
         sides.compared['overlays with a doubled cell'] += doubled > 0
-        if want != got or n or not got and a != told.answer:
+        if want != got or third or not got and (a != told.answer or not points_right(form, a, points, told.answer)):
             out.append('unexplained')
             continue
         if not got:
             sides.compared['accepted'] += 1
+            added = count_line(a)[1]
+            sides.compared["new points held to the Rust's count"] += added
+            sides.compared["of these named, held to the copy's pieces"] += points
+            sides.compared['overlays with a new point that no piece names'] += points < added
             sides.compared['cells'] += len(told.cells)
             sides.compared['accepted with a doubled cell'] += doubled > 0
             sides.compared['doubled, cut'] += sum(c.doubled and not c.copied for c in told.cells)
@@ -218,12 +237,14 @@ def counted(sides, forms, later, ours, rust, third):
 
 
 def compared(sides, forms):
-    """Each form's verdict: equal, stops alike, turns back, a cause, doubled, a refusal with its explanation, or unexplained."""
+    """Each form, our answer, the Rust's, the verdict and our second count. The verdict: equal, stops alike, turns back, a cause, doubled, a refusal
+    with its explanation, or unexplained."""
     jobs = sides.start('oracle', forms), sides.start('ours', forms)
-    (rust, _), (listed, third) = map(sides.take, jobs)
+    (rust, _), (listed, beside) = map(sides.take, jobs)
+    beside = [tuple(map(int, line.split())) for line in beside.splitlines()]
     ours = list(map(bare, listed))
     later = sides.later(forms)
-    verdict = counted(sides, forms, later, ours, rust, map(int, third.split()))
+    verdict = counted(sides, forms, later, ours, rust, beside)
     verdict = [v or ('equal' if a == b else None) for v, a, b in zip(verdict, ours, rust)]
     # beyond the limit of meetings: with the largest limit the answer must be explained as well
     over = [i for i, v in enumerate(verdict) if v == REFUSED[8]]
@@ -238,15 +259,16 @@ def compared(sides, forms):
     rows = [[r[i] for i in accepted] for r in (forms, listed, later)]
     for i, good, right in zip(accepted, closed(sides, *rows), descended(sides, *rows)):
         verdict[i] = verdict[i] if good and right else 'unexplained'
-    return list(zip(forms, listed, rust, verdict))
+    return list(zip(forms, listed, rust, verdict, [points for points, _ in beside]))
 
 
 def show(title, row, sides):
-    form, ours, rust, why = row
+    form, ours, rust, why, points = row
     told = sides.later([form])[0]
     by_families = sides.ask('later', [numbered(form, operation(form))])[0]
-    print('---- %s: %s\n%sours: %srust: %slaw: %scopy (wanted %d): %sparents: %s' % (
-        title, why, form, ours, rust, sides.ask('oracle-law', [form])[0], wanted(form, told), told.answer, parents_of_rust(by_families)))
+    print('---- %s: %s\n%sours (%d points named): %srust: %slaw: %scopy (wanted %d, %d points named): %sparents: %s' % (
+        title, why, form, points, ours, rust, sides.ask('oracle-law', [form])[0], wanted(form, told), len(named_points(form, told.answer)), told.answer,
+        parents_of_rust(by_families)))
 
 
 def table(counts, verdicts):
@@ -268,16 +290,18 @@ def made_overlays(a, sides, shown):
         forms = [text(*row[2:]) for row in rows]
         done += len(rows)
         for (family, scale, op, _, s, c), row in zip(rows, compared(sides, forms)):
-            _, ours, _, why = row
+            _, ours, _, why, points = row
             counts[family][why] += 1
             scales[scale] += 1
             ops['operation %d' % op][why] += 1
             if ours.startswith('(overlay'):
-                listed, points = map(int, re.search(r'\(count (\d+) (\d+)\)', ours).groups())
+                listed, added = count_line(ours)
                 reached['pieces'] += listed
-                reached['new points'] += points
-                reached['overlays with a new point'] += points > 0
+                reached['new points'] += added
+                reached['new points that a piece names'] += points
+                reached['overlays with a new point'] += added > 0
                 reached['overlays without a piece'] += listed == 0
+                reached['operation %d with a new point that no piece names' % op] += points < added
             if why == 'unexplained' and len(shown) < a.show:
                 shown.append((family + ', ' + scale, row))
     return counts, scales, ops, reached
@@ -306,7 +330,7 @@ def replayed(sides, folders, shown):
         for f in sorted(glob.glob(os.path.join(folder, '*.in'))):
             form = open(f, errors='replace').read()
             ours = subprocess.run(sides.commands['ours'], input=form, text=True, capture_output=True).stdout
-            if re.match(r'\(refused [1-7]\)', ours) or '(unread)' in ours:
+            if not FORM.fullmatch(form) or re.match(r'\(refused [1-7]\)', ours) or '(unread)' in ours:
                 counts['refused because of the input, or unread'] += 1
                 continue
             row = compared(sides, [form])[0]

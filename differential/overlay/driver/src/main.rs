@@ -1,6 +1,7 @@
 //! Reads the program's forms from standard input, one after another, overlays each by the proved library and prints what `oracle count`
-//! prints: pieces regrouped by kind, `(count pieces newpoints)`; or `(refused N)`. After a piece's family stand the mesh and the index of its
-//! parent, as the program prints them. Standard error has each form's third count.
+//! prints: pieces regrouped by kind, `(count pieces newpoints)`, where the Rust's new points are all added ones, the fourth count; or
+//! `(refused N)`. After a piece's family stand the mesh and the index of its parent, as the program prints them. Standard error has each form's
+//! second and third counts: the added points that a piece names, and 0.
 use daqwimay::{Mesh, Operation, Overlay, Overlayer};
 use std::fmt::Write as _;
 use std::io::{Read, Write as _};
@@ -71,7 +72,7 @@ fn listing(s: &mut String, o: &Overlay) {
         }
         s.push_str(")\n");
     }
-    let _ = writeln!(s, "(count {} {})\n)", pieces.len(), o.new_points);
+    let _ = writeln!(s, "(count {} {})\n)", pieces.len(), o.added_points);
 }
 
 fn main() {
@@ -80,7 +81,7 @@ fn main() {
     let text = text.replace('(', "( ").replace(')', " )");
     let mut words = Words(text.split_ascii_whitespace().peekable());
     let mut lists = Overlayer::default();
-    let (mut out, mut doubled) = (String::new(), String::new());
+    let (mut out, mut counts) = (String::new(), String::new());
     while words.0.peek().is_some() {
         let Some((op, limit, subject, cutter)) = words.form() else {
             out.push_str("(unread)\n");
@@ -88,15 +89,15 @@ fn main() {
         };
         match lists.overlay(op, limit, &subject, &cutter) {
             Ok(o) => {
-                let _ = writeln!(doubled, "{}", o.doubled_cells);
+                let _ = writeln!(counts, "{} {}", o.new_points, o.doubled_cells);
                 listing(&mut out, &o);
             }
             Err(r) => {
-                doubled.push_str("0\n");
+                counts.push_str("0 0\n");
                 let _ = writeln!(out, "(refused {})", r.number());
             }
         }
     }
     std::io::stdout().write_all(out.as_bytes()).unwrap();
-    eprint!("{doubled}");
+    eprint!("{counts}");
 }
