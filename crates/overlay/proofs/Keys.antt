@@ -1,6 +1,6 @@
 -- Refusal 9 passed, for every edge that a cell is cut by: the cells' own edges have their keys among those of the net. Assumes nothing.
-use mathlib.Core.Path.{◌≡◌, refl, sym, ap, ap₂, ◌∙◌, subst}
-use mathlib.Core.Bool.{Bool, true, false, cond, ◌&&◌}
+use mathlib.Core.Path.{◌≡◌, refl, sym, ap, ◌∙◌, subst}
+use mathlib.Core.Bool.{Bool, true, false, cond}
 use mathlib.Core.List.{List, [], ◌∷◌, ◌++◌}
 use Prim.Native.Nat.{ℕ, zero, suc, ◌≤◌, ◌<◌}
 use native.Mathlib.Nat.{add-zero}
@@ -9,10 +9,11 @@ use native.Mathlib.Decide.{dec_le}
 use lib.Dec.{ltb}
 use lib.ListN.{length, get_or, length-append, get_or-append}
 use lib.Seq.{get_or-append-add}
-use borrow.Author.Tests.{ltb-true, ltb-false, eq-eqb}
+use borrow.Author.Tests.{ltb-true, ltb-false}
 use Rattle.lists.specs.Search.{first, has}
 use Rattle.lists.proofs.Search.{first_hit, has_none, or_false}
-use Rattle.cutting.specs.Edges.{Edge, edge_at, key, same_key, ring}
+use Rattle.cutting.specs.Edges.{Edge, edge_at, same_key, ring}
+use Rattle.cutting.proofs.Orders.{own_key}
 use Rattle.entry.specs.Mesh.{cell_size}
 use Rattle.rules.specs.Neighbours.{added, added_all, descending_to, compute_descending}
 use Rattle.rules.specs.Meetings.{Scene}
@@ -29,9 +30,6 @@ use Rattle.cutting_cells.specs.Yields.{CellsReady}
 -- one of the edges es has the key of e
 abbrev pub Among : List Edge → Edge → Type 0
 Among es e = (k : ℕ) × (k < length es) × (same_key (edge_at es k) e ≡ true)
-
-own_key : (e : Edge) → same_key e e ≡ true
-own_key e = ap₂ ◌&&◌ (eq-eqb (key e).0 (key e).0 refl) (eq-eqb (key e).1 (key e).1 refl)
 
 append_keeps : (es fs : List Edge) (f : Edge) → Among es f → Among (es ++ fs) f
 append_keeps es fs f a =

@@ -55,7 +55,7 @@ data Row : Type 0 where
 
 -- ---- numbers, meshes and lists of the rows
 
--- coordinates by their bits: 0, 1, 2, 3, 4, -1, 3/2, 1/2, 1/4
+-- coordinates by their bits: 0, 1, 2, 3, 4, -1, 3/2, the next above 1, 1/2, 1/4
 abbrev o : ℕ
 o = 0
 
@@ -76,6 +76,9 @@ abbrev -i : ℕ
 
 abbrev i_half : ℕ
 i_half = 0x3ff8_0000_0000_0000
+
+abbrev i_next : ℕ
+i_next = 0x3ff0_0000_0000_0001
 
 abbrev half : ℕ
 half = 0x3fe0_0000_0000_0000
@@ -127,6 +130,10 @@ twice = lent (i ∷ -i ∷ i ∷ iii ∷ []) (0 ∷ 1 ∷ 0 ∷ 1 ∷ []) (2 ∷
 abbrev wall : Mesh
 wall =
     lent (-i ∷ -i ∷ i ∷ -i ∷ i_half ∷ -i ∷ i_half ∷ iii ∷ i ∷ iii ∷ -i ∷ iii ∷ []) (0 ∷ 1 ∷ 4 ∷ 5 ∷ 1 ∷ 2 ∷ 3 ∷ 4 ∷ []) (4 ∷ 8 ∷ []) (8 ∷ 8 ∷ []) (1 ∷ 2 ∷ [])
+
+-- a strip across the square as thin as can be
+abbrev hair : Mesh
+hair = lent (-i ∷ i ∷ iii ∷ i ∷ iii ∷ i_next ∷ []) (0 ∷ 1 ∷ 2 ∷ []) (3 ∷ []) (5 ∷ []) (0 ∷ [])
 
 -- A triangle with a node 2^-27 before the first of another, on whose third edge it is collected: there it stands before that edge's first node, so
 -- the other's outline as cut doesn't close.
@@ -244,10 +251,16 @@ rows =
     ∷ overlay (case 2 9 square strip (fives 20 4 1 1 1 1 1 500) (result_of 0 1 2 0 2 (on_lists cut_coords (9 ∷ 8 ∷ 1 ∷ 2 ∷ []) (4 ∷ []) (11 ∷ []) (7 ∷ []) (0 ∷ []) (0 ∷ []) (replicate 500 0))))
     ∷ overlay (case 4 9 square strip (fives 20 12 2 2 2 2 2 500) (result_of 0 2 2 0 2
     (on_lists cut_coords (3 ∷ 0 ∷ 8 ∷ 9 ∷ 7 ∷ 9 ∷ 2 ∷ 1 ∷ 8 ∷ 4 ∷ 5 ∷ 6 ∷ []) (4 ∷ 12 ∷ []) (11 ∷ 11 ∷ []) (7 ∷ 0 ∷ []) (0 ∷ 1 ∷ []) (0 ∷ 0 ∷ []) (replicate 500 0))))
-    -- W5: of four new points Difference's one piece names two; the two where the cutter's cells meet belong to dropped pieces only
+    -- W5: of four new points Intersection's two pieces name all, Difference's one names two: the two where the cutter's cells meet belong to dropped pieces only
+    ∷ overlay (case 2 9 square wall (fives 28 8 2 2 2 2 2 560) (result_of 0 2 4 0 4 (on_lists
+    (square_coords ++ -i ∷ -i ∷ i ∷ -i ∷ i_half ∷ -i ∷ i_half ∷ iii ∷ i ∷ iii ∷ -i ∷ iii ∷ i ∷ o ∷ i_half ∷ o ∷ i ∷ ii ∷ i_half ∷ ii ∷ [])
+    (3 ∷ 0 ∷ 10 ∷ 12 ∷ 12 ∷ 10 ∷ 11 ∷ 13 ∷ []) (4 ∷ 8 ∷ []) (11 ∷ 11 ∷ []) (7 ∷ 7 ∷ []) (0 ∷ 0 ∷ []) (0 ∷ 0 ∷ []) (replicate 560 0))))
     ∷ overlay (case 3 9 square wall (fives 28 4 1 1 1 1 1 560) (result_of 0 1 2 0 4 (on_lists
     (square_coords ++ -i ∷ -i ∷ i ∷ -i ∷ i_half ∷ -i ∷ i_half ∷ iii ∷ i ∷ iii ∷ -i ∷ iii ∷ i ∷ o ∷ i_half ∷ o ∷ i ∷ ii ∷ i_half ∷ ii ∷ [])
     (13 ∷ 11 ∷ 1 ∷ 2 ∷ []) (4 ∷ []) (11 ∷ []) (7 ∷ []) (0 ∷ []) (0 ∷ []) (replicate 560 0))))
+    -- and of four Intersection names none, where it lists no piece: a strip so thin that no point is found inside the piece that it cuts out
+    ∷ overlay (case 2 9 square hair (fives 22 0 0 0 0 0 0 500) (result_of 0 0 0 0 4 (on_lists
+    (square_coords ++ -i ∷ i ∷ iii ∷ i ∷ iii ∷ i_next ∷ ii ∷ i ∷ ii ∷ i_next ∷ o ∷ i ∷ o ∷ i ∷ []) [] [] [] [] [] [] (replicate 500 0))))
     -- a cell copied
     ∷ overlay (case 1 9 square away (fives 14 7 2 2 2 2 2 500) (result_of 0 2 0 0 0
     (on_lists (o ∷ o ∷ ii ∷ o ∷ ii ∷ ii ∷ o ∷ ii ∷ iii ∷ iii ∷ iv ∷ iii ∷ iv ∷ iv ∷ []) (0 ∷ 1 ∷ 2 ∷ 3 ∷ 4 ∷ 5 ∷ 6 ∷ []) (4 ∷ 7 ∷ []) (8 ∷ 5 ∷ [])
