@@ -28,7 +28,7 @@ enum { DAQWIMAY_SUBJECT = 0, DAQWIMAY_CUTTER = 1 };
 /* Places in the list of counts, and how many there are. */
 enum { DAQWIMAY_PIECES = 0, DAQWIMAY_NEW_POINTS = 1, DAQWIMAY_ADDED_POINTS = 3, DAQWIMAY_COUNTS = 4 };
 
-/* Answers. At 1 to 7 every list keeps its content; at the others but 0 the output lists and the working list are all zero. */
+/* Answers. At 1 to 7 every list but counts keeps its content; at the others but 0 the output lists and the working list are all zero. */
 enum {
     DAQWIMAY_DONE = 0,
     DAQWIMAY_BAD_OPERATION = 1,       /* operation above 5, or meeting limit outside 1..65,536 */

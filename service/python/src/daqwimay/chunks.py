@@ -26,7 +26,8 @@ def overlay_in_chunks(subject: Mesh, cutter: Mesh, operation: Union[Operation, s
     Added points that no piece names are left out, whichever chunk found them: `added_points` is `new_points`.
 
     With `parts` a cell that is cut by too many edges (refusals 9 and 10) is cut in triangles first: its pieces end at their sides too, and
-    nodes on its own sides are not those of its neighbours. `Overlay.parted` has the families of such cells.
+    nodes on its own sides are not those of its neighbours. The triangles' corners that pieces name count as new points too. `Overlay.parted`
+    has the families of such cells.
     """
     if operation_number(operation) not in _SUBJECT_ONLY:
         raise ValueError('in chunks: imprint, intersection, difference and lines; the others cut both meshes')
