@@ -285,36 +285,41 @@ def drawn(panel, frame, colour, by):
 
 
 def legend(colour, by, dashed, dots, rings, twice):
-    x, keys = 0, sorted(colour)
+    """The lines of the legend, and how wide it is."""
+    lines, x, keys = [], 0, sorted(colour)
     if len(keys) > 6:
         words = f'{len(keys)} families' if by == 'family' else f'{len(keys)} cells; a piece has its cell\'s colour and number'
-        yield f'<text x="0" y="11">{words}</text>'
+        lines.append(f'<text x="0" y="11">{words}</text>')
         keys, x = [(1, '')] * (by == 'parent' and keys[-1][0]), max(110, 7 * len(words))
     for key in keys:
         name = f'family {key}' if by == 'family' else f'{MESHES[key[0]]} cell {key[1]}'
-        yield f'<rect x="{x}" y="0" width="13" height="13" fill="{colour.get(key, "#ffffff")}" stroke="{LINE}"/>'
+        lines.append(f'<rect x="{x}" y="0" width="13" height="13" fill="{colour.get(key, "#ffffff")}" stroke="{LINE}"/>')
         if by == 'parent' and key[0] == 1:
-            yield f'<rect x="{x}" y="0" width="13" height="13" fill="url(#hatch)"/>'
-        yield f'<text x="{x + 19}" y="11">{name}</text>'
+            lines.append(f'<rect x="{x}" y="0" width="13" height="13" fill="url(#hatch)"/>')
+        lines.append(f'<text x="{x + 19}" y="11">{name}</text>')
         x += 34 + 7 * len(name)
     if dashed:
-        yield f'<path d="M{x} 7h26" stroke="{DASH}" stroke-width="1.2" stroke-dasharray="5 3"/><text x="{x + 32}" y="11">cutter</text>'
+        lines.append(f'<path d="M{x} 7h26" stroke="{DASH}" stroke-width="1.2" stroke-dasharray="5 3"/><text x="{x + 32}" y="11">cutter</text>')
         x += 90
     if dots:
-        yield f'<circle cx="{x + 4}" cy="7" r="2.6" fill="{DOT}"/><text x="{x + 13}" y="11">new point</text>'
+        lines.append(f'<circle cx="{x + 4}" cy="7" r="2.6" fill="{DOT}"/><text x="{x + 13}" y="11">new point</text>')
         x += 100
     if rings:
-        yield f'<circle cx="{x + 4}" cy="7" r="2.6" {RING}/><text x="{x + 13}" y="11">added, in no piece</text>'
+        lines.append(f'<circle cx="{x + 4}" cy="7" r="2.6" {RING}/><text x="{x + 13}" y="11">added, in no piece</text>')
         x += 150
     if twice:
-        yield f'<path d="M{x} 7h26" stroke="{DASH}" stroke-width="2.6"/><text x="{x + 32}" y="11">walked both ways</text>'
+        lines.append(f'<path d="M{x} 7h26" stroke="{DASH}" stroke-width="2.6"/><text x="{x + 32}" y="11">walked both ways</text>')
+        x += 150
+    return lines, x
 
 
 def picture(panels, by):
     colour = by_parent(panels) if by == 'parent' else by_family(panels)
     frame = Frame([q for p in panels for q in used(p)])
     step = round(max(frame.width, *(7 * len(p.title) for p in panels))) + GAP
-    width = max(len(panels) * step + GAP, 330)
+    lines, wide = legend(colour, by, any(p.dashed.cells for p in panels), any(p.points for p in panels), any(p.rings for p in panels),
+                         any(map(ditches, panels)))
+    width = max(len(panels) * step + GAP, GAP + wide, 330)
     height = HEAD + frame.height + FOOT + 10
     yield f'<svg xmlns="http://www.w3.org/2000/svg" width="{width}" height="{height:.0f}" viewBox="0 0 {width} {height:.0f}" font-family="sans-serif" font-size="13" fill="{TEXT}">'
     yield f'<rect width="{width}" height="{height:.0f}" fill="#ffffff"/>'
@@ -325,8 +330,7 @@ def picture(panels, by):
         yield from drawn(panel, frame, colour, by)
         yield '</g>'
     yield f'<g transform="translate({GAP} {HEAD + frame.height + 22:.0f})">'
-    yield from legend(colour, by, any(p.dashed.cells for p in panels), any(p.points for p in panels), any(p.rings for p in panels),
-                      any(map(ditches, panels)))
+    yield from lines
     yield '</g>'
     yield '</svg>'
 

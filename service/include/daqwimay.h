@@ -64,7 +64,8 @@ enum {
  * are kept.
  * counts: as many of these four as it has places, all 0 at a refusal; places behind them are kept.
  *   DAQWIMAY_PIECES         the pieces
- *   DAQWIMAY_NEW_POINTS     the added points that at least one piece names, each once
+ *   DAQWIMAY_NEW_POINTS     the added points that at least one piece names, each once. It was the number of all added points before: who cuts
+ *                           the coordinates by it takes DAQWIMAY_ADDED_POINTS now
  *   2                       0. It was the count of doubled cells: there are none any more, and it stays for readers of old listings
  *   DAQWIMAY_ADDED_POINTS   all added points: more than the new points where INTERSECTION, DIFFERENCE or SYMMETRIC_DIFFERENCE drop all
  *                           pieces that name one, as many for the others

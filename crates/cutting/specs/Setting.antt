@@ -7,7 +7,7 @@ pub record Setting : Type 0 where
   -- W14: a table has an edge once, and an outline that repeats is refused
   pub once : Bool
 
--- document 01 by itself
+-- document 01 by itself, but for what W2 and W5 added to the answer
 abbrev pub base : Setting
 base = record { turning = false; once = false }
 

@@ -143,7 +143,7 @@ module _ (op m : ℕ) (s c : Mesh) (l : Lists) (h : Accepted op m s c l) where
           let (i, j, x, y, on) = corner_of n (omega arith) (omega (arith, b, all_are)) in
           in_named (entries op s c) n (kept_entry op s c i j x y (whole (lies_inside (sc op s c) the_subject (piece_at (sc op s c) the_subject i j))) n on)
 
--- Each entry of the answer's node list is a node of it: both coordinates of the node are listed.
+-- Each entry of the answer's node list names a node that the answer lists, with both its coordinates.
 pub entries_listed : (op m : ℕ) (s c : Mesh) (l : Lists) → Accepted op m s c l
     → (n : ℕ) → Entered (overlay_of op m s c l) n → n < node_count s + node_count c + (overlay_of op m s c l).added
 entries_listed op m s c l h n k =

@@ -42,7 +42,7 @@ unfolding hops
 hops_leave x k [] m = absurd (Memᴰ.not-nil m)
 hops_leave x k (y ∷ ys) m = ((x, y), Memᴰ.head refl, inl refl)
 
--- of two different nodes, a window has either
+-- where a list has the node n and another, one of its windows has n
 windows_touch : (n k : ℕ) (ns : List ℕ) → (n ≡ k → ⊥) → Memᴰ n ns → Memᴰ k ns → Touched n (windows ns)
 windows_touch n k [] d m i = absurd (Memᴰ.not-nil m)
 windows_touch n k (x ∷ xs) d m i = go (Memᴰ.cases_cons m) (Memᴰ.cases_cons i)

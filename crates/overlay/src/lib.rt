@@ -81,8 +81,8 @@ impl Call<'_> {
         })
     }
 
-    // Places all pieces that the operation keeps, each with its tag; as many have a place as there is room for ends. Counts them and the new points, by marks in the
-    // working list: no later stage reads what stands there.
+    // Places all pieces that the operation keeps, each with its tag; as many have a place as there is room for ends. Counts them, all new points, and those that
+    // they name, these by marks in the working list: no later stage reads what stands there.
     // The lists come one by one: a struct of parts of a lent struct's lists isn't covered by the borrow checker.
     #[tactic(auto, using(crate::proofs::Whole::refused_before, refusals::proofs::Numbers::number_positive))]
     fn place(

@@ -16,7 +16,7 @@ use writer::Writer;
 #[derive(Clone, Copy, Debug, PartialEq, Eq)]
 pub struct Full;
 
-// what an overlay counts: the text has doubled cells besides, of which overlay's own `Counts` says nothing, as there are none
+// what the text counts of an overlay: doubled cells too, of which overlay's own `Counts` says nothing, as there are none, and not all new points
 #[derive(Clone, Copy, Debug, PartialEq, Eq)]
 pub struct Counts {
     pub pieces: u32,

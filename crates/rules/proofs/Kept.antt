@@ -309,7 +309,7 @@ module _ (op m : ℕ) (s c : Mesh) (l : Lists) (none : length (doubled_cells op 
       one false h = refl
 
   -- For every operation, meeting limit, meshes and lists: where no cell that the operation cuts was doubled (so no outline repeats), the overlay gives
-  -- the result that it gave before W14, that is the same code, counts and lists.
+  -- the result that it gave before W14, that is the same code, counts (the second one W5's on both sides) and lists.
   pub result_undoubled : (turning : Bool) → overlay_with (record { turning = turning; once = true }) op m s c l ≡ overlay_with (record { turning = turning; once = false }) op m s c l
   result_undoubled turning =
       overlay_as (record { turning = turning; once = true }) (record { turning = turning; once = false }) op m s c l
@@ -326,7 +326,7 @@ module _ (op m : ℕ) (s c : Mesh) (l : Lists) where
   pub result_kept : length (doubled_cells op s c) ≡ 0 → ((overlay_with base op m s c l).code ≡ 11 → ⊥) → overlay_of op m s c l ≡ overlay_with base op m s c l
   result_kept none h = result_undoubled op m s c l none true ∙ result_turned false op m s c l h
 
-  -- So an overlay that document 01 by itself accepts with the third count 0 keeps its answer, whole.
+  -- So an overlay that document 01 by itself accepts with the third count 0 keeps its answer, whole; the second count is W5's on both sides.
   pub accepted_kept : AcceptedWith base op m s c l → (overlay_with base op m s c l).doubled ≡ 0 → overlay_of op m s c l ≡ overlay_with base op m s c l
   unfolding answered_with
   accepted_kept h d = result_kept (sym (ap (λ (r : Result). r.doubled) (accepted base op m s c l h).answer) ∙ d) (λ e. omega (arith, h, e))

@@ -145,7 +145,7 @@ listing_text bs ps pieces points doubled = listing_word ++ (nodes_text bs ++ (pi
 unfoldable pub refused_text : ℕ → List ℕ
 refused_text n = refused_word ++ (decimal n ++ close)
 
--- what the program answers: an overlay with its pieces, new points and doubled cells counted
+-- what the program answers: an overlay with its pieces, the new points that they name (W5) and doubled cells counted
 pub data Answer : Type 0 where
   unread : Answer
   refused : ℕ → Answer

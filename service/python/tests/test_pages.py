@@ -65,6 +65,17 @@ def test_pictures_of_listings(tmp_path, name, picture, title, options):
     assert alone.count(dot) == both.count(dot) and ring not in alone and (ring in both) == (name == 'points')
 
 
+def test_legend_is_whole(tmp_path):
+    """A picture is as wide as its legend, however narrow what it shows."""
+    given, out = ROOT / 'crates' / 'overlay_cases' / 'data' / 'w2-038-twice1-op2.in', tmp_path / 'answer.out'
+    out.write_text(answer(given.read_bytes()))
+    lines = drawn(given, out).splitlines()
+    width = int(re.search(r' width="(\d+)"', lines[0])[1])
+    at = int(re.search(r'translate\((\d+) ', next(line for line in reversed(lines) if '<g ' in line))[1])
+    words = re.findall(r'<text x="(\d+)" y="11">([^<]*)</text>', '\n'.join(lines))
+    assert len(words) > 1 and all(at + int(x) + 6 * len(word) <= width for x, word in words)
+
+
 def test_links_lead_somewhere():
     for page, folder in ((PAGE, ROOT / 'docs'), (README, HERE)):
         for link in re.findall(r'\]\(([^)#:]+)\)', page):
