@@ -98,11 +98,11 @@ module _ (u v : Setting) (op m : ℕ) (s c : Mesh) (l : Lists) where
 
 -- es goes as far as a stop 11, and fs as far as there the same way
 record Parted (es fs : List Event) : Type 0 where
-  before : List Event
+  common : List Event
   left : List Event
   right : List Event
-  here : es ≡ before ++ stop 11 ∷ left
-  there : fs ≡ before ++ right
+  here : es ≡ common ++ stop 11 ∷ left
+  there : fs ≡ common ++ right
 
 abbrev Until : List Event → List Event → Type 0
 Until es fs = (es ≡ fs) ⊎ Parted es fs
@@ -110,18 +110,18 @@ Until es fs = (es ≡ fs) ⊎ Parted es fs
 until_append : (es fs es' fs' : List Event) → Until es fs → Until es' fs' → Until (es ++ es') (fs ++ fs')
 until_append es fs es' fs' (inl e) (inl e') = inl (ap₂ (λ (x y : List Event). x ++ y) e e')
 until_append es fs es' fs' (inl e) (inr d) = inr (record {
-  before = es ++ d.before;
+  common = es ++ d.common;
   left = d.left;
   right = d.right;
-  here = ap (λ (x : List Event). es ++ x) d.here ∙ sym (append_assoc es d.before (stop 11 ∷ d.left));
-  there = ap₂ (λ (x y : List Event). x ++ y) (sym e) d.there ∙ sym (append_assoc es d.before d.right);
+  here = ap (λ (x : List Event). es ++ x) d.here ∙ sym (append_assoc es d.common (stop 11 ∷ d.left));
+  there = ap₂ (λ (x y : List Event). x ++ y) (sym e) d.there ∙ sym (append_assoc es d.common d.right);
 })
 until_append es fs es' fs' (inr d) h = inr (record {
-  before = d.before;
+  common = d.common;
   left = d.left ++ es';
   right = d.right ++ fs';
-  here = ap (λ (x : List Event). x ++ es') d.here ∙ append_assoc d.before (stop 11 ∷ d.left) es';
-  there = ap (λ (x : List Event). x ++ fs') d.there ∙ append_assoc d.before d.right fs';
+  here = ap (λ (x : List Event). x ++ es') d.here ∙ append_assoc d.common (stop 11 ∷ d.left) es';
+  there = ap (λ (x : List Event). x ++ fs') d.there ∙ append_assoc d.common d.right fs';
 })
 
 until_gathered : (n : ℕ) (f g : ℕ → List Event) → ((i : ℕ) → Until (f i) (g i)) → Until (gathered n f) (gathered n g)
@@ -156,7 +156,7 @@ first_until : (es fs : List Event) (m p q n : ℕ) → Until es fs → (first_re
 first_until es fs m p q n (inl e) h = ap (first_refusal m p q n) (sym e)
 first_until es fs m p q n (inr d) h =
     let first = first_refusal m p q n in
-    ap first d.there ∙ first_before d.before d.left d.right m p q n (λ e. h (ap first d.here ∙ e)) ∙ ap first (sym d.here)
+    ap first d.there ∙ first_before d.common d.left d.right m p q n (λ e. h (ap first d.here ∙ e)) ∙ ap first (sym d.here)
 
 -- ---- W1: a walk may turn back, or not
 
