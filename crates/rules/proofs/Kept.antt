@@ -190,7 +190,7 @@ module _ (once : Bool) (op m : ℕ) (s c : Mesh) (l : Lists) where
   cut_until w i = go (cell_turned once scene w i)
     where
       go : (outcome_with forth scene w i ≡ refusal 11) ⊎ (outcome_with back scene w i ≡ outcome_with forth scene w i) → Until (cut forth w i) (cut back w i)
-      go (inl e) = inr (record { before = []; left = []; right = cut back w i; here = ap (λ (x : Outcome). of_cell x (kept_with forth scene w op i)) e; there = refl })
+      go (inl e) = inr (record { common = []; left = []; right = cut back w i; here = ap (λ (x : Outcome). of_cell x (kept_with forth scene w op i)) e; there = refl })
       go (inr e) = inl (sym (cut_as back forth op m s c l w i e))
 
   over_until : (w : Side) → Until (over_cells op scene w (cut forth w)) (over_cells op scene w (cut back w))
