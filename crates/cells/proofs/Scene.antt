@@ -10,7 +10,7 @@ use Rattle.lists.proofs.Regions.{take_front}
 use Rattle.cutting.specs.Edges.{Edge, edge_at, same_key, ring}
 use Rattle.cutting.specs.Cell.{Laid, outline_darts, cell_table}
 use Rattle.cutting.specs.declared.Slot.{Slot}
-use Rattle.cutting.specs.Setting.{ours}
+use Rattle.cutting.specs.Edition.{ours}
 use Rattle.cutting.specs.Outcome as Outcome
 use Rattle.cutting.specs.Outcome.{Outcome, pieces, refusal, cut_outcome, copied_outcome, flat}
 use Rattle.rules.specs.Mesh.{Side, other}

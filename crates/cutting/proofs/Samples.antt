@@ -13,7 +13,7 @@ use Rattle.exact.specs.Angle.{angles}
 use Rattle.exact.specs.Exact.{coord, mag, sign, ordered}
 use Rattle.plane.specs.Plane.{between, point_at}
 use Rattle.cutting.specs.Edges.{Edge, hops, ring, rings, times}
-use Rattle.cutting.specs.Setting.{Setting, base, ours}
+use Rattle.cutting.specs.Edition.{Edition, base, ours}
 use Rattle.cutting.specs.Cell.{
   Laid,
   darts_along,
@@ -68,7 +68,7 @@ abbrev whole : List Laid
 whole = laid 0 1 [] ∷ laid 1 2 [] ∷ laid 2 3 [] ∷ laid 3 0 [] ∷ []
 
 -- what a cell comes to by a setting, and whether it is doubled
-unfoldable cut : Setting → List Float → List Laid → List Laid → Outcome × Bool
+unfoldable cut : Edition → List Float → List Laid → List Laid → Outcome × Bool
 unfolding outline_darts own_darts darts_along joined hops is_new new_to first seek near_darts inner_with edge_slots table stands cell_table_with insert sort_onto angles
     coord mag sign ordered between point_at sub of_bits tally doubled slot next_open begin rest onward arrive follow step walk_steps starts walk_from walk_with all
     passing times ring rings among repeats closes_up cut_outcome_with

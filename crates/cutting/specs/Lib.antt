@@ -1,5 +1,5 @@
 pub mod Edges
-pub mod Setting
+pub mod Edition
 pub mod Cell
 pub mod Walk
 pub mod Outcome

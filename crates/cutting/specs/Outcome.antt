@@ -2,7 +2,7 @@
 use Rattle.std.specs.Prelude.{Bool, true, cond, not, ◌&&◌, ◌||◌, List, [], ◌∷◌, ◌++◌, ℕ, ◌+◌, ltb, length}
 use Rattle.lists.specs.Gather.{all}
 use Rattle.cutting.specs.Edges.{Edge, ring, rings, times}
-use Rattle.cutting.specs.Setting.{Setting, ours}
+use Rattle.cutting.specs.Edition.{Edition, ours}
 use Rattle.cutting.specs.Cell.{repeats, doubled}
 use Rattle.cutting.specs.declared.Slot.{Slot}
 use Rattle.cutting.specs.Walk.{Next, more, closed, stuck, broken, walk_with}
@@ -39,7 +39,7 @@ abbrev pub too_many : ℕ → Bool
 too_many n = ltb 1024 n
 
 -- what a cut cell comes to: 19, 10, 11 or its pieces
-unfoldable pub cut_outcome_with : Setting → List Edge → List Slot → Outcome
+unfoldable pub cut_outcome_with : Edition → List Edge → List Slot → Outcome
 cut_outcome_with v outline t =
     cond (v.once && repeats outline) (refusal 19)
     (cond (too_many (length t)) (refusal 10)

@@ -11,7 +11,7 @@ use Rattle.std.specs.Prelude.{Result, Ok, Err, IfOk, OnOk}
 use Rattle.lists.specs.Search.{bit}
 use Rattle.lists.specs.Gather.{passing}
 use Rattle.lists.proofs.Gather.{length_passing, tally_le}
-use Rattle.cutting.specs.Setting.{ours}
+use Rattle.cutting.specs.Edition.{ours}
 use Rattle.cutting.specs.Outcome as Outcome
 use Rattle.cutting.specs.Outcome.{Outcome, refusal, pieces}
 use Rattle.entry.specs.Mesh.{Rising}

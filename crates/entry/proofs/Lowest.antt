@@ -14,9 +14,10 @@ use Rattle.refusals.specs.Numbers.{number}
 use Rattle.refusals.specs.contracts.RefusalOrd.TheImpl as order
 use Rattle.refusals.proofs.Numbers.{number_positive}
 use Rattle.refusals.proofs.Order.{lower_number}
+use Rattle.settings.specs.declared.Settings.{Settings}
 use Rattle.entry.specs.Mesh.{Mesh, node_count}
-use Rattle.entry.specs.Refused.{call_ok, shape_ok, coords_ok, kinds_ok, nodes_ok, cells_ok, work_ok, entry_of}
-use Rattle.entry.specs.ByMesh.{mesh_refusal, lower_refusal}
+use Rattle.entry.specs.Refused.{call_ok, grid_ok, shape_ok, coords_ok, kinds_ok, nodes_ok, cells_ok, work_ok, entry_of}
+use Rattle.entry.specs.ByMesh.{settings_refusal, mesh_refusal, lower_refusal}
 
 -- none, or above k
 abbrev Over : ℕ → ℕ → Type 0
@@ -100,33 +101,55 @@ lower_two r s e =
     ap number e ∙ lower_number r s
     ∙ sym (rw (ne_eqb (number r) 0 (λ z. omega (arith, z, number_positive r)), ne_eqb (number s) 0 (λ z. omega (arith, z, number_positive s))))
 
+-- the tests 1 and 13, then z
+settings_end : (a b : Bool) (z : ℕ) → cond (not a) 1 (cond (not b) 13 z) ≡ cond (eqb (cond (not a) 1 (cond (not b) 13 0)) 0) z (cond (not a) 1 (cond (not b) 13 0))
+settings_end false b z = refl
+settings_end true false z = refl
+settings_end true true z = refl
+
 -- ---- the entry's answers
 
-module _ (op m : ℕ) (s c : Mesh) (w : ℕ) where
-  by_mesh : entry_of op m s c w ≡ cond (not (call_ok op m)) 1
-      (cond (eqb (lower_refusal (mesh_refusal false s) (mesh_refusal (eqb op 5) c)) 0) (cond (not (work_ok m s c w)) 7 0) (lower_refusal (mesh_refusal false s) (mesh_refusal (eqb op 5) c)))
-  unfolding entry_of mesh_refusal
-  by_mesh = ap (λ (x : ℕ). cond (not (call_ok op m)) 1 x)
-      (chain_end (shape_ok s && shape_ok c) (coords_ok s.coords && coords_ok c.coords) (kinds_ok false s.kinds s.ends && kinds_ok (eqb op 5) c.kinds c.ends)
-      (nodes_ok s.nodes (node_count s) && nodes_ok c.nodes (node_count c)) (cells_ok s.nodes s.ends && cells_ok c.nodes c.ends) (cond (not (work_ok m s c w)) 7 0)
-      ∙ ap (λ (x : ℕ). cond (eqb x 0) (cond (not (work_ok m s c w)) 7 0) x)
-      (sym (lower_chain (shape_ok s) (coords_ok s.coords) (kinds_ok false s.kinds s.ends) (nodes_ok s.nodes (node_count s)) (cells_ok s.nodes s.ends)
-      (shape_ok c) (coords_ok c.coords) (kinds_ok (eqb op 5) c.kinds c.ends) (nodes_ok c.nodes (node_count c)) (cells_ok c.nodes c.ends))))
+pub at_call : (o : Settings) → call_ok o.op o.m ≡ false → settings_refusal o ≡ 1
+unfolding settings_refusal
+at_call o h = rw h
 
+pub at_grid : (o : Settings) → call_ok o.op o.m ≡ true → grid_ok o.grid ≡ false → settings_refusal o ≡ 13
+unfolding settings_refusal
+at_grid o call h = rw (call, h)
+
+pub settings_passed : (o : Settings) → call_ok o.op o.m ≡ true → grid_ok o.grid ≡ true → settings_refusal o ≡ 0
+unfolding settings_refusal
+settings_passed o call h = rw (call, h)
+
+module _ (o : Settings) (s c : Mesh) (w : ℕ) where
   -- the lower of what the two meshes are refused for
   abbrev pub of_meshes : ℕ
-  of_meshes = lower_refusal (mesh_refusal false s) (mesh_refusal (eqb op 5) c)
+  of_meshes = lower_refusal (mesh_refusal false s) (mesh_refusal (eqb o.op 5) c)
 
-  pub at_call : call_ok op m ≡ false → entry_of op m s c w ≡ 1
-  at_call h = by_mesh ∙ rw h
+  abbrev room : ℕ
+  room = 16 * ((node_count s + node_count c) + (length s.nodes + length c.nodes) + o.m) + 64
 
-  pub at_mesh : call_ok op m ≡ true → (of_meshes ≡ 0 → ⊥) → entry_of op m s c w ≡ of_meshes
-  at_mesh call h = by_mesh ∙ rw (call, ne_eqb of_meshes 0 h)
+  by_mesh : entry_of o s c w ≡ cond (eqb (settings_refusal o) 0) (cond (eqb of_meshes 0) (cond (not (work_ok o.m s c w)) 7 0) of_meshes) (settings_refusal o)
+  unfolding entry_of settings_refusal mesh_refusal
+  by_mesh =
+      settings_end (call_ok o.op o.m) (grid_ok o.grid) _
+      ∙ ap (λ (x : ℕ). cond (eqb (settings_refusal o) 0) x (settings_refusal o))
+      (chain_end (shape_ok s && shape_ok c) (coords_ok s.coords && coords_ok c.coords) (kinds_ok false s.kinds s.ends && kinds_ok (eqb o.op 5) c.kinds c.ends)
+      (nodes_ok s.nodes (node_count s) && nodes_ok c.nodes (node_count c)) (cells_ok s.nodes s.ends && cells_ok c.nodes c.ends) (cond (not (work_ok o.m s c w)) 7 0)
+      ∙ ap (λ (x : ℕ). cond (eqb x 0) (cond (not (work_ok o.m s c w)) 7 0) x)
+      (sym (lower_chain (shape_ok s) (coords_ok s.coords) (kinds_ok false s.kinds s.ends) (nodes_ok s.nodes (node_count s)) (cells_ok s.nodes s.ends)
+      (shape_ok c) (coords_ok c.coords) (kinds_ok (eqb o.op 5) c.kinds c.ends) (nodes_ok c.nodes (node_count c)) (cells_ok c.nodes c.ends))))
 
-  pub at_work : call_ok op m ≡ true → of_meshes ≡ 0 → w < 16 * ((node_count s + node_count c) + (length s.nodes + length c.nodes) + m) + 64 → entry_of op m s c w ≡ 7
+  pub at_settings : (settings_refusal o ≡ 0 → ⊥) → entry_of o s c w ≡ settings_refusal o
+  at_settings h = by_mesh ∙ rw (ne_eqb (settings_refusal o) 0 h)
+
+  pub at_mesh : settings_refusal o ≡ 0 → (of_meshes ≡ 0 → ⊥) → entry_of o s c w ≡ of_meshes
+  at_mesh set h = by_mesh ∙ rw (eq-eqb (settings_refusal o) 0 set, ne_eqb of_meshes 0 h)
+
+  pub at_work : settings_refusal o ≡ 0 → of_meshes ≡ 0 → w < room → entry_of o s c w ≡ 7
   unfolding work_ok
-  at_work call h l = by_mesh ∙ rw (call, eq-eqb of_meshes 0 h, lt-leb (16 * ((node_count s + node_count c) + (length s.nodes + length c.nodes) + m) + 64) w l)
+  at_work set h l = by_mesh ∙ rw (eq-eqb (settings_refusal o) 0 set, eq-eqb of_meshes 0 h, lt-leb room w l)
 
-  pub passed_all : call_ok op m ≡ true → of_meshes ≡ 0 → 16 * ((node_count s + node_count c) + (length s.nodes + length c.nodes) + m) + 64 ≤ w → entry_of op m s c w ≡ 0
+  pub passed_all : settings_refusal o ≡ 0 → of_meshes ≡ 0 → room ≤ w → entry_of o s c w ≡ 0
   unfolding work_ok
-  passed_all call h l = by_mesh ∙ rw (call, eq-eqb of_meshes 0 h, le-leb (16 * ((node_count s + node_count c) + (length s.nodes + length c.nodes) + m) + 64) w l)
+  passed_all set h l = by_mesh ∙ rw (eq-eqb (settings_refusal o) 0 set, eq-eqb of_meshes 0 h, le-leb room w l)

@@ -16,8 +16,10 @@ use Rattle.std.proofs.lemmas.List.Folds.{list_all_at, list_any_at}
 use Rattle.lists.specs.Regions.{run}
 use Rattle.lists.proofs.Regions.{length_run, get_or_run}
 use Rattle.lists.proofs.Search.{and_true, every_at}
+use Rattle.std.specs.Prelude.{Option, None, Some}
+use Rattle.settings.specs.declared.Settings.{Settings}
 use Rattle.entry.specs.Mesh.{Mesh, node_count, prior, cell_size}
-use Rattle.entry.specs.Refused.{call_ok, ends_ok, shape_ok, coord_ok, coords_ok, kind_ok, kinds_ok, nodes_ok, absent, cell_ok, cells_ok, work_ok, entry_of}
+use Rattle.entry.specs.Refused.{call_ok, grid_ok, ends_ok, shape_ok, coord_ok, coords_ok, kind_ok, kinds_ok, nodes_ok, absent, cell_ok, cells_ok, work_ok, entry_of}
 use Rattle.entry.specs.ByMesh.{mesh_refusal}
 use Rattle.entry.specs.Passed.{Placed, Sound, Passed}
 use Rattle.entry.proofs.Ends.{end_at, end_last}
@@ -234,27 +236,45 @@ pub call_beyond : (op m : ℕ) → 65536 < m → call_ok op m ≡ false
 unfolding call_ok
 call_beyond op m h = rw (lt-leb m 65536 h, and-false)
 
-pub passed : (op m : ℕ) (s c : Mesh) (w : ℕ) → entry_of op m s c w ≡ 0 → Passed op m s c w
+pub grid_beyond : (k : ℕ) → 10 < k → grid_ok (Some k) ≡ false
+unfolding grid_ok
+grid_beyond k h = lt-leb k 10 h
+
+pub grid_within : (k : ℕ) → k ≤ 10 → grid_ok (Some k) ≡ true
+unfolding grid_ok
+grid_within k h = le-leb k 10 h
+
+pub no_grid : grid_ok None ≡ true
+unfolding grid_ok
+no_grid = refl
+
+grid_most : (g : Option ℕ) → grid_ok g ≡ true → (k : ℕ) → g ≡ Some k → k ≤ 10
+unfolding grid_ok
+grid_most g h k e = leb-true k 10 (ap grid_ok (sym e) ∙ h)
+
+pub passed : (o : Settings) (s c : Mesh) (w : ℕ) → entry_of o s c w ≡ 0 → Passed o s c w
 unfolding entry_of work_ok
-passed op m s c w h =
-    let one = asked (call_ok op m) 0 _ h in
-    let two = asked (shape_ok s && shape_ok c) 1 _ one.1 in
+passed o s c w h =
+    let one = asked (call_ok o.op o.m) 0 _ h in
+    let thirteen = asked (grid_ok o.grid) 12 _ one.1 in
+    let two = asked (shape_ok s && shape_ok c) 1 _ thirteen.1 in
     let three = asked (coords_ok s.coords && coords_ok c.coords) 2 _ two.1 in
-    let four = asked (kinds_ok false s.kinds s.ends && kinds_ok (eqb op 5) c.kinds c.ends) 3 _ three.1 in
+    let four = asked (kinds_ok false s.kinds s.ends && kinds_ok (eqb o.op 5) c.kinds c.ends) 3 _ three.1 in
     let five = asked (nodes_ok s.nodes (node_count s) && nodes_ok c.nodes (node_count c)) 4 _ four.1 in
     let six = asked (cells_ok s.nodes s.ends && cells_ok c.nodes c.ends) 5 _ five.1 in
-    let seven = asked (work_ok m s c w) 6 0 six.1 in
-    let call = call_parts op m one.0 in
+    let seven = asked (work_ok o.m s c w) 6 0 six.1 in
+    let call = call_parts o.op o.m one.0 in
     let shapes = and_true (shape_ok s) (shape_ok c) two.0 in
     let places = and_true (coords_ok s.coords) (coords_ok c.coords) three.0 in
-    let kinds = and_true (kinds_ok false s.kinds s.ends) (kinds_ok (eqb op 5) c.kinds c.ends) four.0 in
+    let kinds = and_true (kinds_ok false s.kinds s.ends) (kinds_ok (eqb o.op 5) c.kinds c.ends) four.0 in
     let numbers = and_true (nodes_ok s.nodes (node_count s)) (nodes_ok c.nodes (node_count c)) five.0 in
     let cells = and_true (cells_ok s.nodes s.ends) (cells_ok c.nodes c.ends) six.0 in
     record {
       operation = call.0;
       least = call.1;
       most = call.2;
+      grid = grid_most o.grid thirteen.0;
       subject = sound false s shapes.0 places.0 kinds.0 numbers.0 cells.0;
-      cutter = sound (eqb op 5) c shapes.1 places.1 kinds.1 numbers.1 cells.1;
+      cutter = sound (eqb o.op 5) c shapes.1 places.1 kinds.1 numbers.1 cells.1;
       room = leb-true _ w seven.0;
     }

@@ -1,7 +1,12 @@
--- Refusals 1 to 7 mesh by mesh, as the code goes. `entry_of` is the lowest of them (proofs/Lowest.antt). Assumes nothing.
+-- Refusals 1 to 7 and 13 by the settings and mesh by mesh, as the code goes. `entry_of` is the lowest of them (proofs/Lowest.antt). Assumes nothing.
 use Rattle.std.specs.Prelude.{ℕ, ◌≤◌, Bool, not, cond, leb, eqb, length}
+use Rattle.settings.specs.declared.Settings.{Settings}
 use Rattle.entry.specs.Mesh.{Mesh, node_count}
-use Rattle.entry.specs.Refused.{shape_ok, coords_ok, kinds_ok, nodes_ok, cells_ok}
+use Rattle.entry.specs.Refused.{call_ok, grid_ok, shape_ok, coords_ok, kinds_ok, nodes_ok, cells_ok}
+
+-- 1 or 13, by the settings, or 0
+unfoldable pub settings_refusal : Settings → ℕ
+settings_refusal o = cond (not (call_ok o.op o.m)) 1 (cond (not (grid_ok o.grid)) 13 0)
 
 -- the lowest of 2 to 6 that one mesh is refused for, or 0
 unfoldable pub mesh_refusal : Bool → Mesh → ℕ

@@ -1,7 +1,8 @@
 -- What the later stages may take for granted of an overlay that the entry lets pass. Assumes nothing.
-use Rattle.std.specs.Prelude.{◌≡◌, Bool, true, false, ◌⊎◌, ℕ, ◌+◌, ◌*◌, ◌^◌, ◌≤◌, ◌<◌, eqb, length, get_or, ℤ, Float}
+use Rattle.std.specs.Prelude.{◌≡◌, Bool, true, false, ◌⊎◌, ℕ, ◌+◌, ◌*◌, ◌^◌, ◌≤◌, ◌<◌, eqb, length, get_or, ℤ, Float, Some}
 use Rattle.std.specs.Float.{nan, fin}
 use Rattle.std.specs.Float.Ieee.{up, down}
+use Rattle.settings.specs.declared.Settings.{Settings}
 use Rattle.entry.specs.Mesh.{Mesh, node_count, prior, cell_size}
 
 -- finite, at most 2^40 in size, not −0
@@ -40,10 +41,11 @@ pub record Sound (lines : Bool) (m : Mesh) : Type 0 where
   -- 6
   pub once : (i j k : ℕ) → i < length m.ends → j < k → k < cell_size m.ends i → get_or m.nodes (prior m.ends i + j) 0 ≡ get_or m.nodes (prior m.ends i + k) 0 → ⊥
 
-pub record Passed (op m : ℕ) (s c : Mesh) (w : ℕ) : Type 0 where
-  pub operation : op ≤ 5
-  pub least : 1 ≤ m
-  pub most : m ≤ 65536
+pub record Passed (o : Settings) (s c : Mesh) (w : ℕ) : Type 0 where
+  pub operation : o.op ≤ 5
+  pub least : 1 ≤ o.m
+  pub most : o.m ≤ 65536
+  pub grid : (k : ℕ) → o.grid ≡ Some k → k ≤ 10
   pub subject : Sound false s
-  pub cutter : Sound (eqb op 5) c
-  pub room : 16 * ((node_count s + node_count c) + (length s.nodes + length c.nodes) + m) + 64 ≤ w
+  pub cutter : Sound (eqb o.op 5) c
+  pub room : 16 * ((node_count s + node_count c) + (length s.nodes + length c.nodes) + o.m) + 64 ≤ w

@@ -1,15 +1,21 @@
--- "Refused because of the input", 1 to 7, in document 01's order: what each of them lets pass. Assumes nothing.
-use Rattle.std.specs.Prelude.{ℕ, ◌+◌, ◌*◌, ◌%◌, ◌^◌, Bool, true, false, ◌&&◌, ◌||◌, not, cond, List, length, get_or, take, leb, ltb, eqb, Float}
+-- "Refused because of the input", 1 to 7, in document 01's order, and document 02's 13: what each of them lets pass. Assumes nothing.
+use Rattle.std.specs.Prelude.{ℕ, ◌+◌, ◌*◌, ◌%◌, ◌^◌, Bool, true, false, ◌&&◌, ◌||◌, not, cond, List, length, get_or, take, leb, ltb, eqb, Float, Option, None, Some}
 use Rattle.std.specs.List.{list_all, list_any}
 use Rattle.std.specs.Float.{nan, inf, fin}
 use Rattle.std.specs.Float.Ieee.{up, down}
 use Rattle.lists.specs.Search.{every}
 use Rattle.lists.specs.Regions.{run}
+use Rattle.settings.specs.declared.Settings.{Settings}
 use Rattle.entry.specs.Mesh.{Mesh, node_count, prior, cell_size}
 
 -- 1: the operation, and the meeting limit M within 1..65,536
 unfoldable pub call_ok : ℕ → ℕ → Bool
 call_ok op m = leb op 5 && leb 1 m && leb m 65536
+
+-- W6, 13: "k above 10 where a grid is set, directly after 1"
+unfoldable pub grid_ok : Option ℕ → Bool
+grid_ok None = true
+grid_ok (Some k) = leb k 10
 
 -- 2: each end above the one before (the first: above 0), the last the count of node entries (no cells: no entries)
 unfoldable pub ends_ok : List ℕ → ℕ → Bool
@@ -64,12 +70,13 @@ unfoldable pub work_ok : ℕ → Mesh → Mesh → ℕ → Bool
 work_ok m s c w = leb (16 * ((node_count s + node_count c) + (length s.nodes + length c.nodes) + m) + 64) w
 
 -- the refusal, or 0: "the lowest number wins, whichever mesh". Operation 5's cutter has lines
-unfoldable pub entry_of : ℕ → ℕ → Mesh → Mesh → ℕ → ℕ
-entry_of op m s c w =
-    cond (not (call_ok op m)) 1
+unfoldable pub entry_of : Settings → Mesh → Mesh → ℕ → ℕ
+entry_of o s c w =
+    cond (not (call_ok o.op o.m)) 1
+    (cond (not (grid_ok o.grid)) 13
     (cond (not (shape_ok s && shape_ok c)) 2
     (cond (not (coords_ok s.coords && coords_ok c.coords)) 3
-    (cond (not (kinds_ok false s.kinds s.ends && kinds_ok (eqb op 5) c.kinds c.ends)) 4
+    (cond (not (kinds_ok false s.kinds s.ends && kinds_ok (eqb o.op 5) c.kinds c.ends)) 4
     (cond (not (nodes_ok s.nodes (node_count s) && nodes_ok c.nodes (node_count c))) 5
     (cond (not (cells_ok s.nodes s.ends && cells_ok c.nodes c.ends)) 6
-    (cond (not (work_ok m s c w)) 7 0))))))
+    (cond (not (work_ok o.m s c w)) 7 0)))))))

@@ -4,7 +4,7 @@ ghost use Rattle.refusals.specs.Numbers.{number, refused_with};
 ghost use Rattle.entry.specs.Mesh.{mesh_of};
 ghost use Rattle.entry.specs.Named.{op_number};
 ghost use Rattle.entry.specs.Refused.{entry_of};
-ghost use Rattle.entry.specs.ByMesh.{mesh_refusal, lower_refusal, Few};
+ghost use Rattle.entry.specs.ByMesh.{settings_refusal, mesh_refusal, lower_refusal, Few};
 
 use crate::coords::coords_ok;
 use crate::kinds::kinds_ok;
@@ -12,6 +12,7 @@ use crate::nodes::{cells_ok, nodes_ok};
 use crate::operation::Operation;
 use crate::shape::shape_ok;
 use refusals::Refusal;
+use settings::Settings;
 use views::MeshView;
 
 // Whether a mesh, of lines or of cells, passes 2 to 6. `Few` goes up from check to check: a type of a mesh that passed would be made twice and opened once.
@@ -71,28 +72,38 @@ fn check_both(operation: Operation, subject: &MeshView, cutter: &MeshView) -> Re
     )
 }
 
-// The operation with that number, which C or the text hands over, where nothing is refused because of the input; M is the limit of meetings, `work` the
-// length of the working list.
+// What is set for an overlay, where it may be: the operation by its number, the limit of meetings, the grid.
+#[tactic(auto, using(crate::proofs::Calls::settings_steps))]
+fn check_settings(settings: Settings) -> Result<Operation, Refusal>
+    ensures refusal { refused_with result ≡ settings_refusal settings }
+    ensures operation { IfOk result (λ o. op_number o ≡ settings.op) }
+{
+    let operation = Operation::try_from(settings.op)?;
+    if settings.m < 1 || 65536 < settings.m {
+        return Err(Refusal::Call);
+    }
+    if matches!(settings.grid, Some(k) if 10 < k) {
+        return Err(Refusal::FineGrid);
+    }
+    Ok(operation)
+}
+
+// Whether nothing is refused because of the input; `work` is the length of the working list.
 #[tactic(auto, using(crate::proofs::Calls::entry_steps))]
 pub fn entry(
-    op: u32,
-    m: u32,
+    settings: Settings,
     subject: &MeshView,
     cutter: &MeshView,
     work: usize,
-) -> Result<Operation, Refusal>
-    ensures refusal { refused_with result ≡ entry_of op m (mesh_of subject.now) (mesh_of cutter.now) work }
-    ensures operation { IfOk result (λ o. op_number o ≡ op) }
+) -> Result<(), Refusal>
+    ensures { refused_with result ≡ entry_of settings (mesh_of subject.now) (mesh_of cutter.now) work }
 {
-    let operation = Operation::try_from(op)?;
-    if m < 1 || 65536 < m {
-        return Err(Refusal::Call);
-    }
+    let operation = check_settings(settings)?;
     check_both(operation, subject, cutter)?;
     let nodes = subject.coords.len() / 2 + cutter.coords.len() / 2;
     let entries = subject.nodes.len() + cutter.nodes.len();
-    if work < 16 * (nodes + entries + m as usize) + 64 {
+    if work < 16 * (nodes + entries + settings.m as usize) + 64 {
         return Err(Refusal::WorkingList);
     }
-    Ok(operation)
+    Ok(())
 }

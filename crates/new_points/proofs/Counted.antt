@@ -12,7 +12,7 @@ use Rattle.lists.specs.Search.{named, many}
 use Rattle.lists.proofs.Search.{many_all, many_bound, and_true}
 use Rattle.lists.proofs.Gather.{in_list, mem_at, places_at, places_has, places_rise}
 use Rattle.lists.proofs.Members.{named_in, in_named}
-use Rattle.cutting.specs.Setting.{ours}
+use Rattle.cutting.specs.Edition.{ours}
 use Rattle.entry.specs.Mesh.{Mesh, node_count}
 use Rattle.entry.specs.Refused.{entry_of}
 use Rattle.rules.specs.Mesh.{the_subject}

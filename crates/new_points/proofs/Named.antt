@@ -7,7 +7,7 @@ use Prim.Native.Nat.{ℕ, ◌+◌, ◌/◌, ◌≤◌, ◌<◌}
 use native.Mathlib.Omega.{arith}
 use lib.ListN.{length}
 use Rattle.cutting.specs.Edges.{rings}
-use Rattle.cutting.specs.Setting.{ours}
+use Rattle.cutting.specs.Edition.{ours}
 use Rattle.entry.specs.Mesh.{Mesh, node_count}
 use Rattle.rules.specs.Mesh.{Side, the_subject}
 use Rattle.rules.specs.Meetings.{Scene}

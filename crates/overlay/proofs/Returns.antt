@@ -6,7 +6,7 @@ use Rattle.lists.specs.Regions.{zeros}
 use Rattle.refusals.specs.declared.Refusal.{Refusal}
 use Rattle.refusals.specs.Numbers.{number, refused_with}
 use Rattle.refusals.proofs.Numbers.{some_not_zero}
-use Rattle.cutting.specs.Setting.{ours}
+use Rattle.cutting.specs.Edition.{ours}
 use Rattle.entry.specs.Mesh.{Mesh}
 use Rattle.entry.specs.Refused.{entry_of}
 use Rattle.rules.specs.Overlay.{Lists, cleared, state_of, answered, overlay_of}

@@ -7,7 +7,7 @@ use lib.Dec.{eqb}
 use lib.ListN.{length, length-append}
 use borrow.Author.Tests.{ne_eqb}
 use Rattle.lists.specs.Regions.{zeros, fzeros}
-use Rattle.cutting.specs.Setting.{ours}
+use Rattle.cutting.specs.Edition.{ours}
 use Rattle.entry.specs.Mesh.{Mesh, node_count}
 use Rattle.rules.specs.Meetings.{added_by, scene_of}
 use Rattle.rules.specs.Overlay.{Lists, Result as Answered, lent_lists, answered as succeeded, answered_with, overlay_of}

@@ -9,7 +9,7 @@ use lib.Seq.{take-append_seam, drop-append_seam, drop-drop}
 use borrow.Author.Tests.{eq-eqb}
 use Rattle.lists.specs.Regions.{front}
 use Rattle.lists.proofs.Regions.{take_front_of}
-use Rattle.cutting.specs.Setting.{ours}
+use Rattle.cutting.specs.Edition.{ours}
 use Rattle.cutting.specs.Outcome.{flat, stops}
 use Rattle.cutting.proofs.Runs.{stops_length}
 use Rattle.entry.specs.Mesh.{Mesh}

@@ -15,7 +15,7 @@ use Rattle.lists.specs.Regions.{front}
 use Rattle.lists.proofs.Regions.{take_front_of}
 use Rattle.cutting.specs.Outcome.{flat, stops}
 use Rattle.cutting.proofs.Runs.{stops_length}
-use Rattle.cutting.specs.Setting.{ours}
+use Rattle.cutting.specs.Edition.{ours}
 use Rattle.entry.specs.Mesh.{Mesh}
 use Rattle.rules.specs.Operations.{Piece, listing}
 use Rattle.rules.specs.Overlay.{Result, cleared, written, answered as succeeded, answered_with, overlay_of}

@@ -1,9 +1,9 @@
 -- The refusals' numbers. Assumes nothing.
 use Rattle.std.specs.Prelude.{ℕ, Result, Ok, Err}
 use Rattle.refusals.specs.declared.Refusal.{Refusal}
-use Rattle.refusals.specs.declared.Refusal.TheVariants.{Call, Lists, Coordinates, Kinds, NodeNumbers, NodeTwice, WorkingList, TooManyMeetings, CrowdedEdge, FullTable, OpenWalk, NoPlace, RepeatedEdge}
+use Rattle.refusals.specs.declared.Refusal.TheVariants.{Call, Lists, Coordinates, Kinds, NodeNumbers, NodeTwice, WorkingList, TooManyMeetings, CrowdedEdge, FullTable, OpenWalk, NoPlace, FineGrid, RepeatedEdge}
 
--- document 01's number, and 19 for document 02's W14
+-- document 01's number; document 02's 13 (W6) and 19 (W14)
 abbrev pub number : Refusal → ℕ
 number Call = 1
 number Lists = 2
@@ -17,6 +17,7 @@ number CrowdedEdge = 9
 number FullTable = 10
 number OpenWalk = 11
 number NoPlace = 12
+number FineGrid = 13
 number RepeatedEdge = 19
 
 -- Two words for an answer: `by_number` keeps what is answered, `refused_with` is the number alone, as C has it. `numbers` of cells/specs/Cells has it among the

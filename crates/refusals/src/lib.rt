@@ -6,7 +6,7 @@ ghost use Rattle.refusals.specs.Numbers.{number};
 
 use thiserror::Error;
 
-// By the numbers that the rules give them: 1 to 7 are of the input, 8 to 12 and 19 of the state.
+// By the numbers that the rules give them: 1 to 7 and 13 are of the input, 8 to 12 and 19 of the state.
 #[derive(Clone, Copy, Debug, PartialEq, Eq, PartialOrd, Ord, Error)]
 pub enum Refusal {
     #[error("no such operation, or no such limit of meetings")]
@@ -33,6 +33,8 @@ pub enum Refusal {
     OpenWalk = 11,
     #[error("an output list has no place for the next item")]
     NoPlace = 12,
+    #[error("the survey grid is finer than 1/2^10")]
+    FineGrid = 13,
     #[error("a cell's outline repeats an edge, or has one from a node to itself")]
     RepeatedEdge = 19,
 }

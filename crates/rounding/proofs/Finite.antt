@@ -16,7 +16,7 @@ use Rattle.lists.proofs.Regions.{front_in}
 use Rattle.exact.specs.Exact.{mag, minus}
 use Rattle.exact.proofs.ExactUnits.{exact_units}
 use Rattle.cutting.specs.Edges.{Edge, edge_at, key}
-use Rattle.cutting.specs.Setting.{ours}
+use Rattle.cutting.specs.Edition.{ours}
 use Rattle.plane.specs.Plane.{is_number, point_at}
 use Rattle.entry.specs.Mesh.{Mesh, node_count}
 use Rattle.entry.specs.Refused.{entry_of}

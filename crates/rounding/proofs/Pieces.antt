@@ -11,7 +11,7 @@ use Rattle.lists.specs.Gather.{joined}
 use Rattle.lists.proofs.Gather.{in_list}
 use Rattle.std.proofs.lemmas.List.{get_or_past}
 use Rattle.cutting.specs.Edges.{Edge, edge_at, ring, rings}
-use Rattle.cutting.specs.Setting.{Setting, ours}
+use Rattle.cutting.specs.Edition.{Edition, ours}
 use Rattle.cutting.specs.Cell.{Laid, or_whole, near_darts, repeats, edge_slots, reverse_mark, table, is_new, new_to, inner_with, stands_before, cell_table_with, doubled}
 use Rattle.cutting.specs.declared.Slot.{Slot}
 use Rattle.cutting.specs.Walk.{Phase, resting, on_slot, State, Next, more, closed, stuck, broken, walk_steps, starts, walk_from, srcs, dsts, walk_with}
@@ -128,7 +128,7 @@ module _ (n : ℕ) (some : 0 < n) where
       pick true = h
       pick false = none_known 11
 
-  cut_known : (v : Setting) (outline : List Edge) (t : List Slot) → Each SlotUnder t → Known (cut_outcome_with v outline t)
+  cut_known : (v : Edition) (outline : List Edge) (t : List Slot) → Each SlotUnder t → Known (cut_outcome_with v outline t)
   unfolding cut_outcome_with
   cut_known v outline t h =
       let x = walk_with v.turning outline t in

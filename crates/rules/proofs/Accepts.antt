@@ -9,7 +9,7 @@ use lib.Dec.{leb}
 use lib.ListN.{length, replicate}
 use Rattle.lists.specs.Gather.{gathered, joined}
 use Rattle.cutting.specs.Edges.{Edge, ring, rings}
-use Rattle.cutting.specs.Setting.{Setting}
+use Rattle.cutting.specs.Edition.{Edition}
 use Rattle.cutting.specs.Cell.{repeats, doubled}
 use Rattle.cutting.specs.declared.Slot.{Slot}
 use Rattle.cutting.specs.Walk.{Next, more, closed, stuck, broken, walk_with}
@@ -28,12 +28,12 @@ use Rattle.rules.proofs.Endings.{Ending, input, state_met, success, ending, inpu
 
 -- ---- an accepted overlay gives the answer, and its state no refusal
 
-pub record Taken (v : Setting) (op m : ℕ) (s c : Mesh) (l : Lists) : Type 0 where
+pub record Taken (v : Edition) (op m : ℕ) (s c : Mesh) (l : Lists) : Type 0 where
   pub entry : entry_of op m s c (length l.work) ≡ 0
   pub answer : overlay_with v op m s c l ≡ answered_with v op s c l
   pub state : state_with v op m s c l ≡ 0
 
-pub accepted : (v : Setting) (op m : ℕ) (s c : Mesh) (l : Lists) → AcceptedWith v op m s c l → Taken v op m s c l
+pub accepted : (v : Edition) (op m : ℕ) (s c : Mesh) (l : Lists) → AcceptedWith v op m s c l → Taken v op m s c l
 accepted v op m s c l h = go (ending v op m s c l)
   where
     -- the code of what an overlay comes to
@@ -145,7 +145,7 @@ abbrev pub Made : Outcome → Type 0
 Made (refusal r) = ⊥
 Made (pieces ps) = Unit {0}
 
-pub sound_cut : (v : Setting) (outline : List Edge) (t : List Slot) → Sound (cut_outcome_with v outline t)
+pub sound_cut : (v : Edition) (outline : List Edge) (t : List Slot) → Sound (cut_outcome_with v outline t)
 unfolding cut_outcome_with
 sound_cut v outline t = go (v.once && repeats outline) (too_many (length t)) (not v.once && doubled t) (walk_with v.turning outline t)
   where
@@ -168,7 +168,7 @@ sound_copy once cell = go (once && repeats (ring cell))
     go true = never 18
     go false = tt
 
-pub sound : (v : Setting) (sc : Scene) (w : Side) (i : ℕ) → Sound (outcome_with v sc w i)
+pub sound : (v : Edition) (sc : Scene) (w : Side) (i : ℕ) → Sound (outcome_with v sc w i)
 unfolding treated
 sound v sc w i = go (near_of sc w i)
   where
@@ -195,7 +195,7 @@ made_cell : (x : Outcome) (ps : List Piece) → Calm (of_cell x ps) → Made x
 made_cell (refusal r) ps h = h
 made_cell (pieces qs) ps h = tt
 
-module _ (v : Setting) (op : ℕ) (s c : Mesh) where
+module _ (v : Edition) (op : ℕ) (s c : Mesh) where
   abbrev sc : Scene
   sc = scene_for op s c
 

@@ -16,7 +16,7 @@ use Rattle.polygons.specs.Code.{inner_code}
 use Rattle.cutting.specs.Edges.{Edge, ring}
 use Rattle.cutting.specs.Cell.{Laid, stands_before, cell_table}
 use Rattle.cutting.specs.declared.Slot.{Slot}
-use Rattle.cutting.specs.Setting.{Setting, base}
+use Rattle.cutting.specs.Edition.{Edition, base}
 use Rattle.cutting.specs.Outcome.{Outcome, refusal, pieces, cut_outcome, flat, stops}
 use Rattle.cutting.specs.Areas.{doubled_area}
 use Rattle.entry.specs.Mesh.{Mesh}
@@ -39,7 +39,7 @@ use Rattle.segments.specs.declared.Segment.{Segment}
 
 data Row : Type 0 where
   overlay : Case → Row  -- an overlay, lists and all
-  set_to : Setting → Case → Row  -- an overlay by another setting
+  set_to : Edition → Case → Row  -- an overlay by another setting
   meeting_of : Segment → Segment → List ℕ → Row  -- two segments: the number and values of their meeting
   order_of : List ℕ → List ℕ → List ℕ → Row  -- coordinates, and slots at node 0 by their neighbours: the neighbours in order
   inner_of : List ℕ → List ℕ → List ℕ → Row  -- coordinates and a polygon: the number and values of its inner point

@@ -9,7 +9,7 @@ use lib.ListN.{length, length-map}
 use Rattle.lists.specs.Gather.{each}
 use Rattle.lists.proofs.Gather.{length_each}
 use Rattle.cutting.specs.Edges.{Edge}
-use Rattle.cutting.specs.Setting.{ours}
+use Rattle.cutting.specs.Edition.{ours}
 use Rattle.cutting.specs.Cell.{Laid, doubled, repeats}
 use Rattle.cutting.specs.declared.Slot.{Slot}
 use Rattle.cutting.specs.Outcome.{Outcome}

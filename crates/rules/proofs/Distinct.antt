@@ -6,7 +6,7 @@ use Prim.Native.Nat.{ℕ, ◌≤◌, ◌<◌}
 use native.Mathlib.Omega.{arith}
 use lib.ListN.{length, get_or}
 use Rattle.cutting.specs.Edges.{Edge, ring, rings}
-use Rattle.cutting.specs.Setting.{Setting, ours}
+use Rattle.cutting.specs.Edition.{Edition, ours}
 use Rattle.cutting.specs.Cell.{doubled, repeats}
 use Rattle.cutting.specs.declared.Slot.{Slot}
 use Rattle.cutting.specs.Walk.{Next, more, closed, stuck, broken, walk_with}
@@ -36,7 +36,7 @@ after_walk_lem outline b (refusal r) h = tt
 after_walk_lem outline b (pieces ps) h = either (b || closes_up outline (rings ps)) (pieces ps) (refusal 11) h tt
 
 -- so those of a cut cell
-cut_cornered : (v : Setting) (outline : List Edge) (t : List Slot) → Cornered (outcome_pieces (cut_outcome_with v outline t))
+cut_cornered : (v : Edition) (outline : List Edge) (t : List Slot) → Cornered (outcome_pieces (cut_outcome_with v outline t))
 unfolding cut_outcome_with
 cut_cornered v outline t =
     let unasked = not v.once && doubled t in

@@ -5,7 +5,7 @@ use Prim.Native.Nat.{ℕ}
 use lib.Dec.{eqb}
 use lib.ListN.{length}
 use borrow.Author.Tests.{eqb-true, eqb-false, eq-eqb, ne_eqb}
-use Rattle.cutting.specs.Setting.{Setting}
+use Rattle.cutting.specs.Edition.{Edition}
 use Rattle.entry.specs.Mesh.{Mesh}
 use Rattle.entry.specs.Refused.{entry_of}
 use Rattle.rules.specs.Overlay.{Lists, Result, result_of, cleared, answered_with, state_with, overlay_with}
@@ -14,7 +14,7 @@ use Rattle.rules.specs.Overlay.{Lists, Result, result_of, cleared, answered_with
 abbrev pub told : Lists → ℕ → ℕ → Result → Result
 told l entry state answer = cond (eqb entry 0) (cond (eqb state 0) answer (result_of state 0 0 0 0 (cleared l))) (result_of entry 0 0 0 0 l)
 
-module _ (v : Setting) (op m : ℕ) (s c : Mesh) (l : Lists) where
+module _ (v : Edition) (op m : ℕ) (s c : Mesh) (l : Lists) where
   abbrev entry : ℕ
   entry = entry_of op m s c (length l.work)
 

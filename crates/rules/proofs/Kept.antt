@@ -10,7 +10,7 @@ use lib.Dec.{leb}
 use lib.ListN.{length, get_or, replicate, length-append}
 use Rattle.lists.specs.Gather.{gathered, each, passing, joined}
 use Rattle.lists.proofs.Gather.{gathered_ext}
-use Rattle.cutting.specs.Setting.{Setting, base}
+use Rattle.cutting.specs.Edition.{Edition, base}
 use Rattle.cutting.specs.Cell.{doubled}
 use Rattle.cutting.specs.Outcome.{Outcome, refusal}
 use Rattle.cutting.proofs.Turning.{outcome_turned}
@@ -30,7 +30,7 @@ use Rattle.rules.proofs.Accepts.{Made, all_made, accepted}
 
 -- ---- cells that come to the same by two settings
 
-module _ (u v : Setting) (op m : ℕ) (s c : Mesh) (l : Lists) where
+module _ (u v : Edition) (op m : ℕ) (s c : Mesh) (l : Lists) where
   abbrev sc : Scene
   sc = scene_for op s c
 
@@ -65,7 +65,7 @@ module _ (u v : Setting) (op m : ℕ) (s c : Mesh) (l : Lists) where
     unfolding listing_with
     listing_as = ap₂ (λ (xs ys : List Piece). xs ++ ys) (pieces_as the_subject) (pieces_as the_cutter)
 
-    abbrev third : Setting → ℕ
+    abbrev third : Edition → ℕ
     third x = cond x.once 0 (length (doubled_cells op s c))
 
     answer_as : third u ≡ third v → answered_with u op s c l ≡ answered_with v op s c l
@@ -83,7 +83,7 @@ module _ (u v : Setting) (op m : ℕ) (s c : Mesh) (l : Lists) where
         found : List Event
         found = replicate (length (s.coords ++ c.coords) / 2) point ++ joined of_meeting sc.met ++ cond (crowded sc) (stop 9 ∷ []) []
 
-        cut : Setting → Side → ℕ → List Event
+        cut : Edition → Side → ℕ → List Event
         cut x w i = of_cell (outcome_with x sc w i) (kept_with x sc w op i)
 
     state_as : state_with u op m s c l ≡ state_with v op m s c l
@@ -174,16 +174,16 @@ cell_turned once sc w i = go (near_of sc w i)
 
 module _ (once : Bool) (op m : ℕ) (s c : Mesh) (l : Lists) where
   -- with and without turning back
-  abbrev forth : Setting
+  abbrev forth : Edition
   forth = record { turning = false; once = once }
 
-  abbrev back : Setting
+  abbrev back : Edition
   back = record { turning = true; once = once }
 
   abbrev scene : Scene
   scene = scene_for op s c
 
-  abbrev cut : Setting → Side → ℕ → List Event
+  abbrev cut : Edition → Side → ℕ → List Event
   cut v w i = of_cell (outcome_with v scene w i) (kept_with v scene w op i)
 
   cut_until : (w : Side) (i : ℕ) → Until (cut forth w i) (cut back w i)
@@ -196,7 +196,7 @@ module _ (once : Bool) (op m : ℕ) (s c : Mesh) (l : Lists) where
   over_until : (w : Side) → Until (over_cells op scene w (cut forth w)) (over_cells op scene w (cut back w))
   over_until w = go (cuts op w)
     where
-      all : Setting → List Event
+      all : Edition → List Event
       all v = gathered (length (net_of scene w).cells) (cut v w)
 
       go : (t : Bool) → Until (cond t (all forth) []) (cond t (all back) [])
@@ -212,7 +212,7 @@ module _ (once : Bool) (op m : ℕ) (s c : Mesh) (l : Lists) where
       found : List Event
       found = replicate (length (s.coords ++ c.coords) / 2) point ++ joined of_meeting scene.met ++ cond (crowded scene) (stop 9 ∷ []) []
 
-      over : Setting → Side → List Event
+      over : Edition → Side → List Event
       over v w = over_cells op scene w (cut v w)
 
   states : (state_with forth op m s c l ≡ 11 → ⊥) → state_with back op m s c l ≡ state_with forth op m s c l

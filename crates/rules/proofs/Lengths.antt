@@ -12,7 +12,7 @@ use Rattle.lists.specs.Gather.{gathered, joined}
 use Rattle.segments.specs.Meet.{meeting}
 use Rattle.cutting.specs.Edges.{edge_at, Edge}
 use Rattle.cutting.specs.Outcome.{Outcome, refusal, pieces, flat, stops}
-use Rattle.cutting.specs.Setting.{ours}
+use Rattle.cutting.specs.Edition.{ours}
 use Rattle.entry.specs.Mesh.{Mesh}
 use Rattle.rules.specs.Mesh.{Side, the_subject, the_cutter, side_number}
 use Rattle.rules.specs.Neighbours.{Net, subject_net, cutter_net}

@@ -13,7 +13,7 @@ use Rattle.cutting.specs.Walk.{Next}
 use Rattle.cutting.specs.Outcome.{refusal, pieces, of_walk, too_many, cut_outcome}
 use Rattle.cutting.specs.Areas.{Round}
 use Rattle.cutting.proofs.Closing.{round_closes, without_test}
-use Rattle.cutting.specs.Setting.{ours}
+use Rattle.cutting.specs.Edition.{ours}
 use Rattle.entry.specs.Mesh.{Mesh, node_count}
 use Rattle.entry.specs.Refused.{call_ok, shape_ok, coords_ok, kinds_ok, nodes_ok, cells_ok, work_ok, entry_of}
 use Rattle.rules.specs.Mesh.{Side, other}

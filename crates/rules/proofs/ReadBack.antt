@@ -7,7 +7,7 @@ use lib.ListN.{length, get_or, take, drop, length-map, get_or-map}
 use lib.Seq.{take_at, drop-append-add}
 use Rattle.lists.specs.Regions.{front, run}
 use Rattle.cutting.specs.Outcome.{flat, stops}
-use Rattle.cutting.specs.Setting.{ours}
+use Rattle.cutting.specs.Edition.{ours}
 use Rattle.entry.specs.Mesh.{Mesh, prior}
 use Rattle.rules.specs.Mesh.{cell_at, side_number}
 use Rattle.rules.specs.Operations.{Piece, listing}

@@ -2,7 +2,7 @@
 -- and refusals 19, 10 and 11 are the cutting layer's. Assumes nothing.
 use Rattle.std.specs.Prelude.{Bool, true, List, [], ◌∷◌, map, ℕ, get_or}
 use Rattle.cutting.specs.Edges.{Edge, edge_at, ring}
-use Rattle.cutting.specs.Setting.{Setting, ours}
+use Rattle.cutting.specs.Edition.{Edition, ours}
 use Rattle.cutting.specs.Cell.{Laid, outline_darts, cell_table_with, copied_table}
 use Rattle.cutting.specs.declared.Slot.{Slot}
 use Rattle.cutting.specs.Outcome.{Outcome, cut_outcome_with, copied_outcome_with}
@@ -31,7 +31,7 @@ pub record Treated : Type 0 where
   -- "A copied cell's table is that of its own edges"; by whether a table has an edge once
   pub table : Bool → List Slot
   -- "A cell's pieces before any are dropped are all that its walk closes, in that order, or the cell itself where it is copied"; or 19, 10 or 11
-  pub outcome : Setting → Outcome
+  pub outcome : Edition → Outcome
   -- a copied cell keeps its kind, and what is cut out of a cell is a PGON
   pub kind : ℕ
 
@@ -72,8 +72,8 @@ module _ (sc : Scene) (w : Side) (i : ℕ) where
   abbrev pub kind_of : ℕ
   kind_of = treated.kind
 
--- what it comes to, by the setting
-abbrev pub outcome_with : Setting → Scene → Side → ℕ → Outcome
+-- what it comes to, by the edition
+abbrev pub outcome_with : Edition → Scene → Side → ℕ → Outcome
 outcome_with v sc w i = (treated sc w i).outcome v
 
 abbrev pub outcome_of : Scene → Side → ℕ → Outcome

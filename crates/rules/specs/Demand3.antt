@@ -1,8 +1,10 @@
 -- Document 01, "The words of demand 3": they go by what is lent and by the definitions, never by what a working list holds. The theorems stand in
 -- proofs/Demand3.antt. Assumes nothing.
 use Rattle.std.specs.Prelude.{◌⊎◌, ◌≡◌, true, ℕ, ◌<◌, length, get_or}
-use Rattle.cutting.specs.Setting.{Setting}
+use Rattle.cutting.specs.Edition.{Edition}
+use Rattle.grid.specs.Grid.{Grid}
 use Rattle.cutting.specs.Areas.{ClosesUp}
+use Rattle.settings.specs.declared.Settings.{Settings}
 use Rattle.entry.specs.Mesh.{Mesh, mesh}
 use Rattle.rules.specs.Mesh.{cell_at, Side, side_number}
 use Rattle.rules.specs.Meetings.{Scene, net_of}
@@ -11,12 +13,12 @@ use Rattle.rules.specs.Operations.{cuts, keeps, Piece, pieces_of, piece_at, lies
 use Rattle.rules.specs.Overlay.{Lists, Result, overlay_of, overlay_with}
 
 -- "An overlay is accepted where it gives no refusal"
-abbrev pub Accepted : ℕ → ℕ → Mesh → Mesh → Lists → Type 0
-Accepted op m s c l = (overlay_of op m s c l).code ≡ 0
+abbrev pub Accepted : Settings → Mesh → Mesh → Lists → Type 0
+Accepted o s c l = (overlay_of o s c l).code ≡ 0
 
--- by the setting
-abbrev pub AcceptedWith : Setting → ℕ → ℕ → Mesh → Mesh → Lists → Type 0
-AcceptedWith v op m s c l = (overlay_with v op m s c l).code ≡ 0
+-- by the edition
+abbrev pub AcceptedWith : Edition → Settings → Mesh → Mesh → Lists → Type 0
+AcceptedWith v o s c l = (overlay_with v o s c l).code ≡ 0
 
 -- ---- (a) the pieces before any are dropped close up to the outline as cut
 
@@ -35,13 +37,13 @@ pub record Kept (sc : Scene) (op : ℕ) (p : Piece) : Type 0 where
   pub same : p ≡ piece_at sc p.mesh p.cell p.place
   pub passes : keeps op p.mesh (lies_inside sc p.mesh p) ≡ true
 
--- piece k of the operation's listing is p
-pub record ListedAt (p : Piece) (k op : ℕ) (s c : Mesh) : Type 0 where
-  pub below : k < length (listing op s c)
-  pub is : (d : Piece) → get_or (listing op s c) k d ≡ p
+-- piece k of the overlay's listing is p
+pub record ListedAt (p : Piece) (k : ℕ) (o : Settings) (s c : Mesh) : Type 0 where
+  pub below : k < length (listing o s c)
+  pub is : (d : Piece) → get_or (listing o s c) k d ≡ p
 
-abbrev pub Listed : Piece → ℕ → Mesh → Mesh → Type 0
-Listed p op s c = (k : ℕ) × ListedAt p k op s c
+abbrev pub Listed : Piece → Settings → Mesh → Mesh → Type 0
+Listed p o s c = (k : ℕ) × ListedAt p k o s c
 
 -- cell k that a result's lists hold, read as a lent mesh's cells are, has the piece's kind, family and node numbers; W2: and its parent
 abbrev pub answer_mesh : Lists → Mesh
@@ -63,20 +65,24 @@ pub record SamePiece (p q : Piece) : Type 0 where
   pub cell : p.cell ≡ q.cell
   pub place : p.place ≡ q.place
 
--- The answer r of the operation lists the piece "with the kind, family and node numbers that Imprint gives it": at one and the same k the operation's
+-- The answer r of the overlay lists the piece "with the kind, family and node numbers that Imprint gives it": at one and the same k the overlay's
 -- listing has the piece, and r's lists hold them.
-pub record ListedIn (r : Result) (op : ℕ) (s c : Mesh) (p : Piece) : Type 0 where
+pub record ListedIn (r : Result) (o : Settings) (s c : Mesh) (p : Piece) : Type 0 where
   pub at : ℕ
-  pub listed : ListedAt p at op s c
+  pub listed : ListedAt p at o s c
   pub written : WrittenAt r at p
 
--- the operation lists no piece of this cell and place
-abbrev pub Unlisted : Piece → ℕ → Mesh → Mesh → Type 0
-Unlisted p op s c = (q : Piece) → Listed q op s c → SamePiece q p → ⊥
+-- the overlay lists no piece of this cell and place
+abbrev pub Unlisted : Piece → Settings → Mesh → Mesh → Type 0
+Unlisted p o s c = (q : Piece) → Listed q o s c → SamePiece q p → ⊥
 
 -- "one lists it .., and the other doesn't list it"
-abbrev pub InExactlyOne : Piece → Mesh → Mesh → (op : ℕ) → Result → (op' : ℕ) → Result → Type 0
-InExactlyOne p s c op r op' r' = (ListedIn r op s c p × Unlisted p op' s c) ⊎ (ListedIn r' op' s c p × Unlisted p op s c)
+abbrev pub InExactlyOne : Piece → Mesh → Mesh → (o : Settings) → Result → (o' : Settings) → Result → Type 0
+InExactlyOne p s c o r o' r' = (ListedIn r o s c p × Unlisted p o' s c) ⊎ (ListedIn r' o' s c p × Unlisted p o s c)
+
+-- W6: "Imprint is compared with the other two on one grid": the overlay with this operation and meeting limit, on the grid g or none
+abbrev pub on : Grid → (op m : ℕ) → Settings
+on g op m = record { op = op; m = m; grid = g }
 
 -- ---- (b) by the lists alone, since they hold each piece's parent (W2)
 

@@ -2,6 +2,7 @@
 use Rattle.std.specs.Prelude.{Bool, List, [], ◌∷◌, ◌++◌, ℕ, zero, suc, ◌+◌, ◌/◌, length, Float}
 use Rattle.lists.specs.Gather.{joined}
 use Rattle.plane.specs.Plane.{point_at}
+use Rattle.grid.specs.Grid.{Grid, booked}
 use Rattle.segments.specs.Meet.{meeting}
 use Rattle.cutting.specs.Edges.{Edge, edge_at}
 use Rattle.entry.specs.Mesh.{Mesh}
@@ -31,6 +32,17 @@ node_of e f P2 = e.1
 node_of e f P3 = f.0
 node_of e f P4 = f.1
 
+-- W6, the meeting rule where an overlay has a grid: "A new point's coordinates go to the nearest grid number". "The tests against P1 to P4 are made on the
+-- point before rounding", by the geometry layer.
+abbrev pub moved_to : Grid → Meeting → Meeting
+moved_to g Apart = Apart
+moved_to g (Existing p) = Existing p
+moved_to g (New x y) = New (booked g x) (booked g y)
+moved_to g (Overlap p q) = Overlap p q
+
+unfoldable pub meeting_on : Grid → Segment → Segment → Meeting
+meeting_on g s o = moved_to g (meeting s o)
+
 -- the coordinates that meetings add
 abbrev pub added_by : List Met → List Float
 added_by ms = joined (λ m. m.point) ms
@@ -42,14 +54,14 @@ recorded i j next e f (Existing p) = record { subject_edge = i; cutter_edge = j;
 recorded i j next e f (New x y) = record { subject_edge = i; cutter_edge = j; nodes = next ∷ []; point = x ∷ y ∷ [] } ∷ []
 recorded i j next e f (Overlap p q) = record { subject_edge = i; cutter_edge = j; nodes = node_of e f p ∷ node_of e f q ∷ []; point = [] } ∷ []
 
--- "meetings by subject edge, then candidate; new points numbered as found", over both meshes' coordinates and their nets
-module _ (coords : List Float) (s c : Net) where
+-- "meetings by subject edge, then candidate; new points numbered as found", on a grid or none, over both meshes' coordinates and their nets
+module _ (g : Grid) (coords : List Float) (s c : Net) where
   -- behind the meetings ms: that of the subject's edge i with the cutter's edge j
   unfoldable pub met_pair : ℕ → ℕ → List Met → List Met
   met_pair i j ms =
       let e = edge_at s.edges i in
       let f = edge_at c.edges j in
-      ms ++ recorded i j ((length coords + length (added_by ms)) / 2) e f (meeting (segment_of coords e) (segment_of coords f))
+      ms ++ recorded i j ((length coords + length (added_by ms)) / 2) e f (meeting_on g (segment_of coords e) (segment_of coords f))
 
   -- those of edge i with the cutter's edges js
   unfoldable pub met_all : ℕ → List ℕ → List Met → List Met
@@ -66,8 +78,9 @@ module _ (coords : List Float) (s c : Net) where
 
 -- ---- what the cells are cut by
 
--- all coordinates ("subject first", the new points last), both nets, and the meetings
+-- the grid, all coordinates ("subject first", the new points last), both nets, and the meetings
 pub record Scene : Type 0 where
+  pub grid : Grid
   pub coords : List Float
   pub subject : Net
   pub cutter : Net
@@ -77,11 +90,11 @@ abbrev pub net_of : Scene → Side → Net
 net_of sc the_subject = sc.subject
 net_of sc the_cutter = sc.cutter
 
-abbrev pub scene_on : List Float → Net → Net → List Met → Scene
-scene_on coords s c ms = record { coords = coords ++ added_by ms; subject = s; cutter = c; met = ms }
+abbrev pub scene_on : Grid → List Float → Net → Net → List Met → Scene
+scene_on g coords s c ms = record { grid = g; coords = coords ++ added_by ms; subject = s; cutter = c; met = ms }
 
--- that of two meshes as lent; whether the cutter's cells are lines
-unfoldable pub scene_of : Bool → Mesh → Mesh → Scene
-scene_of lines s c =
+-- that of two meshes as lent, on a grid or none; whether the cutter's cells are lines
+unfoldable pub scene_of : Grid → Bool → Mesh → Mesh → Scene
+scene_of g lines s c =
     let coords = s.coords ++ c.coords in
-    scene_on coords (subject_net s) (cutter_net lines s c) (meetings coords (subject_net s) (cutter_net lines s c))
+    scene_on g coords (subject_net s) (cutter_net lines s c) (meetings g coords (subject_net s) (cutter_net lines s c))

@@ -1,10 +1,11 @@
 -- Document 01, module 7 (overlay.rs, `to_sorted_intersections`), and refusal 9: the nodes on an edge. Assumes nothing.
-use Rattle.std.specs.Prelude.{Bool, false, cond, not, ◌&&◌, ◌||◌, List, [], ◌∷◌, ◌++◌, map, ℕ, ltb, eqb, length, Float}
+use Rattle.std.specs.Prelude.{Bool, false, cond, not, ◌&&◌, ◌||◌, List, [], ◌∷◌, ◌++◌, map, ℕ, ltb, eqb, length, Float, None, Some}
 use Rattle.std.specs.Float.Ieee as Ieee
 use Rattle.std.specs.Float.{nan, inf, fin}
 use Rattle.lists.specs.Search.{has}
-use Rattle.lists.specs.Gather.{joined, slim}
+use Rattle.lists.specs.Gather.{passing, joined, slim}
 use Rattle.lists.specs.Sort.{sorted}
+use Rattle.grid.specs.Grid.{Grid}
 use Rattle.plane.specs.Plane.{between, dot, point_at}
 use Rattle.cutting.specs.Edges.{Edge, edge_at, key, same_key}
 use Rattle.rules.specs.Meetings.{Scene}
@@ -34,11 +35,23 @@ projected coords k n =
 abbrev pub by_projection : Projected → Projected → Bool
 by_projection p q = total_before p.projection q.projection
 
--- The key's first node and the nodes ns by their projections, equal ones in that order; "the key's second node put last unsorted, adjacent equals
--- dropped".
-unfoldable pub along_edge : List Float → Edge → List ℕ → List ℕ
-along_edge coords k ns =
-    slim eqb (map (λ p. p.node) (sorted by_projection (map (projected coords k) (k.0 ∷ ns))) ++ k.1 ∷ [])
+-- the nodes ns by their projections, equal ones in that order
+abbrev pub by_projections : List Float → Edge → List ℕ → List ℕ
+by_projections coords k ns = map (λ p. p.node) (sorted by_projection (map (projected coords k) ns))
+
+-- neither of the key's nodes
+abbrev pub inner_of : Edge → ℕ → Bool
+inner_of k n = not (eqb n k.0 || eqb n k.1)
+
+-- The key's first node and those collected, by their projections. W6: "With a grid a key's first node is put first, unsorted, as its second is put last,
+-- and their other entries are dropped".
+unfoldable pub before_last : Grid → List Float → Edge → List ℕ → List ℕ
+before_last None coords k ns = by_projections coords k (k.0 ∷ ns)
+before_last (Some i) coords k ns = k.0 ∷ by_projections coords k (passing (inner_of k) ns)
+
+-- "the key's second node put last unsorted, adjacent equals dropped"
+unfoldable pub along_edge : Grid → List Float → Edge → List ℕ → List ℕ
+along_edge g coords k ns = slim eqb (before_last g coords k ns ++ k.1 ∷ [])
 
 -- ---- the nodes collected under a key
 
@@ -58,7 +71,7 @@ module _ (sc : Scene) where
 
   abbrev pub unless_none : Edge → List ℕ → List ℕ
   unless_none e [] = []
-  unless_none e (n ∷ ns) = along_edge sc.coords (key e) (n ∷ ns)
+  unless_none e (n ∷ ns) = along_edge sc.grid sc.coords (key e) (n ∷ ns)
 
   -- the sorted nodes of an edge's key; none where nothing was collected under it
   unfoldable pub sorted_nodes : Edge → List ℕ

@@ -1,9 +1,10 @@
 -- Document 01, "Operations": which meshes are cut, which pieces are kept, and the listing of those that are. Assumes nothing.
 use Rattle.std.specs.Prelude.{Bool, true, false, cond, not, ◌||◌, List, [], ◌∷◌, ◌++◌, ℕ, eqb, length, get_or}
 use Rattle.lists.specs.Gather.{gathered, each, passing}
-use Rattle.cutting.specs.Setting.{Setting, ours}
+use Rattle.cutting.specs.Edition.{Edition, ours}
 use Rattle.cutting.specs.Cell.{doubled}
 use Rattle.cutting.specs.Outcome.{Outcome, refusal, pieces}
+use Rattle.settings.specs.declared.Settings.{Settings}
 use Rattle.entry.specs.Mesh.{Mesh}
 use Rattle.rules.specs.Mesh.{Side, the_subject, the_cutter, other}
 use Rattle.rules.specs.Meetings.{Scene, net_of, scene_of}
@@ -31,9 +32,9 @@ keeps op w inside =
     (cond (eqb op 4) (not inside)
     true)))
 
--- the scene of an operation: in 5 the cutter's cells are lines
-abbrev pub scene_for : ℕ → Mesh → Mesh → Scene
-scene_for op s c = scene_of (eqb op 5) s c
+-- the scene of an overlay, by what is set for it: in 5 the cutter's cells are lines
+abbrev pub scene_for : Settings → Mesh → Mesh → Scene
+scene_for o s c = scene_of o.grid (eqb o.op 5) s c
 
 -- ---- pieces
 
@@ -54,8 +55,8 @@ outcome_pieces (pieces ps) = ps
 unfoldable pub lies_inside : Scene → Side → Piece → Bool
 lies_inside sc w p = point_inside sc.coords (net_of sc (other w)).cells p.nodes
 
--- by the setting
-module _ (v : Setting) (sc : Scene) (w : Side) where
+-- by the edition
+module _ (v : Edition) (sc : Scene) (w : Side) where
   -- cell i's pieces before any are dropped
   abbrev pub pieces_with : ℕ → List (List ℕ)
   pieces_with i = outcome_pieces (outcome_with v sc w i)
@@ -83,17 +84,17 @@ abbrev pub over_cells : {A : Type 0} → ℕ → Scene → Side → (ℕ → Lis
 over_cells op sc w f = cond (cuts op w) (gathered (length (net_of sc w).cells) f) []
 
 -- "Pieces are listed as made", the subject's first
-unfoldable pub listing_with : Setting → ℕ → Mesh → Mesh → List Piece
-listing_with v op s c =
-    let sc = scene_for op s c in
-    over_cells op sc the_subject (kept_with v sc the_subject op) ++ over_cells op sc the_cutter (kept_with v sc the_cutter op)
+unfoldable pub listing_with : Edition → Settings → Mesh → Mesh → List Piece
+listing_with v o s c =
+    let sc = scene_for o s c in
+    over_cells o.op sc the_subject (kept_with v sc the_subject o.op) ++ over_cells o.op sc the_cutter (kept_with v sc the_cutter o.op)
 
-abbrev pub listing : ℕ → Mesh → Mesh → List Piece
-listing op s c = listing_with ours op s c
+abbrev pub listing : Settings → Mesh → Mesh → List Piece
+listing o s c = listing_with ours o s c
 
 -- "A doubled cell's table names a neighbour twice at some node": those of the cells that the operation cuts, by their tables before W14
-unfoldable pub doubled_cells : ℕ → Mesh → Mesh → List ℕ
-doubled_cells op s c =
-    let sc = scene_for op s c in
+unfoldable pub doubled_cells : Settings → Mesh → Mesh → List ℕ
+doubled_cells o s c =
+    let sc = scene_for o s c in
     let twice : Side → ℕ → List ℕ = λ w i. cond (doubled (table_with sc w i false)) (i ∷ []) [] in
-    over_cells op sc the_subject (twice the_subject) ++ over_cells op sc the_cutter (twice the_cutter)
+    over_cells o.op sc the_subject (twice the_subject) ++ over_cells o.op sc the_cutter (twice the_cutter)

@@ -1,10 +1,11 @@
 -- Document 01, the public call: the answer, and every list at exit, for refusals too. Assumes nothing.
-use Rattle.std.specs.Prelude.{cond, ◌&&◌, List, map, ℕ, ◌+◌, ◌/◌, min, eqb, leb, length, Float}
+use Rattle.std.specs.Prelude.{cond, ◌&&◌, List, map, ℕ, ◌+◌, ◌/◌, min, eqb, leb, length, Float, None}
 use Rattle.lists.specs.Search.{named}
 use Rattle.lists.specs.Gather.{places}
 use Rattle.lists.specs.Regions.{front, zeros, fzeros}
-use Rattle.cutting.specs.Setting.{Setting, ours}
+use Rattle.cutting.specs.Edition.{Edition, ours}
 use Rattle.cutting.specs.Outcome.{flat, stops}
+use Rattle.settings.specs.declared.Settings.{Settings}
 use Rattle.entry.specs.Mesh.{Mesh, node_count}
 use Rattle.entry.specs.Refused.{entry_of}
 use Rattle.rules.specs.Mesh.{side_number}
@@ -51,11 +52,11 @@ abbrev pub piece_room : Lists → ℕ
 piece_room l = min (length l.ends) (min (length l.kinds) (min (length l.families) (min (length l.meshes) (length l.cells))))
 
 -- Its number, or 0. A point takes two numbers of the coordinates; a piece takes its node entries besides.
-unfoldable pub state_with : Setting → ℕ → ℕ → Mesh → Mesh → Lists → ℕ
-state_with v op m s c l = first_refusal m (length l.coords / 2) (piece_room l) (length l.nodes) (course_with v op s c)
+unfoldable pub state_with : Edition → Settings → Mesh → Mesh → Lists → ℕ
+state_with v o s c l = first_refusal o.m (length l.coords / 2) (piece_room l) (length l.nodes) (course_with v o s c)
 
-abbrev pub state_of : ℕ → ℕ → Mesh → Mesh → Lists → ℕ
-state_of op m s c l = state_with ours op m s c l
+abbrev pub state_of : Settings → Mesh → Mesh → Lists → ℕ
+state_of o s c l = state_with ours o s c l
 
 -- ---- success: "places after the answer keep their content and the working list is zero"
 
@@ -77,29 +78,34 @@ named_points lent all ps =
 -- "The answer also counts pieces, new points and doubled cells". W14: "The third count is 0 ever after", since no table of an accepted cell names a
 -- neighbour twice (`never_doubled`, proofs/Demand3.antt). W5: "the answer counts all added points as a fourth number"; it is document 01's count of
 -- new points, "all coordinates added".
-unfoldable pub answered_with : Setting → ℕ → Mesh → Mesh → Lists → Result
-answered_with v op s c l =
-    let sc = scene_for op s c in
-    let ps = listing_with v op s c in
+unfoldable pub answered_with : Edition → Settings → Mesh → Mesh → Lists → Result
+answered_with v o s c l =
+    let sc = scene_for o s c in
+    let ps = listing_with v o s c in
     let points = named_points (node_count s + node_count c) (length sc.coords / 2) ps in
-    let doubled = cond v.once 0 (length (doubled_cells op s c)) in
+    let doubled = cond v.once 0 (length (doubled_cells o s c)) in
     result_of 0 (length ps) (length points) doubled (length (added_by sc.met) / 2) (written sc.coords ps l)
 
-abbrev pub answered : ℕ → Mesh → Mesh → Lists → Result
-answered op s c l = answered_with ours op s c l
+abbrev pub answered : Settings → Mesh → Mesh → Lists → Result
+answered o s c l = answered_with ours o s c l
 
 -- ---- the whole
 
--- Operation, meeting limit M, subject, cutter, lists; by the setting. Refused because of the input (1 to 7): "Counts are 0 and every
--- list keeps its content".
-unfoldable pub overlay_with : Setting → ℕ → ℕ → Mesh → Mesh → Lists → Result
-overlay_with v op m s c l =
-    let entry = entry_of op m s c (length l.work) in
-    let state = state_with v op m s c l in
+-- what an edition sees of the settings: before W6 no grid
+abbrev pub seen_by : Edition → Settings → Settings
+seen_by v o = cond v.grids o (record { op = o.op; m = o.m; grid = None })
+
+-- The settings (operation, meeting limit M, grid), subject, cutter, lists; by the edition. Refused because of the input (1 to 7 and 13): "Counts are 0 and
+-- every list keeps its content".
+unfoldable pub overlay_with : Edition → Settings → Mesh → Mesh → Lists → Result
+overlay_with v settings s c l =
+    let o = seen_by v settings in
+    let entry = entry_of o s c (length l.work) in
+    let state = state_with v o s c l in
     cond (eqb entry 0)
-    (cond (eqb state 0) (answered_with v op s c l) (result_of state 0 0 0 0 (cleared l)))
+    (cond (eqb state 0) (answered_with v o s c l) (result_of state 0 0 0 0 (cleared l)))
     (result_of entry 0 0 0 0 l)
 
 -- the overlay
-abbrev pub overlay_of : ℕ → ℕ → Mesh → Mesh → Lists → Result
-overlay_of op m s c l = overlay_with ours op m s c l
+abbrev pub overlay_of : Settings → Mesh → Mesh → Lists → Result
+overlay_of o s c l = overlay_with ours o s c l

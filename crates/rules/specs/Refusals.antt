@@ -1,8 +1,9 @@
 -- Document 01, "Refused because of the state": what happens in an overlay, in the order of module 7, and the first refusal met. Assumes nothing.
 use Rattle.std.specs.Prelude.{true, false, cond, List, [], ◌∷◌, ◌++◌, map, ℕ, zero, suc, ◌-◌, ◌/◌, leb, length, replicate}
 use Rattle.lists.specs.Gather.{joined}
-use Rattle.cutting.specs.Setting.{Setting, ours}
+use Rattle.cutting.specs.Edition.{Edition, ours}
 use Rattle.cutting.specs.Outcome.{Outcome, refusal, pieces}
+use Rattle.settings.specs.declared.Settings.{Settings}
 use Rattle.entry.specs.Mesh.{Mesh}
 use Rattle.rules.specs.Mesh.{Side, the_subject, the_cutter}
 use Rattle.rules.specs.Meetings.{Met}
@@ -26,17 +27,17 @@ of_cell (refusal r) ps = stop r ∷ []
 of_cell (pieces qs) ps = map (λ p. piece (length p.nodes)) ps
 
 -- "first both meshes' coordinates are placed"; the meetings; 9, "looked at after the last meeting"; "then the cells"
-unfoldable pub course_with : Setting → ℕ → Mesh → Mesh → List Event
-course_with v op s c =
-    let sc = scene_for op s c in
-    let cut : Side → ℕ → List Event = λ w i. of_cell (outcome_with v sc w i) (kept_with v sc w op i) in
+unfoldable pub course_with : Edition → Settings → Mesh → Mesh → List Event
+course_with v o s c =
+    let sc = scene_for o s c in
+    let cut : Side → ℕ → List Event = λ w i. of_cell (outcome_with v sc w i) (kept_with v sc w o.op i) in
     replicate (length (s.coords ++ c.coords) / 2) point
     ++ joined of_meeting sc.met
     ++ cond (crowded sc) (stop 9 ∷ []) []
-    ++ (over_cells op sc the_subject (cut the_subject) ++ over_cells op sc the_cutter (cut the_cutter))
+    ++ (over_cells o.op sc the_subject (cut the_subject) ++ over_cells o.op sc the_cutter (cut the_cutter))
 
-abbrev pub course : ℕ → Mesh → Mesh → List Event
-course op s c = course_with ours op s c
+abbrev pub course : Settings → Mesh → Mesh → List Event
+course o s c = course_with ours o s c
 
 -- The first refusal met, or 0, with room for m more meetings, p points, q pieces and n node entries. 8: a meeting beyond M. 12: the next item has no
 -- place.
