@@ -113,14 +113,14 @@ module _ (coords : List Float) (outline : List Edge) (near : List Laid) (clean :
   table_kept = ap (λ (es : List Edge). sorted (stands_before coords) (table outline es)) inner_kept
 
   -- and so are its pieces, or its refusal, whether a walk may turn back or not
-  pub outcome_kept : (turning : Bool) → cut_outcome_with (record { turning = turning; once = true }) outline (cell_table coords outline near)
-      ≡ cut_outcome_with (record { turning = turning; once = false }) outline (cell_table_with false coords outline near)
+  pub outcome_kept : (turning grids : Bool) → cut_outcome_with (record { turning = turning; once = true; grids = grids }) outline (cell_table coords outline near)
+      ≡ cut_outcome_with (record { turning = turning; once = false; grids = grids }) outline (cell_table_with false coords outline near)
   unfolding cut_outcome_with
-  outcome_kept turning =
+  outcome_kept turning grids =
       let t = cell_table_with false coords outline near in
       let walked : Bool → Outcome = λ unasked. cond (too_many (length t)) (refusal 10) (after_walk outline unasked (of_walk (walk_with turning outline t))) in
-      ap (cut_outcome_with (record { turning = turning; once = true }) outline) table_kept ∙ ap (λ (b : Bool). cond b (refusal 19) (walked false)) outline_once ∙
-      sym (ap walked clean)
+      ap (cut_outcome_with (record { turning = turning; once = true; grids = grids }) outline) table_kept
+      ∙ ap (λ (b : Bool). cond b (refusal 19) (walked false)) outline_once ∙ sym (ap walked clean)
 
 -- a copied cell too
 pub copy_kept : (cell : List ℕ) → doubled (copied_table cell) ≡ false → copied_outcome_with true cell ≡ copied_outcome_with false cell

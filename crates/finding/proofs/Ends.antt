@@ -92,9 +92,9 @@ module _ (w : List ℕ) (g : Regions) (es fs ms : List ℕ) (is-es : es ≡ run_
 
 -- ---- `find`
 
-module _ (op m : ℕ) (sc cc : List Float) (sn se cn ce : List ℕ) (w₀ : List ℕ) (ok : FindAsks op m (mesh sc sn se [] []) (mesh cc cn ce [] []) (length w₀)) (oc : List Float) where
+module _ (o : Settings) (sc cc : List Float) (sn se cn ce : List ℕ) (w₀ : List ℕ) (ok : FindAsks o.op m (mesh sc sn se [] []) (mesh cc cn ce [] []) (length w₀)) (oc : List Float) where
   abbrev lines : Bool
-  lines = eqb op 5
+  lines = eqb o.op 5
 
   abbrev s : Mesh
   s = mesh sc sn se [] []
@@ -109,7 +109,7 @@ module _ (op m : ℕ) (sc cc : List Float) (sn se cn ce : List ℕ) (w₀ : List
   fc = ok.cutter
 
   abbrev scene : Scene
-  scene = scene_for op s c
+  scene = scene_for o s c
 
   abbrev placed : ℕ
   placed = length sc + length cc
@@ -154,7 +154,7 @@ module _ (op m : ℕ) (sc cc : List Float) (sn se cn ce : List ℕ) (w₀ : List
   pub record AfterLink (f : MeetFound) (oc₂ : List Float) (g : Regions) (w₃ : List ℕ) : Type 0 where
     pub asks : LinkedIn w₃ g
     pub all : (b : Bool) → b ≡ both_full (run_in w₃ g.subject.edges) (run_in w₃ g.cutter.edges) (run_in w₃ g.met) → b ≡ false
-        → leaves (Ok (record { regions = g; next = placed / 2 + f.points })) oc₂ w₃ ≡ found_of op m s c oc w₀
+        → leaves (Ok (record { regions = g; next = placed / 2 + f.points })) oc₂ w₃ ≡ found_of o s c oc w₀
 
   -- the meetings are found
   pub record AfterMeet (r : NetPlaces) (f : MeetFound) (oc₂ : List Float) (w₂ : List ℕ) : Type 0 where
@@ -172,7 +172,7 @@ module _ (op m : ℕ) (sc cc : List Float) (sn se cn ce : List ℕ) (w₀ : List
   -- ---- from stage to stage
 
   -- 12 for the lent coordinates
-  pub twelve : (b : Bool) → b ≡ leb placed (length oc) → not b ≡ true → 12 ≡ first_refusal m (length oc / 2) 0 0 (found_events op s c)
+  pub twelve : (b : Bool) → b ≡ leb placed (length oc) → not b ≡ true → 12 ≡ first_refusal m (length oc / 2) 0 0 (found_events o s c)
   unfolding found_events
   twelve b e t =
       no_place points m (length oc / 2) (joined of_meeting scene.met) (crowded scene)
@@ -282,7 +282,7 @@ module _ (op m : ℕ) (sc cc : List Float) (sn se cn ce : List ℕ) (w₀ : List
       length_coords = lo ∙ length_placed
 
       -- 8, and 12 for a new point
-      pub met_stop : (e : Refusal) → a ≡ Err e → number e ≡ first_refusal m (length oc / 2) 0 0 (found_events op s c)
+      pub met_stop : (e : Refusal) → a ≡ Err e → number e ≡ first_refusal m (length oc / 2) 0 0 (found_events o s c)
       unfolding found_events
       met_stop e i =
           met_refused points m (length oc / 2) (joined of_meeting scene.met) (crowded scene) points_fit (number e) (some_not_zero e) 0 0 (sym (ap refused_with i) ∙ code_is)
@@ -334,29 +334,29 @@ module _ (op m : ℕ) (sc cc : List Float) (sn se cn ce : List ℕ) (w₀ : List
         link_asked h e = rw (re, count, lw, length_work) (link_asked_of h e)
 
         -- the meetings, and nothing behind them yet
-        work_then : w₂ ≡ with op sc cc sn se cn ce fs fc w₀ room₀ []
+        work_then : w₂ ≡ with o.op sc cc sn se cn ce fs fc w₀ room₀ []
         unfolding nets_of
         work_then =
             all.work ∙ ap₂ (λ (w : List ℕ) (ms : List Met). put w r.behind (booked ms)) we met_are
             ∙ ap (λ (x : NetPlaces). put (netted lines s c w₀) x.behind (booked scene.met)) re
             ∙ ap (put (netted lines s c w₀) (met_at s c)) (sym (append-nil (booked scene.met)))
 
-        linked_is : linked_by (nets_of lines s c) (length scene.met) (chains s c) (with op sc cc sn se cn ce fs fc w₀ room₀ []) ≡ worked op s c w₀
+        linked_is : linked_by (nets_of lines s c) (length scene.met) (chains s c) (with o.op sc cc sn se cn ce fs fc w₀ room₀ []) ≡ worked o s c w₀
         unfolding linked_by nets_of worked scene_of
         linked_is =
-            let w = with op sc cc sn se cn ce fs fc w₀ room₀ [] in
+            let w = with o.op sc cc sn se cn ce fs fc w₀ room₀ [] in
             let base : met_at s c ≤ length (netted lines s c w₀) = omega (arith, ok.room, length_held lines sc cc sn se cn ce fs fc w₀ room₀) in
             let end : met_at s c + 5 * length scene.met ≡ met_at s c + length (booked scene.met) = omega (arith, length_booked scene.met) in
             let fit : met_at s c + length (booked scene.met) ≤ length (netted lines s c w₀) = omega
             (arith, length_booked scene.met, few, ok.room, length_held lines sc cc sn se cn ce fs fc w₀ room₀) in
             ap₂ (λ (es fs : List ℕ). put w (met_at s c + 5 * length scene.met) (links_of (chains s c) (pairs es) (pairs fs) (run w (met_at s c) (5 * length scene.met))))
-            (run_long w (subject_at s c) (2 * length subjects) ∙ subjects_found op sc cc sn se cn ce fs fc w₀ room₀ [])
-            (run_long w (cond lines (length cc / 2) (cutter_at s c)) (2 * length cutters) ∙ cutters_found op sc cc sn se cn ce fs fc w₀ room₀ [])
+            (run_long w (subject_at s c) (2 * length subjects) ∙ subjects_found o.op sc cc sn se cn ce fs fc w₀ room₀ [])
+            (run_long w (cond lines (length cc / 2) (cutter_at s c)) (2 * length cutters) ∙ cutters_found o.op sc cc sn se cn ce fs fc w₀ room₀ [])
             ∙ ap₂ (λ (es fs : List Edge). put w (met_at s c + 5 * length scene.met) (links_of (chains s c) es fs (run w (met_at s c) (5 * length scene.met))))
             (pairs_ends subjects) (pairs_ends cutters)
-            ∙ ap₂ (λ (i : ℕ) (ms : List ℕ). put w i (links_of (chains s c) subjects cutters ms)) end (met_found op sc cc sn se cn ce fs fc w₀ room₀ [])
-            ∙ ap (λ (v : List ℕ). put (put (netted lines s c w₀) (met_at s c) v) (met_at s c + length (booked scene.met)) (links_in op s c)) (append-nil (booked scene.met))
-            ∙ put_append (netted lines s c w₀) (met_at s c) base (booked scene.met) (links_in op s c) fit
+            ∙ ap₂ (λ (i : ℕ) (ms : List ℕ). put w i (links_of (chains s c) subjects cutters ms)) end (met_found o.op sc cc sn se cn ce fs fc w₀ room₀ [])
+            ∙ ap (λ (v : List ℕ). put (put (netted lines s c w₀) (met_at s c) v) (met_at s c + length (booked scene.met)) (links_in o s c)) (append-nil (booked scene.met))
+            ∙ put_append (netted lines s c w₀) (met_at s c) base (booked scene.met) (links_in o s c) fit
 
         -- ---- with the links
 
@@ -364,21 +364,21 @@ module _ (op m : ℕ) (sc cc : List Float) (sn se cn ce : List ℕ) (w₀ : List
           chains_are : h ≡ chains s c
           chains_are = omega (arith, he, fs.even, fc.even)
 
-          regions_are : g ≡ (found_as op s c).regions
+          regions_are : g ≡ (found_as o s c).regions
           unfolding found_as
           regions_are = le.0 ∙ ap (λ (x : NetPlaces). regions_by x f.met h) re ∙ ap₂ (regions_by (nets_of lines s c)) count chains_are
 
-          work_is : w₃ ≡ worked op s c w₀
+          work_is : w₃ ≡ worked o s c w₀
           work_is =
               le.1 ∙ ap₂ (λ (x : NetPlaces) (w : List ℕ). linked_by x f.met h w) re work_then
-              ∙ ap₂ (λ (i j : ℕ). linked_by (nets_of lines s c) i j (with op sc cc sn se cn ce fs fc w₀ room₀ [])) count chains_are ∙ linked_is
+              ∙ ap₂ (λ (i j : ℕ). linked_by (nets_of lines s c) i j (with o.op sc cc sn se cn ce fs fc w₀ room₀ [])) count chains_are ∙ linked_is
 
-          held : Holds op s c g w₃
-          held = rw (regions_are, work_is) (worked_holds op sc cc sn se cn ce fs fc w₀ room₀ m ok.room few ok.most)
+          held : Holds o s c g w₃
+          held = rw (regions_are, work_is) (worked_holds o.op sc cc sn se cn ce fs fc w₀ room₀ m ok.room few ok.most)
 
           -- what `crowded` asks
           crowded_asks : LinkedIn w₃ g
-          crowded_asks = holds_linked op s c g w₃ held
+          crowded_asks = holds_linked o s c g w₃ held
 
           module _ (b : Bool) (be : b ≡ both_full (run_in w₃ g.subject.edges) (run_in w₃ g.cutter.edges) (run_in w₃ g.met)) where
             b_is : b ≡ crowded scene
@@ -387,18 +387,18 @@ module _ (op m : ℕ) (sc cc : List Float) (sn se cn ce : List ℕ) (w₀ : List
                 be ∙ ap₂ (λ (x y : List ℕ). both_full x y (run_in w₃ g.met)) held.subject_edges_lem held.cutter_edges_lem
                 ∙ ap (both_full (flat_edges subjects) (flat_edges cutters)) held.met ∙ crowded_is
 
-            end_code : cond b 9 0 ≡ first_refusal m (length oc / 2) 0 0 (found_events op s c)
+            end_code : cond b 9 0 ≡ first_refusal m (length oc / 2) 0 0 (found_events o s c)
             unfolding found_events
             end_code =
                 ap (λ (t : Bool). cond t 9 0) b_is
                 ∙ met_all points m (length oc / 2) (joined of_meeting scene.met) (crowded scene) points_fit (early_met scene.met) 0 0 (sym z ∙ code_is)
 
             -- 9
-            pub nine_stop : b ≡ true → 9 ≡ first_refusal m (length oc / 2) 0 0 (found_events op s c)
+            pub nine_stop : b ≡ true → 9 ≡ first_refusal m (length oc / 2) 0 0 (found_events o s c)
             nine_stop t = sym (ap (λ (u : Bool). cond u 9 0) t) ∙ end_code
 
             -- none
-            all_found : b ≡ false → leaves (Ok (record { regions = g; next = placed / 2 + f.points })) oc₂ w₃ ≡ found_of op m s c oc w₀
+            all_found : b ≡ false → leaves (Ok (record { regions = g; next = placed / 2 + f.points })) oc₂ w₃ ≡ found_of o s c oc w₀
             unfolding found_as scene_of
             all_found e =
                 let half : placed / 2 + f.points ≡ length (sc ++ cc ++ added_by scene.met) / 2 =
@@ -407,8 +407,8 @@ module _ (op m : ℕ) (sc cc : List Float) (sn se cn ce : List ℕ) (w₀ : List
                 all.coords ∙ ap₂ (λ (l : List Float) (ms : List Met). put l placed (added_by ms)) oe met_are
                 ∙ put_front placed oc (sc ++ cc) (added_by scene.met) len fits in
                 ap₂ (λ (x : Regions) (i : ℕ). leaves (Ok (record { regions = x; next = i })) oc₂ w₃) regions_are half
-                ∙ ap₂ (leaves (Ok (found_as op s c))) coords work_is
-                ∙ sym (all_left op m s c oc w₀ (sym end_code ∙ ap (λ (u : Bool). cond u 9 0) e))
+                ∙ ap₂ (leaves (Ok (found_as o s c))) coords work_is
+                ∙ sym (all_left o s c oc w₀ (sym end_code ∙ ap (λ (u : Bool). cond u 9 0) e))
 
     pub after_nets : AfterNets oc₁ r w₁
     after_nets =
@@ -426,20 +426,20 @@ module _ (op m : ℕ) (sc cc : List Float) (sn se cn ce : List ℕ) (w₀ : List
 
   -- ---- the lists in the end
 
-  module _ (r : Result Found Refusal) (oc' : List Float) (w' : List ℕ) (give : StagesGive op m s c oc w₀ oc' w' r) where
-    pub kept_all : is_err r ≡ false → leaves (by_number r) oc' w' ≡ found_of op m s c oc w₀
+  module _ (r : Result Found Refusal) (oc' : List Float) (w' : List ℕ) (give : StagesGive o s c oc w₀ oc' w' r) where
+    pub kept_all : is_err r ≡ false → leaves (by_number r) oc' w' ≡ found_of o s c oc w₀
     kept_all = go r give
       where
-        go : (x : Result Found Refusal) → StagesGive op m s c oc w₀ oc' w' x → is_err x ≡ false → leaves (by_number x) oc' w' ≡ found_of op m s c oc w₀
+        go : (x : Result Found Refusal) → StagesGive o s c oc w₀ oc' w' x → is_err x ≡ false → leaves (by_number x) oc' w' ≡ found_of o s c oc w₀
         go (Ok f) g z = g
         go (Err e) g z = absurd (true≢false z)
 
     pub cleared_all : is_err r ≡ true → length oc' ≡ length oc → length w' ≡ length w₀ → (oc'' : List Float) (w'' : List ℕ) → oc'' ≡ fzeros (length oc')
-        → w'' ≡ zeros (length w') → leaves (by_number r) oc'' w'' ≡ found_of op m s c oc w₀
+        → w'' ≡ zeros (length w') → leaves (by_number r) oc'' w'' ≡ found_of o s c oc w₀
     cleared_all t lo lw oc'' w'' eo ew = go r give t
       where
-        go : (x : Result Found Refusal) → StagesGive op m s c oc w₀ oc' w' x → is_err x ≡ true → leaves (by_number x) oc'' w'' ≡ found_of op m s c oc w₀
+        go : (x : Result Found Refusal) → StagesGive o s c oc w₀ oc' w' x → is_err x ≡ true → leaves (by_number x) oc'' w'' ≡ found_of o s c oc w₀
         go (Ok f) g z = absurd (true≢false (sym z))
         go (Err e) g z =
             ap₂ (leaves (Err (number e))) (eo ∙ ap fzeros lo) (ew ∙ ap zeros lw) ∙ ap (λ (k : ℕ). refused_lists k oc w₀) g
-            ∙ sym (zeros_left op m s c oc w₀ (λ y. some_not_zero e (g ∙ y)))
+            ∙ sym (zeros_left o s c oc w₀ (λ y. some_not_zero e (g ∙ y)))

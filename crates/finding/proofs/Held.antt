@@ -47,40 +47,40 @@ module _ (w : List ℕ) (b : ℕ) (hb : b ≤ length w) (xs ys : List ℕ) where
 -- ---- what the regions hold
 
 -- both nets, the meetings and their links stand in w where g says
-pub record Holds (op : ℕ) (s c : Mesh) (g : Regions) (w : List ℕ) : Type 0 where
+pub record Holds (o : Settings) (s c : Mesh) (g : Regions) (w : List ℕ) : Type 0 where
   pub lies : Lies g (length w)
-  pub subject_edges_lem : run_in w g.subject.edges ≡ flat_edges (scene_for op s c).subject.edges
+  pub subject_edges_lem : run_in w g.subject.edges ≡ flat_edges (scene_for o s c).subject.edges
   pub subject_entries_lem : run_in w g.subject.entries ≡ s.nodes
-  pub cutter_edges_lem : run_in w g.cutter.edges ≡ flat_edges (scene_for op s c).cutter.edges
+  pub cutter_edges_lem : run_in w g.cutter.edges ≡ flat_edges (scene_for o s c).cutter.edges
   pub cutter_entries_lem : run_in w g.cutter.entries ≡ cutter_entries s c
-  pub met : run_in w g.met ≡ booked (scene_for op s c).met
-  pub links : run_in w g.links ≡ links_in op s c
-  pub few : length (scene_for op s c).met ≤ 65536
+  pub met : run_in w g.met ≡ booked (scene_for o s c).met
+  pub links : run_in w g.links ≡ links_in o s c
+  pub few : length (scene_for o s c).met ≤ 65536
 
 -- then the links are those of the meetings, between edges as they are read
-pub holds_linked : (op : ℕ) (s c : Mesh) (g : Regions) (w : List ℕ) → Holds op s c g w → LinkedIn w g
-holds_linked op s c g w h =
-    let es = (scene_for op s c).subject.edges in
-    let fs = (scene_for op s c).cutter.edges in
-    let ms = (scene_for op s c).met in
+pub holds_linked : (o : Settings) (s c : Mesh) (g : Regions) (w : List ℕ) → Holds o s c g w → LinkedIn w g
+holds_linked o s c g w h =
+    let es = (scene_for o s c).subject.edges in
+    let fs = (scene_for o s c).cutter.edges in
+    let ms = (scene_for o s c).met in
     record {
       lies = h.lies;
       linked = rw (h.subject_edges_lem, h.cutter_edges_lem, h.met, h.links, pairs_ends es, pairs_ends fs) (linked (chains s c) es fs (booked ms) (omega arith));
     }
 
 -- the regions stand before the end of the links, which isn't far, and no mesh has more edges than entries
-pub record Low (op m : ℕ) (s c : Mesh) (g : Regions) : Type 0 where
+pub record Low (o : Settings) (s c : Mesh) (g : Regions) : Type 0 where
   pub lies : Lies g g.links.end
   pub end : g.links.end ≤ 3 * (node_count s + node_count c) + 3 * (length s.nodes + length c.nodes) + 4 * length c.nodes + 7 * m + 14
-  pub subjects : length (scene_for op s c).subject.edges ≤ length s.nodes
-  pub cutters : length (scene_for op s c).cutter.edges ≤ length c.nodes
+  pub subjects : length (scene_for o s c).subject.edges ≤ length s.nodes
+  pub cutters : length (scene_for o s c).cutter.edges ≤ length c.nodes
 
 -- ---- the regions, with zs behind the meetings
 
-module _ (op : ℕ) (sc cc : List Float) (sn se cn ce : List ℕ) (fs : Fit false (mesh sc sn se [] [])) (fc : Fit (eqb op 5) (mesh cc cn ce [] [])) (w₀ : List ℕ)
+module _ (o : Settings) (sc cc : List Float) (sn se cn ce : List ℕ) (fs : Fit false (mesh sc sn se [] [])) (fc : Fit (eqb o.op 5) (mesh cc cn ce [] [])) (w₀ : List ℕ)
     (room : NetRoom 0 (mesh sc sn se [] []) (mesh cc cn ce [] []) (length w₀)) where
   abbrev lines : Bool
-  lines = eqb op 5
+  lines = eqb o.op 5
 
   abbrev s : Mesh
   s = mesh sc sn se [] []
@@ -89,7 +89,7 @@ module _ (op : ℕ) (sc cc : List Float) (sn se cn ce : List ℕ) (fs : Fit fals
   c = mesh cc cn ce [] []
 
   abbrev met : List Met
-  met = (scene_for op s c).met
+  met = (scene_for o s c).met
 
   base : met_at s c ≤ length (netted lines s c w₀)
   base = omega (arith, room, length_held lines sc cc sn se cn ce fs fc w₀ room)
@@ -122,20 +122,20 @@ module _ (op : ℕ) (sc cc : List Float) (sn se cn ce : List ℕ) (fs : Fit fals
     pub behind_found : run (with zs) (met_at s c + 5 * length met) (length zs) ≡ zs
     behind_found = run_second (netted lines s c w₀) (met_at s c) base (booked met) zs (5 * length met) (length zs) (length_booked met) refl
 
-  links_long : length (links_in op s c) ≡ 2 * (chains s c + length met)
+  links_long : length (links_in o s c) ≡ 2 * (chains s c + length met)
   links_long =
-      omega (arith, length_links (chains s c) (scene_for op s c).subject.edges (scene_for op s c).cutter.edges (booked met), length_booked met)
+      omega (arith, length_links (chains s c) (scene_for o s c).subject.edges (scene_for o s c).cutter.edges (booked met), length_booked met)
 
   module _ (m : ℕ) (more : NetRoom m s c (length w₀)) (few : length met ≤ m) where
-    pub length_worked : length (worked op s c w₀) ≡ length w₀
+    pub length_worked : length (worked o s c w₀) ≡ length w₀
     unfolding worked
     length_worked =
         let same = length_held lines sc cc sn se cn ce fs fc w₀ room in
-        length_put (netted lines s c w₀) (met_at s c) base (booked met ++ links_in op s c)
-        (omega (arith, more, few, same, length-append (booked met) (links_in op s c), length_booked met, links_long)) ∙ same
+        length_put (netted lines s c w₀) (met_at s c) base (booked met ++ links_in o s c)
+        (omega (arith, more, few, same, length-append (booked met) (links_in o s c), length_booked met, links_long)) ∙ same
 
     -- the regions that are found have their places
-    pub regions_lie : Lies (found_as op s c).regions (length w₀)
+    pub regions_lie : Lies (found_as o s c).regions (length w₀)
     unfolding found_as regions_by nets_of
     regions_lie =
         let a = (subjects_before lines sc cc sn se cn ce fs fc w₀ room).0 in
@@ -149,7 +149,7 @@ module _ (op : ℕ) (sc cc : List Float) (sn se cn ce : List ℕ) (fs : Fit fals
           links = record { rises = omega arith; fits = omega (arith, more, few) };
         }
 
-    pub regions_low : Low op m s c (found_as op s c).regions
+    pub regions_low : Low o s c (found_as o s c).regions
     unfolding found_as regions_by nets_of scene_of
     regions_low =
         let a = subjects_before lines sc cc sn se cn ce fs fc w₀ room in
@@ -169,11 +169,11 @@ module _ (op : ℕ) (sc cc : List Float) (sn se cn ce : List ℕ) (fs : Fit fals
         }
 
     -- and hold what is found
-    pub worked_holds : m ≤ 65536 → Holds op s c (found_as op s c).regions (worked op s c w₀)
+    pub worked_holds : m ≤ 65536 → Holds o s c (found_as o s c).regions (worked o s c w₀)
     unfolding found_as regions_by nets_of scene_of worked
     worked_holds most =
-        let zs = links_in op s c in
-        let w = worked op s c w₀ in
+        let zs = links_in o s c in
+        let w = worked o s c w₀ in
         record {
           lies = rw length_worked regions_lie;
           subject_edges_lem = run_long w (subject_at s c) (2 * length (subject_net s).edges) ∙ subjects_found zs;

@@ -25,5 +25,5 @@ fit_of lines m ok =
     }
 
 -- the `requires` of `find`
-pub ready : (op m : ℕ) (s c : Mesh) (w : ℕ) → Passed op m s c w → FindAsks op m (bare s) (bare c) w
-ready op m s c w ok = record { most = ok.most; subject = fit_of false s ok.subject; cutter = fit_of (eqb op 5) c ok.cutter; room = omega (arith, ok.room) }
+pub ready : (o : Settings) (s c : Mesh) (w : ℕ) → Passed o s c w → FindAsks o.op m (bare s) (bare c) w
+ready o s c w ok = record { most = ok.most; subject = fit_of false s ok.subject; cutter = fit_of (eqb o.op 5) c ok.cutter; room = omega (arith, ok.room) }

@@ -36,14 +36,14 @@ pub number_of : (r : Result Found Refusal) → refused_with r ≡ code_of (by_nu
 number_of (Ok f) = refl
 number_of (Err e) = refl
 
-module _ (op m : ℕ) (s c : Mesh) where
+module _ (o : Settings) (s c : Mesh) where
   abbrev scene : Scene
-  scene = scene_for op s c
+  scene = scene_for o s c
 
   abbrev points : ℕ
   points = length (s.coords ++ c.coords) / 2
 
-  module _ (p q n : ℕ) (passed : first_refusal m p q n (found_events op s c) ≡ 0) where
+  module _ (p q n : ℕ) (passed : first_refusal m p q n (found_events o s c) ≡ 0) where
     -- no edge has too many nodes
     pub not_crowded : crowded scene ≡ false
     unfolding found_events
@@ -62,49 +62,49 @@ module _ (op m : ℕ) (s c : Mesh) where
         go (no h) e = absurd (omega (arith, sym (points_over points (joined of_meeting scene.met) m p q n (omega (arith, h))) ∙ e))
 
     -- what stands in the working list
-    module _ (w₀ : List ℕ) (ok : FindAsks op m (bare s) (bare c) (length w₀)) where
+    module _ (w₀ : List ℕ) (ok : FindAsks o.op m (bare s) (bare c) (length w₀)) where
       room₀ : NetRoom 0 (bare s) (bare c) (length w₀)
       room₀ = omega (arith, ok.room)
 
-      few : length (scene_for op (bare s) (bare c)).met ≤ m
-      few = omega (arith, ap length (met_bare op s c), met_few)
+      few : length (scene_for o (bare s) (bare c)).met ≤ m
+      few = omega (arith, ap length (met_bare o s c), met_few)
 
       -- the regions have their places
-      pub found_lies : Lies (found_as op s c).regions (length w₀)
+      pub found_lies : Lies (found_as o s c).regions (length w₀)
       found_lies =
-          rw (found_bare op s c) at
-          (regions_lie op s.coords c.coords s.nodes s.ends c.nodes c.ends ok.subject ok.cutter w₀ room₀ m ok.room few)
+          rw (found_bare o s c) at
+          (regions_lie o.op s.coords c.coords s.nodes s.ends c.nodes c.ends ok.subject ok.cutter w₀ room₀ m ok.room few)
 
-      pub worked_long : length (worked op s c w₀) ≡ length w₀
+      pub worked_long : length (worked o s c w₀) ≡ length w₀
       worked_long =
-          rw (worked_bare op s c w₀) at
-          (length_worked op s.coords c.coords s.nodes s.ends c.nodes c.ends ok.subject ok.cutter w₀ room₀ m ok.room few)
+          rw (worked_bare o s c w₀) at
+          (length_worked o.op s.coords c.coords s.nodes s.ends c.nodes c.ends ok.subject ok.cutter w₀ room₀ m ok.room few)
 
-      pub found_low : Low op m s c (found_as op s c).regions
+      pub found_low : Low o s c (found_as o s c).regions
       found_low =
-          rw (found_bare op s c) at
-          (low_bare op s c m _ (regions_low op s.coords c.coords s.nodes s.ends c.nodes c.ends ok.subject ok.cutter w₀ room₀ m ok.room few))
+          rw (found_bare o s c) at
+          (low_bare o s c m _ (regions_low o.op s.coords c.coords s.nodes s.ends c.nodes c.ends ok.subject ok.cutter w₀ room₀ m ok.room few))
 
       -- and hold both nets, the meetings and their links
-      pub found_holds : Holds op s c (found_as op s c).regions (worked op s c w₀)
+      pub found_holds : Holds o s c (found_as o s c).regions (worked o s c w₀)
       found_holds =
-          rw (found_bare op s c, worked_bare op s c w₀) at
-          (holds_bare op s c _ _
-          (worked_holds op s.coords c.coords s.nodes s.ends c.nodes c.ends ok.subject ok.cutter w₀ room₀ m ok.room few ok.most))
+          rw (found_bare o s c, worked_bare o s c w₀) at
+          (holds_bare o s c _ _
+          (worked_holds o.op s.coords c.coords s.nodes s.ends c.nodes c.ends ok.subject ok.cutter w₀ room₀ m ok.room few ok.most))
 
   -- the contract of `find`, for the meshes without kinds and families as it has them
-  module _ (w₀ : List ℕ) (ok : FindAsks op m (bare s) (bare c) (length w₀)) (oc oc' : List Float) (w' : List ℕ) (r : Result Found Refusal)
-      (told : leaves (by_number r) oc' w' ≡ found_of op m (bare s) (bare c) oc w₀) where
-    code_bare : refused_with r ≡ first_refusal m (length oc / 2) 0 0 (found_events op (bare s) (bare c))
-    code_bare = number_of r ∙ ap (λ (x : FoundLists). code_of x.answer) told ∙ code_left op m (bare s) (bare c) oc w₀
+  module _ (w₀ : List ℕ) (ok : FindAsks o.op m (bare s) (bare c) (length w₀)) (oc oc' : List Float) (w' : List ℕ) (r : Result Found Refusal)
+      (told : leaves (by_number r) oc' w' ≡ found_of o.op m (bare s) (bare c) oc w₀) where
+    code_bare : refused_with r ≡ first_refusal m (length oc / 2) 0 0 (found_events o (bare s) (bare c))
+    code_bare = number_of r ∙ ap (λ (x : FoundLists). code_of x.answer) told ∙ code_left o.op m (bare s) (bare c) oc w₀
 
-    pub code_is : (q n : ℕ) → refused_with r ≡ first_refusal m (length oc / 2) q n (found_events op s c)
-    code_is q n = code_bare ∙ ap (first_refusal m (length oc / 2) 0 0) (events_bare op s c) ∙ sym (found_any_room op s c m (length oc / 2) q n)
+    pub code_is : (q n : ℕ) → refused_with r ≡ first_refusal m (length oc / 2) q n (found_events o s c)
+    code_is q n = code_bare ∙ ap (first_refusal m (length oc / 2) 0 0) (events_bare o s c) ∙ sym (found_any_room o s c m (length oc / 2) q n)
 
     -- a refusal
     module _ (z : refused_with r ≡ 0 → ⊥) where
       zeroed : leaves (by_number r) oc' w' ≡ refused_lists (refused_with r) oc w₀
-      zeroed = told ∙ zeros_left op m (bare s) (bare c) oc w₀ (λ y. z (code_bare ∙ y)) ∙ ap (λ (k : ℕ). refused_lists k oc w₀) (sym code_bare)
+      zeroed = told ∙ zeros_left o.op m (bare s) (bare c) oc w₀ (λ y. z (code_bare ∙ y)) ∙ ap (λ (k : ℕ). refused_lists k oc w₀) (sym code_bare)
 
       pub refused_is : by_number r ≡ Err (refused_with r)
       refused_is = ap (λ (x : FoundLists). x.answer) zeroed
@@ -117,27 +117,27 @@ module _ (op m : ℕ) (s c : Mesh) where
 
     -- none
     module _ (f : Found) (is : r ≡ Ok f) where
-      all : leaves (by_number r) oc' w' ≡ leaves (Ok (found_as op (bare s) (bare c))) (front oc (scene_for op (bare s) (bare c)).coords) (worked op (bare s) (bare c) w₀)
-      all = told ∙ all_left op m (bare s) (bare c) oc w₀ (sym code_bare ∙ ap refused_with is)
+      all : leaves (by_number r) oc' w' ≡ leaves (Ok (found_as o (bare s) (bare c))) (front oc (scene_for o (bare s) (bare c)).coords) (worked o (bare s) (bare c) w₀)
+      all = told ∙ all_left o.op m (bare s) (bare c) oc w₀ (sym code_bare ∙ ap refused_with is)
 
-      pub answer_is : f ≡ found_as op s c
-      answer_is = ap (found_in f) (sym (ap by_number is) ∙ ap (λ (x : FoundLists). x.answer) all) ∙ found_bare op s c
+      pub answer_is : f ≡ found_as o s c
+      answer_is = ap (found_in f) (sym (ap by_number is) ∙ ap (λ (x : FoundLists). x.answer) all) ∙ found_bare o s c
 
       pub coords_are : oc' ≡ front oc scene.coords
-      coords_are = ap (λ (x : FoundLists). x.coords) all ∙ ap (front oc) (coords_bare op s c)
+      coords_are = ap (λ (x : FoundLists). x.coords) all ∙ ap (front oc) (coords_bare o s c)
 
-      pub work_is : w' ≡ worked op s c w₀
-      work_is = ap (λ (x : FoundLists). x.work) all ∙ worked_bare op s c w₀
+      pub work_is : w' ≡ worked o s c w₀
+      work_is = ap (λ (x : FoundLists). x.work) all ∙ worked_bare o s c w₀
 
-      none : first_refusal m (length oc / 2) 0 0 (found_events op s c) ≡ 0
+      none : first_refusal m (length oc / 2) 0 0 (found_events o s c) ≡ 0
       none = sym (code_is 0 0) ∙ ap refused_with is
 
       pub calm : crowded scene ≡ false
       calm = not_crowded (length oc / 2) 0 0 none
 
       -- what the regions of the answer hold, and that they have their places
-      pub holds : Holds op s c f.regions w'
+      pub holds : Holds o s c f.regions w'
       holds = rw (answer_is, work_is) (found_holds (length oc / 2) 0 0 none w₀ ok)
 
-      pub low : Low op m s c f.regions
+      pub low : Low o s c f.regions
       low = rw answer_is (found_low (length oc / 2) 0 0 none w₀ ok)

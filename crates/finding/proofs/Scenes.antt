@@ -73,96 +73,96 @@ module _ (lines : Bool) (s c : Mesh) where
 abbrev found_with : Regions → ℕ → Found
 found_with g next = record { regions = g; next = next }
 
-module _ (op : ℕ) (s c : Mesh) where
-  pub met_bare : (scene_for op (bare s) (bare c)).met ≡ (scene_for op s c).met
+module _ (o : Settings) (s c : Mesh) where
+  pub met_bare : (scene_for o (bare s) (bare c)).met ≡ (scene_for o s c).met
   unfolding scene_of
   met_bare =
       let coords = s.coords ++ c.coords in
-      by_edges coords (subject_net (bare s)) (cutter_net (eqb op 5) (bare s) (bare c))
-      ∙ ap₂ (λ (es fs : List Edge). meetings coords (net_on es) (net_on fs)) (subjects_bare (eqb op 5) s c) (cutters_bare (eqb op 5) s c)
-      ∙ sym (by_edges coords (subject_net s) (cutter_net (eqb op 5) s c))
+      by_edges coords (subject_net (bare s)) (cutter_net (eqb o.op 5) (bare s) (bare c))
+      ∙ ap₂ (λ (es fs : List Edge). meetings g coords (net_on es) (net_on fs)) (subjects_bare (eqb o.op 5) s c) (cutters_bare (eqb o.op 5) s c)
+      ∙ sym (by_edges coords (subject_net s) (cutter_net (eqb o.op 5) s c))
 
-  pub coords_bare : (scene_for op (bare s) (bare c)).coords ≡ (scene_for op s c).coords
+  pub coords_bare : (scene_for o (bare s) (bare c)).coords ≡ (scene_for o s c).coords
   unfolding scene_of
   coords_bare = ap (λ (ms : List Met). s.coords ++ c.coords ++ added_by ms) met_bare
 
-  pub crowded_bare : crowded (scene_for op (bare s) (bare c)) ≡ crowded (scene_for op s c)
+  pub crowded_bare : crowded (scene_for o (bare s) (bare c)) ≡ crowded (scene_for o s c)
   unfolding scene_of
   crowded_bare =
-      crowded_by_lem (scene_for op (bare s) (bare c))
-      ∙ ap₂ (λ (es fs : List Edge). crowded_by es fs (scene_for op (bare s) (bare c)).met) (subjects_bare (eqb op 5) s c) (cutters_bare (eqb op 5) s c)
-      ∙ ap (crowded_by (subject_net s).edges (cutter_net (eqb op 5) s c).edges) met_bare
-      ∙ sym (crowded_by_lem (scene_for op s c))
+      crowded_by_lem (scene_for o (bare s) (bare c))
+      ∙ ap₂ (λ (es fs : List Edge). crowded_by es fs (scene_for o (bare s) (bare c)).met) (subjects_bare (eqb o.op 5) s c) (cutters_bare (eqb o.op 5) s c)
+      ∙ ap (crowded_by (subject_net s).edges (cutter_net (eqb o.op 5) s c).edges) met_bare
+      ∙ sym (crowded_by_lem (scene_for o s c))
 
-  pub events_bare : found_events op (bare s) (bare c) ≡ found_events op s c
+  pub events_bare : found_events o (bare s) (bare c) ≡ found_events o s c
   unfolding found_events
   events_bare =
       ap₂ (λ (ms : List Met) (t : Bool). replicate (length (s.coords ++ c.coords) / 2) point ++ joined of_meeting ms ++ cond t (stop 9 ∷ []) []) met_bare crowded_bare
 
-  pub found_bare : found_as op (bare s) (bare c) ≡ found_as op s c
+  pub found_bare : found_as o (bare s) (bare c) ≡ found_as o s c
   unfolding found_as
   found_bare =
-      ap (λ (x : NetPlaces). found_with (regions_by x (length (scene_for op (bare s) (bare c)).met) (chains s c)) (length (scene_for op (bare s) (bare c)).coords / 2))
-      (places_bare (eqb op 5) s c)
-      ∙ ap₂ (λ (ms : List Met) (xs : List Float). found_with (regions_by (nets_of (eqb op 5) s c) (length ms) (chains s c)) (length xs / 2)) met_bare coords_bare
+      ap (λ (x : NetPlaces). found_with (regions_by x (length (scene_for o (bare s) (bare c)).met) (chains s c)) (length (scene_for o (bare s) (bare c)).coords / 2))
+      (places_bare (eqb o.op 5) s c)
+      ∙ ap₂ (λ (ms : List Met) (xs : List Float). found_with (regions_by (nets_of (eqb o.op 5) s c) (length ms) (chains s c)) (length xs / 2)) met_bare coords_bare
 
-  links_bare : links_in op (bare s) (bare c) ≡ links_in op s c
+  links_bare : links_in o (bare s) (bare c) ≡ links_in o s c
   unfolding scene_of
   links_bare =
-      ap₂ (λ (es fs : List Edge). links_of (chains s c) es fs (booked (scene_for op (bare s) (bare c)).met)) (subjects_bare (eqb op 5) s c) (cutters_bare (eqb op 5) s c)
-      ∙ ap (λ (ms : List Met). links_of (chains s c) (scene_for op s c).subject.edges (scene_for op s c).cutter.edges (booked ms)) met_bare
+      ap₂ (λ (es fs : List Edge). links_of (chains s c) es fs (booked (scene_for o (bare s) (bare c)).met)) (subjects_bare (eqb o.op 5) s c) (cutters_bare (eqb o.op 5) s c)
+      ∙ ap (λ (ms : List Met). links_of (chains s c) (scene_for o s c).subject.edges (scene_for o s c).cutter.edges (booked ms)) met_bare
 
-  pub worked_bare : (w : List ℕ) → worked op (bare s) (bare c) w ≡ worked op s c w
+  pub worked_bare : (w : List ℕ) → worked o (bare s) (bare c) w ≡ worked o s c w
   unfolding worked
   worked_bare w =
-      ap₂ (λ (ms : List Met) (ls : List ℕ). put (netted (eqb op 5) (bare s) (bare c) w) (met_at s c) (booked ms ++ ls)) met_bare links_bare
-      ∙ ap (λ (v : List ℕ). put v (met_at s c) (booked (scene_for op s c).met ++ links_in op s c)) (netted_bare (eqb op 5) s c w)
+      ap₂ (λ (ms : List Met) (ls : List ℕ). put (netted (eqb o.op 5) (bare s) (bare c) w) (met_at s c) (booked ms ++ ls)) met_bare links_bare
+      ∙ ap (λ (v : List ℕ). put v (met_at s c) (booked (scene_for o s c).met ++ links_in o s c)) (netted_bare (eqb o.op 5) s c w)
 
-  pub holds_bare : (g : Regions) (w : List ℕ) → Holds op (bare s) (bare c) g w → Holds op s c g w
+  pub holds_bare : (g : Regions) (w : List ℕ) → Holds o.op (bare s) (bare c) g w → Holds o s c g w
   unfolding scene_of
   holds_bare g w h =
       record {
         lies = h.lies;
-        subject_edges_lem = h.subject_edges_lem ∙ ap flat_edges (subjects_bare (eqb op 5) s c);
+        subject_edges_lem = h.subject_edges_lem ∙ ap flat_edges (subjects_bare (eqb o.op 5) s c);
         subject_entries_lem = h.subject_entries_lem;
-        cutter_edges_lem = h.cutter_edges_lem ∙ ap flat_edges (cutters_bare (eqb op 5) s c);
-        cutter_entries_lem = h.cutter_entries_lem ∙ ap (λ (ws : List ℕ). map (λ n. get_or ws n 0) c.nodes) (weld_bare (eqb op 5) s c);
+        cutter_edges_lem = h.cutter_edges_lem ∙ ap flat_edges (cutters_bare (eqb o.op 5) s c);
+        cutter_entries_lem = h.cutter_entries_lem ∙ ap (λ (ws : List ℕ). map (λ n. get_or ws n 0) c.nodes) (weld_bare (eqb o.op 5) s c);
         met = h.met ∙ ap booked met_bare;
         links = h.links ∙ links_bare;
         few = rw met_bare at h.few;
       }
 
-  pub low_bare : (m : ℕ) (g : Regions) → Low op m (bare s) (bare c) g → Low op m s c g
+  pub low_bare : (m : ℕ) (g : Regions) → Low o.op m (bare s) (bare c) g → Low o s c g
   unfolding scene_of
   low_bare m g h =
       record {
         lies = h.lies;
         end = h.end;
-        subjects = omega (arith, h.subjects, ap length (subjects_bare (eqb op 5) s c));
-        cutters = omega (arith, h.cutters, ap length (cutters_bare (eqb op 5) s c));
+        subjects = omega (arith, h.subjects, ap length (subjects_bare (eqb o.op 5) s c));
+        cutters = omega (arith, h.cutters, ap length (cutters_bare (eqb o.op 5) s c));
       }
 
   -- the course begins with what is found, and then come the cells
-  pub course_is : let sc : Scene = scene_for op s c in
-      let cut : Side → ℕ → List Event = λ w i. of_cell (outcome_of sc w i) (kept sc w op i) in
-      course op s c ≡ found_events op s c ++ (over_cells op sc the_subject (cut the_subject) ++ over_cells op sc the_cutter (cut the_cutter))
+  pub course_is : let sc : Scene = scene_for o s c in
+      let cut : Side → ℕ → List Event = λ w i. of_cell (outcome_of sc w i) (kept sc w o.op i) in
+      course o s c ≡ found_events o s c ++ (over_cells o.op sc the_subject (cut the_subject) ++ over_cells o.op sc the_cutter (cut the_cutter))
   unfolding course_with found_events
   course_is = refl
 
   -- no piece is placed
-  found_early : Early (found_events op s c)
+  found_early : Early (found_events o s c)
   unfolding found_events
   found_early =
-      let sc : Scene = scene_for op s c in
+      let sc : Scene = scene_for o s c in
       let k : ℕ = length (s.coords ++ c.coords) / 2 in
       early_append (replicate k point ++ joined of_meeting sc.met) (cond (crowded sc) (stop 9 ∷ []) [])
       (early_append (replicate k point) (joined of_meeting sc.met) (early_points k) (early_met sc.met)) (early_nine (crowded sc))
 
   -- so room for pieces and node entries doesn't matter
-  pub found_any_room : (m p q n : ℕ) → first_refusal m p q n (found_events op s c) ≡ first_refusal m p 0 0 (found_events op s c)
-  found_any_room m p q n = any_room (found_events op s c) found_early m p q n
+  pub found_any_room : (m p q n : ℕ) → first_refusal m p q n (found_events o s c) ≡ first_refusal m p 0 0 (found_events o s c)
+  found_any_room m p q n = any_room (found_events o s c) found_early m p q n
 
   -- and where nothing is refused, the cells' pieces and node entries have their whole room
-  pub found_passes : (m p q n : ℕ) → first_refusal m p q n (found_events op s c) ≡ 0
-      → (m' : ℕ) × (p' : ℕ) × ((fs : List Event) → first_refusal m p q n (found_events op s c ++ fs) ≡ first_refusal m' p' q n fs)
-  found_passes m p q n e = passes (found_events op s c) m p q n found_early e
+  pub found_passes : (m p q n : ℕ) → first_refusal m p q n (found_events o s c) ≡ 0
+      → (m' : ℕ) × (p' : ℕ) × ((fs : List Event) → first_refusal m p q n (found_events o s c ++ fs) ≡ first_refusal m' p' q n fs)
+  found_passes m p q n e = passes (found_events o s c) m p q n found_early e

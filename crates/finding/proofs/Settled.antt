@@ -19,24 +19,24 @@ use Rattle.finding.specs.Found.{found_events, found_as, worked, FoundLists, refu
 abbrev pub leaves : Result Found ℕ → List Float → List ℕ → FoundLists
 leaves r oc w = record { answer = r; coords = oc; work = w }
 
-module _ (op m : ℕ) (s c : Mesh) (oc : List Float) (w : List ℕ) where
+module _ (o : Settings) (s c : Mesh) (oc : List Float) (w : List ℕ) where
   abbrev code : ℕ
-  code = first_refusal m (length oc / 2) 0 0 (found_events op s c)
+  code = first_refusal m (length oc / 2) 0 0 (found_events o s c)
 
   abbrev all : FoundLists
-  all = leaves (Ok (found_as op s c)) (front oc (scene_for op s c).coords) (worked op s c w)
+  all = leaves (Ok (found_as o s c)) (front oc (scene_for o s c).coords) (worked o s c w)
 
-  pub all_left : code ≡ 0 → found_of op m s c oc w ≡ all
+  pub all_left : code ≡ 0 → found_of o s c oc w ≡ all
   unfolding found_of
   all_left z = ap (λ (t : Bool). cond t all (refused_lists code oc w)) (eq-eqb code 0 z)
 
-  pub zeros_left : (code ≡ 0 → ⊥) → found_of op m s c oc w ≡ refused_lists code oc w
+  pub zeros_left : (code ≡ 0 → ⊥) → found_of o s c oc w ≡ refused_lists code oc w
   unfolding found_of
   zeros_left z = ap (λ (t : Bool). cond t all (refused_lists code oc w)) (ne_eqb code 0 z)
 
-  pub code_left : code_of (found_of op m s c oc w).answer ≡ code
+  pub code_left : code_of (found_of o s c oc w).answer ≡ code
   code_left = go (ℕ_discrete code 0)
     where
-      go : Dec (code ≡ 0) → code_of (found_of op m s c oc w).answer ≡ code
+      go : Dec (code ≡ 0) → code_of (found_of o s c oc w).answer ≡ code
       go (yes z) = ap (λ (x : FoundLists). code_of x.answer) (all_left z) ∙ sym z
       go (no z) = ap (λ (x : FoundLists). code_of x.answer) (zeros_left z)

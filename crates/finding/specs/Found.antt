@@ -24,8 +24,8 @@ use Rattle.finding.specs.Nets.{between, nets_of, netted, met_at}
 
 -- `course` up to the cells: both meshes' coordinates, the meetings, and 9
 unfoldable pub found_events : ℕ → Mesh → Mesh → List Event
-found_events op s c =
-    let sc = scene_for op s c in
+found_events o s c =
+    let sc = scene_for o s c in
     replicate (length (s.coords ++ c.coords) / 2) point ++ joined of_meeting sc.met ++ cond (crowded sc) (stop 9 ∷ []) []
 
 -- the chains by which meetings are found under a key: one for each node of both meshes, and one
@@ -45,17 +45,17 @@ regions_by n met h =
 
 -- the answer
 unfoldable pub found_as : ℕ → Mesh → Mesh → Found
-found_as op s c =
-    let sc = scene_for op s c in
-    record { regions = regions_by (nets_of (eqb op 5) s c) (length sc.met) (chains s c); next = length sc.coords / 2 }
+found_as o s c =
+    let sc = scene_for o s c in
+    record { regions = regions_by (nets_of (eqb o.op 5) s c) (length sc.met) (chains s c); next = length sc.coords / 2 }
 
 -- the meetings' links, along these chains
 abbrev pub links_in : ℕ → Mesh → Mesh → List ℕ
-links_in op s c = let sc = scene_for op s c in links_of (chains s c) sc.subject.edges sc.cutter.edges (booked sc.met)
+links_in o s c = let sc = scene_for o s c in links_of (chains s c) sc.subject.edges sc.cutter.edges (booked sc.met)
 
 -- the working list w with both nets, the meetings and their links
 unfoldable pub worked : ℕ → Mesh → Mesh → List ℕ → List ℕ
-worked op s c w = put (netted (eqb op 5) s c w) (met_at s c) (booked (scene_for op s c).met ++ links_in op s c)
+worked o s c w = put (netted (eqb o.op 5) s c w) (met_at s c) (booked (scene_for o s c).met ++ links_in o s c)
 
 -- ---- what finding leaves: the answer or the refusal's number, the coordinates and the working list
 
@@ -68,10 +68,10 @@ pub record FoundLists : Type 0 where
 abbrev pub refused_lists : ℕ → List Float → List ℕ → FoundLists
 refused_lists code oc w = record { answer = Err code; coords = fzeros (length oc); work = zeros (length w) }
 
-unfoldable pub found_of : (op m : ℕ) → Mesh → Mesh → List Float → List ℕ → FoundLists
-found_of op m s c oc w =
-    let code = first_refusal m (length oc / 2) 0 0 (found_events op s c) in
-    cond (eqb code 0) (record { answer = Ok (found_as op s c); coords = front oc (scene_for op s c).coords; work = worked op s c w }) (refused_lists code oc w)
+unfoldable pub found_of : (o : Settings) → Mesh → Mesh → List Float → List ℕ → FoundLists
+found_of o s c oc w =
+    let code = first_refusal m (length oc / 2) 0 0 (found_events o s c) in
+    cond (eqb code 0) (record { answer = Ok (found_as o s c); coords = front oc (scene_for o s c).coords; work = worked o s c w }) (refused_lists code oc w)
 
 -- ---- what only an inner function's contract cites
 
@@ -125,7 +125,7 @@ linked_by n met h w =
     put w (n.behind + 5 * met) (links_of h (pairs (run_in w n.subject.edges)) (pairs (run_in w n.cutter.edges)) (run w n.behind (5 * met)))
 
 -- what the stages leave: all that is found, or a refusal that is yet to clear the lists
-abbrev pub StagesGive : (op m : ℕ) → Mesh → Mesh → List Float → List ℕ → List Float → List ℕ → Result Found Refusal → Type 0
-StagesGive op m s c oc w oc' w' r =
-    MatchResult r (λ f. record { answer = Ok f; coords = oc'; work = w' } ≡ found_of op m s c oc w)
-    (λ e. number e ≡ first_refusal m (length oc / 2) 0 0 (found_events op s c))
+abbrev pub StagesGive : (o : Settings) → Mesh → Mesh → List Float → List ℕ → List Float → List ℕ → Result Found Refusal → Type 0
+StagesGive o s c oc w oc' w' r =
+    MatchResult r (λ f. record { answer = Ok f; coords = oc'; work = w' } ≡ found_of o s c oc w)
+    (λ e. number e ≡ first_refusal m (length oc / 2) 0 0 (found_events o s c))

@@ -41,10 +41,10 @@ abbrev pub NetRoom : ℕ → Mesh → Mesh → ℕ → Type 0
 NetRoom m s c w = 3 * (node_count s + node_count c) + 4 * (length s.nodes + length c.nodes) + (4 * length c.nodes + 12) + 7 * m + 2 ≤ w
 
 -- what `find` asks
-pub record FindAsks (op m : ℕ) (s c : Mesh) (work : ℕ) : Type 0 where
+pub record FindAsks (o : Settings) (s c : Mesh) (work : ℕ) : Type 0 where
   pub most : m ≤ 65536
   pub subject : Fit false s
-  pub cutter : Fit (eqb op 5) c
+  pub cutter : Fit (eqb o.op 5) c
   pub room : NetRoom m s c work
 
 -- ---- the regions

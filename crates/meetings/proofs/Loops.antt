@@ -18,9 +18,10 @@ use Rattle.segments.specs.declared.Meeting.TheVariants.{Apart, Existing, New, Ov
 use Rattle.cutting.specs.Edges.{Edge, edge_at}
 use Rattle.cutting.specs.Lent.{pairs}
 use Rattle.cutting.proofs.Pairs.{pairs_length}
+use Rattle.grid.specs.Grid.{Grid}
 use Rattle.rules.specs.SpatialIndex.{edge_box, candidates}
 use Rattle.rules.specs.Neighbours.{Net}
-use Rattle.rules.specs.Meetings.{Met, segment_of, recorded, added_by, met_pair, met_all, meetings_to, meetings}
+use Rattle.rules.specs.Meetings.{Met, segment_of, recorded, added_by, met_pair, met_all, meetings_to, meetings, meeting_on}
 use Rattle.rules.specs.Refusals.{of_meeting, first_refusal}
 use Rattle.rules.proofs.Course.{edges_behind}
 use Rattle.meetings.specs.Booked.{booked, net_on}
@@ -40,9 +41,9 @@ even i j next e f (Existing p) = refl
 even i j next e f (New x y) = refl
 even i j next e f (Overlap p q) = refl
 
-module _ (coords : List Float) (s c : Net) where
+module _ (g : Grid) (coords : List Float) (s c : Net) where
   pub all_from : (i : ℕ) (js : List ℕ) (ms : List Met)
-      → met_all coords s c i js ms ≡ ms ++ met_with coords i (edge_at s.edges i) (edge_at c.edges) ((length coords + length (added_by ms)) / 2) js
+      → met_all g coords s c i js ms ≡ ms ++ met_with coords i (edge_at s.edges i) (edge_at c.edges) ((length coords + length (added_by ms)) / 2) js
   unfolding met_all met_pair met_with
   all_from i [] ms = sym (append-nil ms)
   all_from i (j ∷ js) ms =
@@ -50,12 +51,12 @@ module _ (coords : List Float) (s c : Net) where
       let next : ℕ = (length coords + length (added_by ms)) / 2 in
       let x : List Met = met_of coords i j next e (edge_at c.edges j) in
       let on : (length coords + length (added_by (ms ++ x))) / 2 ≡ next + length (added_by x) / 2 =
-      omega (arith, length_added ms x, even i j next e (edge_at c.edges j) (meeting (segment_of coords e) (segment_of coords (edge_at c.edges j)))) in
+      omega (arith, length_added ms x, even i j next e (edge_at c.edges j) (meeting_on g (segment_of coords e) (segment_of coords (edge_at c.edges j)))) in
       all_from i js (ms ++ x) ∙ append_assoc ms x _ ∙ ap (λ (k : ℕ). ms ++ (x ++ met_with coords i e (edge_at c.edges) k js)) on
 
-  more_edges : (i : ℕ) → meetings_to coords s c (i + 1) ≡ met_all coords s c i (candidates coords c.edges (edge_box coords (edge_at s.edges i))) (meetings_to coords s c i)
+  more_edges : (i : ℕ) → meetings_to g coords s c (i + 1) ≡ met_all g coords s c i (candidates coords c.edges (edge_box coords (edge_at s.edges i))) (meetings_to g coords s c i)
   unfolding meetings_to
-  more_edges i = ap (λ (k : ℕ). meetings_to coords s c k) (add-one i)
+  more_edges i = ap (λ (k : ℕ). meetings_to g coords s c k) (add-one i)
 
 -- ---- `add_for_edge`
 

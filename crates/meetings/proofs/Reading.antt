@@ -12,9 +12,10 @@ use Rattle.segments.specs.Meet.{meeting}
 use Rattle.segments.specs.declared.Meeting.{Meeting}
 use Rattle.segments.specs.declared.Meeting.TheVariants.{Apart, Existing, New, Overlap}
 use Rattle.cutting.specs.Edges.{Edge, edge_at}
+use Rattle.grid.specs.Grid.{Grid}
 use Rattle.rules.specs.SpatialIndex.{edge_box, candidates}
 use Rattle.rules.specs.Neighbours.{Net}
-use Rattle.rules.specs.Meetings.{Met, segment_of, recorded, added_by, met_pair, met_all, meetings_to, meetings}
+use Rattle.rules.specs.Meetings.{Met, segment_of, recorded, added_by, met_pair, met_all, meetings_to, meetings, meeting_on}
 use Rattle.spatial_index.specs.Candidates.{meets}
 use Rattle.meetings.specs.Booked.{book_of, booked, net_on}
 
@@ -38,7 +39,7 @@ booked_at (x ∷ ms) (suc q) k d h l =
 
 -- ---- a meeting's edges are edges of the nets, and it has one or two nodes
 
-module _ (coords : List Float) (s c : Net) where
+module _ (g : Grid) (coords : List Float) (s c : Net) where
   abbrev pub Fit : Met → Type 0
   Fit x = (x.subject_edge < length s.edges) × (x.cutter_edge < length c.edges) × (1 ≤ length x.nodes) × (length x.nodes ≤ 2)
 
@@ -61,44 +62,44 @@ module _ (coords : List Float) (s c : Net) where
   fit_recorded i j next e f (New x y) hi hj = ((hi, hj, omega arith, omega arith), tt)
   fit_recorded i j next e f (Overlap p q) hi hj = ((hi, hj, omega arith, omega arith), tt)
 
-  fit_pair : (i j : ℕ) (ms : List Met) → i < length s.edges → j < length c.edges → AllFit ms → AllFit (met_pair coords s c i j ms)
+  fit_pair : (i j : ℕ) (ms : List Met) → i < length s.edges → j < length c.edges → AllFit ms → AllFit (met_pair g coords s c i j ms)
   unfolding met_pair
   fit_pair i j ms hi hj a =
       let e : Edge = edge_at s.edges i in
       let f : Edge = edge_at c.edges j in
-      fit_append ms _ a (fit_recorded i j ((length coords + length (added_by ms)) / 2) e f (meeting (segment_of coords e) (segment_of coords f)) hi hj)
+      fit_append ms _ a (fit_recorded i j ((length coords + length (added_by ms)) / 2) e f (meeting_on g (segment_of coords e) (segment_of coords f)) hi hj)
 
   fit_all : (i : ℕ) (js : List ℕ) (ms : List Met) → i < length s.edges → ((k : ℕ) → k < length js → get_or js k 0 < length c.edges) → AllFit ms
-      → AllFit (met_all coords s c i js ms)
+      → AllFit (met_all g coords s c i js ms)
   unfolding met_all
   fit_all i [] ms hi hj a = a
-  fit_all i (j ∷ js) ms hi hj a = fit_all i js (met_pair coords s c i j ms) hi (λ k l. hj (suc k) (omega arith)) (fit_pair i j ms hi (hj 0 (omega arith)) a)
+  fit_all i (j ∷ js) ms hi hj a = fit_all i js (met_pair g coords s c i j ms) hi (λ k l. hj (suc k) (omega arith)) (fit_pair i j ms hi (hj 0 (omega arith)) a)
 
-  fit_to : (i : ℕ) → i ≤ length s.edges → AllFit (meetings_to coords s c i)
+  fit_to : (i : ℕ) → i ≤ length s.edges → AllFit (meetings_to g coords s c i)
   unfolding meetings_to candidates
   fit_to zero h = tt
   fit_to (suc i) h =
       let b = edge_box coords (edge_at s.edges i) in
-      fit_all i _ (meetings_to coords s c i) (omega arith) (λ k l. (places_at (meets coords c.edges b) (length c.edges) k l).0) (fit_to i (omega arith))
+      fit_all i _ (meetings_to g coords s c i) (omega arith) (λ k l. (places_at (meets coords c.edges b) (length c.edges) k l).0) (fit_to i (omega arith))
 
-  pub meetings_fit : (q : ℕ) (d : Met) → q < length (meetings coords s c) → Fit (get_or (meetings coords s c) q d)
+  pub meetings_fit : (q : ℕ) (d : Met) → q < length (meetings g coords s c) → Fit (get_or (meetings g coords s c) q d)
   unfolding meetings
-  meetings_fit q d h = fit_at (meetings_to coords s c (length s.edges)) q d (fit_to (length s.edges) (omega arith)) h
+  meetings_fit q d h = fit_at (meetings_to g coords s c (length s.edges)) q d (fit_to (length s.edges) (omega arith)) h
 
   -- a net gives its edges only
-  all_edges : (i : ℕ) (js : List ℕ) (ms : List Met) → met_all coords s c i js ms ≡ met_all coords (net_on s.edges) (net_on c.edges) i js ms
+  all_edges : (i : ℕ) (js : List ℕ) (ms : List Met) → met_all g coords s c i js ms ≡ met_all g coords (net_on s.edges) (net_on c.edges) i js ms
   unfolding met_all met_pair
   all_edges i [] ms = refl
-  all_edges i (j ∷ js) ms = all_edges i js (met_pair coords s c i j ms)
+  all_edges i (j ∷ js) ms = all_edges i js (met_pair g coords s c i j ms)
 
-  to_edges : (i : ℕ) → meetings_to coords s c i ≡ meetings_to coords (net_on s.edges) (net_on c.edges) i
+  to_edges : (i : ℕ) → meetings_to g coords s c i ≡ meetings_to g coords (net_on s.edges) (net_on c.edges) i
   unfolding meetings_to
   to_edges zero = refl
   to_edges (suc i) =
       let js : List ℕ = candidates coords c.edges (edge_box coords (edge_at s.edges i)) in
-      all_edges i js (meetings_to coords s c i) ∙ ap (met_all coords (net_on s.edges) (net_on c.edges) i js) (to_edges i)
+      all_edges i js (meetings_to g coords s c i) ∙ ap (met_all g coords (net_on s.edges) (net_on c.edges) i js) (to_edges i)
 
-  pub by_edges : meetings coords s c ≡ meetings coords (net_on s.edges) (net_on c.edges)
+  pub by_edges : meetings g coords s c ≡ meetings g coords (net_on s.edges) (net_on c.edges)
   unfolding meetings
   by_edges = to_edges (length s.edges)
 

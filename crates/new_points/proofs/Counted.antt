@@ -33,9 +33,9 @@ use Rattle.new_points.proofs.Named.{new_point_named}
 
 -- ---- the listed pieces
 
-module _ (op : ℕ) (s c : Mesh) where
+module _ (o : Settings) (s c : Mesh) where
   abbrev sc : Scene
-  sc = scene_for op s c
+  sc = scene_for o s c
 
   abbrev lent : ℕ
   lent = node_count s + node_count c
@@ -44,121 +44,121 @@ module _ (op : ℕ) (s c : Mesh) where
   all = length sc.coords / 2
 
   abbrev entries : List ℕ
-  entries = entries_of (listing op s c)
+  entries = entries_of (listing o s c)
 
   -- their corners are nodes of the scene
-  entry_node : (m w : ℕ) → entry_of op m s c w ≡ 0 → (n : ℕ) → Memᴰ n entries → n < all
+  entry_node : (m w : ℕ) → entry_of o s c w ≡ 0 → (n : ℕ) → Memᴰ n entries → n < all
   entry_node m w pass n h =
-      let r = entry_is_corner (listing op s c) n h in
+      let r = entry_is_corner (listing o s c) n h in
       let p = r.0 in
-      let k = listed_kept op s c p (listed op s c p r.1) in
-      piece_nodes op m s c w pass p.mesh p.cell k.cell (get_or (pieces_of sc p.mesh p.cell) p.place [])
-      (in_list (pieces_of sc p.mesh p.cell) p.place k.place []) n (subst (Memᴰ n) (at_place sc op p k) r.2)
+      let k = listed_kept o s c p (listed o s c p r.1) in
+      piece_nodes o s c w pass p.mesh p.cell k.cell (get_or (pieces_of sc p.mesh p.cell) p.place [])
+      (in_list (pieces_of sc p.mesh p.cell) p.place k.place []) n (subst (Memᴰ n) (at_place sc o.op p k) r.2)
 
   -- a piece of the subject that the operation keeps is listed, and its corners are entries
-  kept_entry : (i j : ℕ) → i < length s.ends → j < length (pieces_of sc the_subject i) → keeps op the_subject (lies_inside sc the_subject (piece_at sc the_subject i j)) ≡ true
+  kept_entry : (i j : ℕ) → i < length s.ends → j < length (pieces_of sc the_subject i) → keeps o.op the_subject (lies_inside sc the_subject (piece_at sc the_subject i j)) ≡ true
       → (n : ℕ) → Memᴰ n (get_or (pieces_of sc the_subject i) j []) → Memᴰ n entries
   unfolding piece_with
   kept_entry i j h k passes n m =
       let q = piece_at sc the_subject i j in
-      corner_is_entry (listing op s c) q n
-      (among op s c q
-      (kept_listed op s c q (record { cut = refl; cell = omega (arith, h, cells_lent (eqb op 5) s c the_subject); place = k; same = refl; passes = passes }))) m
+      corner_is_entry (listing o s c) q n
+      (among o s c q
+      (kept_listed o s c q (record { cut = refl; cell = omega (arith, h, cells_lent (eqb o.op 5) s c the_subject); place = k; same = refl; passes = passes }))) m
 
 -- ---- the theorems
 
 -- W5: in an accepted overlay's answer the second number counts each point once, and exactly those whose number is not below the lent nodes' count and that some
 -- entry of the answer's node list is.
-pub counts_named : (op m : ℕ) (s c : Mesh) (l : Lists) → Accepted op m s c l → CountsPoints (overlay_of op m s c l) (node_count s + node_count c)
-    (named_points (node_count s + node_count c) (length (scene_for op s c).coords / 2) (listing op s c))
+pub counts_named : (o : Settings) (s c : Mesh) (l : Lists) → Accepted o s c l → CountsPoints (overlay_of o s c l) (node_count s + node_count c)
+    (named_points (node_count s + node_count c) (length (scene_for o s c).coords / 2) (listing o s c))
 unfolding named_points answered_with
-counts_named op m s c l h = subst (λ (r : Result). CountsPoints r (lent op s c) points) (sym t.answer) answer
+counts_named o s c l h = subst (λ (r : Result). CountsPoints r (lent o s c) points) (sym t.answer) answer
   where
-    t : Taken ours op m s c l
-    t = accepted ours op m s c l h
+    t : Taken ours o s c l
+    t = accepted ours o s c l h
 
     new : ℕ → Bool
-    new n = leb (lent op s c) n && named (entries op s c) n
+    new n = leb (lent o s c) n && named (entries o s c) n
 
     points : List ℕ
-    points = named_points (lent op s c) (all op s c) (listing op s c)
+    points = named_points (lent o s c) (all o s c) (listing o s c)
 
     -- the number of a counted point is not below the lent nodes' count, and an entry is it
-    counted : (n : ℕ) → Among points (length points) n → (lent op s c ≤ n) × Entered (answered op s c l) n
+    counted : (n : ℕ) → Among points (length points) n → (lent o s c ≤ n) × Entered (answered o s c l) n
     counted n (i, h, e) =
-        let passes : new n ≡ true = ap new (sym e) ∙ (places_at new (all op s c) i h).1 in
-        let b = and_true (leb (lent op s c) n) (named (entries op s c) n) passes in
-        (leb-true (lent op s c) n b.0, in_entered op s c l n (named_in (entries op s c) n b.1))
+        let passes : new n ≡ true = ap new (sym e) ∙ (places_at new (all o s c) i h).1 in
+        let b = and_true (leb (lent o s c) n) (named (entries o s c) n) passes in
+        (leb-true (lent o s c) n b.0, in_entered o s c l n (named_in (entries o s c) n b.1))
 
     -- and each such number is counted
-    all_such : (n : ℕ) → (lent op s c ≤ n) × Entered (answered op s c l) n → Among points (length points) n
+    all_such : (n : ℕ) → (lent o s c ≤ n) × Entered (answered o s c l) n → Among points (length points) n
     all_such n (low, k) =
-        let e = entered_in op s c l n k in
-        places_has new (all op s c) n (entry_node op s c m (length l.work) t.entry n e)
-        (ap (λ (b : Bool). b && named (entries op s c) n) (le-leb (lent op s c) n low) ∙ in_named (entries op s c) n e)
+        let e = entered_in o s c l n k in
+        places_has new (all o s c) n (entry_node o s c m (length l.work) t.entry n e)
+        (ap (λ (b : Bool). b && named (entries o s c) n) (le-leb (lent o s c) n low) ∙ in_named (entries o s c) n e)
 
-    answer : CountsPoints (answered op s c l) (lent op s c) points
-    answer = record { count = refl; rising = places_rise new (all op s c); exactly = λ n. (counted n, all_such n) }
+    answer : CountsPoints (answered o s c l) (lent o s c) points
+    answer = record { count = refl; rising = places_rise new (all o s c); exactly = λ n. (counted n, all_such n) }
 
 -- ---- the second number and the fourth
 
-module _ (op m : ℕ) (s c : Mesh) (l : Lists) (h : Accepted op m s c l) where
+module _ (o : Settings) (s c : Mesh) (l : Lists) (h : Accepted o s c l) where
   abbrev r : Result
-  r = overlay_of op m s c l
+  r = overlay_of o s c l
 
-  answer_is : overlay_of op m s c l ≡ answered op s c l
-  answer_is = (accepted ours op m s c l h).answer
+  answer_is : overlay_of o s c l ≡ answered o s c l
+  answer_is = (accepted ours o s c l h).answer
 
   -- all nodes: those lent, and those added
-  all_are : all op s c ≡ lent op s c + (overlay_of op m s c l).added
+  all_are : all o s c ≡ lent o s c + (overlay_of o s c l).added
   unfolding answered_with
   all_are =
-      let even = lent_even op m s c (length l.work) (accepted ours op m s c l h).entry in
-      omega (arith, even, scene_length op s c, length-append s.coords c.coords, ap (λ (x : Result). x.added) answer_is)
+      let even = lent_even o s c (length l.work) (accepted ours o s c l h).entry in
+      omega (arith, even, scene_length o s c, length-append s.coords c.coords, ap (λ (x : Result). x.added) answer_is)
 
-  points_are : (overlay_of op m s c l).points ≡ many (λ k. named (entries op s c) (lent op s c + k)) (overlay_of op m s c l).added
+  points_are : (overlay_of o s c l).points ≡ many (λ k. named (entries o s c) (lent o s c + k)) (overlay_of o s c l).added
   unfolding answered_with
   points_are =
-      ap (λ (x : Result). x.points) answer_is ∙ ap (λ (n : ℕ). length (named_points (lent op s c) n (listing op s c))) all_are
-      ∙ points_counted (lent op s c) (overlay_of op m s c l).added (listing op s c)
+      ap (λ (x : Result). x.points) answer_is ∙ ap (λ (n : ℕ). length (named_points (lent o s c) n (listing o s c))) all_are
+      ∙ points_counted (lent o s c) (overlay_of o s c l).added (listing o s c)
 
-  below_fourth : (overlay_of op m s c l).points ≤ (overlay_of op m s c l).added
-  below_fourth = omega (arith, points_are, many_bound (λ k. named (entries op s c) (lent op s c + k)) (overlay_of op m s c l).added)
+  below_fourth : (overlay_of o s c l).points ≤ (overlay_of o s c l).added
+  below_fourth = omega (arith, points_are, many_bound (λ k. named (entries o s c) (lent o s c + k)) (overlay_of o s c l).added)
 
   -- a new point is a corner of a piece of the subject: at a cell and a place
-  corner_of : (n : ℕ) → lent op s c ≤ n → n < all op s c
-      → (i : ℕ) × (j : ℕ) × (i < length s.ends) × (j < length (pieces_of (sc op s c) the_subject i)) × Memᴰ n (get_or (pieces_of (sc op s c) the_subject i) j [])
+  corner_of : (n : ℕ) → lent o s c ≤ n → n < all o s c
+      → (i : ℕ) × (j : ℕ) × (i < length s.ends) × (j < length (pieces_of (sc o s c) the_subject i)) × Memᴰ n (get_or (pieces_of (sc o s c) the_subject i) j [])
   corner_of n low high =
-      let (i, k, p, at, on) = new_point_named op m s c l h n low high in
-      let place = mem_at (pieces_of (sc op s c) the_subject i) p at in
+      let (i, k, p, at, on) = new_point_named o s c l h n low high in
+      let place = mem_at (pieces_of (sc o s c) the_subject i) p at in
       (i, place.0, k, place.1, subst (Memᴰ n) (sym (place.2 [])) on)
 
   -- Where every piece of the subject is listed, every added point is counted.
-  all_counted : ((inside : Bool) → keeps op the_subject inside ≡ true) → (overlay_of op m s c l).points ≡ (overlay_of op m s c l).added
-  all_counted whole = points_are ∙ many_all _ (overlay_of op m s c l).added at
+  all_counted : ((inside : Bool) → keeps o.op the_subject inside ≡ true) → (overlay_of o s c l).points ≡ (overlay_of o s c l).added
+  all_counted whole = points_are ∙ many_all _ (overlay_of o s c l).added at
     where
-      at : (k : ℕ) → k < (overlay_of op m s c l).added → named (entries op s c) (lent op s c + k) ≡ true
+      at : (k : ℕ) → k < (overlay_of o s c l).added → named (entries o s c) (lent o s c + k) ≡ true
       at k b =
-          let n = lent op s c + k in
+          let n = lent o s c + k in
           let (i, j, x, y, on) = corner_of n (omega arith) (omega (arith, b, all_are)) in
-          in_named (entries op s c) n (kept_entry op s c i j x y (whole (lies_inside (sc op s c) the_subject (piece_at (sc op s c) the_subject i j))) n on)
+          in_named (entries o s c) n (kept_entry o s c i j x y (whole (lies_inside (sc o s c) the_subject (piece_at (sc o s c) the_subject i j))) n on)
 
 -- Each entry of the answer's node list names a node that the answer lists, with both its coordinates.
-pub entries_listed : (op m : ℕ) (s c : Mesh) (l : Lists) → Accepted op m s c l
-    → (n : ℕ) → Entered (overlay_of op m s c l) n → n < node_count s + node_count c + (overlay_of op m s c l).added
-entries_listed op m s c l h n k =
-    let e = entered_in op s c l n (subst (λ (x : Result). Entered x n) (answer_is op m s c l h) k) in
-    let low = entry_node op s c m (length l.work) (accepted ours op m s c l h).entry n e in
-    omega (arith, low, all_are op m s c l h)
+pub entries_listed : (o : Settings) (s c : Mesh) (l : Lists) → Accepted o s c l
+    → (n : ℕ) → Entered (overlay_of o s c l) n → n < node_count s + node_count c + (overlay_of o s c l).added
+entries_listed o s c l h n k =
+    let e = entered_in o s c l n (subst (λ (x : Result). Entered x n) (answer_is o s c l h) k) in
+    let low = entry_node o s c m (length l.work) (accepted ours o s c l h).entry n e in
+    omega (arith, low, all_are o s c l h)
 
 -- The second number is never above the fourth, of a refusal too.
-pub never_above : (op m : ℕ) (s c : Mesh) (l : Lists) → (overlay_of op m s c l).points ≤ (overlay_of op m s c l).added
-never_above op m s c l = go (ending ours op m s c l)
+pub never_above : (o : Settings) (s c : Mesh) (l : Lists) → (overlay_of o s c l).points ≤ (overlay_of o s c l).added
+never_above o s c l = go (ending ours o s c l)
   where
-    go : Ending ours op m s c l → (overlay_of op m s c l).points ≤ (overlay_of op m s c l).added
-    go (input n) = rw (input_refused ours op m s c l n) (omega arith)
-    go (state_met e n) = rw (state_refused ours op m s c l e n) (omega arith)
-    go (success e f) = below_fourth op m s c l (ap (λ (x : Result). x.code) (succeeds ours op m s c l e f) ∙ no_refusal ours op m s c l)
+    go : Ending ours o s c l → (overlay_of o s c l).points ≤ (overlay_of o s c l).added
+    go (input n) = rw (input_refused ours o s c l n) (omega arith)
+    go (state_met e n) = rw (state_refused ours o s c l e n) (omega arith)
+    go (success e f) = below_fourth o s c l (ap (λ (x : Result). x.code) (succeeds ours o s c l e f) ∙ no_refusal ours o s c l)
 
 -- Imprint, Union and lines list every piece of the subject, so they count every added point.
 pub imprint_counts_all : (m : ℕ) (s c : Mesh) (l : Lists) → Accepted 0 m s c l → (overlay_of 0 m s c l).points ≡ (overlay_of 0 m s c l).added

@@ -62,27 +62,27 @@ unfolding stops flat prior
 all_stop [] rest = refl
 all_stop (p ∷ ps) rest = last_stop (0 + length p) ps rest ∙ (let e : 0 + length p + length (flat ps) ≡ length (p ++ flat ps) = omega (arith, length-append p (flat ps)) in e)
 
-module _ (op : ℕ) (s c : Mesh) (l : Lists) where
+module _ (o : Settings) (s c : Mesh) (l : Lists) where
   abbrev ps : List Piece
-  ps = listing op s c
+  ps = listing o s c
 
-  entries_counted : entry_count (answered op s c l) ≡ length (entries_of ps)
+  entries_counted : entry_count (answered o s c l) ≡ length (entries_of ps)
   unfolding answered_with written front
   entries_counted =
       let runs = map (λ (p : Piece). p.nodes) ps in
-      ap (prior (answered op s c l).lists.ends) (sym (length-map ps (λ (p : Piece). p.nodes))) ∙ all_stop runs (drop (length (stops 0 runs)) l.ends)
+      ap (prior (answered o s c l).lists.ends) (sym (length-map ps (λ (p : Piece). p.nodes))) ∙ all_stop runs (drop (length (stops 0 runs)) l.ends)
 
-  entry_at : (i : ℕ) → i < length (entries_of ps) → get_or (answered op s c l).lists.nodes i 0 ≡ get_or (entries_of ps) i 0
+  entry_at : (i : ℕ) → i < length (entries_of ps) → get_or (answered o s c l).lists.nodes i 0 ≡ get_or (entries_of ps) i 0
   unfolding answered_with written
   entry_at i h = front_in l.nodes (entries_of ps) i 0 h
 
   -- the entries of the answer's node list are those of the listed pieces
-  pub entered_in : (n : ℕ) → Entered (answered op s c l) n → Memᴰ n (entries_of (listing op s c))
+  pub entered_in : (n : ℕ) → Entered (answered o s c l) n → Memᴰ n (entries_of (listing o s c))
   entered_in n (i, h, e) =
       let k : i < length (entries_of ps) = omega (arith, h, entries_counted) in
       subst (λ (x : ℕ). Memᴰ x (entries_of ps)) (sym (entry_at i k) ∙ e) (in_list (entries_of ps) i k 0)
 
-  pub in_entered : (n : ℕ) → Memᴰ n (entries_of (listing op s c)) → Entered (answered op s c l) n
+  pub in_entered : (n : ℕ) → Memᴰ n (entries_of (listing o s c)) → Entered (answered o s c l) n
   in_entered n m =
       let r = mem_at (entries_of ps) n m in
       (r.0, omega (arith, r.1, entries_counted), entry_at r.0 r.1 ∙ r.2 0)

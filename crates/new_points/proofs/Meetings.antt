@@ -15,9 +15,10 @@ use Rattle.segments.specs.Meet.{meeting}
 use Rattle.segments.specs.declared.Meeting.{Meeting}
 use Rattle.segments.specs.declared.Meeting.TheVariants.{Apart, Existing, New, Overlap}
 use Rattle.cutting.specs.Edges.{Edge, edge_at}
+use Rattle.grid.specs.Grid.{Grid}
 use Rattle.rules.specs.Neighbours.{Net}
 use Rattle.rules.specs.SpatialIndex.{edge_box, boxes_meet, candidates}
-use Rattle.rules.specs.Meetings.{Met, segment_of, added_by, recorded, met_pair, met_all, meetings_to, meetings}
+use Rattle.rules.specs.Meetings.{Met, segment_of, added_by, recorded, met_pair, met_all, meetings_to, meetings, meeting_on}
 use Rattle.rules.specs.declared.Bounds.{Bounds}
 use Rattle.rounding.proofs.Points.{Each}
 
@@ -30,7 +31,7 @@ candidate_meets coords es b j m =
     subst (λ (i : ℕ). (i < length es) × (boxes_meet (edge_box coords (edge_at es i)) b ≡ true)) (r.2 0)
     (places_at (λ i. boxes_meet (edge_box coords (edge_at es i)) b) (length es) r.0 r.1)
 
-module _ (coords : List Float) (s c : Net) where
+module _ (g : Grid) (coords : List Float) (s c : Net) where
   -- edge i of s and edge j of c, the boxes of which meet
   pub record Close (i j : ℕ) : Type 0 where
     pub subject : i < length s.edges
@@ -84,27 +85,27 @@ module _ (coords : List Float) (s c : Net) where
   recorded_sourced i j ms (New x y) h k = sourced_new ms _ refl refl h k
   recorded_sourced i j ms (Overlap p q) h k = sourced_same ms _ refl k
 
-  pair_sourced : (i j : ℕ) (ms : List Met) → Close i j → Sourced ms → Sourced (met_pair coords s c i j ms)
+  pair_sourced : (i j : ℕ) (ms : List Met) → Close i j → Sourced ms → Sourced (met_pair g coords s c i j ms)
   unfolding met_pair
-  pair_sourced i j ms h k = recorded_sourced i j ms (meeting (segment_of coords (edge_at s.edges i)) (segment_of coords (edge_at c.edges j))) h k
+  pair_sourced i j ms h k = recorded_sourced i j ms (meeting_on g (segment_of coords (edge_at s.edges i)) (segment_of coords (edge_at c.edges j))) h k
 
-  all_sourced : (i : ℕ) (js : List ℕ) (ms : List Met) → Each (Close i) js → Sourced ms → Sourced (met_all coords s c i js ms)
+  all_sourced : (i : ℕ) (js : List ℕ) (ms : List Met) → Each (Close i) js → Sourced ms → Sourced (met_all g coords s c i js ms)
   unfolding met_all
   all_sourced i [] ms h k = k
-  all_sourced i (j ∷ js) ms h k = all_sourced i js (met_pair coords s c i j ms) (λ x m. h x (Memᴰ.tail m)) (pair_sourced i j ms (h j (Memᴰ.head refl)) k)
+  all_sourced i (j ∷ js) ms h k = all_sourced i js (met_pair g coords s c i j ms) (λ x m. h x (Memᴰ.tail m)) (pair_sourced i j ms (h j (Memᴰ.head refl)) k)
 
   candidates_close : (i : ℕ) → i < length s.edges → Each (Close i) (candidates coords c.edges (edge_box coords (edge_at s.edges i)))
   candidates_close i h j m =
       let b = candidate_meets coords c.edges (edge_box coords (edge_at s.edges i)) j m in
       record { subject = h; cutter = b.0; boxes = b.1 }
 
-  to_sourced : (i : ℕ) → i ≤ length s.edges → Sourced (meetings_to coords s c i)
+  to_sourced : (i : ℕ) → i ≤ length s.edges → Sourced (meetings_to g coords s c i)
   unfolding meetings_to joined
   to_sourced zero h = λ n low high. absurd (omega (arith, low, high))
   to_sourced (suc i) h =
-      all_sourced i (candidates coords c.edges (edge_box coords (edge_at s.edges i))) (meetings_to coords s c i) (candidates_close i (omega arith)) (to_sourced i (omega arith))
+      all_sourced i (candidates coords c.edges (edge_box coords (edge_at s.edges i))) (meetings_to g coords s c i) (candidates_close i (omega arith)) (to_sourced i (omega arith))
 
   -- All new points, numbered behind the coordinates lent.
-  pub new_points_met : (n : ℕ) → length coords / 2 ≤ n → n < (length coords + length (added_by (meetings coords s c))) / 2 → From (meetings coords s c) n
+  pub new_points_met : (n : ℕ) → length coords / 2 ≤ n → n < (length coords + length (added_by (meetings g coords s c))) / 2 → From (meetings g coords s c) n
   unfolding meetings
   new_points_met = to_sourced (length s.edges) (le_refl (length s.edges))

@@ -34,10 +34,10 @@ outline_named sc w i up n (e, at, touches) =
     named p a b (inl q) = Memᴰ.cast (sym q) a
     named p a b (inr q) = Memᴰ.cast (sym q) b
 
-pub new_point_named : (op m : ℕ) (s c : Mesh) (l : Lists) → Accepted op m s c l
-    → (n : ℕ) → node_count s + node_count c ≤ n → n < length (scene_for op s c).coords / 2
-    → (i : ℕ) × (i < length s.ends) × (p : List ℕ) × Memᴰ p (pieces_of (scene_for op s c) the_subject i) × Memᴰ n p
-new_point_named op m s c l h n low high =
-    let on = point_on_outline op m s c (length l.work) (accepted ours op m s c l h).entry n low high in
-    let r = outline_named (scene_for op s c) the_subject on.0 (closes_up_lem op m s c l h the_subject refl on.0 on.1) n on.2 in
+pub new_point_named : (o : Settings) (s c : Mesh) (l : Lists) → Accepted o s c l
+    → (n : ℕ) → node_count s + node_count c ≤ n → n < length (scene_for o s c).coords / 2
+    → (i : ℕ) × (i < length s.ends) × (p : List ℕ) × Memᴰ p (pieces_of (scene_for o s c) the_subject i) × Memᴰ n p
+new_point_named o s c l h n low high =
+    let on = point_on_outline o s c (length l.work) (accepted ours o s c l h).entry n low high in
+    let r = outline_named (scene_for o s c) the_subject on.0 (closes_up_lem o s c l h the_subject refl on.0 on.1) n on.2 in
     (on.0, on.1, r.0, r.1, r.2)

@@ -40,36 +40,36 @@ node_numbers : (m : Mesh) → Sound false m → (n : ℕ) → n < node_count m �
 unfolding point_at
 node_numbers m ok n h = record { x = coord_number m ok (2 * n) (omega arith); y = coord_number m ok (2 * n + 1) (node_within false m ok n h) }
 
-module _ (op m : ℕ) (s c : Mesh) (w : ℕ) (pass : entry_of op m s c w ≡ 0) where
+module _ (o : Settings) (s c : Mesh) (w : ℕ) (pass : entry_of o s c w ≡ 0) where
   abbrev sc : Scene
-  sc = scene_for op s c
+  sc = scene_for o s c
 
   abbrev lent : List Float
   lent = s.coords ++ c.coords
 
   abbrev cutting : Net
-  cutting = cutter_net (eqb op 5) s c
+  cutting = cutter_net (eqb o.op 5) s c
 
   -- the number of a new point comes from a meeting
   point_met : (n : ℕ) → node_count s + node_count c ≤ n → n < length sc.coords / 2 → From lent (subject_net s) cutting sc.met n
   unfolding scene_of
   point_met n low high =
-      new_points_met lent (subject_net s) cutting n (omega (arith, low, lent_even op m s c w pass))
-      (omega (arith, high, scene_length op s c, length-append s.coords c.coords))
+      new_points_met lent (subject_net s) cutting n (omega (arith, low, lent_even o s c w pass))
+      (omega (arith, high, scene_length o s c, length-append s.coords c.coords))
 
   -- a lent node is where it was
   lent_point : (n : ℕ) → n < node_count s + node_count c → point_at sc.coords n ≡ point_at lent n
   unfolding scene_of
-  lent_point n h = same_point lent (added_by sc.met) n (omega (arith, h, lent_even op m s c w pass))
+  lent_point n h = same_point lent (added_by sc.met) n (omega (arith, h, lent_even o s c w pass))
 
   lent_box : (e : Edge) → Both (node_count s + node_count c) e → edge_box sc.coords e ≡ edge_box lent e
   unfolding scene_of
-  lent_box e h = same_box lent (added_by sc.met) e (omega (arith, h.0, lent_even op m s c w pass)) (omega (arith, h.1, lent_even op m s c w pass))
+  lent_box e h = same_box lent (added_by sc.met) e (omega (arith, h.0, lent_even o s c w pass)) (omega (arith, h.1, lent_even o s c w pass))
 
   -- those of the subject have numbers for coordinates
   subject_numbers : (n : ℕ) → n < node_count s → Numbers (point_at sc.coords n)
   subject_numbers n h =
-      let ok = (passed op m s c w pass).subject in
+      let ok = (passed o s c w pass).subject in
       subst Numbers (sym (lent_point n (omega (arith, h)) ∙ same_point s.coords c.coords n (node_within false s ok n h))) (node_numbers s ok n h)
 
   -- the corners of a subject cell
@@ -78,17 +78,17 @@ module _ (op m : ℕ) (s c : Mesh) (w : ℕ) (pass : entry_of op m s c w ≡ 0) 
   cell_is i h = get_or_each (length s.ends) (cell_at s) i [] h
 
   corner_numbers : (i : ℕ) → i < length s.ends → (n : ℕ) → Memᴰ n (cell_of sc the_subject i) → Numbers (point_at sc.coords n)
-  corner_numbers i h n k = subject_numbers n (corners_under false s (passed op m s c w pass).subject i h n (subst (Memᴰ n) (cell_is i h) k))
+  corner_numbers i h n k = subject_numbers n (corners_under false s (passed o s c w pass).subject i h n (subst (Memᴰ n) (cell_is i h) k))
 
   -- an edge of the subject is an edge of one of its cells
   own_cell : (e : Edge) → Memᴰ e sc.subject.edges → (i : ℕ) × (i < length s.ends) × Memᴰ e (ring (cell_of sc the_subject i))
   unfolding scene_of subject_net
-  own_cell e k = let r = descending_in (cells_of s) e k in (r.0, omega (arith, r.1, cells_lent (eqb op 5) s c the_subject), r.2)
+  own_cell e k = let r = descending_in (cells_of s) e k in (r.0, omega (arith, r.1, cells_lent (eqb o.op 5) s c the_subject), r.2)
 
   -- the ends of the subject's edges
   subject_ends : (e : Edge) → Memᴰ e sc.subject.edges → Both (node_count s) e
   unfolding scene_of
-  subject_ends = edges_under false s (passed op m s c w pass).subject
+  subject_ends = edges_under false s (passed o s c w pass).subject
 
   -- where boxes of edges meet over the lent coordinates, they meet over all
   close_boxes : (i j : ℕ) → Close lent (subject_net s) cutting i j
@@ -98,7 +98,7 @@ module _ (op m : ℕ) (s c : Mesh) (w : ℕ) (pass : entry_of op m s c w ≡ 0) 
       let e = edge_at (subject_net s).edges i in
       let f = edge_at cutting.edges j in
       let a = subject_ends e (in_list (subject_net s).edges i k.subject (0, 0)) in
-      let b = cutter_all op m s c w pass f (in_list cutting.edges j k.cutter (0, 0)) in
+      let b = cutter_all o s c w pass f (in_list cutting.edges j k.cutter (0, 0)) in
       ap₂ boxes_meet (lent_box f b) (lent_box e (omega (arith, a.0), omega (arith, a.1))) ∙ k.boxes
 
   -- n is an end of a dart in the outline as cut of a subject cell
@@ -121,6 +121,6 @@ module _ (op m : ℕ) (s c : Mesh) (w : ℕ) (pass : entry_of op m s c w ≡ 0) 
       (cell.0, cell.1, subst (Touched n) (sym cut) darts)
 
   -- Every new point is an end of an outline dart of some subject cell.
-  pub point_on_outline : (n : ℕ) → node_count s + node_count c ≤ n → n < length (scene_for op s c).coords / 2
-      → (i : ℕ) × (i < length s.ends) × Touched n (outline_of (scene_for op s c) the_subject i)
+  pub point_on_outline : (n : ℕ) → node_count s + node_count c ≤ n → n < length (scene_for o s c).coords / 2
+      → (i : ℕ) × (i < length s.ends) × Touched n (outline_of (scene_for o s c) the_subject i)
   point_on_outline n low high = let f = point_met n low high in met_outline n low f.0 f.1 f.2

@@ -18,9 +18,10 @@ use Rattle.entry.specs.Mesh.{Mesh, node_count}
 use Rattle.entry.specs.Passed.{Passed}
 use Rattle.entry.specs.Refused.{entry_of}
 use Rattle.entry.proofs.Passed.{passed}
+use Rattle.grid.specs.Grid.{Grid}
 use Rattle.rules.specs.Neighbours.{Net, subject_net, cutter_net}
 use Rattle.rules.specs.SpatialIndex.{edge_box, candidates}
-use Rattle.rules.specs.Meetings.{Met, Scene, added_by, recorded, segment_of, met_pair, met_all, meetings_to, meetings, scene_of}
+use Rattle.rules.specs.Meetings.{Met, Scene, added_by, recorded, segment_of, met_pair, met_all, meetings_to, meetings, scene_of, meeting_on}
 use Rattle.rules.specs.Operations.{scene_for}
 use Rattle.std.specs.Prelude.{Result, Ok}
 use Rattle.refusals.specs.declared.Refusal.{Refusal}
@@ -60,64 +61,64 @@ even_append ms ns a b = (
   omega (arith, a.2, b.2, length-append ms ns),
 )
 
-module _ (coords : List Float) (s c : Net) where
-  even_all : (i : ℕ) (js : List ℕ) (ms : List Met) → Even ms → Even (met_all coords s c i js ms)
+module _ (g : Grid) (coords : List Float) (s c : Net) where
+  even_all : (i : ℕ) (js : List ℕ) (ms : List Met) → Even ms → Even (met_all g coords s c i js ms)
   unfolding met_all met_pair
   even_all i [] ms a = a
   even_all i (j ∷ js) ms a =
-      even_all i js (met_pair coords s c i j ms)
+      even_all i js (met_pair g coords s c i j ms)
       (even_append ms (recorded i j ((length coords + length (added_by ms)) / 2) (edge_at s.edges i) (edge_at c.edges j)
-      (Meet.meeting (segment_of coords (edge_at s.edges i)) (segment_of coords (edge_at c.edges j)))) a
+      (meeting_on g (segment_of coords (edge_at s.edges i)) (segment_of coords (edge_at c.edges j)))) a
       (even_one i j ((length coords + length (added_by ms)) / 2) (edge_at s.edges i) (edge_at c.edges j)
-      (Meet.meeting (segment_of coords (edge_at s.edges i)) (segment_of coords (edge_at c.edges j)))))
+      (meeting_on g (segment_of coords (edge_at s.edges i)) (segment_of coords (edge_at c.edges j)))))
 
-  even_to : (i : ℕ) → Even (meetings_to coords s c i)
+  even_to : (i : ℕ) → Even (meetings_to g coords s c i)
   unfolding meetings_to joined
   even_to zero = (0, refl, omega arith)
-  even_to (suc i) = even_all i (candidates coords c.edges (edge_box coords (edge_at s.edges i))) (meetings_to coords s c i) (even_to i)
+  even_to (suc i) = even_all i (candidates coords c.edges (edge_box coords (edge_at s.edges i))) (meetings_to g coords s c i) (even_to i)
 
-  even_met : Even (meetings coords s c)
+  even_met : Even (meetings g coords s c)
   unfolding meetings
   even_met = even_to (length s.edges)
 
 -- ---- the coordinates of a scene
 
-module _ (op : ℕ) (s c : Mesh) (es : length s.coords ≡ 2 * node_count s) (ec : length c.coords ≡ 2 * node_count c) where
+module _ (o : Settings) (s c : Mesh) (es : length s.coords ≡ 2 * node_count s) (ec : length c.coords ≡ 2 * node_count c) where
   -- two for each node, and for each meeting with a new point
-  coords_long : (k : ℕ) × (length (scene_for op s c).coords ≡ 2 * (node_count s + node_count c + k)) × (k ≤ length (scene_for op s c).met)
+  coords_long : (k : ℕ) × (length (scene_for o s c).coords ≡ 2 * (node_count s + node_count c + k)) × (k ≤ length (scene_for o s c).met)
   unfolding scene_of
   coords_long =
-      let ms : List Met = meetings (s.coords ++ c.coords) (subject_net s) (cutter_net (eqb op 5) s c) in
-      let k = even_met (s.coords ++ c.coords) (subject_net s) (cutter_net (eqb op 5) s c) in
+      let ms : List Met = meetings g (s.coords ++ c.coords) (subject_net s) (cutter_net (eqb o.op 5) s c) in
+      let k = even_met (s.coords ++ c.coords) (subject_net s) (cutter_net (eqb o.op 5) s c) in
       (k.0, omega (arith, es, ec, k.1, length-append (s.coords ++ c.coords) (added_by ms), length-append s.coords c.coords), k.2)
 
 -- ---- what `find` leaves
 
-module _ (op m : ℕ) (s c : Mesh) (w₀ : List ℕ) (ok : Passed op m s c (length w₀)) (oc oc' : List Float) (w' : List ℕ) (r : Result Found Refusal)
-    (told : leaves (by_number r) oc' w' ≡ found_of op m (bare s) (bare c) oc w₀) (x : Found) (z : r ≡ Ok x) where
+module _ (o : Settings) (s c : Mesh) (w₀ : List ℕ) (ok : Passed o s c (length w₀)) (oc oc' : List Float) (w' : List ℕ) (r : Result Found Refusal)
+    (told : leaves (by_number r) oc' w' ≡ found_of o.op m (bare s) (bare c) oc w₀) (x : Found) (z : r ≡ Ok x) where
   abbrev sc : Scene
-  sc = scene_for op s c
+  sc = scene_for o s c
 
-  abbrev asks : FindAsks op m (bare s) (bare c) (length w₀)
-  asks = ready op m s c (length w₀) ok
+  abbrev asks : FindAsks o.op m (bare s) (bare c) (length w₀)
+  asks = ready o s c (length w₀) ok
 
-  held : Holds op s c x.regions w'
-  held = holds op m s c w₀ asks oc oc' w' r told x z
+  held : Holds o s c x.regions w'
+  held = holds o s c w₀ asks oc oc' w' r told x z
 
   work_long : length w' ≡ length w₀
   work_long =
-      ap length (work_is op m s c w₀ asks oc oc' w' r told x z) ∙ worked_long op m s c (length oc / 2) 0 0 (sym (code_is op m s c w₀ asks oc oc' w' r told 0 0) ∙ ap refused_with z) w₀ asks
+      ap length (work_is o s c w₀ asks oc oc' w' r told x z) ∙ worked_long o s c (length oc / 2) 0 0 (sym (code_is o s c w₀ asks oc oc' w' r told 0 0) ∙ ap refused_with z) w₀ asks
 
   placed : oc' ≡ front oc sc.coords
-  placed = coords_are op m s c w₀ asks oc oc' w' r told x z
+  placed = coords_are o s c w₀ asks oc oc' w' r told x z
 
   -- the number of the next point
   next_is : x.next ≡ length sc.coords / 2
   unfolding found_as
-  next_is = ap (λ (y : Found). y.next) (answer_is op m s c w₀ asks oc oc' w' r told x z)
+  next_is = ap (λ (y : Found). y.next) (answer_is o s c w₀ asks oc oc' w' r told x z)
 
   next_long : length sc.coords ≡ 2 * x.next
-  next_long = let k = coords_long op s c ok.subject.even ok.cutter.even in omega (arith, next_is, k.1)
+  next_long = let k = coords_long o s c ok.subject.even ok.cutter.even in omega (arith, next_is, k.1)
 
   points_in_lem : 2 * x.next ≤ length oc'
   unfolding front
@@ -127,39 +128,39 @@ module _ (op m : ℕ) (s c : Mesh) (w₀ : List ℕ) (ok : Passed op m s c (leng
   points = ap (take (2 * x.next)) placed ∙ take_front_of oc sc.coords (2 * x.next) next_long
 
   least : (length s.coords + length c.coords) / 2 ≤ x.next
-  least = let k = coords_long op s c ok.subject.even ok.cutter.even in omega (arith, next_long, k.1, ok.subject.even, ok.cutter.even)
+  least = let k = coords_long o s c ok.subject.even ok.cutter.even in omega (arith, next_long, k.1, ok.subject.even, ok.cutter.even)
 
   most : x.next < 2 ^ 32
   most =
-      let k = coords_long op s c ok.subject.even ok.cutter.even in
-      let few = met_few op m s c (length oc / 2) 0 0 (sym (code_is op m s c w₀ asks oc oc' w' r told 0 0) ∙ ap refused_with z) in
+      let k = coords_long o s c ok.subject.even ok.cutter.even in
+      let few = met_few o s c (length oc / 2) 0 0 (sym (code_is o s c w₀ asks oc oc' w' r told 0 0) ∙ ap refused_with z) in
       omega (arith, next_long, k.1, k.2, few, ok.most, ok.subject.most_nodes, ok.cutter.most_nodes)
 
   -- the working list has a place for each new point
   marks : x.next - (length s.coords + length c.coords) / 2 ≤ length w₀
   marks =
-      let k = coords_long op s c ok.subject.even ok.cutter.even in
-      let few = met_few op m s c (length oc / 2) 0 0 (sym (code_is op m s c w₀ asks oc oc' w' r told 0 0) ∙ ap refused_with z) in
+      let k = coords_long o s c ok.subject.even ok.cutter.even in
+      let few = met_few o s c (length oc / 2) 0 0 (sym (code_is o s c w₀ asks oc oc' w' r told 0 0) ∙ ap refused_with z) in
       omega (arith, next_long, k.1, k.2, few, ok.subject.even, ok.cutter.even, ok.room)
 
   -- ---- with the indexes
 
   index_ready : Asks w' x.regions s.ends c.ends
-  index_ready = index_asks op m s c x.regions w' (length w₀) ok work_long held (low op m s c w₀ asks oc oc' w' r told x z)
+  index_ready = index_asks o s c x.regions w' (length w₀) ok work_long held (low o s c w₀ asks oc oc' w' r told x z)
 
   module _ (i : Indexes) (w'' : List ℕ) (built : (i ≡ indexes_at (take (2 * x.next) oc') w' x.regions s.ends c.ends)
       × (w'' ≡ put w' x.regions.links.end (indexes (take (2 * x.next) oc') w' x.regions s.ends c.ends))) where
-    held'' : Holds op s c x.regions w''
+    held'' : Holds o s c x.regions w''
     held'' =
-        subst (λ (v : List ℕ). Holds op s c x.regions v) (sym built.1)
-        (holds_after op m s c x.regions w' (length w₀) ok work_long held (low op m s c w₀ asks oc oc' w' r told x z) (take (2 * x.next) oc'))
+        subst (λ (v : List ℕ). Holds o s c x.regions v) (sym built.1)
+        (holds_after o s c x.regions w' (length w₀) ok work_long held (low o s c w₀ asks oc oc' w' r told x z) (take (2 * x.next) oc'))
 
     lists_hold : MeshesIn sc (take (2 * x.next) oc') w'' x.regions s.ends c.ends
-    lists_hold = meshes_in op s c x.regions w'' held'' (take (2 * x.next) oc') (sym points)
+    lists_hold = meshes_in o s c x.regions w'' held'' (take (2 * x.next) oc') (sym points)
 
-    lists_ready : MeshesReady op (take (2 * x.next) oc') w'' x.regions i s.ends c.ends
+    lists_ready : MeshesReady o.op (take (2 * x.next) oc') w'' x.regions i s.ends c.ends
     lists_ready =
-        meshes_ready op s c x.regions w'' held'' m (length w₀) ok (calm op m s c w₀ asks oc oc' w' r told x z) (take (2 * x.next) oc') i
+        meshes_ready o s c x.regions w'' held'' m (length w₀) ok (calm o s c w₀ asks oc oc' w' r told x z) (take (2 * x.next) oc') i
         (both (λ (y : Indexes) (v : List ℕ). MeshIndexed (take (2 * x.next) oc') v x.regions.subject s.ends y.subject)
         (subject_indexed (take (2 * x.next) oc') w' x.regions s.ends c.ends index_ready))
         (both (λ (y : Indexes) (v : List ℕ). MeshIndexed (take (2 * x.next) oc') v x.regions.cutter c.ends y.cutter)
@@ -169,7 +170,7 @@ module _ (op m : ℕ) (s c : Mesh) (w₀ : List ℕ) (ok : Passed op m s c (leng
             (put w' x.regions.links.end (indexes (take (2 * x.next) oc') w' x.regions s.ends c.ends)) → P i w''
         both P h = subst (λ (y : Indexes). P y w'') (sym built.0) (subst (P (indexes_at (take (2 * x.next) oc') w' x.regions s.ends c.ends)) (sym built.1) h)
 
-    held_in : length w'' ≡ length w' → PreparedIn op s c oc oc' w'' (record { next = x.next; regions = x.regions; indexes = i })
+    held_in : length w'' ≡ length w' → PreparedIn o s c oc oc' w'' (record { next = x.next; regions = x.regions; indexes = i })
     held_in long =
         record {
           placed = placed;
@@ -184,29 +185,29 @@ module _ (op m : ℕ) (s c : Mesh) (w₀ : List ℕ) (ok : Passed op m s c (leng
 
 -- ---- what `prepare` comes to, where the entry refuses nothing
 
-module _ (op m : ℕ) (s c : Mesh) (w : List ℕ) (entered : entry_of op m s c (length w) ≡ 0) where
-  pub find_asked : FindAsks op m (bare s) (bare c) (length w)
-  find_asked = ready op m s c (length w) (passed op m s c (length w) entered)
+module _ (o : Settings) (s c : Mesh) (w : List ℕ) (entered : entry_of o s c (length w) ≡ 0) where
+  pub find_asked : FindAsks o.op m (bare s) (bare c) (length w)
+  find_asked = ready o s c (length w) (passed o s c (length w) entered)
 
   module _ (oc oc' : List Float) (w' : List ℕ) where
-    pub refusal_is : (r : Result Found Refusal) → leaves (by_number r) oc' w' ≡ found_of op m (bare s) (bare c) oc w
-        → (q n : ℕ) → refused_with r ≡ first_refusal m (length oc / 2) q n (found_events op s c)
-    refusal_is r told = code_is op m s c w find_asked oc oc' w' r told
+    pub refusal_is : (r : Result Found Refusal) → leaves (by_number r) oc' w' ≡ found_of o.op m (bare s) (bare c) oc w
+        → (q n : ℕ) → refused_with r ≡ first_refusal m (length oc / 2) q n (found_events o s c)
+    refusal_is r told = code_is o s c w find_asked oc oc' w' r told
 
-    module _ (x : Found) (told : leaves (Ok x) oc' w' ≡ found_of op m (bare s) (bare c) oc w) where
-      abbrev ok : Passed op m s c (length w)
-      ok = passed op m s c (length w) entered
+    module _ (x : Found) (told : leaves (Ok x) oc' w' ≡ found_of o.op m (bare s) (bare c) oc w) where
+      abbrev ok : Passed o s c (length w)
+      ok = passed o s c (length w) entered
 
       pub index_asked : Asks w' x.regions s.ends c.ends
-      index_asked = index_ready op m s c w ok oc oc' w' (Ok x) told x refl
+      index_asked = index_ready o s c w ok oc oc' w' (Ok x) told x refl
 
       pub points_fit : 2 * x.next ≤ length oc'
-      points_fit = points_in_lem op m s c w ok oc oc' w' (Ok x) told x refl
+      points_fit = points_in_lem o s c w ok oc oc' w' (Ok x) told x refl
 
       pub next_most : x.next < 2 ^ 32
-      next_most = most op m s c w ok oc oc' w' (Ok x) told x refl
+      next_most = most o s c w ok oc oc' w' (Ok x) told x refl
 
       pub prepared : (i : Indexes) (w'' : List ℕ) → (i ≡ indexes_at (take (2 * x.next) oc') w' x.regions s.ends c.ends)
           × (w'' ≡ put w' x.regions.links.end (indexes (take (2 * x.next) oc') w' x.regions s.ends c.ends))
-          → length w'' ≡ length w' → PreparedIn op s c oc oc' w'' (record { next = x.next; regions = x.regions; indexes = i })
-      prepared i w'' built = held_in op m s c w ok oc oc' w' (Ok x) told x refl i w'' built
+          → length w'' ≡ length w' → PreparedIn o s c oc oc' w'' (record { next = x.next; regions = x.regions; indexes = i })
+      prepared i w'' built = held_in o s c w ok oc oc' w' (Ok x) told x refl i w'' built

@@ -40,14 +40,14 @@ count_low lines m ok nodes e = go m.ends (prior_grows m.ends ok.rises (length m.
 
 -- ---- room for the indexes of both meshes
 
-module _ (op m : ℕ) (s c : Mesh) (g : Regions) (w : List ℕ) (n : ℕ) (ok : Passed op m s c n) (long : length w ≡ n) (h : Holds op s c g w) (low : Low op m s c g) where
+module _ (o : Settings) (s c : Mesh) (g : Regions) (w : List ℕ) (n : ℕ) (ok : Passed o s c n) (long : length w ≡ n) (h : Holds o s c g w) (low : Low o s c g) where
   subject_edges_lem : thing_count (run_in w g.subject.edges) [] ≤ length s.nodes
   unfolding thing_count
-  subject_edges_lem = omega (arith, ap length h.subject_edges_lem, ends_length (scene_for op s c).subject.edges, low.subjects)
+  subject_edges_lem = omega (arith, ap length h.subject_edges_lem, ends_length (scene_for o s c).subject.edges, low.subjects)
 
   cutter_edges_lem : thing_count (run_in w g.cutter.edges) [] ≤ length c.nodes
   unfolding thing_count
-  cutter_edges_lem = omega (arith, ap length h.cutter_edges_lem, ends_length (scene_for op s c).cutter.edges, low.cutters)
+  cutter_edges_lem = omega (arith, ap length h.cutter_edges_lem, ends_length (scene_for o s c).cutter.edges, low.cutters)
 
   subject_long : length (run_in w g.subject.entries) ≡ length s.nodes
   subject_long = ap length h.subject_entries_lem
@@ -95,7 +95,7 @@ module _ (op m : ℕ) (s c : Mesh) (g : Regions) (w : List ℕ) (n : ℕ) (ok : 
       }
 
   -- what the regions hold they hold with the indexes too
-  pub holds_after : (coords : List Float) → Holds op s c g (after coords w g s.ends c.ends index_asks)
+  pub holds_after : (coords : List Float) → Holds o s c g (after coords w g s.ends c.ends index_asks)
   holds_after coords =
       let kept : (r : Run) → Within r g.links.end → run_in (after coords w g s.ends c.ends index_asks) r ≡ run_in w r =
       kept_after coords w g s.ends c.ends index_asks in

@@ -40,19 +40,19 @@ cleared_all o o₁ o₂ w w₁ w₂ same gone work long =
       long,
     )
 
-module _ (op m : ℕ) (s c : Mesh) (l : Lists) where
+module _ (o : Settings) (s c : Mesh) (l : Lists) where
   -- refused at the entry: every list is as it was
-  pub at_entry : (r : Refusal) → number r ≡ entry_of op m s c (length l.work) → answer_of (Err r) l ≡ overlay_of op m s c l
-  at_entry r e = rw e (sym (input_refused ours op m s c l (λ z. some_not_zero r (e ∙ z))))
+  pub at_entry : (r : Refusal) → number r ≡ entry_of o s c (length l.work) → answer_of (Err r) l ≡ overlay_of o s c l
+  at_entry r e = rw e (sym (input_refused ours o s c l (λ z. some_not_zero r (e ∙ z))))
 
-  module _ (entered : 0 ≡ entry_of op m s c (length l.work)) (l₁ : Lists) where
+  module _ (entered : 0 ≡ entry_of o s c (length l.work)) (l₁ : Lists) where
     -- refused by a stage: the lists are zero
-    pub at_stage : (r : Result Counts Refusal) → refused_with r ≡ state_of op m s c l → is_err r ≡ true → l₁ ≡ cleared l → answer_of r l₁ ≡ overlay_of op m s c l
-    at_stage (Err r) e h z = rw (z, e) (sym (state_refused ours op m s c l (sym entered) (λ y. some_not_zero r (e ∙ y))))
+    pub at_stage : (r : Result Counts Refusal) → refused_with r ≡ state_of o s c l → is_err r ≡ true → l₁ ≡ cleared l → answer_of r l₁ ≡ overlay_of o s c l
+    at_stage (Err r) e h z = rw (z, e) (sym (state_refused ours o s c l (sym entered) (λ y. some_not_zero r (e ∙ y))))
     at_stage (Ok k) e h z = absurd (false≢true h)
 
     -- success
-    pub done : (r : Result Counts Refusal) → refused_with r ≡ state_of op m s c l → is_err r ≡ false → IfOk r (λ k. answer_of (Ok k) l₁ ≡ answered op s c l)
-        → answer_of r l₁ ≡ overlay_of op m s c l
-    done (Ok k) e h a = a ∙ sym (succeeds ours op m s c l (sym entered) (sym e))
+    pub done : (r : Result Counts Refusal) → refused_with r ≡ state_of o s c l → is_err r ≡ false → IfOk r (λ k. answer_of (Ok k) l₁ ≡ answered o s c l)
+        → answer_of r l₁ ≡ overlay_of o s c l
+    done (Ok k) e h a = a ∙ sym (succeeds ours o s c l (sym entered) (sym e))
     done (Err r) e h a = absurd (false≢true (sym h))

@@ -38,17 +38,17 @@ use Rattle.overlay.proofs.Keys.{cells_ready, not_crowded}
 
 -- ---- lines are never cut
 
-not_lines : (op : ℕ) → cuts op the_cutter ≡ true → eqb op 5 ≡ false
-not_lines op h = go (eqb op 1) (eqb op 4) refl refl h
+not_lines : (o : Settings) → cuts o.op the_cutter ≡ true → eqb o.op 5 ≡ false
+not_lines o.op h = go (eqb o.op 1) (eqb o.op 4) refl refl h
   where
-    go : (x y : Bool) → eqb op 1 ≡ x → eqb op 4 ≡ y → x || y ≡ true → eqb op 5 ≡ false
-    go true y e f t = ne_eqb op 5 (λ z. absurd (omega (arith, z, eqb-true op 1 e)))
-    go false true e f t = ne_eqb op 5 (λ z. absurd (omega (arith, z, eqb-true op 4 f)))
+    go : (x y : Bool) → eqb o.op 1 ≡ x → eqb o.op 4 ≡ y → x || y ≡ true → eqb o.op 5 ≡ false
+    go true y e f t = ne_eqb o.op 5 (λ z. absurd (omega (arith, z, eqb-true o.op 1 e)))
+    go false true e f t = ne_eqb o.op 5 (λ z. absurd (omega (arith, z, eqb-true o.op 4 f)))
     go false false e f t = absurd (omega (arith, ap (λ (b : Bool). cond {A = ℕ} b 1 0) t))
 
-module _ (op : ℕ) (s c : Mesh) (g : Regions) (w : List ℕ) (h : Holds op s c g w) where
+module _ (o : Settings) (s c : Mesh) (g : Regions) (w : List ℕ) (h : Holds o s c g w) where
   abbrev sc : Scene
-  sc = scene_for op s c
+  sc = scene_for o s c
 
   -- ---- edges and meetings
 
@@ -63,7 +63,7 @@ module _ (op : ℕ) (s c : Mesh) (g : Regions) (w : List ℕ) (h : Holds op s c 
   stored =
       subst (λ (l : List ℕ). Stored sc.met l) (sym h.met)
       (numbers_stored sc.met (booked sc.met) (length_booked sc.met) (λ k i b l. booked_at sc.met k i no_met b l)
-      (λ k b. (meetings_fit (s.coords ++ c.coords) (subject_net s) (cutter_net (eqb op 5) s c) k no_met b).3))
+      (λ k b. (meetings_fit (s.coords ++ c.coords) (subject_net s) (cutter_net (eqb o.op 5) s c) k no_met b).3))
 
   collected_are : (e : Edge) → collected_on w g e ≡ collected sc e
   collected_are e =
@@ -103,21 +103,21 @@ module _ (op : ℕ) (s c : Mesh) (g : Regions) (w : List ℕ) (h : Holds op s c 
   unfolding scene_of subject_net
   subject_own = ap compute_descending (sym subject_cells_lem)
 
-  cutter_own : cuts op the_cutter ≡ true → compute_descending (runs_of (run_in w g.cutter.entries) c.ends) ≡ sc.cutter.edges
+  cutter_own : cuts o.op the_cutter ≡ true → compute_descending (runs_of (run_in w g.cutter.entries) c.ends) ≡ sc.cutter.edges
   unfolding scene_of cutter_net
   cutter_own t =
       ap compute_descending (sym renumbered_cells)
-      ∙ ap (λ (b : Bool). cond b (line_edges (renumbered (weld s c) (cells_of c))) (compute_descending (renumbered (weld s c) (cells_of c)))) (sym (not_lines op t))
+      ∙ ap (λ (b : Bool). cond b (line_edges (renumbered (weld s c) (cells_of c))) (compute_descending (renumbered (weld s c) (cells_of c)))) (sym (not_lines o.op t))
 
   few_of : (es fs : List Edge) → es ≡ fs → AllFew w g fs → AllFew w g es
   few_of es fs e few = subst (λ (l : List Edge). AllFew w g l) (sym e) few
 
-  module _ (m n : ℕ) (ok : Passed op m s c n) (calm : crowded sc ≡ false) where
+  module _ (m n : ℕ) (ok : Passed o s c n) (calm : crowded sc ≡ false) where
     few : AllFew w g sc.subject.edges × AllFew w g sc.cutter.edges
-    few = not_crowded sc w g (holds_linked op s c g w h) collected_are calm
+    few = not_crowded sc w g (holds_linked o s c g w h) collected_are calm
 
     pub meshes_ready : (coords : List Float) (x : Indexes) → MeshIndexed coords w g.subject s.ends x.subject → MeshIndexed coords w g.cutter c.ends x.cutter
-        → MeshesReady op coords w g x s.ends c.ends
+        → MeshesReady o.op coords w g x s.ends c.ends
     meshes_ready coords x is ic =
         record {
           subject = record {

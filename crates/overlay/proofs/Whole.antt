@@ -98,54 +98,54 @@ unfolding gathered
 cells_gathered zero f h = tt
 cells_gathered (suc n) f h = cells_append (gathered n f) (f n) (cells_gathered n f h) (h n)
 
-cells_over : (op : ℕ) (sc : Scene) → Cells (over_both op sc (cell_events op sc))
-cells_over op sc = cells_append (one the_subject) (one the_cutter) (of the_subject) (of the_cutter)
+cells_over : (o : Settings) (sc : Scene) → Cells (over_both o.op sc (cell_events o.op sc))
+cells_over o.op sc = cells_append (one the_subject) (one the_cutter) (of the_subject) (of the_cutter)
   where
     one : Side → List Event
-    one w = over_cells op sc w (cell_events op sc w)
+    one w = over_cells o.op sc w (cell_events o.op sc w)
 
-    of : (w : Side) → Cells (over_cells op sc w (cell_events op sc w))
-    of w = go (cuts op w)
+    of : (w : Side) → Cells (over_cells o.op sc w (cell_events o.op sc w))
+    of w = go (cuts o.op w)
       where
-        go : (b : Bool) → Cells (cond b (gathered (length (net_of sc w).cells) (cell_events op sc w)) [])
-        go true = cells_gathered (length (net_of sc w).cells) (cell_events op sc w) (λ i. cells_of (outcome_of sc w i) (kept sc w op i))
+        go : (b : Bool) → Cells (cond b (gathered (length (net_of sc w).cells) (cell_events o.op sc w)) [])
+        go true = cells_gathered (length (net_of sc w).cells) (cell_events o.op sc w) (λ i. cells_of (outcome_of sc w i) (kept sc w o.op i))
         go false = tt
 
 -- ---- the refusal
 
-module _ (op : ℕ) (s c : Mesh) where
+module _ (o : Settings) (s c : Mesh) where
   abbrev sc₀ : Scene
-  sc₀ = scene_for op s c
+  sc₀ = scene_for o s c
 
   module _ (m p q n : ℕ) where
     -- one met before the cells
-    pub refused_before : (first_refusal m p q n (found_events op s c) ≡ 0 → ⊥) → first_refusal m p q n (course op s c) ≡ first_refusal m p q n (found_events op s c)
+    pub refused_before : (first_refusal m p q n (found_events o s c) ≡ 0 → ⊥) → first_refusal m p q n (course o s c) ≡ first_refusal m p q n (found_events o s c)
     refused_before h =
-        ap (first_refusal m p q n) (course_is op s c)
-        ∙ sym (refused (first_refusal m p q n (found_events op s c)) (found_events op s c) (over_both op sc₀ (cell_events op sc₀)) m p q n h refl)
+        ap (first_refusal m p q n) (course_is o s c)
+        ∙ sym (refused (first_refusal m p q n (found_events o s c)) (found_events o s c) (over_both o.op sc₀ (cell_events o.op sc₀)) m p q n h refl)
 
     -- where none is met before, the cells' is the first
-    pub cells_met : (x : ℕ) (es : List Event) → ((q n : ℕ) → 0 ≡ first_refusal m p q n (found_events op s c))
-        → es ≡ over_both op sc₀ (cell_events op sc₀) → x ≡ first_refusal 0 0 (q - 0) (n - 0) es → x ≡ first_refusal m p q n (course op s c)
+    pub cells_met : (x : ℕ) (es : List Event) → ((q n : ℕ) → 0 ≡ first_refusal m p q n (found_events o s c))
+        → es ≡ over_both o.op sc₀ (cell_events o.op sc₀) → x ≡ first_refusal 0 0 (q - 0) (n - 0) es → x ≡ first_refusal m p q n (course o s c)
     cells_met x es none are e =
-        let f = found_passes op s c m p q n (sym (none q n)) in
-        let all = over_both op sc₀ (cell_events op sc₀) in
+        let f = found_passes o s c m p q n (sym (none q n)) in
+        let all = over_both o.op sc₀ (cell_events o.op sc₀) in
         let q₀ : q - 0 ≡ q = omega arith in
         let n₀ : n - 0 ≡ n = omega arith in
-        e ∙ (λ i. first_refusal 0 0 (q₀ i) (n₀ i) (are i)) ∙ sym (only_cells f.0 f.1 q n all (cells_over op sc₀)) ∙ sym (f.2 all) ∙ ap (first_refusal m p q n) (sym (course_is op s c))
+        e ∙ (λ i. first_refusal 0 0 (q₀ i) (n₀ i) (are i)) ∙ sym (only_cells f.0 f.1 q n all (cells_over o.op sc₀)) ∙ sym (f.2 all) ∙ ap (first_refusal m p q n) (sym (course_is o s c))
 
   -- ---- what the cells leave
 
   abbrev ps : List Piece
-  ps = over_both op sc₀ (λ v. kept sc₀ v op)
+  ps = over_both o.op sc₀ (λ v. kept sc₀ v o.op)
 
-  module _ (oc₀ oc : List Float) (w : List ℕ) (p : Prepared) (ready : PreparedIn op s c oc₀ oc w p) where
+  module _ (oc₀ oc : List Float) (w : List ℕ) (p : Prepared) (ready : PreparedIn o s c oc₀ oc w p) where
     -- what they yield
     abbrev y : Yield
-    y = meshes_yield op (take (2 * p.next) oc) w p.regions s.ends c.ends
+    y = meshes_yield o.op (take (2 * p.next) oc) w p.regions s.ends c.ends
 
-    pub yielded_events : (meshes_yield op (take (2 * p.next) oc) w p.regions s.ends c.ends).events ≡ over_both op (scene_for op s c) (cell_events op (scene_for op s c))
-    yielded_events = meshes_events op sc₀ (take (2 * p.next) oc) w p.regions s.ends c.ends ready.stands
+    pub yielded_events : (meshes_yield o.op (take (2 * p.next) oc) w p.regions s.ends c.ends).events ≡ over_both o.op (scene_for o s c) (cell_events o.op (scene_for o s c))
+    yielded_events = meshes_events o.op sc₀ (take (2 * p.next) oc) w p.regions s.ends c.ends ready.stands
 
     -- the points behind the lent ones are those that the meetings add
     added_are : (k : ℕ) → length s.coords + length c.coords ≡ 2 * k → p.next - k ≡ length (added_by sc₀.met) / 2
@@ -164,11 +164,11 @@ module _ (op : ℕ) (s c : Mesh) where
     families_stand the_cutter = refl
 
     -- the corners of the pieces
-    corners_read : (on oe ot on' oe' ot' : List ℕ) (r : Listed) → AllPlaced none_yet (meshes_yield op (take (2 * p.next) oc) w p.regions s.ends c.ends) on oe ot r on' oe' ot'
+    corners_read : (on oe ot on' oe' ot' : List ℕ) (r : Listed) → AllPlaced none_yet (meshes_yield o.op (take (2 * p.next) oc) w p.regions s.ends c.ends) on oe ot r on' oe' ot'
         → take r.entries on' ≡ flat (nodes_of ps)
     corners_read on oe ot on' oe' ot' r a =
         ap (take r.entries) (a.corners ∙ front_put on (flat y.pieces)) ∙ take_front_of on (flat y.pieces) r.entries (sym (a.entered ∙ zero-add (length (flat y.pieces))))
-        ∙ ap flat (meshes_pieces op sc₀ (take (2 * p.next) oc) w p.regions s.ends c.ends ready.stands)
+        ∙ ap flat (meshes_pieces o.op sc₀ (take (2 * p.next) oc) w p.regions s.ends c.ends ready.stands)
 
     -- the new points among them, counted behind the nodes lent
     named_are : (lent points : ℕ) (entries : List ℕ) → lent ≡ node_count s + node_count c → lent ≤ p.next → entries ≡ flat (nodes_of ps)
@@ -178,17 +178,17 @@ module _ (op : ℕ) (s c : Mesh) where
         e ∙ ap (λ (ns : List ℕ). many (λ k. named ns (lent + k)) (p.next - lent)) read ∙ sym (points_counted lent (p.next - lent) ps)
         ∙ ap₂ (λ (i n : ℕ). length (named_points i n ps)) is all
 
-    pub placed_in : (m n : ℕ) → Passed op m s c n → (on oe ot on' oe' ot' : List ℕ) (r : Listed)
-        → AllPlaced none_yet (meshes_yield op (take (2 * p.next) oc) w p.regions s.ends c.ends) on oe ot r on' oe' ot' → r.count ≤ length oe
+    pub placed_in : (m n : ℕ) → Passed o s c n → (on oe ot on' oe' ot' : List ℕ) (r : Listed)
+        → AllPlaced none_yet (meshes_yield o.op (take (2 * p.next) oc) w p.regions s.ends c.ends) on oe ot r on' oe' ot' → r.count ≤ length oe
         → (points : ℕ) → (let lent : ℕ = (length s.coords + length c.coords) / 2 in points ≡ many (λ k. named (take r.entries on') (lent + k)) (p.next - lent))
-        → PlacedIn op s c (record { pieces = r.count; points = points; added = p.next - (length s.coords + length c.coords) / 2 }) oc₀ on oe ot oc on' oe' ot'
+        → PlacedIn o s c (record { pieces = r.count; points = points; added = p.next - (length s.coords + length c.coords) / 2 }) oc₀ on oe ot oc on' oe' ot'
     unfolding listing_with
     placed_in m n ok on oe ot on' oe' ot' r a low points counted =
         let sc = sc₀ in
         let coords = take (2 * p.next) oc in
         let g = p.regions in
         let ins = ready.stands in
-        let pieces : y.pieces ≡ nodes_of ps = meshes_pieces op sc coords w g s.ends c.ends ins in
+        let pieces : y.pieces ≡ nodes_of ps = meshes_pieces o.op sc coords w g s.ends c.ends ins in
         let lent : ℕ = (length s.coords + length c.coords) / 2 in
         let half : length s.coords + length c.coords ≡ 2 * lent = omega (arith, ok.subject.even, ok.cutter.even) in
         record {
@@ -202,10 +202,10 @@ module _ (op : ℕ) (s c : Mesh) where
           tags = y.tags;
           tagged = a.tags ∙ front_put ot y.tags;
           say = record {
-            kinds = meshes_kinds op sc coords w g s.ends c.ends ins s.kinds c.kinds ok.subject.kinds_long kinds_stand;
-            families = meshes_families op sc coords w g s.ends c.ends ins s.families c.families ok.subject.families_long families_stand;
-            meshes = meshes_parent_meshes op sc coords w g s.ends c.ends ins;
-            cells = meshes_parent_cells op sc coords w g s.ends c.ends ins;
+            kinds = meshes_kinds o.op sc coords w g s.ends c.ends ins s.kinds c.kinds ok.subject.kinds_long kinds_stand;
+            families = meshes_families o.op sc coords w g s.ends c.ends ins s.families c.families ok.subject.families_long families_stand;
+            meshes = meshes_parent_meshes o.op sc coords w g s.ends c.ends ins;
+            cells = meshes_parent_cells o.op sc coords w g s.ends c.ends ins;
           };
         }
 
@@ -215,19 +215,19 @@ in_ends : (l : Lists) (room : ℕ) → room ≡ piece_room l → length (take ro
 in_ends l room most = length-take-le room l.ends (omega (arith, most))
 
 -- the pieces' room is that of the ends lent
-pub state_is : (op m : ℕ) (s c : Mesh) (l : Lists)
-    → state_of op m s c l ≡ first_refusal m (length l.coords / 2) (length (take (piece_room l) l.ends)) (length l.nodes) (course op s c)
+pub state_is : (o : Settings) (s c : Mesh) (l : Lists)
+    → state_of o s c l ≡ first_refusal m (length l.coords / 2) (length (take (piece_room l) l.ends)) (length l.nodes) (course o s c)
 unfolding state_with
-state_is op m s c l = ap (λ (q : ℕ). first_refusal m (length l.coords / 2) q (length l.nodes) (course op s c)) (sym (in_ends l (piece_room l) refl))
+state_is o s c l = ap (λ (q : ℕ). first_refusal m (length l.coords / 2) q (length l.nodes) (course o s c)) (sym (in_ends l (piece_room l) refl))
 
-module _ (op : ℕ) (s c : Mesh) (l : Lists) (room : ℕ) (most : room ≡ piece_room l) where
-  module _ (k : Counts) (oc : List Float) (on oe ot : List ℕ) (h : PlacedIn op s c k l.coords l.nodes (take room l.ends) (take room l.families) oc on oe ot) where
+module _ (o : Settings) (s c : Mesh) (l : Lists) (room : ℕ) (most : room ≡ piece_room l) where
+  module _ (k : Counts) (oc : List Float) (on oe ot : List ℕ) (h : PlacedIn o s c k l.coords l.nodes (take room l.ends) (take room l.families) oc on oe ot) where
     few : k.pieces ≤ room
     few = omega (arith, h.room, in_ends l room most)
 
     -- a number of each piece, as many as there are
-    long : (f : Piece → ℕ) → length (map f (listing op s c)) ≡ k.pieces
-    long f = length-map (listing op s c) f ∙ sym h.pieces
+    long : (f : Piece → ℕ) → length (map f (listing o s c)) ≡ k.pieces
+    long f = length-map (listing o s c) f ∙ sym h.pieces
 
     tags_long : length h.tags ≡ k.pieces
     tags_long = sym (length-map h.tags (kind_by s.kinds c.kinds)) ∙ ap length h.say.kinds ∙ long (λ p. p.kind)
@@ -243,8 +243,8 @@ module _ (op : ℕ) (s c : Mesh) (l : Lists) (room : ℕ) (most : room ≡ piece
     read_is = ap (take k.pieces) tagged ∙ take_front_of l.families h.tags k.pieces tags_long
 
     -- a list that a pass has written to by the tags
-    by_tags : (list list' : List ℕ) (by : ℕ → ℕ) (part : Piece → ℕ) → map by h.tags ≡ map part (listing op s c) → list' ≡ front list (map by read)
-        → list' ≡ front list (map part (listing op s c))
+    by_tags : (list list' : List ℕ) (by : ℕ → ℕ) (part : Piece → ℕ) → map by h.tags ≡ map part (listing o s c) → list' ≡ front list (map by read)
+        → list' ≡ front list (map part (listing o s c))
     by_tags list list' by part say e = e ∙ ap (λ (ts : List ℕ). front list (map by ts)) read_is ∙ ap (front list) say
 
     pub answer_is : (ok fs om oi : List ℕ) → ok ≡ front l.kinds (map (kind_by s.kinds c.kinds) (take k.pieces (ot ++ drop room l.families)))
@@ -252,19 +252,19 @@ module _ (op : ℕ) (s c : Mesh) (l : Lists) (room : ℕ) (most : room ≡ piece
         → (om ≡ front l.meshes (map (mesh_by (length s.ends)) (take k.pieces (ot ++ drop room l.families))))
         × (oi ≡ front l.cells (map (cell_by (length s.ends)) (take k.pieces (ot ++ drop room l.families))))
         → result_of 0 k.pieces k.points 0 k.added (lent_lists oc on (oe ++ drop room l.ends) ok (fs ++ drop k.pieces (ot ++ drop room l.families)) om oi (zeros (length l.work)))
-        ≡ answered op s c l
+        ≡ answered o s c l
     unfolding answered_with written
     answer_is ok fs om oi ek ef (em, ei) =
-        let runs = runs_in op s c in
+        let runs = runs_in o s c in
         let ends : oe ++ drop room l.ends ≡ front l.ends (stops 0 runs) =
         front_back l.ends (stops 0 runs) oe room h.ends
-        (omega (arith, stops_length 0 runs, length-map (listing op s c) (λ (p : Piece). p.nodes), h.pieces, few)) (omega (arith, most)) in
+        (omega (arith, stops_length 0 runs, length-map (listing o s c) (λ (p : Piece). p.nodes), h.pieces, few)) (omega (arith, most)) in
         let kinds = by_tags l.kinds ok (kind_by s.kinds c.kinds) (λ p. p.kind) h.say.kinds ek in
         let meshes = by_tags l.meshes om (mesh_by (length s.ends)) (λ p. side_number p.mesh) h.say.meshes em in
         let cells = by_tags l.cells oi (cell_by (length s.ends)) (λ p. p.cell) h.say.cells ei in
-        let of : fs ≡ map (λ p. p.family) (listing op s c) = ef ∙ ap (map (family_by s.families c.families)) read_is ∙ h.say.families in
-        let families : fs ++ drop k.pieces (ot ++ drop room l.families) ≡ front l.families (map (λ p. p.family) (listing op s c)) =
+        let of : fs ≡ map (λ p. p.family) (listing o s c) = ef ∙ ap (map (family_by s.families c.families)) read_is ∙ h.say.families in
+        let families : fs ++ drop k.pieces (ot ++ drop room l.families) ≡ front l.families (map (λ p. p.family) (listing o s c)) =
         ap₂ (λ (u v : List ℕ). u ++ drop k.pieces v) of tagged
-        ∙ front_over l.families h.tags (map (λ p. p.family) (listing op s c)) k.pieces tags_long (long (λ p. p.family)) in
+        ∙ front_over l.families h.tags (map (λ p. p.family) (listing o s c)) k.pieces tags_long (long (λ p. p.family)) in
         λ i. result_of 0 (h.pieces i) (h.points i) 0 (h.added i)
         (lent_lists (h.coords i) (h.corners i) (ends i) (kinds i) (families i) (meshes i) (cells i) (zeros (length l.work)))

@@ -51,18 +51,18 @@ pub record MeshesIn (sc : Scene) (coords : List Float) (work : List ℕ) (g : Re
   pub cutter_cells : sc.cutter.cells ≡ runs_of (run_in work g.cutter.entries) ce
 
 -- All coordinates stand in the front of oc, which was oc₀, and the scene in the working list w; p is what the cells are asked with.
-pub record PreparedIn (op : ℕ) (s c : Mesh) (oc₀ oc : List Float) (w : List ℕ) (p : Prepared) : Type 0 where
-  pub placed : oc ≡ front oc₀ (scene_for op s c).coords
-  pub long : length (scene_for op s c).coords ≡ 2 * p.next
+pub record PreparedIn (o : Settings) (s c : Mesh) (oc₀ oc : List Float) (w : List ℕ) (p : Prepared) : Type 0 where
+  pub placed : oc ≡ front oc₀ (scene_for o s c).coords
+  pub long : length (scene_for o s c).coords ≡ 2 * p.next
   pub fits : 2 * p.next ≤ length oc
   pub least : (length s.coords + length c.coords) / 2 ≤ p.next
   pub most : p.next < 2 ^ 32
   pub marks : p.next - (length s.coords + length c.coords) / 2 ≤ length w
-  pub stands : MeshesIn (scene_for op s c) (take (2 * p.next) oc) w p.regions s.ends c.ends
-  pub ready : MeshesReady op (take (2 * p.next) oc) w p.regions p.indexes s.ends c.ends
+  pub stands : MeshesIn (scene_for o s c) (take (2 * p.next) oc) w p.regions s.ends c.ends
+  pub ready : MeshesReady o.op (take (2 * p.next) oc) w p.regions p.indexes s.ends c.ends
 
 abbrev pub runs_in : ℕ → Mesh → Mesh → List (List ℕ)
-runs_in op s c = map (λ p. p.nodes) (listing op s c)
+runs_in o s c = map (λ p. p.nodes) (listing o s c)
 
 -- what the tags ts say of the pieces ps
 pub record Tagged (s c : Mesh) (ts : List ℕ) (ps : List Piece) : Type 0 where
@@ -73,14 +73,14 @@ pub record Tagged (s c : Mesh) (ts : List ℕ) (ps : List Piece) : Type 0 where
 
 -- The coordinates, corners, ends and tags of the pieces stand in the fronts of oc', on', oe' and ot', which were oc, on, oe and ot; k counts pieces, the new
 -- points that they name, and all new points.
-pub record PlacedIn (op : ℕ) (s c : Mesh) (k : Counts) (oc : List Float) (on oe ot : List ℕ) (oc' : List Float) (on' oe' ot' : List ℕ) : Type 0 where
-  pub coords : oc' ≡ front oc (scene_for op s c).coords
-  pub corners : on' ≡ front on (flat (runs_in op s c))
-  pub ends : oe' ≡ front oe (stops 0 (runs_in op s c))
-  pub pieces : k.pieces ≡ length (listing op s c)
-  pub points : k.points ≡ length (named_points (node_count s + node_count c) (length (scene_for op s c).coords / 2) (listing op s c))
-  pub added : k.added ≡ length (added_by (scene_for op s c).met) / 2
+pub record PlacedIn (o : Settings) (s c : Mesh) (k : Counts) (oc : List Float) (on oe ot : List ℕ) (oc' : List Float) (on' oe' ot' : List ℕ) : Type 0 where
+  pub coords : oc' ≡ front oc (scene_for o s c).coords
+  pub corners : on' ≡ front on (flat (runs_in o s c))
+  pub ends : oe' ≡ front oe (stops 0 (runs_in o s c))
+  pub pieces : k.pieces ≡ length (listing o s c)
+  pub points : k.points ≡ length (named_points (node_count s + node_count c) (length (scene_for o s c).coords / 2) (listing o s c))
+  pub added : k.added ≡ length (added_by (scene_for o s c).met) / 2
   pub room : k.pieces ≤ length oe
   pub tags : List ℕ
   pub tagged : ot' ≡ front ot tags
-  pub say : Tagged s c tags (listing op s c)
+  pub say : Tagged s c tags (listing o s c)

@@ -38,29 +38,29 @@ use Rattle.rounding.proofs.Projections.{BoundedPoint, projection_finite, finite_
 use Rattle.rounding.proofs.Points.{Each, each_join, each_none, each_cons, Both, edges_under, mesh_allowed, allowed_ends, Origin, meetings_origin}
 
 -- What every theorem below takes: the entry passes, and the coordinates are f64, as in every list of f64 that a caller lends.
-module _ (op m : ℕ) (s c : Mesh) (w : ℕ) (pass : entry_of op m s c w ≡ 0) (subject : Doubles s.coords) (cutter : Doubles c.coords) where
+module _ (o : Settings) (s c : Mesh) (w : ℕ) (pass : entry_of o s c w ≡ 0) (subject : Doubles s.coords) (cutter : Doubles c.coords) where
   abbrev lent : List Float
   lent = s.coords ++ c.coords
 
   abbrev scene : List Float
-  scene = (scene_for op s c).coords
+  scene = (scene_for o s c).coords
 
   lent_bounded : Each Bounded lent
   lent_bounded =
-      let p = passed op m s c w pass in
+      let p = passed o s c w pass in
       each_join s.coords c.coords (λ x h. allowed_bounded x (mesh_allowed false s p.subject subject x h))
-      (λ x h. allowed_bounded x (mesh_allowed (eqb op 5) c p.cutter cutter x h))
+      (λ x h. allowed_bounded x (mesh_allowed (eqb o.op 5) c p.cutter cutter x h))
 
-  point_bounded : (mt : Met) → Origin lent (subject_net s) (cutter_net (eqb op 5) s c) mt → Each Bounded mt.point
+  point_bounded : (mt : Met) → Origin lent (subject_net s) (cutter_net (eqb o.op 5) s c) mt → Each Bounded mt.point
   point_bounded mt o = go o.shape
     where
       go : (mt.point ≡ []) ⊎ ((x : Float) × (y : Float) × (mt.point ≡ x ∷ y ∷ [])) → Each Bounded mt.point
       go (inl e) = subst (Each Bounded) (sym e) (each_none Bounded)
       go (inr q) =
-          let ok = (passed op m s c w pass).subject in
+          let ok = (passed o s c w pass).subject in
           let n = (subject_net s).edges in
           let e = edge_at n mt.subject_edge in
-          let f = edge_at (cutter_net (eqb op 5) s c).edges mt.cutter_edge in
+          let f = edge_at (cutter_net (eqb o.op 5) s c).edges mt.cutter_edge in
           let u : Both (node_count s) e = edges_under false s ok e (in_list n mt.subject_edge o.edge (0, 0)) in
           let b = new_point_lem (segment_of lent e) (segment_of lent f) (allowed_ends s c ok subject e u) q.0 q.1 (o.new q.0 q.1 q.2) in
           subst (Each Bounded) (sym q.2) (each_cons q.0 (q.1 ∷ []) b.0 (each_cons q.1 [] b.1 (each_none Bounded)))
@@ -69,33 +69,33 @@ module _ (op m : ℕ) (s c : Mesh) (w : ℕ) (pass : entry_of op m s c w ≡ 0) 
   unfolding scene_of meetings
   scene_each =
       let n = subject_net s in
-      let k = cutter_net (eqb op 5) s c in
-      each_join lent (added_by (scene_for op s c).met) lent_bounded
-      (each_joined Bounded (λ (mt : Met). mt.point) (scene_for op s c).met
+      let k = cutter_net (eqb o.op 5) s c in
+      each_join lent (added_by (scene_for o s c).met) lent_bounded
+      (each_joined Bounded (λ (mt : Met). mt.point) (scene_for o s c).met
       (λ mt h. point_bounded mt (meetings_origin lent n k (length n.edges) (le_refl (length n.edges)) mt h)))
 
   -- Every coordinate of the scene, lent or new, is finite and at most 2^42 in size.
-  pub scene_finite : (i : ℕ) → i < length (scene_for op s c).coords → Bounded (get_or (scene_for op s c).coords i nan)
+  pub scene_finite : (i : ℕ) → i < length (scene_for o s c).coords → Bounded (get_or (scene_for o s c).coords i nan)
   scene_finite i h = scene_each (get_or scene i nan) (in_list scene i h nan)
 
   -- Its exact coordinate is the number itself: nothing is lost at new points either.
-  pub exact_at_new : (i : ℕ) → i < length (scene_for op s c).coords → let x = get_or (scene_for op s c).coords i nan in HasValue x (minus x) (mag x) (2 ^ 1074)
+  pub exact_at_new : (i : ℕ) → i < length (scene_for o s c).coords → let x = get_or (scene_for o s c).coords i nan in HasValue x (minus x) (mag x) (2 ^ 1074)
   exact_at_new i h = let b = scene_finite i h in exact_units (get_or scene i nan) b.fit b.end
 
   -- Both coordinates of a node are numbers, and the exact ones are these themselves.
-  pub exact_node : (n : ℕ) → NodeOf (scene_for op s c) n → let p = point_at (scene_for op s c).coords n in
+  pub exact_node : (n : ℕ) → NodeOf (scene_for o s c) n → let p = point_at (scene_for o s c).coords n in
       HasValue p.x (minus p.x) (mag p.x) (2 ^ 1074) × HasValue p.y (minus p.y) (mag p.y) (2 ^ 1074)
   unfolding point_at
   exact_node n h = (exact_at_new (2 * n) (omega arith), exact_at_new (2 * n + 1) (omega arith))
 
   -- ---- the order along an edge
 
-  node_bounded : (n : ℕ) → NodeOf (scene_for op s c) n → BoundedPoint (point_at (scene_for op s c).coords n)
+  node_bounded : (n : ℕ) → NodeOf (scene_for o s c) n → BoundedPoint (point_at (scene_for o s c).coords n)
   unfolding point_at
   node_bounded n h = record { x = scene_finite (2 * n) (omega arith); y = scene_finite (2 * n + 1) (omega arith) }
 
-  nodes_ordered : (k : Edge) (a b : ℕ) → NodeOf (scene_for op s c) k.0 → NodeOf (scene_for op s c) k.1 → NodeOf (scene_for op s c) a → NodeOf (scene_for op s c) b
-      → let x = (projected (scene_for op s c).coords k a).projection in let y = (projected (scene_for op s c).coords k b).projection in
+  nodes_ordered : (k : Edge) (a b : ℕ) → NodeOf (scene_for o s c) k.0 → NodeOf (scene_for o s c) k.1 → NodeOf (scene_for o s c) a → NodeOf (scene_for o s c) b
+      → let x = (projected (scene_for o s c).coords k a).projection in let y = (projected (scene_for o s c).coords k b).projection in
       (is_number x ≡ true) × (is_number y ≡ true) × Ordered x y
   nodes_ordered k a b f g h i =
       let at = node_bounded in
@@ -105,30 +105,30 @@ module _ (op m : ℕ) (s c : Mesh) (w : ℕ) (pass : entry_of op m s c w ≡ 0) 
 
   -- What `sorted_nodes` sorts, the projections of an edge's first node and of those collected, are numbers, and of two one is before the other, or they are
   -- equal by value and sign.
-  pub projections_ordered : (v : Side) (e : Edge) → Memᴰ e (net_of (scene_for op s c) v).edges
-      → (a b : ℕ) → Memᴰ a ((key e).0 ∷ collected (scene_for op s c) e) → Memᴰ b ((key e).0 ∷ collected (scene_for op s c) e)
-      → let x = (projected (scene_for op s c).coords (key e) a).projection in let y = (projected (scene_for op s c).coords (key e) b).projection in
+  pub projections_ordered : (v : Side) (e : Edge) → Memᴰ e (net_of (scene_for o s c) v).edges
+      → (a b : ℕ) → Memᴰ a ((key e).0 ∷ collected (scene_for o s c) e) → Memᴰ b ((key e).0 ∷ collected (scene_for o s c) e)
+      → let x = (projected (scene_for o s c).coords (key e) a).projection in let y = (projected (scene_for o s c).coords (key e) b).projection in
       (is_number x ≡ true) × (is_number y ≡ true) × Ordered x y
   projections_ordered v e h a b i j =
-      let n = length (scene_for op s c).coords / 2 in
-      let met = met_nodes_lem op m s c w pass in
-      let k : Both n (key e) = key_under (scene_for op s c) n met e (edge_nodes op m s c w pass v e h) in
-      let all : Each (NodeOf (scene_for op s c)) ((key e).0 ∷ collected (scene_for op s c) e) =
-      each_cons (key e).0 (collected (scene_for op s c) e) k.0 (collected_under (scene_for op s c) n met e) in
+      let n = length (scene_for o s c).coords / 2 in
+      let met = met_nodes_lem o s c w pass in
+      let k : Both n (key e) = key_under (scene_for o s c) n met e (edge_nodes o s c w pass v e h) in
+      let all : Each (NodeOf (scene_for o s c)) ((key e).0 ∷ collected (scene_for o s c) e) =
+      each_cons (key e).0 (collected (scene_for o s c) e) k.0 (collected_under (scene_for o s c) n met e) in
       nodes_ordered (key e) a b k.0 k.1 (all a i) (all b j)
 
   -- ---- the answer
 
-  answer_bounded : (l : Lists) (i : ℕ) → i < length s.coords + length c.coords + 2 * (answered op s c l).added → Bounded (get_or (answered op s c l).lists.coords i nan)
+  answer_bounded : (l : Lists) (i : ℕ) → i < length s.coords + length c.coords + 2 * (answered o s c l).added → Bounded (get_or (answered o s c l).lists.coords i nan)
   unfolding answered_with written
   answer_bounded l i h =
-      let within : i < length (scene_for op s c).coords = omega (arith, h, scene_length op s c) in
-      subst Bounded (sym (front_in l.coords (scene_for op s c).coords i nan within)) (scene_finite i within)
+      let within : i < length (scene_for o s c).coords = omega (arith, h, scene_length o s c) in
+      subst Bounded (sym (front_in l.coords (scene_for o s c).coords i nan within)) (scene_finite i within)
 
 -- No answer holds a NaN: the coordinates of an accepted overlay, lent nodes' and new points', are finite and at most 2^42 in size.
-pub no_nan : (op m : ℕ) (s c : Mesh) (l : Lists) → Accepted op m s c l → Doubles s.coords → Doubles c.coords
-    → (i : ℕ) → i < length s.coords + length c.coords + 2 * (overlay_of op m s c l).added → Bounded (get_or (overlay_of op m s c l).lists.coords i nan)
-no_nan op m s c l h subject cutter i =
-    let t = accepted ours op m s c l h in
+pub no_nan : (o : Settings) (s c : Mesh) (l : Lists) → Accepted o s c l → Doubles s.coords → Doubles c.coords
+    → (i : ℕ) → i < length s.coords + length c.coords + 2 * (overlay_of o s c l).added → Bounded (get_or (overlay_of o s c l).lists.coords i nan)
+no_nan o s c l h subject cutter i =
+    let t = accepted ours o s c l h in
     subst (λ (r : Result). i < length s.coords + length c.coords + 2 * r.added → Bounded (get_or r.lists.coords i nan)) (sym t.answer)
-    (answer_bounded op m s c (length l.work) t.entry subject cutter l i)
+    (answer_bounded o s c (length l.work) t.entry subject cutter l i)

@@ -23,70 +23,70 @@ use Rattle.rounding.proofs.Nodes.{many_cells, cells_under, cutter_under, meeting
 use Rattle.rounding.proofs.Pieces.{pieces_under}
 use Rattle.rounding.proofs.Points.{Each, Both, corners_under, edges_under}
 
-pub scene_length : (op : ℕ) (s c : Mesh) → length (scene_for op s c).coords ≡ length s.coords + length c.coords + length (added_by (scene_for op s c).met)
+pub scene_length : (o : Settings) (s c : Mesh) → length (scene_for o s c).coords ≡ length s.coords + length c.coords + length (added_by (scene_for o s c).met)
 unfolding scene_of
-scene_length op s c = omega (arith, length-append s.coords c.coords, length-append (s.coords ++ c.coords) (added_by (scene_for op s c).met))
+scene_length o s c = omega (arith, length-append s.coords c.coords, length-append (s.coords ++ c.coords) (added_by (scene_for o s c).met))
 
 -- What every theorem below takes: the entry passes.
-module _ (op m : ℕ) (s c : Mesh) (w : ℕ) (pass : entry_of op m s c w ≡ 0) where
+module _ (o : Settings) (s c : Mesh) (w : ℕ) (pass : entry_of o s c w ≡ 0) where
   abbrev lent : List Float
   lent = s.coords ++ c.coords
 
   pub lent_even : length (s.coords ++ c.coords) ≡ 2 * (node_count s + node_count c)
-  lent_even = let p = passed op m s c w pass in omega (arith, length-append s.coords c.coords, p.subject.even, p.cutter.even)
+  lent_even = let p = passed o s c w pass in omega (arith, length-append s.coords c.coords, p.subject.even, p.cutter.even)
 
-  lent_node : (n : ℕ) → n < node_count s + node_count c → NodeOf (scene_for op s c) n
-  lent_node n h = omega (arith, h, scene_length op s c, lent_even, length-append s.coords c.coords)
+  lent_node : (n : ℕ) → n < node_count s + node_count c → NodeOf (scene_for o s c) n
+  lent_node n h = omega (arith, h, scene_length o s c, lent_even, length-append s.coords c.coords)
 
   subject_all : Each (Both (node_count s + node_count c)) (subject_net s).edges
-  subject_all e h = let b = edges_under false s (passed op m s c w pass).subject e h in (omega (arith, b.0), omega (arith, b.1))
+  subject_all e h = let b = edges_under false s (passed o s c w pass).subject e h in (omega (arith, b.0), omega (arith, b.1))
 
-  pub cutter_all : Each (Both (node_count s + node_count c)) (cutter_net (eqb op 5) s c).edges
-  cutter_all = cutter_under s c (eqb op 5) (passed op m s c w pass).cutter
+  pub cutter_all : Each (Both (node_count s + node_count c)) (cutter_net (eqb o.op 5) s c).edges
+  cutter_all = cutter_under s c (eqb o.op 5) (passed o s c w pass).cutter
 
   -- those that meetings name are nodes of the scene
-  pub met_nodes_lem : (mt : Met) → Memᴰ mt (scene_for op s c).met → Each (NodeOf (scene_for op s c)) mt.nodes
+  pub met_nodes_lem : (mt : Met) → Memᴰ mt (scene_for o s c).met → Each (NodeOf (scene_for o s c)) mt.nodes
   unfolding scene_of meetings
   met_nodes_lem mt h n k =
-      let a : 2 * n + 1 < length lent + length (added_by (scene_for op s c).met) =
-      meetings_stand lent (subject_net s) (cutter_net (eqb op 5) s c) (node_count s + node_count c) (le_of_eq (sym lent_even)) subject_all cutter_all
+      let a : 2 * n + 1 < length lent + length (added_by (scene_for o s c).met) =
+      meetings_stand lent (subject_net s) (cutter_net (eqb o.op 5) s c) (node_count s + node_count c) (le_of_eq (sym lent_even)) subject_all cutter_all
       (length (subject_net s).edges) (le_refl (length (subject_net s).edges)) mt h n k in
-      omega (arith, a, scene_length op s c, length-append s.coords c.coords)
+      omega (arith, a, scene_length o s c, length-append s.coords c.coords)
 
   -- so are the ends of edges
-  pub edge_nodes : (v : Side) → Each (Both (length (scene_for op s c).coords / 2)) (net_of (scene_for op s c) v).edges
+  pub edge_nodes : (v : Side) → Each (Both (length (scene_for o s c).coords / 2)) (net_of (scene_for o s c) v).edges
   unfolding scene_of
   edge_nodes the_subject e h = let b = subject_all e h in (lent_node e.0 b.0, lent_node e.1 b.1)
   edge_nodes the_cutter e h = let b = cutter_all e h in (lent_node e.0 b.0, lent_node e.1 b.1)
 
   -- and the corners of cells
-  cell_nodes : (v : Side) (i : ℕ) → i < length (net_of (scene_for op s c) v).cells → Each (NodeOf (scene_for op s c)) (cell_of (scene_for op s c) v i)
+  cell_nodes : (v : Side) (i : ℕ) → i < length (net_of (scene_for o s c) v).cells → Each (NodeOf (scene_for o s c)) (cell_of (scene_for o s c) v i)
   unfolding scene_of subject_net cutter_net cells_of
   cell_nodes the_subject i h x k =
       let n = length_each (length s.ends) (cell_at s) in
       let l : i < length s.ends = omega (arith, n, h) in
-      lent_node x (let b = corners_under false s (passed op m s c w pass).subject i l x
+      lent_node x (let b = corners_under false s (passed o s c w pass).subject i l x
       (subst (Memᴰ x) (get_or_each (length s.ends) (cell_at s) i [] l) k) in omega (arith, b))
-  cell_nodes the_cutter i h x k = lent_node x (cells_under s c (eqb op 5) (passed op m s c w pass).cutter i h x k)
+  cell_nodes the_cutter i h x k = lent_node x (cells_under s c (eqb o.op 5) (passed o s c w pass).cutter i h x k)
 
-  scene_some : (v : Side) (i : ℕ) → i < length (net_of (scene_for op s c) v).cells → NodeOf (scene_for op s c) 0
+  scene_some : (v : Side) (i : ℕ) → i < length (net_of (scene_for o s c) v).cells → NodeOf (scene_for o s c) 0
   unfolding scene_of subject_net cutter_net cells_of
   scene_some the_subject i h =
-      let ok = (passed op m s c w pass).subject in
+      let ok = (passed o s c w pass).subject in
       let l : i < length s.ends = omega (arith, length_each (length s.ends) (cell_at s), h) in
       lent_node 0 (omega (arith, corner_below false s ok i l 0 (cell_some false s ok i l)))
   scene_some the_cutter i h =
-      let ok = (passed op m s c w pass).cutter in
-      let l : i < length c.ends = omega (arith, many_cells s c (eqb op 5) ok, h) in
-      lent_node 0 (omega (arith, corner_below (eqb op 5) c ok i l 0 (cell_some (eqb op 5) c ok i l)))
+      let ok = (passed o s c w pass).cutter in
+      let l : i < length c.ends = omega (arith, many_cells s c (eqb o.op 5) ok, h) in
+      lent_node 0 (omega (arith, corner_below (eqb o.op 5) c ok i l 0 (cell_some (eqb o.op 5) c ok i l)))
 
   -- An outline as cut leads from node to node of the scene: its area is a sum of products of exact coordinates.
-  pub outline_nodes : (v : Side) (i : ℕ) → i < length (net_of (scene_for op s c) v).cells → (e : Edge) → Memᴰ e (outline_of (scene_for op s c) v i)
-      → NodeOf (scene_for op s c) e.0 × NodeOf (scene_for op s c) e.1
-  outline_nodes v i h = outline_under (scene_for op s c) (length (scene_for op s c).coords / 2) met_nodes_lem v i (cell_nodes v i h)
+  pub outline_nodes : (v : Side) (i : ℕ) → i < length (net_of (scene_for o s c) v).cells → (e : Edge) → Memᴰ e (outline_of (scene_for o s c) v i)
+      → NodeOf (scene_for o s c) e.0 × NodeOf (scene_for o s c) e.1
+  outline_nodes v i h = outline_under (scene_for o s c) (length (scene_for o s c).coords / 2) met_nodes_lem v i (cell_nodes v i h)
 
   -- So do the pieces of a cell before any are dropped.
-  pub piece_nodes : (v : Side) (i : ℕ) → i < length (net_of (scene_for op s c) v).cells → (p : List ℕ) → Memᴰ p (pieces_of (scene_for op s c) v i)
-      → (n : ℕ) → Memᴰ n p → NodeOf (scene_for op s c) n
+  pub piece_nodes : (v : Side) (i : ℕ) → i < length (net_of (scene_for o s c) v).cells → (p : List ℕ) → Memᴰ p (pieces_of (scene_for o s c) v i)
+      → (n : ℕ) → Memᴰ n p → NodeOf (scene_for o s c) n
   piece_nodes v i h p k n l =
-      pieces_under (length (scene_for op s c).coords / 2) (scene_some v i h) (scene_for op s c) met_nodes_lem v (edge_nodes (other v)) i (cell_nodes v i h) p k n l
+      pieces_under (length (scene_for o s c).coords / 2) (scene_some v i h) (scene_for o s c) met_nodes_lem v (edge_nodes (other v)) i (cell_nodes v i h) p k n l

@@ -28,7 +28,7 @@ use Rattle.rules.specs.Mesh.{Side, cell_at, cells_of}
 use Rattle.rules.specs.Snap.{weld}
 use Rattle.rules.specs.Neighbours.{Net, compute_descending, line_edges, renumbered, cutter_net}
 use Rattle.rules.specs.SpatialIndex.{edge_box, candidates}
-use Rattle.rules.specs.Meetings.{Met, Scene, segment_of, node_of, added_by, recorded, met_pair, met_all, meetings_to}
+use Rattle.rules.specs.Meetings.{Met, Scene, segment_of, node_of, added_by, recorded, met_pair, met_all, meetings_to, meeting_on}
 use Rattle.rules.specs.Nodes.{Projected, projected, by_projection, along_edge, collected, unless_none, sorted_nodes}
 use Rattle.rules.specs.Cell.{laid, darts_of, treated_by, treated, cell_of, near_of, outline_of}
 use Rattle.snap.proofs.Welds.{length_weld, weld_below}
@@ -137,12 +137,12 @@ module _ (coords : List Float) (s c : Net) (n : ℕ) (room : 2 * n ≤ length co
   abbrev long : List Met → ℕ
   long ms = length coords + length (added_by ms)
 
-  pair_stand : (i j : ℕ) (ms : List Met) → i < length s.edges → Each (StandAll (long ms)) ms → Each (StandAll (long (met_pair coords s c i j ms))) (met_pair coords s c i j ms)
+  pair_stand : (i j : ℕ) (ms : List Met) → i < length s.edges → Each (StandAll (long ms)) ms → Each (StandAll (long (met_pair g coords s c i j ms))) (met_pair g coords s c i j ms)
   unfolding met_pair
   pair_stand i j ms h a =
       let e = edge_at s.edges i in
       let f = edge_at c.edges j in
-      let r = meeting (segment_of coords e) (segment_of coords f) in
+      let r = meeting_on g (segment_of coords e) (segment_of coords f) in
       let new = recorded i j (long ms / 2) e f r in
       let u : Both n e = sub e (in_list s.edges i h (0, 0)) in
       let v : Both n f = edge_any n c.edges cut (let w = u.0 in omega arith) j in
@@ -152,17 +152,17 @@ module _ (coords : List Float) (s c : Net) (n : ℕ) (room : 2 * n ≤ length co
       (stand_more (long ms + length (added_by new)) (long (ms ++ new)) new (omega (arith, more)) (recorded_stand n i j (long ms) e f r (omega arith) u v))
 
   all_stand : (i : ℕ) (js : List ℕ) (ms : List Met) → i < length s.edges → Each (StandAll (long ms)) ms
-      → Each (StandAll (long (met_all coords s c i js ms))) (met_all coords s c i js ms)
+      → Each (StandAll (long (met_all g coords s c i js ms))) (met_all g coords s c i js ms)
   unfolding met_all
   all_stand i [] ms h a = a
-  all_stand i (j ∷ js) ms h a = all_stand i js (met_pair coords s c i j ms) h (pair_stand i j ms h a)
+  all_stand i (j ∷ js) ms h a = all_stand i js (met_pair g coords s c i j ms) h (pair_stand i j ms h a)
 
   pub meetings_stand : (i : ℕ) → i ≤ length s.edges
-      → Each (StandAll (length coords + length (added_by (meetings_to coords s c i)))) (meetings_to coords s c i)
+      → Each (StandAll (length coords + length (added_by (meetings_to g coords s c i)))) (meetings_to g coords s c i)
   unfolding meetings_to
   meetings_stand zero h = each_none (StandAll (long []))
   meetings_stand (suc i) h =
-      all_stand i (candidates coords c.edges (edge_box coords (edge_at s.edges i))) (meetings_to coords s c i) (omega arith) (meetings_stand i (omega arith))
+      all_stand i (candidates coords c.edges (edge_box coords (edge_at s.edges i))) (meetings_to g coords s c i) (omega arith) (meetings_stand i (omega arith))
 
 -- what is collected under a key
 pub collected_under : (sc : Scene) (n : ℕ) → ((m : Met) → Memᴰ m sc.met → Each (Under n) m.nodes) → (e : Edge) → Each (Under n) (collected sc e)

@@ -14,6 +14,7 @@ use Rattle.cutting.specs.Cell.{repeats, doubled}
 use Rattle.cutting.specs.declared.Slot.{Slot}
 use Rattle.cutting.specs.Walk.{Next, more, closed, stuck, broken, walk_with}
 use Rattle.cutting.specs.Outcome.{Outcome, refusal, pieces, of_walk, too_many, closes_up, after_walk, cut_outcome_with, copied_outcome_with}
+use Rattle.settings.specs.declared.Settings.{Settings}
 use Rattle.entry.specs.Mesh.{Mesh}
 use Rattle.entry.specs.Refused.{entry_of}
 use Rattle.rules.specs.Mesh.{Side, the_subject, the_cutter}
@@ -22,28 +23,28 @@ use Rattle.rules.specs.Nodes.{crowded}
 use Rattle.rules.specs.Cell.{near_of, treated_by, treated, outcome_with, cell_of}
 use Rattle.rules.specs.Operations.{cuts, scene_for, kept_with, over_cells, Piece, outcome_pieces}
 use Rattle.rules.specs.Refusals.{Event, meeting, point, piece, stop, of_meeting, of_cell, course_with, first_refusal}
-use Rattle.rules.specs.Overlay.{Lists, Result, answered_with, state_with, overlay_with}
+use Rattle.rules.specs.Overlay.{Lists, Result, answered_with, state_with, seen_by, overlay_with}
 use Rattle.rules.specs.Demand3.{AcceptedWith}
 use Rattle.rules.proofs.Endings.{Ending, input, state_met, success, ending, input_refused, state_refused, succeeds}
 
 -- ---- an accepted overlay gives the answer, and its state no refusal
 
-pub record Taken (v : Edition) (op m : ℕ) (s c : Mesh) (l : Lists) : Type 0 where
-  pub entry : entry_of op m s c (length l.work) ≡ 0
-  pub answer : overlay_with v op m s c l ≡ answered_with v op s c l
-  pub state : state_with v op m s c l ≡ 0
+pub record Taken (v : Edition) (o : Settings) (s c : Mesh) (l : Lists) : Type 0 where
+  pub entry : entry_of (seen_by v o) s c (length l.work) ≡ 0
+  pub answer : overlay_with v o s c l ≡ answered_with v (seen_by v o) s c l
+  pub state : state_with v (seen_by v o) s c l ≡ 0
 
-pub accepted : (v : Edition) (op m : ℕ) (s c : Mesh) (l : Lists) → AcceptedWith v op m s c l → Taken v op m s c l
-accepted v op m s c l h = go (ending v op m s c l)
+pub accepted : (v : Edition) (o : Settings) (s c : Mesh) (l : Lists) → AcceptedWith v o s c l → Taken v o s c l
+accepted v o s c l h = go (ending v o s c l)
   where
     -- the code of what an overlay comes to
-    code : (r : Result) → overlay_with v op m s c l ≡ r → r.code ≡ 0
+    code : (r : Result) → overlay_with v o s c l ≡ r → r.code ≡ 0
     code r e = ap (λ (x : Result). x.code) (sym e) ∙ h
 
-    go : Ending v op m s c l → Taken v op m s c l
-    go (input n) = absurd (n (code _ (input_refused v op m s c l n)))
-    go (state_met e n) = absurd (n (code _ (state_refused v op m s c l e n)))
-    go (success e f) = record { entry = e; answer = succeeds v op m s c l e f; state = f }
+    go : Ending v o s c l → Taken v o s c l
+    go (input n) = absurd (n (code _ (input_refused v o s c l n)))
+    go (state_met e n) = absurd (n (code _ (state_refused v o s c l e n)))
+    go (success e f) = record { entry = e; answer = succeeds v o s c l e f; state = f }
 
 -- ---- no refusal among events
 
@@ -195,12 +196,12 @@ made_cell : (x : Outcome) (ps : List Piece) → Calm (of_cell x ps) → Made x
 made_cell (refusal r) ps h = h
 made_cell (pieces qs) ps h = tt
 
-module _ (v : Edition) (op : ℕ) (s c : Mesh) where
+module _ (v : Edition) (o : Settings) (s c : Mesh) where
   abbrev sc : Scene
-  sc = scene_for op s c
+  sc = scene_for o s c
 
   abbrev cut : Side → ℕ → List Event
-  cut w i = of_cell (outcome_with v sc w i) (kept_with v sc w op i)
+  cut w i = of_cell (outcome_with v sc w i) (kept_with v sc w o.op i)
 
   without_over : (k : ℕ) (w : Side) (t : Bool) → (t ≡ true → (i : ℕ) → i < length (net_of sc w).cells → Without k (cut w i))
       → Without k (cond t (gathered (length (net_of sc w).cells) (cut w)) [])
@@ -208,18 +209,18 @@ module _ (v : Edition) (op : ℕ) (s c : Mesh) where
   without_over k w false h = tt
 
   -- where no cell that is cut is refused with the number k, other than 9, no stop has it
-  pub without_course : (k : ℕ) → (9 ≡ k → ⊥) → ((w : Side) → cuts op w ≡ true → (i : ℕ) → i < length (net_of sc w).cells → outcome_with v sc w i ≡ refusal k → ⊥)
-      → Without k (course_with v op s c)
+  pub without_course : (k : ℕ) → (9 ≡ k → ⊥) → ((w : Side) → cuts o.op w ≡ true → (i : ℕ) → i < length (net_of sc w).cells → outcome_with v sc w i ≡ refusal k → ⊥)
+      → Without k (course_with v o s c)
   unfolding course_with
   without_course k nine h =
       without_append k (replicate (length (s.coords ++ c.coords) / 2) point ++ joined of_meeting sc.met ++ cond (crowded sc) (stop 9 ∷ []) []) _
       (without_append k (replicate (length (s.coords ++ c.coords) / 2) point ++ joined of_meeting sc.met) _
       (without_append k (replicate (length (s.coords ++ c.coords) / 2) point) _ (without_places k (length (s.coords ++ c.coords) / 2)) (without_met k sc.met))
       (without_nine k (crowded sc) nine))
-      (without_append k (over_cells op sc the_subject (cut the_subject)) _ (over the_subject) (over the_cutter))
+      (without_append k (over_cells o.op sc the_subject (cut the_subject)) _ (over the_subject) (over the_cutter))
     where
-      over : (w : Side) → Without k (over_cells op sc w (cut w))
-      over w = without_over k w (cuts op w) (λ e i l. without_cell k (outcome_with v sc w i) (kept_with v sc w op i) (h w e i l))
+      over : (w : Side) → Without k (over_cells o.op sc w (cut w))
+      over w = without_over k w (cuts o.op w) (λ e i l. without_cell k (outcome_with v sc w i) (kept_with v sc w o.op i) (h w e i l))
 
   made_over : (w : Side) (t : Bool) → t ≡ true → Calm (cond t (gathered (length (net_of sc w).cells) (cut w)) []) → (i : ℕ) → i < length (net_of sc w).cells → Calm (cut w i)
   made_over w true e h i k = calm_gathered (length (net_of sc w).cells) (cut w) h i k
@@ -229,20 +230,19 @@ module _ (v : Edition) (op : ℕ) (s c : Mesh) where
       bool_number true = 1
       bool_number false = 0
 
-  pub calm_course : (m : ℕ) (l : Lists) → AcceptedWith v op m s c l → Calm (course_with v op s c)
+  pub calm_course : (l : Lists) → state_with v o s c l ≡ 0 → Calm (course_with v o s c)
   unfolding state_with
-  calm_course m l h =
-      calm (course_with v op s c) m _ _ _ (without_course 0 (never 8) (λ w e i k. sound_not (outcome_with v sc w i) (sound v sc w i))) (accepted v op m s c l h).state
+  calm_course l h = calm (course_with v o s c) o.m _ _ _ (without_course 0 (never 8) (λ w e i k. sound_not (outcome_with v sc w i) (sound v sc w i))) h
 
-  pub all_made : (m : ℕ) (l : Lists) → AcceptedWith v op m s c l → (w : Side) → cuts op w ≡ true → (i : ℕ) → i < length (net_of sc w).cells → Made (outcome_with v sc w i)
+  pub all_made : (l : Lists) → state_with v o s c l ≡ 0 → (w : Side) → cuts o.op w ≡ true → (i : ℕ) → i < length (net_of sc w).cells → Made (outcome_with v sc w i)
   unfolding course_with
-  all_made m l h w e i k = made_cell (outcome_with v sc w i) (kept_with v sc w op i) (go w e k)
+  all_made l h w e i k = made_cell (outcome_with v sc w i) (kept_with v sc w o.op i) (go w e k)
     where
-      cells : Calm (over_cells op sc the_subject (cut the_subject) ++ over_cells op sc the_cutter (cut the_cutter))
+      cells : Calm (over_cells o.op sc the_subject (cut the_subject) ++ over_cells o.op sc the_cutter (cut the_cutter))
       cells = calm_right (replicate (length (s.coords ++ c.coords) / 2) point ++ joined of_meeting sc.met ++ cond (crowded sc) (stop 9 ∷ []) [])
-          (over_cells op sc the_subject (cut the_subject) ++ over_cells op sc the_cutter (cut the_cutter)) (calm_course m l h)
+          (over_cells o.op sc the_subject (cut the_subject) ++ over_cells o.op sc the_cutter (cut the_cutter)) (calm_course l h)
 
-      go : (v : Side) → cuts op v ≡ true → i < length (net_of sc v).cells → Calm (cut v i)
-      go the_subject f j = made_over the_subject (cuts op the_subject) f
-          (calm_left (over_cells op sc the_subject (cut the_subject)) (over_cells op sc the_cutter (cut the_cutter)) cells) i j
-      go the_cutter f j = made_over the_cutter (cuts op the_cutter) f (calm_right (over_cells op sc the_subject (cut the_subject)) (over_cells op sc the_cutter (cut the_cutter)) cells) i j
+      go : (v : Side) → cuts o.op v ≡ true → i < length (net_of sc v).cells → Calm (cut v i)
+      go the_subject f j = made_over the_subject (cuts o.op the_subject) f
+          (calm_left (over_cells o.op sc the_subject (cut the_subject)) (over_cells o.op sc the_cutter (cut the_cutter)) cells) i j
+      go the_cutter f j = made_over the_cutter (cuts o.op the_cutter) f (calm_right (over_cells o.op sc the_subject (cut the_subject)) (over_cells o.op sc the_cutter (cut the_cutter)) cells) i j

@@ -19,6 +19,8 @@ use Rattle.cutting.specs.declared.Slot.{Slot}
 use Rattle.cutting.specs.Edition.{Edition, base}
 use Rattle.cutting.specs.Outcome.{Outcome, refusal, pieces, cut_outcome, flat, stops}
 use Rattle.cutting.specs.Areas.{doubled_area}
+use Rattle.std.specs.Prelude.{None, Some}
+use Rattle.grid.specs.Grid.{Grid}
 use Rattle.entry.specs.Mesh.{Mesh}
 use Rattle.entry.specs.ByMesh.{mesh_refusal}
 use Rattle.rules.specs.Mesh.{Side, the_subject, the_cutter}
@@ -30,7 +32,7 @@ use Rattle.rules.specs.Nodes.{along_edge, crowded}
 use Rattle.rules.specs.Cell.{outline_of}
 use Rattle.rules.specs.Operations.{pieces_of}
 use Rattle.rules.specs.Overlay.{Lists, Result, result_of, overlay_with, overlay_of}
-use Rattle.rules.specs.Forward.{forward_edge, forward_cell}
+use Rattle.rules.specs.Forward.{forward_on, forward_cell}
 use Rattle.rules.proofs.Tables.{Case, case, lent, on_lists, floats, both, same, right_by}
 use Rattle.plane.specs.declared.Point.{Point}
 use Rattle.segments.specs.declared.Segment.{Segment}
@@ -39,14 +41,14 @@ use Rattle.segments.specs.declared.Segment.{Segment}
 
 data Row : Type 0 where
   overlay : Case → Row  -- an overlay, lists and all
-  set_to : Edition → Case → Row  -- an overlay by another setting
+  set_to : Edition → Case → Row  -- an overlay by another edition
   meeting_of : Segment → Segment → List ℕ → Row  -- two segments: the number and values of their meeting
   order_of : List ℕ → List ℕ → List ℕ → Row  -- coordinates, and slots at node 0 by their neighbours: the neighbours in order
   inner_of : List ℕ → List ℕ → List ℕ → Row  -- coordinates and a polygon: the number and values of its inner point
   pieces_of_lem : List ℕ → List Edge → List ℕ → List ℕ → Row  -- coordinates and outline darts: the pieces' corners and their ends
   slots : ℕ → List ℕ → Row  -- so many slots in a table: the refusal
   corners : ℕ → ℕ → Row  -- a mesh of one PGON of so many corners: what it is refused for
-  nodes_along : List ℕ → Edge → List ℕ → List ℕ → Row  -- coordinates, a key, the nodes collected: the sorted nodes
+  nodes_along : Grid → List ℕ → Edge → List ℕ → List ℕ → Row  -- a grid or none, coordinates, a key, the nodes collected: the sorted nodes
   weld_of : Mesh → Mesh → List ℕ → Row  -- two meshes: the numbers of the cutter's nodes
   near_box : List ℕ → Edge → Edge → List ℕ → Row  -- coordinates, an edge, another: it as a candidate
   areas_of_lem : Mesh → Mesh → List ℕ → Row  -- two meshes: the exact doubled areas of the subject's first outline as cut and of its pieces, a sign and a size each
@@ -213,10 +215,10 @@ rows =
     -- tempting: a piece closes when its first node returns, not its first dart
     ∷ pieces_of_lem (o ∷ o ∷ i ∷ -i ∷ i ∷ i ∷ -i ∷ i ∷ -i ∷ -i ∷ []) ((1, 2) ∷ (2, 0) ∷ (0, 3) ∷ (3, 4) ∷ (4, 0) ∷ (0, 1) ∷ []) (0 ∷ 1 ∷ 2 ∷ 4 ∷ 0 ∷ 3 ∷ []) (3 ∷ 6 ∷ [])
     -- the key's second node isn't sorted with the others
-    ∷ nodes_along (o ∷ o ∷ i ∷ o ∷ ii ∷ o ∷ []) (0, 1) (2 ∷ []) (0 ∷ 2 ∷ 1 ∷ [])
+    ∷ nodes_along None (o ∷ o ∷ i ∷ o ∷ ii ∷ o ∷ []) (0, 1) (2 ∷ []) (0 ∷ 2 ∷ 1 ∷ [])
     -- at equal projections nodes stay as collected, and -0 stands before 0
-    ∷ nodes_along (o ∷ o ∷ ii ∷ o ∷ i ∷ i ∷ i ∷ -i ∷ []) (0, 1) (3 ∷ 2 ∷ []) (0 ∷ 3 ∷ 2 ∷ 1 ∷ [])
-    ∷ nodes_along (i ∷ i ∷ o ∷ o ∷ ii ∷ o ∷ i ∷ i ∷ []) (0, 1) (2 ∷ 3 ∷ []) (0 ∷ 3 ∷ 2 ∷ 1 ∷ [])
+    ∷ nodes_along None (o ∷ o ∷ ii ∷ o ∷ i ∷ i ∷ i ∷ -i ∷ []) (0, 1) (3 ∷ 2 ∷ []) (0 ∷ 3 ∷ 2 ∷ 1 ∷ [])
+    ∷ nodes_along None (i ∷ i ∷ o ∷ o ∷ ii ∷ o ∷ i ∷ i ∷ []) (0, 1) (2 ∷ 3 ∷ []) (0 ∷ 3 ∷ 2 ∷ 1 ∷ [])
     -- a node at the weld distance itself isn't near; a node that no cell names isn't welded, and none is welded to it
     ∷ weld_of square nearby (4 ∷ 0 ∷ 6 ∷ [])
     ∷ weld_of square unnamed (4 ∷ 5 ∷ 6 ∷ 7 ∷ [])
@@ -296,7 +298,7 @@ rows =
     ∷ overlay (case 0 9 square welded (fives 14 6 1 1 1 1 1 500) (result_of 0 1 0 0 0 (on_lists
     (square_coords ++ 0x3d61_9799_812d_ea11 ∷ o ∷ o ∷ 0x3d61_9799_812d_ea11 ∷ i ∷ i ∷ []) (3 ∷ 0 ∷ 6 ∷ 0 ∷ 1 ∷ 2 ∷ []) (6 ∷ []) (11 ∷ []) (7 ∷ []) (0 ∷ []) (0 ∷ []) (replicate 500 0))))
     ∷ overlay (case 1 9 square welded (fives 14 6 1 1 1 1 1 500) (refused 19 (noughts 14 6 1 1 1 1 1 500)))
-    ∷ set_to (record { turning = true; once = false }) (case 1 9 square welded (fives 14 9 3 3 3 3 3 500) (result_of 0 3 0 2 0 (on_lists
+    ∷ set_to (record { turning = true; once = false; grids = false }) (case 1 9 square welded (fives 14 9 3 3 3 3 3 500) (result_of 0 3 0 2 0 (on_lists
     (square_coords ++ 0x3d61_9799_812d_ea11 ∷ o ∷ o ∷ 0x3d61_9799_812d_ea11 ∷ i ∷ i ∷ [])
     (3 ∷ 0 ∷ 6 ∷ 0 ∷ 1 ∷ 2 ∷ 0 ∷ 6 ∷ 0 ∷ []) (6 ∷ 8 ∷ 9 ∷ []) (11 ∷ 11 ∷ 11 ∷ []) (7 ∷ 3 ∷ 3 ∷ []) (0 ∷ 1 ∷ 1 ∷ []) (0 ∷ 0 ∷ 0 ∷ []) (replicate 500 0))))
     -- the limits, last since they take longest: 256 nodes on an edge pass, so that the next thing is that the first triangle has no place; 257 give 9
@@ -327,7 +329,7 @@ one_met = record { subject_edge = 0; cutter_edge = 0; nodes = 2 ∷ []; point = 
 
 -- one edge, and n meetings on it with a node each
 abbrev met_often : ℕ → Scene
-met_often n = record { coords = []; subject = net_of_lem ((0, 1) ∷ []); cutter = net_of_lem []; met = replicate n one_met }
+met_often n = record { grid = None; coords = []; subject = net_of_lem ((0, 1) ∷ []); cutter = net_of_lem []; met = replicate n one_met }
 
 -- nodes 0 to n - 1, all of them at (0, 0)
 abbrev pgon : ℕ → Mesh
@@ -354,7 +356,7 @@ abbrev areas_of : Scene → List ℤ
 areas_of sc = map (doubled_area sc.coords) (outline_of sc the_subject 0 ∷ map ring (pieces_of sc the_subject 0))
 
 holds : Row → Bool
-unfolding right_by meeting_code inner_code doubled_area forward_edge forward_cell
+unfolding right_by meeting_code inner_code doubled_area forward_on forward_cell
 holds (overlay c) = right_by overlay_of (c ∷ [])
 holds (set_to v c) = right_by (overlay_with v) (c ∷ [])
 holds (meeting_of s t m) = same (meeting_code (meeting s t)) m
@@ -363,12 +365,12 @@ holds (inner_of coords ps p) = same (inner_code (strict_interior_point (floats c
 holds (pieces_of_lem coords es ns ends) = cut_into (cut_outcome es (cell_table (floats coords) es no_edges)) ns ends
 holds (slots n r) = same (refusal_of (cut_outcome [] (filled n))) r
 holds (corners n r) = eqb (mesh_refusal false (pgon n)) r
-holds (nodes_along coords k ns ms) = same (along_edge (floats coords) k ns) ms
+holds (nodes_along g coords k ns ms) = same (along_edge g (floats coords) k ns) ms
 holds (weld_of s c ns) = same (weld s c) ns
 holds (near_box coords e f js) = same (candidates (floats coords) (f ∷ []) (edge_box (floats coords) e)) js
-holds (areas_of_lem s c ns) = same (joined sign_size (areas_of (scene_of false s c))) ns
+holds (areas_of_lem s c ns) = same (joined sign_size (areas_of (scene_of None false s c))) ns
 holds (crowded_by_lem n t) = eqb (bit (crowded (met_often n))) (bit t)
-holds (forward_of s c w t) = eqb (bit (forward_cell (scene_of false s c) w 0)) (bit t)
+holds (forward_of s c w t) = eqb (bit (forward_cell (scene_of None false s c) w 0)) (bit t)
 
 all_hold : List Row → Bool
 unfolding both holds

@@ -15,6 +15,8 @@ use Rattle.cutting.specs.declared.Slot.{Slot}
 use Rattle.cutting.specs.Outcome.{Outcome}
 use Rattle.cutting.specs.Areas.{ClosesUp}
 use Rattle.cutting.proofs.Closing.{accepted_once, accepted_closes_up, never_doubled, copy_once, copy_closes_up, copy_never_doubled}
+use Rattle.grid.specs.Grid.{Grid}
+use Rattle.settings.specs.declared.Settings.{Settings}
 use Rattle.entry.specs.Mesh.{Mesh}
 use Rattle.rules.specs.Mesh.{cell_at, cells_of, Side, the_subject, the_cutter, other, lent_mesh}
 use Rattle.rules.specs.Neighbours.{subject_net, cutter_net}
@@ -23,7 +25,7 @@ use Rattle.rules.specs.Cell.{darts_of, near_edges, cell_of, near_of, treated_by,
 use Rattle.rules.specs.Operations.{cuts, scene_for, outcome_pieces}
 use Rattle.rules.specs.Overlay.{Lists}
 use Rattle.rules.specs.Demand3.{Accepted, CellCloses}
-use Rattle.rules.proofs.Accepts.{Made, made_is, all_made}
+use Rattle.rules.proofs.Accepts.{accepted, Made, made_is, all_made}
 
 -- by the theorems of the cutting layer, whether the cell is copied or cut
 module _ (sc : Scene) (w : Side) (i : ℕ) where
@@ -57,18 +59,18 @@ module _ (sc : Scene) (w : Side) (i : ℕ) where
   cell_single (j ∷ js) made = never_doubled sc.coords (darts_of sc cell) (near j js) (cell_once (j ∷ js) made)
 
 -- the cells of a net are those lent
-pub cells_lent : (lines : Bool) (s c : Mesh) (w : Side) → length (net_of (scene_of lines s c) w).cells ≡ length (lent_mesh s c w).ends
+pub cells_lent : (g : Grid) (lines : Bool) (s c : Mesh) (w : Side) → length (net_of (scene_of g lines s c) w).cells ≡ length (lent_mesh s c w).ends
 unfolding scene_of subject_net cutter_net cells_of
-cells_lent lines s c the_subject = length_each (length s.ends) (cell_at s)
-cells_lent lines s c the_cutter = length-map (each (length c.ends) (cell_at c)) _ ∙ length_each (length c.ends) (cell_at c)
+cells_lent g lines s c the_subject = length_each (length s.ends) (cell_at s)
+cells_lent g lines s c the_cutter = length-map (each (length c.ends) (cell_at c)) _ ∙ length_each (length c.ends) (cell_at c)
 
 -- in every cell of a mesh that the operation cuts, if the overlay is accepted
-module _ (op m : ℕ) (s c : Mesh) (l : Lists) (h : Accepted op m s c l) (w : Side) (e : cuts op w ≡ true) (i : ℕ) (k : i < length (lent_mesh s c w).ends) where
+module _ (o : Settings) (s c : Mesh) (l : Lists) (h : Accepted o s c l) (w : Side) (e : cuts o.op w ≡ true) (i : ℕ) (k : i < length (lent_mesh s c w).ends) where
   abbrev sc : Scene
-  sc = scene_for op s c
+  sc = scene_for o s c
 
   made : Made (outcome_of sc w i)
-  made = all_made ours op s c m l h w e i (omega (arith, k, cells_lent (eqb op 5) s c w))
+  made = all_made ours o s c l (accepted ours o s c l h).state w e i (omega (arith, k, cells_lent o.grid (eqb o.op 5) s c w))
 
   pub accepted_closes : CellCloses sc w i
   unfolding treated

@@ -11,6 +11,7 @@ use lib.ListN.{replicate}
 use lib.Ieee.{Float}
 use borrow.Author.Tests.{le-leb}
 use Rattle.cutting.specs.Edges.{edge_at}
+use Rattle.grid.specs.Grid.{Grid}
 use Rattle.rules.specs.Neighbours.{Net}
 use Rattle.rules.specs.SpatialIndex.{edge_box, candidates}
 use Rattle.rules.specs.Meetings.{Met, met_pair, met_all, meetings_to}
@@ -95,24 +96,24 @@ points_over (suc k) es m (suc p) q n h = points_over k es m p q n (omega (arith,
 
 -- ---- meetings are only added
 
-module _ (coords : List Float) (s c : Net) where
-  pub pair_behind : (i j : ℕ) (ms : List Met) → (more : List Met) × (met_pair coords s c i j ms ≡ ms ++ more)
+module _ (g : Grid) (coords : List Float) (s c : Net) where
+  pub pair_behind : (i j : ℕ) (ms : List Met) → (more : List Met) × (met_pair g coords s c i j ms ≡ ms ++ more)
   unfolding met_pair
   pair_behind i j ms = (_, refl)
 
-  pub all_behind : (i : ℕ) (js : List ℕ) (ms : List Met) → (more : List Met) × (met_all coords s c i js ms ≡ ms ++ more)
+  pub all_behind : (i : ℕ) (js : List ℕ) (ms : List Met) → (more : List Met) × (met_all g coords s c i js ms ≡ ms ++ more)
   unfolding met_all
   all_behind i [] ms = ([], sym (append-nil ms))
   all_behind i (j ∷ js) ms =
       let a = pair_behind i j ms in
-      let b = all_behind i js (met_pair coords s c i j ms) in
+      let b = all_behind i js (met_pair g coords s c i j ms) in
       (a.0 ++ b.0, b.1 ∙ ap (λ (l : List Met). l ++ b.0) a.1 ∙ append_assoc ms a.0 b.0)
 
   -- the meetings of the first i edges stand before those of i + k
-  pub edges_behind : (i k : ℕ) → (more : List Met) × (meetings_to coords s c (k + i) ≡ meetings_to coords s c i ++ more)
+  pub edges_behind : (i k : ℕ) → (more : List Met) × (meetings_to g coords s c (k + i) ≡ meetings_to g coords s c i ++ more)
   unfolding meetings_to
-  edges_behind i zero = rw zero-add ([], sym (append-nil (meetings_to coords s c i)))
+  edges_behind i zero = rw zero-add ([], sym (append-nil (meetings_to g coords s c i)))
   edges_behind i (suc k) =
       let a = edges_behind i k in
-      let b = all_behind (k + i) (candidates coords c.edges (edge_box coords (edge_at s.edges (k + i)))) (meetings_to coords s c (k + i)) in
-      rw suc-add (a.0 ++ b.0, b.1 ∙ ap (λ (l : List Met). l ++ b.0) a.1 ∙ append_assoc (meetings_to coords s c i) a.0 b.0)
+      let b = all_behind (k + i) (candidates coords c.edges (edge_box coords (edge_at s.edges (k + i)))) (meetings_to g coords s c (k + i)) in
+      rw suc-add (a.0 ++ b.0, b.1 ∙ ap (λ (l : List Met). l ++ b.0) a.1 ∙ append_assoc (meetings_to g coords s c i) a.0 b.0)

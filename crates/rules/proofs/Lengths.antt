@@ -13,10 +13,12 @@ use Rattle.segments.specs.Meet.{meeting}
 use Rattle.cutting.specs.Edges.{edge_at, Edge}
 use Rattle.cutting.specs.Outcome.{Outcome, refusal, pieces, flat, stops}
 use Rattle.cutting.specs.Edition.{ours}
+use Rattle.grid.specs.Grid.{Grid}
+use Rattle.settings.specs.declared.Settings.{Settings}
 use Rattle.entry.specs.Mesh.{Mesh}
 use Rattle.rules.specs.Mesh.{Side, the_subject, the_cutter, side_number}
 use Rattle.rules.specs.Neighbours.{Net, subject_net, cutter_net}
-use Rattle.rules.specs.Meetings.{Met, Scene, net_of, segment_of, added_by, recorded, met_pair, met_all, meetings_to, meetings, scene_of}
+use Rattle.rules.specs.Meetings.{Met, Scene, net_of, segment_of, added_by, recorded, met_pair, met_all, meetings_to, meetings, scene_of, meeting_on}
 use Rattle.rules.specs.Nodes.{crowded}
 use Rattle.rules.specs.Cell.{outcome_of}
 use Rattle.rules.specs.Operations.{cuts, scene_for, Piece, kept, over_cells, listing, listing_with}
@@ -140,25 +142,25 @@ pairs_recorded i j next e f (Existing p) = (refl, tt)
 pairs_recorded i j next e f (New x y) = (refl, tt)
 pairs_recorded i j next e f (Overlap p q) = (refl, tt)
 
-module _ (coords : List Float) (s c : Net) where
-  pairs_pair : (i j : ℕ) (ms : List Met) → Pairs ms → Pairs (met_pair coords s c i j ms)
+module _ (g : Grid) (coords : List Float) (s c : Net) where
+  pairs_pair : (i j : ℕ) (ms : List Met) → Pairs ms → Pairs (met_pair g coords s c i j ms)
   unfolding met_pair
   pairs_pair i j ms h =
       let e = edge_at s.edges i in
       let f = edge_at c.edges j in
-      pairs_append ms _ h (pairs_recorded i j ((length coords + length (added_by ms)) / 2) e f (meeting (segment_of coords e) (segment_of coords f)))
+      pairs_append ms _ h (pairs_recorded i j ((length coords + length (added_by ms)) / 2) e f (meeting_on g (segment_of coords e) (segment_of coords f)))
 
-  pairs_all : (i : ℕ) (js : List ℕ) (ms : List Met) → Pairs ms → Pairs (met_all coords s c i js ms)
+  pairs_all : (i : ℕ) (js : List ℕ) (ms : List Met) → Pairs ms → Pairs (met_all g coords s c i js ms)
   unfolding met_all
   pairs_all i [] ms h = h
-  pairs_all i (j ∷ js) ms h = pairs_all i js (met_pair coords s c i j ms) (pairs_pair i j ms h)
+  pairs_all i (j ∷ js) ms h = pairs_all i js (met_pair g coords s c i j ms) (pairs_pair i j ms h)
 
-  pairs_to : (i : ℕ) → Pairs (meetings_to coords s c i)
+  pairs_to : (i : ℕ) → Pairs (meetings_to g coords s c i)
   unfolding meetings_to
   pairs_to zero = tt
-  pairs_to (suc i) = pairs_all i _ (meetings_to coords s c i) (pairs_to i)
+  pairs_to (suc i) = pairs_all i _ (meetings_to g coords s c i) (pairs_to i)
 
-  pairs_met : Pairs (meetings coords s c)
+  pairs_met : Pairs (meetings g coords s c)
   unfolding meetings
   pairs_met = pairs_to (length s.edges)
 
@@ -199,23 +201,23 @@ nine_takes false = takes_none
 
 -- ---- the whole course
 
-module _ (op : ℕ) (s c : Mesh) where
+module _ (o : Settings) (s c : Mesh) where
   abbrev sc : Scene
-  sc = scene_for op s c
+  sc = scene_for o s c
 
   abbrev cut : Side → ℕ → List Event
-  cut w i = of_cell (outcome_of sc w i) (kept sc w op i)
+  cut w i = of_cell (outcome_of sc w i) (kept sc w o.op i)
 
   abbrev before : List Event
   before = replicate (length (s.coords ++ c.coords) / 2) point ++ joined of_meeting sc.met ++ cond (crowded sc) (stop 9 ∷ []) []
 
   abbrev cells : List Event
-  cells = over_cells op sc the_subject (cut the_subject) ++ over_cells op sc the_cutter (cut the_cutter)
+  cells = over_cells o.op sc the_subject (cut the_subject) ++ over_cells o.op sc the_cutter (cut the_cutter)
 
   over_takes : (w : Side) (t : Bool) → let n = length (net_of sc w).cells in Calm (cond t (gathered n (cut w)) [])
-      → Takes (cond t (gathered n (cut w)) []) (cond t (gathered n (kept sc w op)) [])
-  over_takes w true h = takes_gathered (length (net_of sc w).cells) (cut w) (kept sc w op)
-      (λ i k. takes_cell (outcome_of sc w i) (kept sc w op i) (calm_gathered (length (net_of sc w).cells) (cut w) h i k))
+      → Takes (cond t (gathered n (cut w)) []) (cond t (gathered n (kept sc w o.op)) [])
+  over_takes w true h = takes_gathered (length (net_of sc w).cells) (cut w) (kept sc w o.op)
+      (λ i k. takes_cell (outcome_of sc w i) (kept sc w o.op i) (calm_gathered (length (net_of sc w).cells) (cut w) h i k))
   over_takes w false h = takes_none
 
   before_takes : Takes before []
@@ -225,17 +227,17 @@ module _ (op : ℕ) (s c : Mesh) where
       (no_pieces_of (length (s.coords ++ c.coords) / 2)) (met_takes sc.met))
       (nine_takes (crowded sc))
 
-  course_takes : Calm (course op s c) → Takes (course op s c) (listing op s c)
+  course_takes : Calm (course o s c) → Takes (course o s c) (listing o s c)
   unfolding course_with listing_with
   course_takes h =
       let rest = calm_right before cells h in
-      takes_append before cells [] (over_cells op sc the_subject (kept sc the_subject op) ++ over_cells op sc the_cutter (kept sc the_cutter op)) before_takes
-      (takes_append (over_cells op sc the_subject (cut the_subject)) (over_cells op sc the_cutter (cut the_cutter))
-      (over_cells op sc the_subject (kept sc the_subject op)) (over_cells op sc the_cutter (kept sc the_cutter op))
-      (over_takes the_subject (cuts op the_subject) (calm_left (over_cells op sc the_subject (cut the_subject)) (over_cells op sc the_cutter (cut the_cutter)) rest))
-      (over_takes the_cutter (cuts op the_cutter) (calm_right (over_cells op sc the_subject (cut the_subject)) (over_cells op sc the_cutter (cut the_cutter)) rest)))
+      takes_append before cells [] (over_cells o.op sc the_subject (kept sc the_subject o.op) ++ over_cells o.op sc the_cutter (kept sc the_cutter o.op)) before_takes
+      (takes_append (over_cells o.op sc the_subject (cut the_subject)) (over_cells o.op sc the_cutter (cut the_cutter))
+      (over_cells o.op sc the_subject (kept sc the_subject o.op)) (over_cells o.op sc the_cutter (kept sc the_cutter o.op))
+      (over_takes the_subject (cuts o.op the_subject) (calm_left (over_cells o.op sc the_subject (cut the_subject)) (over_cells o.op sc the_cutter (cut the_cutter)) rest))
+      (over_takes the_cutter (cuts o.op the_cutter) (calm_right (over_cells o.op sc the_subject (cut the_subject)) (over_cells o.op sc the_cutter (cut the_cutter)) rest)))
 
-  course_points : length (s.coords ++ c.coords) / 2 + total a_point (joined of_meeting sc.met) ≤ total a_point (course op s c)
+  course_points : length (s.coords ++ c.coords) / 2 + total a_point (joined of_meeting sc.met) ≤ total a_point (course o s c)
   unfolding course_with
   course_points =
       omega (
@@ -277,46 +279,46 @@ cleared_lengths l = record {
 }
 
 -- what an accepted overlay answers, and the room there was for it
-pub record Fits (op : ℕ) (s c : Mesh) (l : Lists) : Type 0 where
-  pub coords : length (scene_for op s c).coords ≤ length l.coords
-  pub nodes : length (flat (map (λ (p : Piece). p.nodes) (listing op s c))) ≤ length l.nodes
-  pub ends : length (listing op s c) ≤ length l.ends
-  pub kinds : length (listing op s c) ≤ length l.kinds
-  pub families : length (listing op s c) ≤ length l.families
-  pub meshes : length (listing op s c) ≤ length l.meshes
-  pub cells : length (listing op s c) ≤ length l.cells
+pub record Fits (o : Settings) (s c : Mesh) (l : Lists) : Type 0 where
+  pub coords : length (scene_for o s c).coords ≤ length l.coords
+  pub nodes : length (flat (map (λ (p : Piece). p.nodes) (listing o s c))) ≤ length l.nodes
+  pub ends : length (listing o s c) ≤ length l.ends
+  pub kinds : length (listing o s c) ≤ length l.kinds
+  pub families : length (listing o s c) ≤ length l.families
+  pub meshes : length (listing o s c) ≤ length l.meshes
+  pub cells : length (listing o s c) ≤ length l.cells
 
-scene_coords : (lines : Bool) (s c : Mesh) → length (scene_of lines s c).coords ≡ length (s.coords ++ c.coords) + length (added_by (scene_of lines s c).met)
+scene_coords : (g : Grid) (lines : Bool) (s c : Mesh) → length (scene_of g lines s c).coords ≡ length (s.coords ++ c.coords) + length (added_by (scene_of g lines s c).met)
 unfolding scene_of
-scene_coords lines s c = length-append (s.coords ++ c.coords) _
+scene_coords g lines s c = length-append (s.coords ++ c.coords) _
 
-scene_pairs : (lines : Bool) (s c : Mesh) → Pairs (scene_of lines s c).met
+scene_pairs : (g : Grid) (lines : Bool) (s c : Mesh) → Pairs (scene_of g lines s c).met
 unfolding scene_of
-scene_pairs lines s c = pairs_met (s.coords ++ c.coords) (subject_net s) (cutter_net lines s c)
+scene_pairs g lines s c = pairs_met g (s.coords ++ c.coords) (subject_net s) (cutter_net lines s c)
 
 -- twice the half of an even number
 whole_points : (a b t p n : ℕ) → a ≡ 2 * (a / 2) → b ≡ 2 * (b / 2) → (a + b) / 2 + t ≤ p → p ≤ n / 2 → a + b + 2 * t ≤ n
 whole_points a b t p n e f h k = omega (arith, e, f, h, k)
 
-pub accepted_fits : (op m : ℕ) (s c : Mesh) (l : Lists) → Accepted op m s c l → Fits op s c l
+pub accepted_fits : (o : Settings) (s c : Mesh) (l : Lists) → Accepted o s c l → Fits o s c l
 unfolding state_with
-accepted_fits op m s c l h =
-    let t = accepted ours op m s c l h in
-    let calm = calm_course ours op s c m l h in
-    let entry = passed op m s c (length l.work) t.entry in
-    let r = room (course op s c) m (length l.coords / 2) (piece_room l) (length l.nodes) calm t.state in
-    let takes = course_takes op s c calm in
+accepted_fits o s c l h =
+    let t = accepted ours o s c l h in
+    let calm = calm_course ours o s c l t.state in
+    let entry = passed o s c (length l.work) t.entry in
+    let r = room (course o s c) o.m (length l.coords / 2) (piece_room l) (length l.nodes) calm t.state in
+    let takes = course_takes o s c calm in
     let sum = length-append s.coords c.coords in
-    let points = met_points (scene_for op s c).met (scene_pairs (eqb op 5) s c) in
+    let points = met_points (scene_for o s c).met (scene_pairs o.grid (eqb o.op 5) s c) in
     record {
       coords = omega (
         arith,
-        scene_coords (eqb op 5) s c,
+        scene_coords o.grid (eqb o.op 5) s c,
         sum,
         points,
-        whole_points (length s.coords) (length c.coords) (total a_point (joined of_meeting (scene_for op s c).met)) (total a_point (course op s c)) (length l.coords)
-            entry.subject.even entry.cutter.even (subst (λ (x : ℕ). x / 2 + total a_point (joined of_meeting (scene_for op s c).met) ≤ total a_point
-            (course op s c)) sum (course_points op s c)) r.0,
+        whole_points (length s.coords) (length c.coords) (total a_point (joined of_meeting (scene_for o s c).met)) (total a_point (course o s c)) (length l.coords)
+            entry.subject.even entry.cutter.even (subst (λ (x : ℕ). x / 2 + total a_point (joined of_meeting (scene_for o s c).met) ≤ total a_point
+            (course o s c)) sum (course_points o s c)) r.0,
       );
       nodes = omega (arith, r.2, takes.nodes);
       ends = omega (arith, r.1, takes.places);
@@ -326,21 +328,21 @@ accepted_fits op m s c l h =
       cells = omega (arith, r.1, takes.places);
     }
 
-answered_lengths : (op : ℕ) (s c : Mesh) (l : Lists) → Fits op s c l → SameLengths (answered op s c l).lists l
+answered_lengths : (o : Settings) (s c : Mesh) (l : Lists) → Fits o s c l → SameLengths (answered o s c l).lists l
 unfolding answered_with written
-answered_lengths op s c l f =
-    let runs = map (λ (p : Piece). p.nodes) (listing op s c) in
-    let many = length-map (listing op s c) (λ (p : Piece). p.nodes) in
+answered_lengths o s c l f =
+    let runs = map (λ (p : Piece). p.nodes) (listing o s c) in
+    let many = length-map (listing o s c) (λ (p : Piece). p.nodes) in
     record {
-      coords = length_front l.coords (scene_for op s c).coords f.coords;
+      coords = length_front l.coords (scene_for o s c).coords f.coords;
       nodes = length_front l.nodes (flat runs) f.nodes;
       ends = length_front l.ends (stops 0 runs) (omega (arith, f.ends, length_stops 0 runs, many));
-      kinds = length_front l.kinds (map (λ (p : Piece). p.kind) (listing op s c)) (omega (arith, f.kinds, length-map (listing op s c) (λ (p : Piece). p.kind)));
-      families = length_front l.families (map (λ (p : Piece). p.family) (listing op s c)) (omega (arith, f.families, length-map (listing op s c) (λ (p : Piece). p.family)));
+      kinds = length_front l.kinds (map (λ (p : Piece). p.kind) (listing o s c)) (omega (arith, f.kinds, length-map (listing o s c) (λ (p : Piece). p.kind)));
+      families = length_front l.families (map (λ (p : Piece). p.family) (listing o s c)) (omega (arith, f.families, length-map (listing o s c) (λ (p : Piece). p.family)));
       meshes =
-          length_front l.meshes (map (λ (p : Piece). side_number p.mesh) (listing op s c))
-          (omega (arith, f.meshes, length-map (listing op s c) (λ (p : Piece). side_number p.mesh)));
-      cells = length_front l.cells (map (λ (p : Piece). p.cell) (listing op s c)) (omega (arith, f.cells, length-map (listing op s c) (λ (p : Piece). p.cell)));
+          length_front l.meshes (map (λ (p : Piece). side_number p.mesh) (listing o s c))
+          (omega (arith, f.meshes, length-map (listing o s c) (λ (p : Piece). side_number p.mesh)));
+      cells = length_front l.cells (map (λ (p : Piece). p.cell) (listing o s c)) (omega (arith, f.cells, length-map (listing o s c) (λ (p : Piece). p.cell)));
       work = length-replicate _ _;
     }
 
@@ -348,12 +350,12 @@ same_lengths : (l : Lists) → SameLengths l l
 same_lengths l = record { coords = refl; nodes = refl; ends = refl; kinds = refl; families = refl; meshes = refl; cells = refl; work = refl }
 
 -- For every operation, meeting limit, meshes and lists, accepted or refused.
-pub lengths_kept : (op m : ℕ) (s c : Mesh) (l : Lists) → SameLengths (overlay_of op m s c l).lists l
-lengths_kept op m s c l = go (ending ours op m s c l)
+pub lengths_kept : (o : Settings) (s c : Mesh) (l : Lists) → SameLengths (overlay_of o s c l).lists l
+lengths_kept o s c l = go (ending ours o s c l)
   where
-    go : Ending ours op m s c l → SameLengths (overlay_of op m s c l).lists l
-    go (input n) = rw (input_refused ours op m s c l n) (same_lengths l)
-    go (state_met e n) = rw (state_refused ours op m s c l e n) (cleared_lengths l)
+    go : Ending ours o s c l → SameLengths (overlay_of o s c l).lists l
+    go (input n) = rw (input_refused ours o s c l n) (same_lengths l)
+    go (state_met e n) = rw (state_refused ours o s c l e n) (cleared_lengths l)
     go (success e f) =
-        let same = succeeds ours op m s c l e f in
-        rw same (answered_lengths op s c l (accepted_fits op m s c l (ap (λ (r : Result). r.code) same ∙ no_refusal ours op m s c l)))
+        let same = succeeds ours o s c l e f in
+        rw same (answered_lengths o s c l (accepted_fits o s c l (ap (λ (r : Result). r.code) same ∙ no_refusal ours o s c l)))

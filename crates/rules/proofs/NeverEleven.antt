@@ -14,8 +14,9 @@ use Rattle.cutting.specs.Outcome.{refusal, pieces, of_walk, too_many, cut_outcom
 use Rattle.cutting.specs.Areas.{Round}
 use Rattle.cutting.proofs.Closing.{round_closes, without_test}
 use Rattle.cutting.specs.Edition.{ours}
+use Rattle.settings.specs.declared.Settings.{Settings}
 use Rattle.entry.specs.Mesh.{Mesh, node_count}
-use Rattle.entry.specs.Refused.{call_ok, shape_ok, coords_ok, kinds_ok, nodes_ok, cells_ok, work_ok, entry_of}
+use Rattle.entry.specs.Refused.{call_ok, grid_ok, shape_ok, coords_ok, kinds_ok, nodes_ok, cells_ok, work_ok, entry_of}
 use Rattle.rules.specs.Mesh.{Side, other}
 use Rattle.rules.specs.Meetings.{Scene, net_of}
 use Rattle.rules.specs.Cell.{darts_of, near_edges, cell_of, near_of, treated_by, treated, outcome_of}
@@ -80,36 +81,40 @@ first_without (piece k ∷ es) m p (suc q) n h e = go (leb k n) (λ f. first_wit
     go false ih f = omega (arith, f)
 first_without (stop r ∷ es) m p q n h e = h.0 e
 
--- a refusal because of the input is at most 7
-entry_low : (op m : ℕ) (s c : Mesh) (w : ℕ) → entry_of op m s c w ≤ 7
+-- a refusal because of the input is none of 8 to 12
+entry_low : (o : Settings) (s c : Mesh) (w : ℕ) → entry_of o s c w ≡ 11 → ⊥
 unfolding entry_of
-entry_low op m s c w =
-    go (call_ok op m) (shape_ok s && shape_ok c) (coords_ok s.coords && coords_ok c.coords) (kinds_ok false s.kinds s.ends && kinds_ok (eqb op 5) c.kinds c.ends)
-    (nodes_ok s.nodes (node_count s) && nodes_ok c.nodes (node_count c)) (cells_ok s.nodes s.ends && cells_ok c.nodes c.ends) (work_ok m s c w)
+entry_low o s c w =
+    go (call_ok o.op o.m) (grid_ok o.grid) (shape_ok s && shape_ok c) (coords_ok s.coords && coords_ok c.coords) (kinds_ok false s.kinds s.ends && kinds_ok (eqb o.op 5) c.kinds c.ends)
+    (nodes_ok s.nodes (node_count s) && nodes_ok c.nodes (node_count c)) (cells_ok s.nodes s.ends && cells_ok c.nodes c.ends) (work_ok o.m s c w)
   where
-    go : (t u v x y z k : Bool) → cond (not t) 1 (cond (not u) 2 (cond (not v) 3 (cond (not x) 4 (cond (not y) 5 (cond (not z) 6 (cond (not k) 7 0)))))) ≤ 7
-    go false u v x y z k = omega arith
-    go true false v x y z k = omega arith
-    go true true false x y z k = omega arith
-    go true true true false y z k = omega arith
-    go true true true true false z k = omega arith
-    go true true true true true false k = omega arith
-    go true true true true true true false = omega arith
-    go true true true true true true true = omega arith
+    first : (t g u v x y z k : Bool) → ℕ
+    first t g u v x y z k = cond (not t) 1 (cond (not g) 13 (cond (not u) 2 (cond (not v) 3 (cond (not x) 4 (cond (not y) 5 (cond (not z) 6 (cond (not k) 7 0)))))))
+
+    go : (t g u v x y z k : Bool) → first t g u v x y z k ≡ 11 → ⊥
+    go false g u v x y z k e = omega (arith, e)
+    go true false u v x y z k e = omega (arith, e)
+    go true true false v x y z k e = omega (arith, e)
+    go true true true false x y z k e = omega (arith, e)
+    go true true true true false y z k e = omega (arith, e)
+    go true true true true true false z k e = omega (arith, e)
+    go true true true true true true false k e = omega (arith, e)
+    go true true true true true true true false e = omega (arith, e)
+    go true true true true true true true true e = omega (arith, e)
 
 -- For every operation, meeting limit, meshes and lists: if in every cell of a mesh that the operation cuts all edges are forward, then the overlay isn't
 -- refused with 11.
-pub never_eleven : (op m : ℕ) (s c : Mesh) (l : Lists) → Forward op s c → (overlay_of op m s c l).code ≡ 11 → ⊥
+pub never_eleven : (o : Settings) (s c : Mesh) (l : Lists) → Forward o s c → (overlay_of o s c l).code ≡ 11 → ⊥
 unfolding state_with
-never_eleven op m s c l h e = go (ending ours op m s c l)
+never_eleven o s c l h e = go (ending ours o s c l)
   where
-    code : (r : Result) → overlay_of op m s c l ≡ r → r.code ≡ 11
+    code : (r : Result) → overlay_of o s c l ≡ r → r.code ≡ 11
     code r f = ap (λ (x : Result). x.code) (sym f) ∙ e
 
-    calm : Without 11 (course op s c)
-    calm = without_course ours op s c 11 (λ f. omega (arith, f)) (λ w f i k. forward_cell_lem (scene_for op s c) w i (h w f i (omega (arith, k, cells_lent (eqb op 5) s c w))))
+    calm : Without 11 (course o s c)
+    calm = without_course ours o s c 11 (λ f. omega (arith, f)) (λ w f i k. forward_cell_lem (scene_for o s c) w i (h w f i (omega (arith, k, cells_lent o.grid (eqb o.op 5) s c w))))
 
-    go : Ending ours op m s c l → ⊥
-    go (input n) = omega (arith, code _ (input_refused ours op m s c l n), entry_low op m s c (length l.work))
-    go (state_met f n) = first_without (course op s c) m _ _ _ calm (code _ (state_refused ours op m s c l f n))
-    go (success f g) = omega (arith, code _ (succeeds ours op m s c l f g), no_refusal ours op m s c l)
+    go : Ending ours o s c l → ⊥
+    go (input n) = entry_low o s c (length l.work) (code _ (input_refused ours o s c l n))
+    go (state_met f n) = first_without (course o s c) o.m _ _ _ calm (code _ (state_refused ours o s c l f n))
+    go (success f g) = omega (arith, code _ (succeeds ours o s c l f g), no_refusal ours o s c l)

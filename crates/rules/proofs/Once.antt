@@ -8,6 +8,7 @@ use Prim.Native.Nat.{ℕ, zero, suc, ◌<◌}
 use native.Mathlib.Omega.{arith}
 use lib.ListN.{length, get_or}
 use Rattle.lists.specs.Gather.{gathered, each, passing}
+use Rattle.settings.specs.declared.Settings.{Settings}
 use Rattle.entry.specs.Mesh.{Mesh}
 use Rattle.rules.specs.Mesh.{Side, the_subject, the_cutter, side_number}
 use Rattle.rules.specs.Meetings.{Scene, net_of}
@@ -104,18 +105,18 @@ module _ (sc : Scene) (op : ℕ) (w : Side) where
 two_meshes : the_subject ≡ the_cutter → ⊥
 two_meshes e = let z : ◌≡◌ {A = ℕ} 0 1 = ap side_number e in omega (arith, z)
 
-module _ (op : ℕ) (s c : Mesh) where
+module _ (o : Settings) (s c : Mesh) where
   abbrev sc : Scene
-  sc = scene_for op s c
+  sc = scene_for o s c
 
-  once_listing : Once (listing op s c)
+  once_listing : Once (listing o s c)
   unfolding listing_with
   once_listing =
-      once_append (over_cells op sc the_subject (kept sc the_subject op)) (over_cells op sc the_cutter (kept sc the_cutter op))
-      (once_over sc op the_subject (cuts op the_subject)) (once_over sc op the_cutter (cuts op the_cutter))
-      (λ p q m k e. two_meshes (sym (of_over sc op the_subject (cuts op the_subject) p m) ∙ e.mesh ∙ of_over sc op the_cutter (cuts op the_cutter) q k))
+      once_append (over_cells o.op sc the_subject (kept sc the_subject o.op)) (over_cells o.op sc the_cutter (kept sc the_cutter o.op))
+      (once_over sc o.op the_subject (cuts o.op the_subject)) (once_over sc o.op the_cutter (cuts o.op the_cutter))
+      (λ p q m k e. two_meshes (sym (of_over sc o.op the_subject (cuts o.op the_subject) p m) ∙ e.mesh ∙ of_over sc o.op the_cutter (cuts o.op the_cutter) q k))
 
-  pub one_place : (p q : Piece) (k k' : ℕ) → ListedAt p k op s c → ListedAt q k' op s c → SamePiece p q → k ≡ k'
+  pub one_place : (p q : Piece) (k k' : ℕ) → ListedAt p k o s c → ListedAt q k' o s c → SamePiece p q → k ≡ k'
   one_place p q k k' a b e =
-      once_at (listing op s c) once_listing k k' a.below b.below p
-      (subst (λ (x : Piece). SamePiece x (get_or (listing op s c) k' p)) (sym (a.is p)) (subst (λ (y : Piece). SamePiece p y) (sym (b.is p)) e))
+      once_at (listing o s c) once_listing k k' a.below b.below p
+      (subst (λ (x : Piece). SamePiece x (get_or (listing o s c) k' p)) (sym (a.is p)) (subst (λ (y : Piece). SamePiece p y) (sym (b.is p)) e))

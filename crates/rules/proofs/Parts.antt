@@ -7,11 +7,13 @@ use mathlib.Core.List.{[], ◌++◌, Memᴰ}
 use Prim.Native.Nat.{ℕ, ◌<◌}
 use lib.ListN.{length}
 use Rattle.lists.specs.Gather.{gathered, each}
+use Rattle.grid.specs.Grid.{Grid}
+use Rattle.settings.specs.declared.Settings.{Settings}
 use Rattle.entry.specs.Mesh.{Mesh}
 use Rattle.rules.specs.Mesh.{Side, the_subject, the_cutter}
 use Rattle.rules.specs.Meetings.{Scene, net_of, scene_of}
 use Rattle.rules.specs.Operations.{cuts, keeps, scene_for, Piece, pieces_of, piece_at, piece_with, lies_inside, kept, kept_with, over_cells, listing, listing_with}
-use Rattle.rules.specs.Demand3.{Kept, Listed, SamePiece, Unlisted}
+use Rattle.rules.specs.Demand3.{Kept, Listed, SamePiece, Unlisted, on}
 use Rattle.lists.proofs.Gather.{gathered_at, in_gathered, each_at, in_each, passing_at, in_passing, mem_at}
 use Rattle.lists.proofs.Gather.{in_list}
 
@@ -44,41 +46,41 @@ module _ (sc : Scene) (op : ℕ) (w : Side) where
 
 -- ---- listed is kept, and kept is listed
 
-module _ (op : ℕ) (s c : Mesh) where
+module _ (o : Settings) (s c : Mesh) where
   abbrev sc : Scene
-  sc = scene_for op s c
+  sc = scene_for o s c
 
   abbrev Among : Piece → Type 0
-  Among p = Memᴰ p (listing op s c)
+  Among p = Memᴰ p (listing o s c)
 
-  pub among : (p : Piece) → Listed p op s c → Memᴰ p (listing op s c)
-  among p h = subst (λ (q : Piece). Among q) (h.1.is p) (in_list (listing op s c) h.0 h.1.below p)
+  pub among : (p : Piece) → Listed p o s c → Memᴰ p (listing o s c)
+  among p h = subst (λ (q : Piece). Among q) (h.1.is p) (in_list (listing o s c) h.0 h.1.below p)
 
-  pub listed : (p : Piece) → Memᴰ p (listing op s c) → Listed p op s c
-  listed p h = let r = mem_at (listing op s c) p h in (r.0, record { below = r.1; is = r.2 })
+  pub listed : (p : Piece) → Memᴰ p (listing o s c) → Listed p o s c
+  listed p h = let r = mem_at (listing o s c) p h in (r.0, record { below = r.1; is = r.2 })
 
-  among_kept : (p : Piece) → Among p → Kept sc op p
+  among_kept : (p : Piece) → Among p → Kept sc o.op p
   unfolding listing_with
-  among_kept p h = go (Memᴰ.append_cases (over_cells op sc the_subject (kept sc the_subject op)) h)
+  among_kept p h = go (Memᴰ.append_cases (over_cells o.op sc the_subject (kept sc the_subject o.op)) h)
     where
-      go : Memᴰ p (over_cells op sc the_subject (kept sc the_subject op)) ⊎ Memᴰ p (over_cells op sc the_cutter (kept sc the_cutter op)) → Kept sc op p
-      go (inl k) = over_kept sc op the_subject (cuts op the_subject) refl p k
-      go (inr k) = over_kept sc op the_cutter (cuts op the_cutter) refl p k
+      go : Memᴰ p (over_cells o.op sc the_subject (kept sc the_subject o.op)) ⊎ Memᴰ p (over_cells o.op sc the_cutter (kept sc the_cutter o.op)) → Kept sc o.op p
+      go (inl k) = over_kept sc o.op the_subject (cuts o.op the_subject) refl p k
+      go (inr k) = over_kept sc o.op the_cutter (cuts o.op the_cutter) refl p k
 
-  kept_among : (p : Piece) → Kept sc op p → Among p
+  kept_among : (p : Piece) → Kept sc o.op p → Among p
   unfolding listing_with
-  kept_among p k = Memᴰ.cast k.same (go p.mesh k.cut (kept_over sc op p.mesh (cuts op p.mesh) k.cut p.cell p.place k.cell k.place
-      (ap (λ (q : Piece). keeps op p.mesh (lies_inside sc p.mesh q)) (sym k.same) ∙ k.passes)))
+  kept_among p k = Memᴰ.cast k.same (go p.mesh k.cut (kept_over sc o.op p.mesh (cuts o.op p.mesh) k.cut p.cell p.place k.cell k.place
+      (ap (λ (q : Piece). keeps o.op p.mesh (lies_inside sc p.mesh q)) (sym k.same) ∙ k.passes)))
     where
-      go : (w : Side) → cuts op w ≡ true → Memᴰ (piece_at sc p.mesh p.cell p.place) (over_cells op sc w (kept sc w op))
-          → Memᴰ (piece_at sc p.mesh p.cell p.place) (over_cells op sc the_subject (kept sc the_subject op) ++ over_cells op sc the_cutter (kept sc the_cutter op))
-      go the_subject c m = Memᴰ.append_left (over_cells op sc the_cutter (kept sc the_cutter op)) m
-      go the_cutter c m = Memᴰ.append_right (over_cells op sc the_subject (kept sc the_subject op)) m
+      go : (w : Side) → cuts o.op w ≡ true → Memᴰ (piece_at sc p.mesh p.cell p.place) (over_cells o.op sc w (kept sc w o.op))
+          → Memᴰ (piece_at sc p.mesh p.cell p.place) (over_cells o.op sc the_subject (kept sc the_subject o.op) ++ over_cells o.op sc the_cutter (kept sc the_cutter o.op))
+      go the_subject c m = Memᴰ.append_left (over_cells o.op sc the_cutter (kept sc the_cutter o.op)) m
+      go the_cutter c m = Memᴰ.append_right (over_cells o.op sc the_subject (kept sc the_subject o.op)) m
 
-  pub listed_kept : (p : Piece) → Listed p op s c → Kept sc op p
+  pub listed_kept : (p : Piece) → Listed p o s c → Kept sc o.op p
   listed_kept p h = among_kept p (among p h)
 
-  pub kept_listed : (p : Piece) → Kept sc op p → Listed p op s c
+  pub kept_listed : (p : Piece) → Kept sc o.op p → Listed p o s c
   kept_listed p k = listed p (kept_among p k)
 
 -- ---- Imprint, Intersection, Difference: one scene, the subject's cells
@@ -96,15 +98,24 @@ same_cut : (w : Side) → cuts 0 w ≡ true → (cuts 2 w ≡ true) × (cuts 3 w
 same_cut the_subject e = (refl, refl)
 same_cut the_cutter e = absurd (false≢true e)
 
-module _ (s c : Mesh) where
-  pub parts : (p : Piece) → Listed p 0 s c → (Listed p 2 s c × Unlisted p 3 s c) ⊎ (Listed p 3 s c × Unlisted p 2 s c)
+module _ (g : Grid) (m₀ m₂ m₃ : ℕ) (s c : Mesh) where
+  abbrev imprint : Settings
+  imprint = on g 0 m₀
+
+  abbrev intersection : Settings
+  intersection = on g 2 m₂
+
+  abbrev difference : Settings
+  difference = on g 3 m₃
+
+  pub parts : (p : Piece) → Listed p imprint s c → (Listed p intersection s c × Unlisted p difference s c) ⊎ (Listed p difference s c × Unlisted p intersection s c)
   parts p h = go (lies_inside one p.mesh p) refl
     where
       one : Scene
-      one = scene_of false s c
+      one = scene_of g false s c
 
       k : Kept one 0 p
-      k = listed_kept 0 s c p h
+      k = listed_kept imprint s c p h
 
       in_op : (op : ℕ) → cuts op p.mesh ≡ true → keeps op p.mesh (lies_inside one p.mesh p) ≡ true → Kept one op p
       in_op op cut e = record { cut = cut; cell = k.cell; place = k.place; same = k.same; passes = e }
@@ -112,11 +123,11 @@ module _ (s c : Mesh) where
       not_in : (op : ℕ) → (keeps op p.mesh (lies_inside one p.mesh p) ≡ true → ⊥) → (q : Piece) → Kept one op q → SamePiece q p → ⊥
       not_in op out q l e = out (ap (λ (x : Piece). keeps op x.mesh (lies_inside one x.mesh x)) (sym (alike one 0 op p q k l e)) ∙ l.passes)
 
-      go : (t : Bool) → lies_inside one p.mesh p ≡ t → (Listed p 2 s c × Unlisted p 3 s c) ⊎ (Listed p 3 s c × Unlisted p 2 s c)
-      go true e = inl (kept_listed 2 s c p (in_op 2 (same_cut p.mesh k.cut).0 e), λ q l f. not_in 3 (λ g. not_both (lies_inside one p.mesh p) e g) q (listed_kept 3 s c q l) f)
-      go false e = inr (kept_listed 3 s c p (in_op 3 (same_cut p.mesh k.cut).1 (ap not e)), λ q l f. not_in 2 (λ g. true≢false (sym g ∙ e)) q (listed_kept 2 s c q l) f)
+      go : (t : Bool) → lies_inside one p.mesh p ≡ t → (Listed p intersection s c × Unlisted p difference s c) ⊎ (Listed p difference s c × Unlisted p intersection s c)
+      go true e = inl (kept_listed intersection s c p (in_op 2 (same_cut p.mesh k.cut).0 e), λ q l f. not_in 3 (λ g. not_both (lies_inside one p.mesh p) e g) q (listed_kept difference s c q l) f)
+      go false e = inr (kept_listed difference s c p (in_op 3 (same_cut p.mesh k.cut).1 (ap not e)), λ q l f. not_in 2 (λ g. true≢false (sym g ∙ e)) q (listed_kept intersection s c q l) f)
 
   -- Imprint drops none
-  pub drops_none : (i : ℕ) → i < length (scene_of false s c).subject.cells → (j : ℕ) → j < length (pieces_of (scene_of false s c) the_subject i)
-      → Listed (piece_at (scene_of false s c) the_subject i j) 0 s c
-  drops_none i h j k = kept_listed 0 s c (piece_at (scene_of false s c) the_subject i j) (piece_at_kept (scene_of false s c) 0 the_subject i j refl h k refl)
+  pub drops_none : (i : ℕ) → i < length (scene_of g false s c).subject.cells → (j : ℕ) → j < length (pieces_of (scene_of g false s c) the_subject i)
+      → Listed (piece_at (scene_of g false s c) the_subject i j) imprint s c
+  drops_none i h j k = kept_listed imprint s c (piece_at (scene_of g false s c) the_subject i j) (piece_at_kept (scene_of g false s c) 0 the_subject i j refl h k refl)

@@ -8,6 +8,7 @@ use lib.Seq.{take_at, drop-append-add}
 use Rattle.lists.specs.Regions.{front, run}
 use Rattle.cutting.specs.Outcome.{flat, stops}
 use Rattle.cutting.specs.Edition.{ours}
+use Rattle.settings.specs.declared.Settings.{Settings}
 use Rattle.entry.specs.Mesh.{Mesh, prior}
 use Rattle.rules.specs.Mesh.{cell_at, side_number}
 use Rattle.rules.specs.Operations.{Piece, listing}
@@ -65,8 +66,8 @@ prior_start es zero = refl
 prior_start es (suc j) = refl
 
 -- the answer at k is the listing's piece k
-module _ (op : ℕ) (s c : Mesh) (l : Lists) where
-  answer_at : (k : ℕ) → k < length (listing op s c) → (d : Piece) → WrittenAt (answered op s c l) k (get_or (listing op s c) k d)
+module _ (o : Settings) (s c : Mesh) (l : Lists) where
+  answer_at : (k : ℕ) → k < length (listing o s c) → (d : Piece) → WrittenAt (answered o s c l) k (get_or (listing o s c) k d)
   unfolding answered_with written cell_at run front
   answer_at k h d = record {
     below = h;
@@ -83,7 +84,7 @@ module _ (op : ℕ) (s c : Mesh) (l : Lists) where
   }
     where
       ps : List Piece
-      ps = listing op s c
+      ps = listing o s c
 
       runs : List (List ℕ)
       runs = map (λ p. p.nodes) ps
@@ -100,9 +101,9 @@ module _ (op : ℕ) (s c : Mesh) (l : Lists) where
       zero_off : start 0 ends k ≡ start 0 ends k - 0
       zero_off = omega arith
 
-  pub answered_pieces : (answered op s c l).pieces ≡ length (listing op s c)
+  pub answered_pieces : (answered o s c l).pieces ≡ length (listing o s c)
   unfolding answered_with
   answered_pieces = refl
 
-  pub read_back : (m : ℕ) → Accepted op m s c l → (k : ℕ) → k < length (listing op s c) → (d : Piece) → WrittenAt (overlay_of op m s c l) k (get_or (listing op s c) k d)
-  read_back m h k b d = rw (accepted ours op m s c l h).answer (answer_at k b d)
+  pub read_back : Accepted o s c l → (k : ℕ) → k < length (listing o s c) → (d : Piece) → WrittenAt (overlay_of o s c l) k (get_or (listing o s c) k d)
+  read_back h k b d = rw (accepted ours o s c l h).answer (answer_at k b d)

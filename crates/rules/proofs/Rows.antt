@@ -7,13 +7,15 @@ use Prim.Native.Nat.{ℕ, ◌<◌}
 use native.Mathlib.Omega.{arith}
 use lib.ListN.{length, get_or}
 use Rattle.lists.proofs.Gather.{get_or_any}
+use Rattle.settings.specs.declared.Settings.{Settings}
+use Rattle.grid.specs.Grid.{Grid}
 use Rattle.entry.specs.Mesh.{Mesh}
 use Rattle.rules.specs.Mesh.{Side, the_subject, the_cutter, other, side_number}
 use Rattle.rules.specs.Meetings.{Scene, net_of, scene_of}
 use Rattle.rules.specs.Inside.{point_inside}
-use Rattle.rules.specs.Operations.{cuts, Piece, pieces_of, piece_at, piece_with, lies_inside, listing}
+use Rattle.rules.specs.Operations.{cuts, Piece, pieces_of, piece_at, piece_with, lies_inside, scene_for, listing}
 use Rattle.rules.specs.Overlay.{Result}
-use Rattle.rules.specs.Demand3.{CellCloses, Kept, ListedAt, Listed, WrittenAt, SamePiece, SameRow}
+use Rattle.rules.specs.Demand3.{CellCloses, Kept, ListedAt, Listed, WrittenAt, SamePiece, SameRow, on}
 use Rattle.rules.proofs.Parts.{listed_kept, kept_listed, not_both}
 use Rattle.rules.proofs.Distinct.{one_place_in}
 
@@ -50,10 +52,10 @@ module _ (r r' : Result) (k j : ℕ) (p q : Piece) (a : WrittenAt r k p) (b : Wr
   row_nodes = sym b.nodes ∙ e.nodes ∙ a.nodes
 
 -- what stands at k of a listing
-pub stands_at : (op : ℕ) (s c : Mesh) (k : ℕ) → k < length (listing op s c) → (p : Piece) × ListedAt p k op s c
-stands_at op s c k h =
-    let d : Piece = piece_at (scene_of false s c) the_subject 0 0 in
-    (get_or (listing op s c) k d, record { below = h; is = λ x. get_or_any (listing op s c) k x d h })
+pub stands_at : (o : Settings) (s c : Mesh) (k : ℕ) → k < length (listing o s c) → (p : Piece) × ListedAt p k o s c
+stands_at o s c k h =
+    let d : Piece = piece_at (scene_for o s c) the_subject 0 0 in
+    (get_or (listing o s c) k d, record { below = h; is = λ x. get_or_any (listing o s c) k x d h })
 
 -- ---- Imprint, Intersection and Difference
 
@@ -63,27 +65,27 @@ unfolding lies_inside
 inside_by_nodes sc p q m n = ap₂ (λ (w : Side) (ns : List ℕ). point_inside sc.coords (net_of sc (other w)).cells ns) m n
 
 -- no piece of Intersection has the mesh and the node numbers of one of Difference
-pub apart : (s c : Mesh) (p q : Piece) → Listed p 2 s c → Listed q 3 s c → q.mesh ≡ p.mesh → q.nodes ≡ p.nodes → ⊥
-apart s c p q a b m n =
-    let one = scene_of false s c in
-    not_both (lies_inside one p.mesh p) (listed_kept 2 s c p a).passes
-    (ap not (sym (inside_by_nodes one p q m n)) ∙ (listed_kept 3 s c q b).passes)
+pub apart : (g : Grid) (m₂ m₃ : ℕ) (s c : Mesh) (p q : Piece) → Listed p (on g 2 m₂) s c → Listed q (on g 3 m₃) s c → q.mesh ≡ p.mesh → q.nodes ≡ p.nodes → ⊥
+apart g m₂ m₃ s c p q a b m n =
+    let one = scene_of g false s c in
+    not_both (lies_inside one p.mesh p) (listed_kept (on g 2 m₂) s c p a).passes
+    (ap not (sym (inside_by_nodes one p q m n)) ∙ (listed_kept (on g 3 m₃) s c q b).passes)
 
 -- both list pieces of Imprint
 imprint_cuts : (w : Side) → cuts 2 w ≡ true → cuts 0 w ≡ true
 imprint_cuts the_subject e = refl
 imprint_cuts the_cutter e = e
 
-module _ (s c : Mesh) (p : Piece) where
-  as_imprint : cuts 2 p.mesh ≡ true → (op : ℕ) → Kept (scene_of false s c) op p → Listed p 0 s c
+module _ (g : Grid) (m₀ m : ℕ) (s c : Mesh) (p : Piece) where
+  as_imprint : cuts 2 p.mesh ≡ true → (op : ℕ) → Kept (scene_of g false s c) op p → Listed p (on g 0 m₀) s c
   as_imprint e op k =
-      kept_listed 0 s c p (record { cut = imprint_cuts p.mesh e; cell = k.cell; place = k.place; same = k.same; passes = refl })
+      kept_listed (on g 0 m₀) s c p (record { cut = imprint_cuts p.mesh e; cell = k.cell; place = k.place; same = k.same; passes = refl })
 
-  pub of_intersection : Listed p 2 s c → Listed p 0 s c
-  of_intersection h = let k = listed_kept 2 s c p h in as_imprint k.cut 2 k
+  pub of_intersection : Listed p (on g 2 m) s c → Listed p (on g 0 m₀) s c
+  of_intersection h = let k = listed_kept (on g 2 m) s c p h in as_imprint k.cut 2 k
 
-  pub of_difference : Listed p 3 s c → Listed p 0 s c
-  of_difference h = let k = listed_kept 3 s c p h in as_imprint (go p.mesh k.cut) 3 k
+  pub of_difference : Listed p (on g 3 m) s c → Listed p (on g 0 m₀) s c
+  of_difference h = let k = listed_kept (on g 3 m) s c p h in as_imprint (go p.mesh k.cut) 3 k
     where
       go : (w : Side) → cuts 3 w ≡ true → cuts 2 w ≡ true
       go the_subject e = refl

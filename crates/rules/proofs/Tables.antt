@@ -36,20 +36,24 @@ use Rattle.cutting.specs.Cell.{
 }
 use Rattle.cutting.specs.Walk.{slot, next_open, begin, rest, onward, arrive, follow, step, walk_steps, starts, walk_from, walk_with}
 use Rattle.cutting.specs.Outcome.{closes_up, cut_outcome_with, flat, stops}
+use Rattle.std.specs.Prelude.{None}
+use Rattle.grid.specs.Grid.{steps, grid_number, on_grid, booked}
+use Rattle.settings.specs.declared.Settings.{Settings}
 use Rattle.entry.specs.Mesh.{Mesh, mesh, prior}
-use Rattle.entry.specs.Refused.{ends_ok, coord_ok, coords_ok, kind_ok, kinds_ok, nodes_ok, absent, cell_ok, cells_ok, shape_ok, call_ok, work_ok, entry_of}
+use Rattle.entry.specs.Refused.{ends_ok, coord_ok, coords_ok, kind_ok, kinds_ok, nodes_ok, absent, cell_ok, cells_ok, shape_ok, call_ok, grid_ok, work_ok, entry_of}
 use Rattle.entry.specs.ByMesh.{mesh_refusal, lower_refusal}
 use Rattle.rules.specs.Mesh.{cell_at, cells_of}
 use Rattle.rules.specs.Snap.{used_nodes, sorted_indices_for, nearest_to, closest_within, weld}
 use Rattle.rules.specs.Neighbours.{added, added_all, descending_to, subject_net, cutter_net}
 use Rattle.rules.specs.SpatialIndex.{box_to, boxes_meet, box_holds, candidates}
-use Rattle.rules.specs.Meetings.{met_pair, met_all, meetings_to, meetings, scene_of}
-use Rattle.rules.specs.Nodes.{collected, crowded, along_edge, sorted_nodes}
+use Rattle.rules.specs.Meetings.{meeting_on, met_pair, met_all, meetings_to, meetings, scene_of}
+use Rattle.rules.specs.Nodes.{collected, crowded, before_last, along_edge, sorted_nodes}
 use Rattle.rules.specs.Cell.{darts_of, near_of, treated}
 use Rattle.rules.specs.Inside.{some_holds, point_inside}
 use Rattle.rules.specs.Operations.{piece_with, lies_inside, kept_with, listing_with, doubled_cells}
 use Rattle.rules.specs.Refusals.{course_with, first_refusal}
 use Rattle.rules.specs.Overlay.{Lists, Result, lent_lists, cleared, written, named_points, answered_with, state_with, overlay_with}
+use Rattle.rules.specs.Demand3.{on}
 
 abbrev pub floats : List ℕ → List Float
 floats bits = map (of_bits binary64) bits
@@ -61,9 +65,13 @@ lent c n e k f = mesh (floats c) n e k f
 abbrev pub on_lists : List ℕ → List ℕ → List ℕ → List ℕ → List ℕ → List ℕ → List ℕ → List ℕ → Lists
 on_lists c n e k f m i w = lent_lists (floats c) n e k f m i w
 
--- operation, meeting limit, meshes, the lists at entry, and the result with the lists at exit
+-- what is set, meshes, the lists at entry, and the result with the lists at exit
 pub data Case : Type 0 where
-  case : ℕ → ℕ → Mesh → Mesh → Lists → Result → Case
+  asked : Settings → Mesh → Mesh → Lists → Result → Case
+
+-- without a grid: operation and meeting limit
+abbrev pub case : ℕ → ℕ → Mesh → Mesh → Lists → Result → Case
+case op m s c l r = asked (on None op m) s c l r
 
 -- Bool tests that match on their arguments, so that no branch is computed that is not taken
 unfoldable pub both : Bool → Bool → Bool
@@ -89,7 +97,7 @@ same_result r r' =
     (same_lists r.lists r'.lists)
 
 -- an overlay gives the answers of the cases
-unfoldable pub right_by : (ℕ → ℕ → Mesh → Mesh → Lists → Result) → List Case → Bool
+unfoldable pub right_by : (Settings → Mesh → Mesh → Lists → Result) → List Case → Bool
 unfolding both same same_lists same_result add sub mul div neg lt le eq of_bits to_bits seek first gathered all passing tally slim_after slim joined insert sort_onto
     Regions.run Regions.front coord mag sign ordered angles orientation magnitude larger scale between along tolerance point_at parameters in_order first_then_second of_order
     colinear near settled crossing meeting Corners.corner_at Corners.corner_after Corners.corner_before Corners.oriented Corners.area_term Corners.doubled_to Corners.doubled_sum
@@ -97,9 +105,9 @@ unfolding both same same_lists same_result add sub mul div neg lt le eq of_bits 
     Polygon.nearest Polygon.left_of Polygon.reflex Polygon.at_corner Polygon.contains_stable Polygon.inside heights passed climb widest widest_in crossed crossings
     lowest strict_interior_point hops ring rings times darts_along own_darts outline_darts near_darts among repeats is_new new_to inner_with edge_slots table stands
     cell_table_with copied_table doubled slot next_open begin rest onward arrive follow step walk_steps starts walk_from walk_with closes_up cut_outcome_with flat stops
-    every prior ends_ok coord_ok coords_ok kind_ok kinds_ok nodes_ok absent cell_ok cells_ok shape_ok call_ok work_ok mesh_refusal lower_refusal entry_of cell_at cells_of used_nodes
-    sorted_indices_for nearest_to closest_within weld added added_all descending_to subject_net cutter_net box_to boxes_meet box_holds candidates met_pair met_all
-    meetings_to meetings scene_of collected crowded along_edge sorted_nodes darts_of near_of treated some_holds point_inside piece_with
+    every prior ends_ok coord_ok coords_ok kind_ok kinds_ok nodes_ok absent cell_ok cells_ok shape_ok call_ok grid_ok work_ok mesh_refusal lower_refusal entry_of cell_at cells_of used_nodes
+    sorted_indices_for nearest_to closest_within weld added added_all descending_to subject_net cutter_net box_to boxes_meet box_holds candidates steps grid_number on_grid booked meeting_on met_pair met_all
+    meetings_to meetings scene_of collected crowded before_last along_edge sorted_nodes darts_of near_of treated some_holds point_inside piece_with
     lies_inside kept_with listing_with doubled_cells course_with first_refusal cleared written named_points answered_with state_with overlay_with
 right_by overlay [] = true
-right_by overlay (case op m s c l r ∷ cs) = both (same_result (overlay op m s c l) r) (right_by overlay cs)
+right_by overlay (asked o s c l r ∷ cs) = both (same_result (overlay o s c l) r) (right_by overlay cs)

@@ -18,13 +18,13 @@ use Rattle.rules.proofs.Closing.{accepted_closes, outline_once}
 
 -- For every operation, meeting limit, pair of meshes and lists: if the overlay is accepted, then in every cell of a mesh that the operation cuts and about
 -- every point with exact coordinates,
-module _ (op m : ℕ) (s c : Mesh) (l : Lists) (h : Accepted op m s c l) (w : Side) (e : cuts op w ≡ true) (i : ℕ) (k : i < length (lent_mesh s c w).ends) where
+module _ (o : Settings) (s c : Mesh) (l : Lists) (h : Accepted o s c l) (w : Side) (e : cuts o.op w ≡ true) (i : ℕ) (k : i < length (lent_mesh s c w).ends) where
   abbrev sc : Scene
-  sc = scene_for op s c
+  sc = scene_for o s c
 
   -- the windings of the pieces before any are dropped add up to that of the outline as cut;
   pub winds_up : WindsUp sc.coords (outline_of sc w i) (pieces_of sc w i)
-  winds_up = windings_add sc.coords (outline_of sc w i) (pieces_of sc w i) (outline_once op m s c l h w e i k) (accepted_closes op m s c l h w e i k)
+  winds_up = windings_add sc.coords (outline_of sc w i) (pieces_of sc w i) (outline_once o s c l h w e i k) (accepted_closes o s c l h w e i k)
 
   module _ (p : Spot) (forward : NoneBackward sc.coords p (pieces_of sc w i)) where
     -- where none of them winds clockwise, at most as many wind about the point as the outline does,

@@ -8,8 +8,8 @@ use Rattle.overlay.proofs.overlay.Goals.{then-is_err, else-is_err}
 pub returns-clause-answer : goal.returns-clause-answer
 returns-clause-answer c =
     let r = c.run-result in
-    let op : op_number c.in_ok-operation.operation ≡ c.args.op = c.in_ok-operation.ensures.operation in
-    let ran = rw op at r.ensures in
+    let o.op : op_number c.in_ok-operation.operation ≡ c.args.op = c.in_ok-operation.ensures.operation in
+    let ran = rw o.op at r.ensures in
     let work = c.fill.ensures.after (λ _ h. h) in
     elim c.if-is_err.branch [
       | then-is_err w ↦
