@@ -1,2 +1,39 @@
 // The survey grid of 1/2^k metre, k from 0 to 10.
 #![tactic(auto)]
+
+ghost use Rattle.std.specs.Prelude.{◌≡◌};
+ghost use Rattle.grid.specs.Grid.{booked, on_grid};
+
+// The multiple of 2^-k nearest to x, exactly halfway the even one, zero as +0. Where k is above 10,
+// and where x is not finite, x as it is.
+//
+// From 2^(52-k) up to twice that, neighbouring floats lie 2^-k apart. So the sum with 2^(52-k) is
+// rounded to the grid, and the difference is exact. From 2^(52-k) on every float is on the grid.
+pub fn on_grid(k: u32, x: f64) -> f64
+    ensures { result ≡ on_grid k x }
+{
+    if k > 10 {
+        return x;
+    }
+    let lift = (1u64 << (52 - k)) as f64;
+    if x < 0.0 {
+        if -lift < x {
+            return 0.0 - ((lift - x) - lift);
+        }
+        return x;
+    }
+    if x < lift {
+        return (lift + x) - lift;
+    }
+    x
+}
+
+// The same by an overlay's grid: without one x as it is.
+pub fn booked(grid: Option<u32>, x: f64) -> f64
+    ensures { result ≡ booked grid x }
+{
+    match grid {
+        None => x,
+        Some(k) => on_grid(k, x),
+    }
+}
