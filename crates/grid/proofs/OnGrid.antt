@@ -199,3 +199,11 @@ twice k x f = elim (le_or_lt k 10) [
         let m = multiple k x h f t in
         stays_there k (on_grid k x) h (is_true (fits binary64 (on_grid k x)) (still_fits k x h f t)) (still_finite k x h f t) m.0 m.1
         (never_minus_zero k x h f t)
+
+-- where there is a place for it, it is on the grid
+pub on_it : (k : ℕ) (x : Float) → fits binary64 x ≡ true → k ≤ 10 → T (finite (on_grid k x)) → is_on_grid k (on_grid k x) ≡ true
+on_it k x f h t = here (finite x) refl
+  where
+    here : (b : Bool) → finite x ≡ b → is_on_grid k (on_grid k x) ≡ true
+    here true e = put_there k x h f (subst T (sym e) tt)
+    here false e = absurd (subst T e (subst (λ (y : Float). T (finite y)) (sym (no_place k x e)) t))

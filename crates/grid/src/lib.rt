@@ -2,7 +2,7 @@
 #![tactic(auto)]
 
 ghost use Rattle.std.specs.Prelude.{◌≡◌};
-ghost use Rattle.grid.specs.Grid.{booked, on_grid};
+ghost use Rattle.grid.specs.Grid.{OnGrid, booked, on_grid};
 
 // The multiple of 2^-k nearest to x, exactly halfway the even one, zero as +0. Where k is above 10,
 // and where x is not finite, x as it is.
@@ -29,8 +29,10 @@ pub fn on_grid(k: u32, x: f64) -> f64
 }
 
 // The same by an overlay's grid: without one x as it is.
+#[tactic(auto, unfolding(crate::specs::Grid::booked), using(crate::proofs::OnGrid::on_it))]
 pub fn booked(grid: Option<u32>, x: f64) -> f64
-    ensures { result ≡ booked grid x }
+    ensures value { result ≡ booked grid x }
+    ensures on_grid { OnGrid grid result }
 {
     match grid {
         None => x,

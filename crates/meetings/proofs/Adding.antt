@@ -21,6 +21,7 @@ use Rattle.segments.specs.declared.PointId.{PointId}
 use Rattle.segments.specs.declared.Meeting.{Meeting}
 use Rattle.segments.specs.declared.Meeting.TheVariants.{Apart, Existing, New, Overlap}
 use Rattle.cutting.specs.Edges.{Edge}
+use Rattle.grid.specs.Grid.{Grid}
 use Rattle.rules.specs.Meetings.{Met, node_of, segment_of, recorded, added_by, meeting_on}
 use Rattle.rules.specs.Refusals.{Event, of_meeting, first_refusal}
 use Rattle.rules.proofs.Course.{refused_first}
@@ -189,9 +190,9 @@ onto ms ns l l' r e a = subst (λ (xs : List Met). Answered xs l l' r) (sym e) a
 
 -- ---- the four answers of two edges
 
-module _ (coords : List Float) (i j first : ℕ) (e f : Edge) (x : Meeting) (is : x ≡ meeting_on g (segment_of coords e) (segment_of coords f)) (l : MetLists) where
+module _ (g : Grid) (coords : List Float) (i j first : ℕ) (e f : Edge) (x : Meeting) (is : x ≡ meeting_on g (segment_of coords e) (segment_of coords f)) (l : MetLists) where
   abbrev those : List Met
-  those = met_of coords i j (first + l.found.points) e f
+  those = met_of g coords i j (first + l.found.points) e f
 
   told : (y : Meeting) → x ≡ y → those ≡ recorded i j (first + l.found.points) e f y
   told y t = ap (recorded i j (first + l.found.points) e f) (sym is ∙ t)

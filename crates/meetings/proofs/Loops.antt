@@ -43,16 +43,16 @@ even i j next e f (Overlap p q) = refl
 
 module _ (g : Grid) (coords : List Float) (s c : Net) where
   pub all_from : (i : ℕ) (js : List ℕ) (ms : List Met)
-      → met_all g coords s c i js ms ≡ ms ++ met_with coords i (edge_at s.edges i) (edge_at c.edges) ((length coords + length (added_by ms)) / 2) js
+      → met_all g coords s c i js ms ≡ ms ++ met_with g coords i (edge_at s.edges i) (edge_at c.edges) ((length coords + length (added_by ms)) / 2) js
   unfolding met_all met_pair met_with
   all_from i [] ms = sym (append-nil ms)
   all_from i (j ∷ js) ms =
       let e : Edge = edge_at s.edges i in
       let next : ℕ = (length coords + length (added_by ms)) / 2 in
-      let x : List Met = met_of coords i j next e (edge_at c.edges j) in
+      let x : List Met = met_of g coords i j next e (edge_at c.edges j) in
       let on : (length coords + length (added_by (ms ++ x))) / 2 ≡ next + length (added_by x) / 2 =
       omega (arith, length_added ms x, even i j next e (edge_at c.edges j) (meeting_on g (segment_of coords e) (segment_of coords (edge_at c.edges j)))) in
-      all_from i js (ms ++ x) ∙ append_assoc ms x _ ∙ ap (λ (k : ℕ). ms ++ (x ++ met_with coords i e (edge_at c.edges) k js)) on
+      all_from i js (ms ++ x) ∙ append_assoc ms x _ ∙ ap (λ (k : ℕ). ms ++ (x ++ met_with g coords i e (edge_at c.edges) k js)) on
 
   more_edges : (i : ℕ) → meetings_to g coords s c (i + 1) ≡ met_all g coords s c i (candidates coords c.edges (edge_box coords (edge_at s.edges i))) (meetings_to g coords s c i)
   unfolding meetings_to
@@ -60,10 +60,10 @@ module _ (g : Grid) (coords : List Float) (s c : Net) where
 
 -- ---- `add_for_edge`
 
-module _ (cs : List Float) (es fs : List ℕ) (i : ℕ) where
+module _ (g : Grid) (cs : List Float) (es fs : List ℕ) (i : ℕ) where
   -- the meetings of edge i with the edges ks, behind n new points
   abbrev pub from : ℕ → List ℕ → List Met
-  from n ks = met_with cs i (edge_at (pairs es) i) (edge_at (pairs fs)) (length cs / 2 + n) ks
+  from n ks = met_with g cs i (edge_at (pairs es) i) (edge_at (pairs fs)) (length cs / 2 + n) ks
 
   -- of all of them those with the edges `rest` are still to be added
   pub record Walked (whole : List Met) (l₀ l : MetLists) (rest : List ℕ) : Type 0 where
@@ -84,12 +84,12 @@ module _ (cs : List Float) (es fs : List ℕ) (i : ℕ) where
     next_low = next.low.0
 
     abbrev some : List Met
-    some = met_of cs i j (length cs / 2 + l.found.points) (edge_at (pairs es) i) (edge_at (pairs fs) j)
+    some = met_of g cs i j (length cs / 2 + l.found.points) (edge_at (pairs es) i) (edge_at (pairs fs) j)
 
     module _ (l' : MetLists) (r : Result (Unit {0}) Refusal)
-        (ans : Answered (met_of cs i j (length cs / 2 + l.found.points) (edge_at (pairs es) i) (edge_at (pairs fs) j)) l l' r) where
+        (ans : Answered (met_of g cs i j (length cs / 2 + l.found.points) (edge_at (pairs es) i) (edge_at (pairs fs) j)) l l' r) where
       behind : List Met
-      behind = met_with cs i (edge_at (pairs es) i) (edge_at (pairs fs)) (length cs / 2 + l.found.points + length (added_by some) / 2) rest
+      behind = met_with g cs i (edge_at (pairs es) i) (edge_at (pairs fs)) (length cs / 2 + l.found.points + length (added_by some) / 2) rest
 
       left : whole ≡ (next.done ++ some) ++ behind
       unfolding met_with behind
@@ -110,7 +110,7 @@ module _ (cs : List Float) (es fs : List ℕ) (i : ℕ) where
           record {
             done = next.done ++ some;
             grown = subst (Answered (next.done ++ some) l₀ l') z so_far;
-            left = left ∙ ap (λ (n : ℕ). (next.done ++ some) ++ met_with cs i (edge_at (pairs es) i) (edge_at (pairs fs)) n rest) on;
+            left = left ∙ ap (λ (n : ℕ). (next.done ++ some) ++ met_with g cs i (edge_at (pairs es) i) (edge_at (pairs fs)) n rest) on;
             low = next.low.1;
           }
 
@@ -122,7 +122,7 @@ module _ (cs : List Float) (es fs : List ℕ) (i : ℕ) where
 
 -- ---- `add_for_edges` and `compute_intersections`
 
-module _ (cs : List Float) (es fs : List ℕ) where
+module _ (g : Grid) (cs : List Float) (es fs : List ℕ) where
   abbrev subject : Net
   subject = net_on (pairs es)
 
@@ -130,15 +130,15 @@ module _ (cs : List Float) (es fs : List ℕ) where
   cutter = net_on (pairs fs)
 
   abbrev met_to : ℕ → List Met
-  met_to i = meetings_to cs subject cutter i
+  met_to i = meetings_to g cs subject cutter i
 
   abbrev pub all_met : List Met
-  all_met = meetings cs subject cutter
+  all_met = meetings g cs subject cutter
 
   -- the meetings of the first i edges of the subject are added
   pub record Through (l₀ l : MetLists) (i : ℕ) : Type 0 where
     pub within : i ≤ length es / 2
-    pub grown : Grown (meetings_to cs (net_on (pairs es)) (net_on (pairs fs)) i) l₀ l
+    pub grown : Grown (meetings_to g cs (net_on (pairs es)) (net_on (pairs fs)) i) l₀ l
 
   pub begin : (l : MetLists) → Through l l 0
   unfolding meetings_to
@@ -149,21 +149,21 @@ module _ (cs : List Float) (es fs : List ℕ) where
     js = candidates cs (pairs fs) (edge_box cs (edge_at (pairs es) i))
 
     module _ (l' : MetLists) (r : Result (Unit {0}) Refusal)
-        (ans : Answered (met_with cs i (edge_at (pairs es) i) (edge_at (pairs fs)) (length cs / 2 + l.found.points) (candidates cs (pairs fs) (edge_box cs (edge_at (pairs es) i)))) l l' r) where
+        (ans : Answered (met_with g cs i (edge_at (pairs es) i) (edge_at (pairs fs)) (length cs / 2 + l.found.points) (candidates cs (pairs fs) (edge_box cs (edge_at (pairs es) i)))) l l' r) where
       -- those of the subject's edge i
       abbrev here : List Met
-      here = met_with cs i (edge_at (pairs es) i) (edge_at (pairs fs)) ((length cs + length (added_by (met_to i))) / 2) js
+      here = met_with g cs i (edge_at (pairs es) i) (edge_at (pairs fs)) ((length cs + length (added_by (met_to i))) / 2) js
 
       next_is : length cs / 2 + l.found.points ≡ (length cs + length (added_by (met_to i))) / 2
       next_is = omega (arith, inv.grown.new, even_coords, none)
 
-      further : met_to (i + 1) ≡ met_to i ++ from cs es fs i l.found.points js
+      further : met_to (i + 1) ≡ met_to i ++ from g cs es fs i l.found.points js
       further =
-          more_edges cs subject cutter i ∙ all_from cs subject cutter i js (met_to i)
-          ∙ ap (λ (n : ℕ). met_to i ++ met_with cs i (edge_at (pairs es) i) (edge_at (pairs fs)) n js) (sym next_is)
+          more_edges g cs subject cutter i ∙ all_from g cs subject cutter i js (met_to i)
+          ∙ ap (λ (n : ℕ). met_to i ++ met_with g cs i (edge_at (pairs es) i) (edge_at (pairs fs)) n js) (sym next_is)
 
       all_so_far : Answered (met_to (i + 1)) l₀ l' r
-      all_so_far = onto (met_to (i + 1)) _ l₀ l' r further (answered_then (met_to i) l₀ l inv.grown (from cs es fs i l.found.points js) l' r ans)
+      all_so_far = onto (met_to (i + 1)) _ l₀ l' r further (answered_then (met_to i) l₀ l inv.grown (from g cs es fs i l.found.points js) l' r ans)
 
       pub go_on : (u : Unit {0}) → r ≡ Ok u → Through l₀ l' (i + 1)
       go_on u z = record { within = omega (arith, more); grown = subst (Answered (met_to (i + 1)) l₀ l') z all_so_far }
@@ -172,7 +172,7 @@ module _ (cs : List Float) (es fs : List ℕ) where
       unfolding meetings
       stop e z =
           let sn : ℕ = length es / 2 in
-          let rest = edges_behind cs subject cutter (i + 1) (sn - (i + 1)) in
+          let rest = edges_behind g cs subject cutter (i + 1) (sn - (i + 1)) in
           let all : sn - (i + 1) + (i + 1) ≡ length subject.edges = omega (arith, pairs_length es, more) in
           let whole : all_met ≡ met_to (i + 1) ++ rest.0 = ap (λ (k : ℕ). met_to k) (sym all) ∙ rest.1 in
           onto all_met _ l₀ l' (Err e) whole (answered_stop (met_to (i + 1)) rest.0 l₀ l' l' e (subst (Answered (met_to (i + 1)) l₀ l') z all_so_far))

@@ -1,6 +1,7 @@
 -- Meetings as numbers of the working list, and a net that has only edges. Assumes nothing.
 use Rattle.std.specs.Prelude.{List, [], ◌∷◌, ℕ, length, get_or, Float}
 use Rattle.lists.specs.Gather.{joined}
+use Rattle.grid.specs.Grid.{Grid}
 use Rattle.cutting.specs.Edges.{Edge}
 use Rattle.cutting.specs.Lent.{pairs}
 use Rattle.rules.specs.Neighbours.{Net}
@@ -17,6 +18,6 @@ booked ms = joined book_of ms
 abbrev pub net_on : List Edge → Net
 net_on es = record { cells = []; kinds = []; families = []; edges = es }
 
--- The meetings of edges that stand as pairs of numbers, over these coordinates.
-abbrev pub meetings_of : List Float → (es fs : List ℕ) → List Met
-meetings_of coords es fs = meetings coords (net_on (pairs es)) (net_on (pairs fs))
+-- The meetings of edges that stand as pairs of numbers, over these coordinates, on a grid or none.
+abbrev pub meetings_of : Grid → List Float → (es fs : List ℕ) → List Met
+meetings_of g coords es fs = meetings g coords (net_on (pairs es)) (net_on (pairs fs))

@@ -4,24 +4,24 @@ use Rattle.lists.specs.Gather.{joined}
 use Rattle.lists.specs.Regions.{put}
 use Rattle.refusals.specs.declared.Refusal.{Refusal}
 use Rattle.refusals.specs.Numbers.{number}
-use Rattle.segments.specs.Meet.{meeting}
+use Rattle.grid.specs.Grid.{Grid}
 use Rattle.cutting.specs.Edges.{Edge}
 use Rattle.lists.specs.Same.{SameList}
-use Rattle.rules.specs.Meetings.{Met, segment_of, recorded, added_by}
+use Rattle.rules.specs.Meetings.{Met, segment_of, meeting_on, recorded, added_by}
 use Rattle.rules.specs.Refusals.{Event, of_meeting, first_refusal}
 use Rattle.meetings.specs.declared.MetLists.{MetLists}
 use Rattle.meetings.specs.Booked.{booked}
 
 -- the meeting of the edge e, number i, with the edge f, number j; none where they are apart
-abbrev pub met_of : List Float → ℕ → ℕ → ℕ → Edge → Edge → List Met
-met_of coords i j next e f = recorded i j next e f (meeting (segment_of coords e) (segment_of coords f))
+abbrev pub met_of : Grid → List Float → ℕ → ℕ → ℕ → Edge → Edge → List Met
+met_of g coords i j next e f = recorded i j next e f (meeting_on g (segment_of coords e) (segment_of coords f))
 
 -- those of the edge e, number i, with the edges js, where edge j is f j and `next` is the number of the next new point
-unfoldable pub met_with : List Float → ℕ → Edge → (ℕ → Edge) → ℕ → List ℕ → List Met
-met_with coords i e f next [] = []
-met_with coords i e f next (j ∷ js) =
-    let x = met_of coords i j next e (f j) in
-    x ++ met_with coords i e f (next + length (added_by x) / 2) js
+unfoldable pub met_with : Grid → List Float → ℕ → Edge → (ℕ → Edge) → ℕ → List ℕ → List Met
+met_with g coords i e f next [] = []
+met_with g coords i e f next (j ∷ js) =
+    let x = met_of g coords i j next e (f j) in
+    x ++ met_with g coords i e f (next + length (added_by x) / 2) js
 
 pub record SameLists (l m : MetLists) : Type 0 where
   pub points : SameList l.points m.points

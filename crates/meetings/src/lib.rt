@@ -7,12 +7,13 @@ ghost use Rattle.lists.specs.Regions.{put};
 ghost use Rattle.cutting.specs.Edges.{edge_at};
 ghost use Rattle.cutting.specs.Lent.{pairs};
 ghost use Rattle.refusals.specs.Numbers.{by_number};
-ghost use Rattle.segments.specs.Meet.{meeting};
+ghost use Rattle.grid.specs.Grid.{OnGrid};
 ghost use Rattle.rules.specs.SpatialIndex.{edge_box, candidates};
-ghost use Rattle.rules.specs.Meetings.{node_of, segment_of};
+ghost use Rattle.rules.specs.Meetings.{node_of, segment_of, moved_to, meeting_on, NewOnGrid};
 ghost use Rattle.meetings.specs.Booked.{meetings_of};
 ghost use Rattle.meetings.specs.MeetingsFound.{meetings_found};
 
+use grid::booked;
 use lists::copy_at;
 use plane::point_at;
 use refusals::Refusal;
@@ -40,9 +41,11 @@ struct MetLists<'a> {
     ghost fewer: { found.points ≤ found.met },
 }
 
-// The edges of both meshes, two node numbers each: the subject's, and the cutter's with their index, over the coordinates of both.
+// The edges of both meshes, two node numbers each: the subject's, and the cutter's with their index, over the coordinates of both; and the grid of new points, if
+// there is one.
 #[derive(Clone, Copy)]
 pub struct Edges<'a> {
+    pub grid: Option<u32>,
     pub subject: &'a [u32],
     pub cutter: Index<'a>,
     ghost few: { length subject.now ≤ 131072 },
@@ -63,10 +66,22 @@ fn node_of(p: PointId, e: (u32, u32), f: (u32, u32)) -> u32
     }
 }
 
-// How the edge e meets the edge f.
-#[tactic(auto, unfolding(rules::specs::Meetings::segment_of))]
-fn edges_meet(coords: &[f64], e: (u32, u32), f: (u32, u32)) -> Meeting
-    ensures { result ≡ meeting (segment_of coords.now e) (segment_of coords.now f) }
+// A meeting whose new point, if it has one, is put on the grid.
+fn moved_to(grid: Option<u32>, m: Meeting) -> Meeting
+    ensures meeting { result ≡ moved_to grid m }
+    ensures on_grid { NewOnGrid grid result }
+{
+    match m {
+        Meeting::New(x, y) => Meeting::New(booked(grid, x), booked(grid, y)),
+        m => m,
+    }
+}
+
+// How the edge e meets the edge f: a new point is tested against their nodes before it is put on the grid.
+#[tactic(auto, unfolding(rules::specs::Meetings::segment_of, rules::specs::Meetings::meeting_on))]
+fn edges_meet(grid: Option<u32>, coords: &[f64], e: (u32, u32), f: (u32, u32)) -> Meeting
+    ensures meeting { result ≡ meeting_on grid (segment_of coords.now e) (segment_of coords.now f) }
+    ensures on_grid { NewOnGrid grid result }
 {
     let s = Segment {
         a: point_at(coords, e.0),
@@ -76,7 +91,7 @@ fn edges_meet(coords: &[f64], e: (u32, u32), f: (u32, u32)) -> Meeting
         a: point_at(coords, f.0),
         b: point_at(coords, f.1),
     };
-    s.intersect(o)
+    moved_to(grid, s.intersect(o))
 }
 
 // Edge i of those that stand as pairs of numbers.
@@ -110,7 +125,7 @@ impl<'a> MetLists<'a> {
         Ok(())
     }
 
-    // A meeting at a new point, whose number is n: the limit is looked at before the point's place.
+    // A meeting at a new point of the grid, if there is one, whose number is n: the limit is looked at before the point's place.
     #[tactic(auto, using(lists::proofs::Regions::copied_fits))]
     fn add_new(&mut self, i: usize, j: usize, n: u32, p: (f64, f64)) -> Result<(), Refusal>
         requires { (i < 65536) × (j < 65536) }
@@ -139,14 +154,14 @@ impl<'a> Edges<'a> {
     #[tactic(auto, using(crate::proofs::Near::pairs_few))]
     fn add_intersection(&self, lists: &mut MetLists, i: usize, j: usize) -> Result<(), Refusal>
         requires { (i < length self.now.subject.now / 2) × (j < length self.now.cutter.things.nodes.now / 2) }
-        ensures { Answered (met_of self.now.cutter.things.coords.now i j (length self.now.cutter.things.coords.now / 2 + lists.old.found.points)
+        ensures { Answered (met_of self.now.grid self.now.cutter.things.coords.now i j (length self.now.cutter.things.coords.now / 2 + lists.old.found.points)
             (edge_at (pairs self.now.subject.now) i) (edge_at (pairs self.now.cutter.things.nodes.now) j))
             lists.old lists.new result }
     {
         let coords = self.cutter.things.coords;
         let s = edge_at(self.subject, i);
         let c = edge_at(self.cutter.things.nodes, j);
-        match edges_meet(coords, s, c) {
+        match edges_meet(self.grid, coords, s, c) {
             Meeting::Apart => Ok(()),
             Meeting::Existing(p) => lists.add_known(i, j, 1, node_of(p, s, c), 0),
             Meeting::New(x, y) => {
@@ -162,7 +177,7 @@ impl<'a> Edges<'a> {
     // Adds those of the subject's edge i with all its candidates.
     fn add_for_edge(&self, lists: &mut MetLists, i: usize) -> Result<(), Refusal>
         requires { i < length self.now.subject.now / 2 }
-        ensures { Answered (met_with self.now.cutter.things.coords.now i (edge_at (pairs self.now.subject.now) i) (edge_at (pairs self.now.cutter.things.nodes.now))
+        ensures { Answered (met_with self.now.grid self.now.cutter.things.coords.now i (edge_at (pairs self.now.subject.now) i) (edge_at (pairs self.now.cutter.things.nodes.now))
             (length self.now.cutter.things.coords.now / 2 + lists.old.found.points)
             (candidates self.now.cutter.things.coords.now (pairs self.now.cutter.things.nodes.now) (edge_box self.now.cutter.things.coords.now (edge_at (pairs self.now.subject.now) i))))
             lists.old lists.new result }
@@ -178,7 +193,7 @@ impl<'a> Edges<'a> {
     // Adds those of all the subject's edges to none.
     fn add_for_edges(&self, lists: &mut MetLists) -> Result<(), Refusal>
         requires { (lists.old.found.met ≡ 0) × (lists.old.found.points ≡ 0) }
-        ensures { Answered (meetings_of self.now.cutter.things.coords.now self.now.subject.now self.now.cutter.things.nodes.now) lists.old lists.new result }
+        ensures { Answered (meetings_of self.now.grid self.now.cutter.things.coords.now self.now.subject.now self.now.cutter.things.nodes.now) lists.old lists.new result }
     {
         // By number, which a meeting is written with: `enumerate` over the pairs would give the edge besides, which `add_for_edge` reads by its number.
         for i in 0..self.subject.len() / 2 {
@@ -197,7 +212,7 @@ impl<'a> Edges<'a> {
     ) -> Result<Found, Refusal>
         requires { length met.old / 5 ≤ 65536 }
         ensures { record { answer = by_number result; points = points.new; met = met.new }
-            ≡ meetings_found (meetings_of self.now.cutter.things.coords.now self.now.subject.now self.now.cutter.things.nodes.now) points.old met.old }
+            ≡ meetings_found (meetings_of self.now.grid self.now.cutter.things.coords.now self.now.subject.now self.now.cutter.things.nodes.now) points.old met.old }
     {
         let mut lists = MetLists {
             points,

@@ -2,7 +2,7 @@
 use Rattle.std.specs.Prelude.{Bool, List, [], ◌∷◌, ◌++◌, ℕ, zero, suc, ◌+◌, ◌/◌, length, Float}
 use Rattle.lists.specs.Gather.{joined}
 use Rattle.plane.specs.Plane.{point_at}
-use Rattle.grid.specs.Grid.{Grid, booked}
+use Rattle.grid.specs.Grid.{Grid, booked, OnGrid}
 use Rattle.segments.specs.Meet.{meeting}
 use Rattle.cutting.specs.Edges.{Edge, edge_at}
 use Rattle.entry.specs.Mesh.{Mesh}
@@ -42,6 +42,13 @@ moved_to g (Overlap p q) = Overlap p q
 
 unfoldable pub meeting_on : Grid → Segment → Segment → Meeting
 meeting_on g s o = moved_to g (meeting s o)
+
+-- what the meeting rule promises, and "every caller .. relies on": a new point is on the grid
+abbrev pub NewOnGrid : Grid → Meeting → Type 0
+NewOnGrid g Apart = Unit {0}
+NewOnGrid g (Existing p) = Unit {0}
+NewOnGrid g (New x y) = OnGrid g x × OnGrid g y
+NewOnGrid g (Overlap p q) = Unit {0}
 
 -- the coordinates that meetings add
 abbrev pub added_by : List Met → List Float
