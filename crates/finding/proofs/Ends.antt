@@ -17,6 +17,7 @@ use Rattle.lists.proofs.Regions.{length_front, take_front_of, front_put, copied_
 use Rattle.cutting.specs.Edges.{Edge}
 use Rattle.cutting.specs.Lent.{flat_edges, pairs}
 use Rattle.cutting.proofs.Pairs.{pairs_ends}
+use Rattle.settings.specs.declared.Settings.{Settings}
 use Rattle.entry.specs.Mesh.{Mesh, mesh}
 use Rattle.refusals.specs.declared.Refusal.{Refusal}
 use Rattle.refusals.specs.Numbers.{number, by_number, refused_with}
@@ -92,7 +93,7 @@ module _ (w : List ℕ) (g : Regions) (es fs ms : List ℕ) (is-es : es ≡ run_
 
 -- ---- `find`
 
-module _ (o : Settings) (sc cc : List Float) (sn se cn ce : List ℕ) (w₀ : List ℕ) (ok : FindAsks o.op m (mesh sc sn se [] []) (mesh cc cn ce [] []) (length w₀)) (oc : List Float) where
+module _ (o : Settings) (sc cc : List Float) (sn se cn ce : List ℕ) (w₀ : List ℕ) (ok : FindAsks o (mesh sc sn se [] []) (mesh cc cn ce [] []) (length w₀)) (oc : List Float) where
   abbrev lines : Bool
   lines = eqb o.op 5
 
@@ -135,7 +136,7 @@ module _ (o : Settings) (sc cc : List Float) (sn se cn ce : List ℕ) (w₀ : Li
   unfolding scene_of
   stored =
       numbers_stored scene.met (booked scene.met) (length_booked scene.met) (λ q i h l. booked_at scene.met q i no_met h l)
-      (λ q h. (meetings_fit (sc ++ cc) (subject_net s) (cutter_net lines s c) q no_met h).3)
+      (λ q h. (meetings_fit o.grid (sc ++ cc) (subject_net s) (cutter_net lines s c) q no_met h).3)
 
   full_is : (es : List Edge) → has (crowded_at (pairs (flat_edges es)) (pairs (flat_edges subjects)) (pairs (flat_edges cutters)) (booked scene.met))
       (length (flat_edges es) / 2) ≡ overfull scene es
@@ -164,18 +165,18 @@ module _ (o : Settings) (sc cc : List Float) (sn se cn ce : List ℕ) (w₀ : Li
 
   -- the coordinates are placed, and the nets stand in the working list
   pub record AfterNets (oc₁ : List Float) (r : NetPlaces) (w₁ : List ℕ) : Type 0 where
-    pub asks : MeetingsRoom r (length oc₁) (length w₁) placed m × CutterIndexed r (take placed oc₁) w₁
+    pub asks : MeetingsRoom r (length oc₁) (length w₁) placed o.m × CutterIndexed r (take placed oc₁) w₁
     pub met : (a : Result MeetFound Refusal) (oc₂ : List Float) (w₂ : List ℕ)
-        → refused_with a ≡ first_refusal m (length oc₁ / 2 - placed / 2) 0 0 (joined of_meeting (met_in r placed oc₁ w₁)) → IfOk a (MetWritten r placed oc₁ w₁ oc₂ w₂)
+        → refused_with a ≡ first_refusal o.m (length oc₁ / 2 - placed / 2) 0 0 (joined of_meeting (met_in o.grid r placed oc₁ w₁)) → IfOk a (MetWritten o.grid r placed oc₁ w₁ oc₂ w₂)
         → length oc₂ ≡ length oc₁ → length w₂ ≡ length w₁ → (f : MeetFound) → a ≡ Ok f → AfterMeet r f oc₂ w₂
 
   -- ---- from stage to stage
 
   -- 12 for the lent coordinates
-  pub twelve : (b : Bool) → b ≡ leb placed (length oc) → not b ≡ true → 12 ≡ first_refusal m (length oc / 2) 0 0 (found_events o s c)
+  pub twelve : (b : Bool) → b ≡ leb placed (length oc) → not b ≡ true → 12 ≡ first_refusal o.m (length oc / 2) 0 0 (found_events o s c)
   unfolding found_events
   twelve b e t =
-      no_place points m (length oc / 2) (joined of_meeting scene.met) (crowded scene)
+      no_place points o.m (length oc / 2) (joined of_meeting scene.met) (crowded scene)
       (omega (arith, leb-false placed (length oc) (sym e ∙ not-true b t), len, fs.even, fc.even)) 0 0
 
   -- the coordinates that are lent to `nets`
@@ -206,7 +207,7 @@ module _ (o : Settings) (sc cc : List Float) (sn se cn ce : List ℕ) (w₀ : Li
     length_work : length w₁ ≡ length w₀
     length_work = ap length we ∙ length_held lines sc cc sn se cn ce fs fc w₀ room₀
 
-    asked_of : MeetingsRoom (nets_of lines s c) (length oc₁) (length w₁) placed m
+    asked_of : MeetingsRoom (nets_of lines s c) (length oc₁) (length w₁) placed o.m
     unfolding nets_of
     asked_of =
         let a = subjects_before lines sc cc sn se cn ce fs fc w₀ room₀ in
@@ -224,7 +225,7 @@ module _ (o : Settings) (sc cc : List Float) (sn se cn ce : List ℕ) (w₀ : Li
         }
 
     -- what `compute_intersections` asks
-    asked : MeetingsRoom r (length oc₁) (length w₁) placed m
+    asked : MeetingsRoom r (length oc₁) (length w₁) placed o.m
     asked = rw re asked_of
 
     -- the edges and the index of the cutter's, as they are read
@@ -258,40 +259,40 @@ module _ (o : Settings) (sc cc : List Float) (sn se cn ce : List ℕ) (w₀ : Li
     indexed = rw re indexed_of
 
     abbrev found : List Met
-    found = met_in r placed oc₁ w₁
+    found = met_in o.grid r placed oc₁ w₁
 
     met_are : found ≡ scene.met
     unfolding scene_of
     met_are =
-        ap (λ (x : NetPlaces). met_in x placed oc₁ w₁) re
-        ∙ ap₂ (λ (es fs : List ℕ). meetings_of (take placed oc₁) es fs) subjects_read cutters_read ∙ ap (λ (l : List Float). meetings_of l (flat_edges subjects) (flat_edges cutters)) coords_read
-        ∙ ap₂ (λ (es fs : List Edge). meetings (sc ++ cc) (net_on es) (net_on fs)) (pairs_ends subjects) (pairs_ends cutters)
-        ∙ sym (by_edges (sc ++ cc) (subject_net s) (cutter_net lines s c))
+        ap (λ (x : NetPlaces). met_in o.grid x placed oc₁ w₁) re
+        ∙ ap₂ (λ (es fs : List ℕ). meetings_of o.grid (take placed oc₁) es fs) subjects_read cutters_read ∙ ap (λ (l : List Float). meetings_of o.grid l (flat_edges subjects) (flat_edges cutters)) coords_read
+        ∙ ap₂ (λ (es fs : List Edge). meetings o.grid (sc ++ cc) (net_on es) (net_on fs)) (pairs_ends subjects) (pairs_ends cutters)
+        ∙ sym (by_edges o.grid (sc ++ cc) (subject_net s) (cutter_net lines s c))
 
     points_fit : points ≤ length oc / 2
     points_fit = omega (arith, fits, len)
 
     -- the meetings are found
-    module _ (a : Result MeetFound Refusal) (oc₂ : List Float) (w₂ : List ℕ) (code_met : refused_with a ≡ first_refusal m (length oc₁ / 2 - placed / 2) 0 0 (joined of_meeting found))
-        (written : IfOk a (MetWritten r placed oc₁ w₁ oc₂ w₂)) (lo : length oc₂ ≡ length oc₁) (lw : length w₂ ≡ length w₁) where
-      code_is : refused_with a ≡ first_refusal m (length oc / 2 - points) 0 0 (joined of_meeting scene.met)
+    module _ (a : Result MeetFound Refusal) (oc₂ : List Float) (w₂ : List ℕ) (code_met : refused_with a ≡ first_refusal o.m (length oc₁ / 2 - placed / 2) 0 0 (joined of_meeting found))
+        (written : IfOk a (MetWritten o.grid r placed oc₁ w₁ oc₂ w₂)) (lo : length oc₂ ≡ length oc₁) (lw : length w₂ ≡ length w₁) where
+      code_is : refused_with a ≡ first_refusal o.m (length oc / 2 - points) 0 0 (joined of_meeting scene.met)
       code_is =
-          code_met ∙ ap₂ (λ (k : ℕ) (ms : List Met). first_refusal m k 0 0 (joined of_meeting ms)) (ap₂ (λ (i j : ℕ). i / 2 - j / 2) length_placed (sym len)) met_are
+          code_met ∙ ap₂ (λ (k : ℕ) (ms : List Met). first_refusal o.m k 0 0 (joined of_meeting ms)) (ap₂ (λ (i j : ℕ). i / 2 - j / 2) length_placed (sym len)) met_are
 
       length_coords : length oc₂ ≡ length oc
       length_coords = lo ∙ length_placed
 
       -- 8, and 12 for a new point
-      pub met_stop : (e : Refusal) → a ≡ Err e → number e ≡ first_refusal m (length oc / 2) 0 0 (found_events o s c)
+      pub met_stop : (e : Refusal) → a ≡ Err e → number e ≡ first_refusal o.m (length oc / 2) 0 0 (found_events o s c)
       unfolding found_events
       met_stop e i =
-          met_refused points m (length oc / 2) (joined of_meeting scene.met) (crowded scene) points_fit (number e) (some_not_zero e) 0 0 (sym (ap refused_with i) ∙ code_is)
+          met_refused points o.m (length oc / 2) (joined of_meeting scene.met) (crowded scene) points_fit (number e) (some_not_zero e) 0 0 (sym (ap refused_with i) ∙ code_is)
 
       module _ (f : MeetFound) (i : a ≡ Ok f) where
         z : refused_with a ≡ 0
         z = ap refused_with i
 
-        all : MetWritten r placed oc₁ w₁ oc₂ w₂ f
+        all : MetWritten o.grid r placed oc₁ w₁ oc₂ w₂ f
         all = rw i at written
 
         count : f.met ≡ length scene.met
@@ -315,8 +316,8 @@ module _ (o : Settings) (sc cc : List Float) (sn se cn ce : List ℕ) (w₀ : Li
             )
 
         -- the meetings have their places
-        few : length scene.met ≤ m
-        few = few_met scene.met m (length oc / 2 - points) 0 0 (sym code_is ∙ z)
+        few : length scene.met ≤ o.m
+        few = few_met scene.met o.m (length oc / 2 - points) 0 0 (sym code_is ∙ z)
 
         link_asked_of : (h : ℕ) → h ≡ placed / 2 + 1 → LinkRoom (nets_of lines s c) (length scene.met) h (length w₀)
         unfolding nets_of
@@ -374,7 +375,7 @@ module _ (o : Settings) (sc cc : List Float) (sn se cn ce : List ℕ) (w₀ : Li
               ∙ ap₂ (λ (i j : ℕ). linked_by (nets_of lines s c) i j (with o.op sc cc sn se cn ce fs fc w₀ room₀ [])) count chains_are ∙ linked_is
 
           held : Holds o s c g w₃
-          held = rw (regions_are, work_is) (worked_holds o.op sc cc sn se cn ce fs fc w₀ room₀ m ok.room few ok.most)
+          held = rw (regions_are, work_is) (worked_holds o sc cc sn se cn ce fs fc w₀ room₀ ok.room few ok.most)
 
           -- what `crowded` asks
           crowded_asks : LinkedIn w₃ g
@@ -387,14 +388,14 @@ module _ (o : Settings) (sc cc : List Float) (sn se cn ce : List ℕ) (w₀ : Li
                 be ∙ ap₂ (λ (x y : List ℕ). both_full x y (run_in w₃ g.met)) held.subject_edges_lem held.cutter_edges_lem
                 ∙ ap (both_full (flat_edges subjects) (flat_edges cutters)) held.met ∙ crowded_is
 
-            end_code : cond b 9 0 ≡ first_refusal m (length oc / 2) 0 0 (found_events o s c)
+            end_code : cond b 9 0 ≡ first_refusal o.m (length oc / 2) 0 0 (found_events o s c)
             unfolding found_events
             end_code =
                 ap (λ (t : Bool). cond t 9 0) b_is
-                ∙ met_all points m (length oc / 2) (joined of_meeting scene.met) (crowded scene) points_fit (early_met scene.met) 0 0 (sym z ∙ code_is)
+                ∙ met_all points o.m (length oc / 2) (joined of_meeting scene.met) (crowded scene) points_fit (early_met scene.met) 0 0 (sym z ∙ code_is)
 
             -- 9
-            pub nine_stop : b ≡ true → 9 ≡ first_refusal m (length oc / 2) 0 0 (found_events o s c)
+            pub nine_stop : b ≡ true → 9 ≡ first_refusal o.m (length oc / 2) 0 0 (found_events o s c)
             nine_stop t = sym (ap (λ (u : Bool). cond u 9 0) t) ∙ end_code
 
             -- none

@@ -12,6 +12,7 @@ use Rattle.lists.specs.Regions.{run, front, put}
 use Rattle.lists.proofs.Regions.{length_put, drop_put, run_before}
 use Rattle.cutting.specs.Lent.{flat_edges}
 use Rattle.cutting.proofs.Pairs.{pairs_ends}
+use Rattle.settings.specs.declared.Settings.{Settings}
 use Rattle.entry.specs.Mesh.{Mesh, mesh, node_count}
 use Rattle.rules.specs.Neighbours.{subject_net, cutter_net}
 use Rattle.rules.specs.Meetings.{Met, scene_of}
@@ -71,7 +72,7 @@ holds_linked o s c g w h =
 -- the regions stand before the end of the links, which isn't far, and no mesh has more edges than entries
 pub record Low (o : Settings) (s c : Mesh) (g : Regions) : Type 0 where
   pub lies : Lies g g.links.end
-  pub end : g.links.end ≤ 3 * (node_count s + node_count c) + 3 * (length s.nodes + length c.nodes) + 4 * length c.nodes + 7 * m + 14
+  pub end : g.links.end ≤ 3 * (node_count s + node_count c) + 3 * (length s.nodes + length c.nodes) + 4 * length c.nodes + 7 * o.m + 14
   pub subjects : length (scene_for o s c).subject.edges ≤ length s.nodes
   pub cutters : length (scene_for o s c).cutter.edges ≤ length c.nodes
 
@@ -126,7 +127,7 @@ module _ (o : Settings) (sc cc : List Float) (sn se cn ce : List ℕ) (fs : Fit 
   links_long =
       omega (arith, length_links (chains s c) (scene_for o s c).subject.edges (scene_for o s c).cutter.edges (booked met), length_booked met)
 
-  module _ (m : ℕ) (more : NetRoom m s c (length w₀)) (few : length met ≤ m) where
+  module _ (more : NetRoom o.m s c (length w₀)) (few : length met ≤ o.m) where
     pub length_worked : length (worked o s c w₀) ≡ length w₀
     unfolding worked
     length_worked =
@@ -169,7 +170,7 @@ module _ (o : Settings) (sc cc : List Float) (sn se cn ce : List ℕ) (fs : Fit 
         }
 
     -- and hold what is found
-    pub worked_holds : m ≤ 65536 → Holds o s c (found_as o s c).regions (worked o s c w₀)
+    pub worked_holds : o.m ≤ 65536 → Holds o s c (found_as o s c).regions (worked o s c w₀)
     unfolding found_as regions_by nets_of scene_of worked
     worked_holds most =
         let zs = links_in o s c in

@@ -11,6 +11,7 @@ use Rattle.lists.specs.Gather.{joined}
 use Rattle.lists.specs.Regions.{front, put}
 use Rattle.refusals.specs.declared.Refusal.{Refusal}
 use Rattle.refusals.specs.Numbers.{by_number, refused_with}
+use Rattle.grid.specs.Grid.{Grid}
 use Rattle.rules.specs.Meetings.{Met, added_by}
 use Rattle.rules.specs.Refusals.{of_meeting, first_refusal}
 use Rattle.strips.specs.Index.{Indexed}
@@ -39,7 +40,7 @@ front_part l xs k h fits =
     ∙ ap (λ (ys : List ℕ). xs ++ ys)
     (sym (drop-append-le (length xs) (take k l) (drop k l) (omega (arith, fits, length-take-le k l h))) ∙ ap (drop (length xs)) (take-append-drop k l))
 
-module _ (n : NetPlaces) (placed m : ℕ) (oc : List Float) (w : List ℕ) (room : MeetingsRoom n (length oc) (length w) placed m) where
+module _ (grid : Grid) (n : NetPlaces) (placed m : ℕ) (oc : List Float) (w : List ℕ) (room : MeetingsRoom n (length oc) (length w) placed m) where
   base_in : n.behind ≤ length w
   base_in = omega (arith, room.met_fits)
 
@@ -67,11 +68,11 @@ module _ (n : NetPlaces) (placed m : ℕ) (oc : List Float) (w : List ℕ) (room
       (rest-is : rest ≡ drop n.behind w) (met-is : met ≡ take (5 * m) rest) (behind-is : behind ≡ drop (5 * m) rest) (es fs : List ℕ)
       (es-are : es ≡ run_in nets n.subject.edges) (fs-are : fs ≡ run_in nets n.cutter.edges) where
     abbrev ms : List Met
-    ms = met_in n placed oc w
+    ms = met_in grid n placed oc w
 
-    ms_lent : meetings_of cs es fs ≡ ms
-    ms_lent = ap₂ (λ (x y : List ℕ). meetings_of cs x y) (subject_lent nets nets-is es es-are) (cutter_lent nets nets-is fs fs-are)
-        ∙ ap (λ (l : List Float). meetings_of l (run_in w n.subject.edges) (run_in w n.cutter.edges)) cs-is
+    ms_lent : meetings_of grid cs es fs ≡ ms
+    ms_lent = ap₂ (λ (x y : List ℕ). meetings_of grid cs x y) (subject_lent nets nets-is es es-are) (cutter_lent nets nets-is fs fs-are)
+        ∙ ap (λ (l : List Float). meetings_of grid l (run_in w n.subject.edges) (run_in w n.cutter.edges)) cs-is
 
     length_rest : length rest ≡ length w - n.behind
     length_rest = ap length rest-is ∙ length-drop n.behind w
@@ -82,7 +83,7 @@ module _ (n : NetPlaces) (placed m : ℕ) (oc : List Float) (w : List ℕ) (room
     length_new : length ps ≡ length oc - placed
     length_new = ap length ps-is ∙ length-drop placed oc
 
-    module _ (a : Result Found Refusal) (ps' : List Float) (met' : List ℕ) (told : leaves (by_number a) ps' met' ≡ meetings_found (meetings_of cs es fs) ps met) where
+    module _ (a : Result Found Refusal) (ps' : List Float) (met' : List ℕ) (told : leaves (by_number a) ps' met' ≡ meetings_found (meetings_of grid cs es fs) ps met) where
       told_all : leaves (by_number a) ps' met' ≡ meetings_found ms ps met
       told_all = told ∙ ap (λ (x : List Met). meetings_found x ps met) ms_lent
 
@@ -98,7 +99,7 @@ module _ (n : NetPlaces) (placed m : ℕ) (oc : List Float) (w : List ℕ) (room
           let points : length ps / 2 ≡ length oc / 2 - placed / 2 = omega (arith, length_new, room.placed_even, room.placed_fits) in
           code_found ∙ ap₂ (λ (k i : ℕ). first_refusal k i 0 0 (joined of_meeting ms)) limit points
 
-      written : (f : Found) → a ≡ Ok f → MetWritten n placed oc w (cs ++ ps') (nets ++ (met' ++ behind)) f
+      written : (f : Found) → a ≡ Ok f → MetWritten grid n placed oc w (cs ++ ps') (nets ++ (met' ++ behind)) f
       unfolding put
       written f i =
           let z : refused_with a ≡ 0 = ap refused_with i in
@@ -113,10 +114,10 @@ module _ (n : NetPlaces) (placed m : ℕ) (oc : List Float) (w : List ℕ) (room
             work = ap₂ (λ (x y : List ℕ). x ++ y) nets-is (numbers ∙ ap (λ (l : List ℕ). front l (booked ms)) rest-is);
           }
 
-      pub met_written : IfOk a (MetWritten n placed oc w (cs ++ ps') (nets ++ (met' ++ behind)))
+      pub met_written : IfOk a (MetWritten grid n placed oc w (cs ++ ps') (nets ++ (met' ++ behind)))
       met_written = go a written
         where
-          go : (b : Result Found Refusal) → ((f : Found) → b ≡ Ok f → MetWritten n placed oc w (cs ++ ps') (nets ++ (met' ++ behind)) f)
-              → IfOk b (MetWritten n placed oc w (cs ++ ps') (nets ++ (met' ++ behind)))
+          go : (b : Result Found Refusal) → ((f : Found) → b ≡ Ok f → MetWritten grid n placed oc w (cs ++ ps') (nets ++ (met' ++ behind)) f)
+              → IfOk b (MetWritten grid n placed oc w (cs ++ ps') (nets ++ (met' ++ behind)))
           go (Ok f) h = h f refl
           go (Err e) h = tt

@@ -3,6 +3,7 @@ use mathlib.Core.Bool.{Bool, false}
 use Prim.Native.Nat.{ℕ}
 use native.Mathlib.Omega.{arith}
 use lib.Dec.{eqb}
+use Rattle.settings.specs.declared.Settings.{Settings}
 use Rattle.entry.specs.Mesh.{Mesh}
 use Rattle.entry.specs.Passed.{Sound, Passed}
 use Rattle.finding.specs.Nets.{plain, Fit, FindAsks}
@@ -25,5 +26,5 @@ fit_of lines m ok =
     }
 
 -- the `requires` of `find`
-pub ready : (o : Settings) (s c : Mesh) (w : ℕ) → Passed o s c w → FindAsks o.op m (bare s) (bare c) w
+pub ready : (o : Settings) (s c : Mesh) (w : ℕ) → Passed o s c w → FindAsks o (bare s) (bare c) w
 ready o s c w ok = record { most = ok.most; subject = fit_of false s ok.subject; cutter = fit_of (eqb o.op 5) c ok.cutter; room = omega (arith, ok.room) }

@@ -11,6 +11,7 @@ use lib.Ieee.{Float}
 use Rattle.std.specs.Prelude.{Result, Ok, Err}
 use Rattle.lists.specs.Gather.{joined}
 use Rattle.lists.specs.Regions.{front, zeros, fzeros}
+use Rattle.settings.specs.declared.Settings.{Settings}
 use Rattle.entry.specs.Mesh.{Mesh}
 use Rattle.refusals.specs.declared.Refusal.{Refusal}
 use Rattle.refusals.specs.Numbers.{by_number, refused_with}
@@ -43,68 +44,68 @@ module _ (o : Settings) (s c : Mesh) where
   abbrev points : ℕ
   points = length (s.coords ++ c.coords) / 2
 
-  module _ (p q n : ℕ) (passed : first_refusal m p q n (found_events o s c) ≡ 0) where
+  module _ (p q n : ℕ) (passed : first_refusal o.m p q n (found_events o s c) ≡ 0) where
     -- no edge has too many nodes
     pub not_crowded : crowded scene ≡ false
     unfolding found_events
     not_crowded =
-        no_nine (replicate points point ++ joined of_meeting scene.met) (crowded scene) m p q n
+        no_nine (replicate points point ++ joined of_meeting scene.met) (crowded scene) o.m p q n
         (early_append (replicate points point) (joined of_meeting scene.met) (early_points points) (early_met scene.met)) passed
 
-    pub met_few : length scene.met ≤ m
+    pub met_few : length scene.met ≤ o.m
     unfolding found_events
     met_few =
-        let first = first_passes (replicate points point ++ joined of_meeting scene.met) (cond (crowded scene) (stop 9 ∷ []) []) m p q n passed in
+        let first = first_passes (replicate points point ++ joined of_meeting scene.met) (cond (crowded scene) (stop 9 ∷ []) []) o.m p q n passed in
         go (dec_le points p) first
       where
-        go : Dec (points ≤ p) → first_refusal m p q n (replicate points point ++ joined of_meeting scene.met) ≡ 0 → length scene.met ≤ m
-        go (yes h) e = few_met scene.met m (p - points) q n (sym (points_fit points (joined of_meeting scene.met) m p q n h) ∙ e)
-        go (no h) e = absurd (omega (arith, sym (points_over points (joined of_meeting scene.met) m p q n (omega (arith, h))) ∙ e))
+        go : Dec (points ≤ p) → first_refusal o.m p q n (replicate points point ++ joined of_meeting scene.met) ≡ 0 → length scene.met ≤ o.m
+        go (yes h) e = few_met scene.met o.m (p - points) q n (sym (points_fit points (joined of_meeting scene.met) o.m p q n h) ∙ e)
+        go (no h) e = absurd (omega (arith, sym (points_over points (joined of_meeting scene.met) o.m p q n (omega (arith, h))) ∙ e))
 
     -- what stands in the working list
-    module _ (w₀ : List ℕ) (ok : FindAsks o.op m (bare s) (bare c) (length w₀)) where
+    module _ (w₀ : List ℕ) (ok : FindAsks o (bare s) (bare c) (length w₀)) where
       room₀ : NetRoom 0 (bare s) (bare c) (length w₀)
       room₀ = omega (arith, ok.room)
 
-      few : length (scene_for o (bare s) (bare c)).met ≤ m
+      few : length (scene_for o (bare s) (bare c)).met ≤ o.m
       few = omega (arith, ap length (met_bare o s c), met_few)
 
       -- the regions have their places
       pub found_lies : Lies (found_as o s c).regions (length w₀)
       found_lies =
           rw (found_bare o s c) at
-          (regions_lie o.op s.coords c.coords s.nodes s.ends c.nodes c.ends ok.subject ok.cutter w₀ room₀ m ok.room few)
+          (regions_lie o s.coords c.coords s.nodes s.ends c.nodes c.ends ok.subject ok.cutter w₀ room₀ ok.room few)
 
       pub worked_long : length (worked o s c w₀) ≡ length w₀
       worked_long =
           rw (worked_bare o s c w₀) at
-          (length_worked o.op s.coords c.coords s.nodes s.ends c.nodes c.ends ok.subject ok.cutter w₀ room₀ m ok.room few)
+          (length_worked o s.coords c.coords s.nodes s.ends c.nodes c.ends ok.subject ok.cutter w₀ room₀ ok.room few)
 
       pub found_low : Low o s c (found_as o s c).regions
       found_low =
           rw (found_bare o s c) at
-          (low_bare o s c m _ (regions_low o.op s.coords c.coords s.nodes s.ends c.nodes c.ends ok.subject ok.cutter w₀ room₀ m ok.room few))
+          (low_bare o s c _ (regions_low o s.coords c.coords s.nodes s.ends c.nodes c.ends ok.subject ok.cutter w₀ room₀ ok.room few))
 
       -- and hold both nets, the meetings and their links
       pub found_holds : Holds o s c (found_as o s c).regions (worked o s c w₀)
       found_holds =
           rw (found_bare o s c, worked_bare o s c w₀) at
           (holds_bare o s c _ _
-          (worked_holds o.op s.coords c.coords s.nodes s.ends c.nodes c.ends ok.subject ok.cutter w₀ room₀ m ok.room few ok.most))
+          (worked_holds o s.coords c.coords s.nodes s.ends c.nodes c.ends ok.subject ok.cutter w₀ room₀ ok.room few ok.most))
 
   -- the contract of `find`, for the meshes without kinds and families as it has them
-  module _ (w₀ : List ℕ) (ok : FindAsks o.op m (bare s) (bare c) (length w₀)) (oc oc' : List Float) (w' : List ℕ) (r : Result Found Refusal)
-      (told : leaves (by_number r) oc' w' ≡ found_of o.op m (bare s) (bare c) oc w₀) where
-    code_bare : refused_with r ≡ first_refusal m (length oc / 2) 0 0 (found_events o (bare s) (bare c))
-    code_bare = number_of r ∙ ap (λ (x : FoundLists). code_of x.answer) told ∙ code_left o.op m (bare s) (bare c) oc w₀
+  module _ (w₀ : List ℕ) (ok : FindAsks o (bare s) (bare c) (length w₀)) (oc oc' : List Float) (w' : List ℕ) (r : Result Found Refusal)
+      (told : leaves (by_number r) oc' w' ≡ found_of o (bare s) (bare c) oc w₀) where
+    code_bare : refused_with r ≡ first_refusal o.m (length oc / 2) 0 0 (found_events o (bare s) (bare c))
+    code_bare = number_of r ∙ ap (λ (x : FoundLists). code_of x.answer) told ∙ code_left o (bare s) (bare c) oc w₀
 
-    pub code_is : (q n : ℕ) → refused_with r ≡ first_refusal m (length oc / 2) q n (found_events o s c)
-    code_is q n = code_bare ∙ ap (first_refusal m (length oc / 2) 0 0) (events_bare o s c) ∙ sym (found_any_room o s c m (length oc / 2) q n)
+    pub code_is : (q n : ℕ) → refused_with r ≡ first_refusal o.m (length oc / 2) q n (found_events o s c)
+    code_is q n = code_bare ∙ ap (first_refusal o.m (length oc / 2) 0 0) (events_bare o s c) ∙ sym (found_any_room o s c o.m (length oc / 2) q n)
 
     -- a refusal
     module _ (z : refused_with r ≡ 0 → ⊥) where
       zeroed : leaves (by_number r) oc' w' ≡ refused_lists (refused_with r) oc w₀
-      zeroed = told ∙ zeros_left o.op m (bare s) (bare c) oc w₀ (λ y. z (code_bare ∙ y)) ∙ ap (λ (k : ℕ). refused_lists k oc w₀) (sym code_bare)
+      zeroed = told ∙ zeros_left o (bare s) (bare c) oc w₀ (λ y. z (code_bare ∙ y)) ∙ ap (λ (k : ℕ). refused_lists k oc w₀) (sym code_bare)
 
       pub refused_is : by_number r ≡ Err (refused_with r)
       refused_is = ap (λ (x : FoundLists). x.answer) zeroed
@@ -118,7 +119,7 @@ module _ (o : Settings) (s c : Mesh) where
     -- none
     module _ (f : Found) (is : r ≡ Ok f) where
       all : leaves (by_number r) oc' w' ≡ leaves (Ok (found_as o (bare s) (bare c))) (front oc (scene_for o (bare s) (bare c)).coords) (worked o (bare s) (bare c) w₀)
-      all = told ∙ all_left o.op m (bare s) (bare c) oc w₀ (sym code_bare ∙ ap refused_with is)
+      all = told ∙ all_left o (bare s) (bare c) oc w₀ (sym code_bare ∙ ap refused_with is)
 
       pub answer_is : f ≡ found_as o s c
       answer_is = ap (found_in f) (sym (ap by_number is) ∙ ap (λ (x : FoundLists). x.answer) all) ∙ found_bare o s c
@@ -129,7 +130,7 @@ module _ (o : Settings) (s c : Mesh) where
       pub work_is : w' ≡ worked o s c w₀
       work_is = ap (λ (x : FoundLists). x.work) all ∙ worked_bare o s c w₀
 
-      none : first_refusal m (length oc / 2) 0 0 (found_events o s c) ≡ 0
+      none : first_refusal o.m (length oc / 2) 0 0 (found_events o s c) ≡ 0
       none = sym (code_is 0 0) ∙ ap refused_with is
 
       pub calm : crowded scene ≡ false

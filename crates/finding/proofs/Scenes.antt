@@ -11,6 +11,7 @@ use Rattle.lists.specs.Gather.{joined}
 use Rattle.lists.specs.Regions.{put}
 use Rattle.cutting.specs.Edges.{Edge}
 use Rattle.cutting.specs.Lent.{flat_edges}
+use Rattle.settings.specs.declared.Settings.{Settings}
 use Rattle.entry.specs.Mesh.{Mesh, node_count}
 use Rattle.rules.specs.Mesh.{cell_at, cells_of, Side, the_subject, the_cutter}
 use Rattle.rules.specs.Snap.{used_nodes, sorted_indices_for, weld}
@@ -78,9 +79,9 @@ module _ (o : Settings) (s c : Mesh) where
   unfolding scene_of
   met_bare =
       let coords = s.coords ++ c.coords in
-      by_edges coords (subject_net (bare s)) (cutter_net (eqb o.op 5) (bare s) (bare c))
-      ∙ ap₂ (λ (es fs : List Edge). meetings g coords (net_on es) (net_on fs)) (subjects_bare (eqb o.op 5) s c) (cutters_bare (eqb o.op 5) s c)
-      ∙ sym (by_edges coords (subject_net s) (cutter_net (eqb o.op 5) s c))
+      by_edges o.grid coords (subject_net (bare s)) (cutter_net (eqb o.op 5) (bare s) (bare c))
+      ∙ ap₂ (λ (es fs : List Edge). meetings o.grid coords (net_on es) (net_on fs)) (subjects_bare (eqb o.op 5) s c) (cutters_bare (eqb o.op 5) s c)
+      ∙ sym (by_edges o.grid coords (subject_net s) (cutter_net (eqb o.op 5) s c))
 
   pub coords_bare : (scene_for o (bare s) (bare c)).coords ≡ (scene_for o s c).coords
   unfolding scene_of
@@ -118,7 +119,7 @@ module _ (o : Settings) (s c : Mesh) where
       ap₂ (λ (ms : List Met) (ls : List ℕ). put (netted (eqb o.op 5) (bare s) (bare c) w) (met_at s c) (booked ms ++ ls)) met_bare links_bare
       ∙ ap (λ (v : List ℕ). put v (met_at s c) (booked (scene_for o s c).met ++ links_in o s c)) (netted_bare (eqb o.op 5) s c w)
 
-  pub holds_bare : (g : Regions) (w : List ℕ) → Holds o.op (bare s) (bare c) g w → Holds o s c g w
+  pub holds_bare : (g : Regions) (w : List ℕ) → Holds o (bare s) (bare c) g w → Holds o s c g w
   unfolding scene_of
   holds_bare g w h =
       record {
@@ -132,9 +133,9 @@ module _ (o : Settings) (s c : Mesh) where
         few = rw met_bare at h.few;
       }
 
-  pub low_bare : (m : ℕ) (g : Regions) → Low o.op m (bare s) (bare c) g → Low o s c g
+  pub low_bare : (g : Regions) → Low o (bare s) (bare c) g → Low o s c g
   unfolding scene_of
-  low_bare m g h =
+  low_bare g h =
       record {
         lies = h.lies;
         end = h.end;

@@ -9,6 +9,7 @@ use lib.Ieee.{Float}
 use borrow.Author.Tests.{eq-eqb, ne_eqb}
 use Rattle.std.specs.Prelude.{Result, Ok}
 use Rattle.lists.specs.Regions.{front}
+use Rattle.settings.specs.declared.Settings.{Settings}
 use Rattle.entry.specs.Mesh.{Mesh}
 use Rattle.rules.specs.Operations.{scene_for}
 use Rattle.rules.specs.Refusals.{first_refusal}
@@ -21,7 +22,7 @@ leaves r oc w = record { answer = r; coords = oc; work = w }
 
 module _ (o : Settings) (s c : Mesh) (oc : List Float) (w : List ℕ) where
   abbrev code : ℕ
-  code = first_refusal m (length oc / 2) 0 0 (found_events o s c)
+  code = first_refusal o.m (length oc / 2) 0 0 (found_events o s c)
 
   abbrev all : FoundLists
   all = leaves (Ok (found_as o s c)) (front oc (scene_for o s c).coords) (worked o s c w)

@@ -4,6 +4,8 @@ use Rattle.lists.specs.Search.{has}
 use Rattle.lists.specs.Gather.{joined}
 use Rattle.lists.specs.Regions.{run, front, put, zeros, fzeros}
 use Rattle.cutting.specs.Lent.{pairs}
+use Rattle.grid.specs.Grid.{Grid}
+use Rattle.settings.specs.declared.Settings.{Settings}
 use Rattle.entry.specs.Mesh.{Mesh, node_count}
 use Rattle.rules.specs.Meetings.{Met, added_by}
 use Rattle.rules.specs.Nodes.{crowded}
@@ -23,7 +25,7 @@ use Rattle.finding.specs.declared.stages.Found.{Found}
 use Rattle.finding.specs.Nets.{between, nets_of, netted, met_at}
 
 -- `course` up to the cells: both meshes' coordinates, the meetings, and 9
-unfoldable pub found_events : ℕ → Mesh → Mesh → List Event
+unfoldable pub found_events : Settings → Mesh → Mesh → List Event
 found_events o s c =
     let sc = scene_for o s c in
     replicate (length (s.coords ++ c.coords) / 2) point ++ joined of_meeting sc.met ++ cond (crowded sc) (stop 9 ∷ []) []
@@ -44,17 +46,17 @@ regions_by n met h =
     }
 
 -- the answer
-unfoldable pub found_as : ℕ → Mesh → Mesh → Found
+unfoldable pub found_as : Settings → Mesh → Mesh → Found
 found_as o s c =
     let sc = scene_for o s c in
     record { regions = regions_by (nets_of (eqb o.op 5) s c) (length sc.met) (chains s c); next = length sc.coords / 2 }
 
 -- the meetings' links, along these chains
-abbrev pub links_in : ℕ → Mesh → Mesh → List ℕ
+abbrev pub links_in : Settings → Mesh → Mesh → List ℕ
 links_in o s c = let sc = scene_for o s c in links_of (chains s c) sc.subject.edges sc.cutter.edges (booked sc.met)
 
 -- the working list w with both nets, the meetings and their links
-unfoldable pub worked : ℕ → Mesh → Mesh → List ℕ → List ℕ
+unfoldable pub worked : Settings → Mesh → Mesh → List ℕ → List ℕ
 worked o s c w = put (netted (eqb o.op 5) s c w) (met_at s c) (booked (scene_for o s c).met ++ links_in o s c)
 
 -- ---- what finding leaves: the answer or the refusal's number, the coordinates and the working list
@@ -68,9 +70,9 @@ pub record FoundLists : Type 0 where
 abbrev pub refused_lists : ℕ → List Float → List ℕ → FoundLists
 refused_lists code oc w = record { answer = Err code; coords = fzeros (length oc); work = zeros (length w) }
 
-unfoldable pub found_of : (o : Settings) → Mesh → Mesh → List Float → List ℕ → FoundLists
+unfoldable pub found_of : Settings → Mesh → Mesh → List Float → List ℕ → FoundLists
 found_of o s c oc w =
-    let code = first_refusal m (length oc / 2) 0 0 (found_events o s c) in
+    let code = first_refusal o.m (length oc / 2) 0 0 (found_events o s c) in
     cond (eqb code 0) (record { answer = Ok (found_as o s c); coords = front oc (scene_for o s c).coords; work = worked o s c w }) (refused_lists code oc w)
 
 -- ---- what only an inner function's contract cites
@@ -101,15 +103,15 @@ pub record CutterIndexed (n : NetPlaces) (coords : List Float) (work : List ℕ)
   pub index : Within n.index n.behind
   pub indexed : Indexed coords (run_in work n.cutter.edges) [] (run_in work n.index)
 
--- the meetings of the edges that n names, over the first `placed` coordinates
-abbrev pub met_in : NetPlaces → ℕ → List Float → List ℕ → List Met
-met_in n placed oc w = meetings_of (take placed oc) (run_in w n.subject.edges) (run_in w n.cutter.edges)
+-- the meetings of the edges that n names, on the grid or none, over the first `placed` coordinates
+abbrev pub met_in : Grid → NetPlaces → ℕ → List Float → List ℕ → List Met
+met_in grid n placed oc w = meetings_of grid (take placed oc) (run_in w n.subject.edges) (run_in w n.cutter.edges)
 
 -- they are written: new points behind these coordinates, their numbers behind the nets
-pub record MetWritten (n : NetPlaces) (placed : ℕ) (oc : List Float) (w : List ℕ) (oc' : List Float) (w' : List ℕ) (f : MeetFound) : Type 0 where
-  pub found : f ≡ record { met = length (met_in n placed oc w); points = length (added_by (met_in n placed oc w)) / 2 }
-  pub coords : oc' ≡ put oc placed (added_by (met_in n placed oc w))
-  pub work : w' ≡ put w n.behind (booked (met_in n placed oc w))
+pub record MetWritten (grid : Grid) (n : NetPlaces) (placed : ℕ) (oc : List Float) (w : List ℕ) (oc' : List Float) (w' : List ℕ) (f : MeetFound) : Type 0 where
+  pub found : f ≡ record { met = length (met_in grid n placed oc w); points = length (added_by (met_in grid n placed oc w)) / 2 }
+  pub coords : oc' ≡ put oc placed (added_by (met_in grid n placed oc w))
+  pub work : w' ≡ put w n.behind (booked (met_in grid n placed oc w))
 
 -- room for the links in a working list of `work` numbers
 pub record LinkRoom (n : NetPlaces) (met h work : ℕ) : Type 0 where
@@ -125,7 +127,7 @@ linked_by n met h w =
     put w (n.behind + 5 * met) (links_of h (pairs (run_in w n.subject.edges)) (pairs (run_in w n.cutter.edges)) (run w n.behind (5 * met)))
 
 -- what the stages leave: all that is found, or a refusal that is yet to clear the lists
-abbrev pub StagesGive : (o : Settings) → Mesh → Mesh → List Float → List ℕ → List Float → List ℕ → Result Found Refusal → Type 0
+abbrev pub StagesGive : Settings → Mesh → Mesh → List Float → List ℕ → List Float → List ℕ → Result Found Refusal → Type 0
 StagesGive o s c oc w oc' w' r =
     MatchResult r (λ f. record { answer = Ok f; coords = oc'; work = w' } ≡ found_of o s c oc w)
-    (λ e. number e ≡ first_refusal m (length oc / 2) 0 0 (found_events o s c))
+    (λ e. number e ≡ first_refusal o.m (length oc / 2) 0 0 (found_events o s c))

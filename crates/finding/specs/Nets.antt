@@ -4,6 +4,7 @@ use Rattle.lists.specs.Regions.{front, put, zeros}
 use Rattle.cutting.specs.Edges.{Edge}
 use Rattle.cutting.specs.Lent.{flat_edges}
 use Rattle.views.specs.declared.MeshView.{MeshView}
+use Rattle.settings.specs.declared.Settings.{Settings}
 use Rattle.entry.specs.Mesh.{Mesh, mesh, node_count, prior, cell_size, Rising}
 use Rattle.rules.specs.Snap.{weld}
 use Rattle.snap.specs.Steps.{AllPlaced}
@@ -42,10 +43,10 @@ NetRoom m s c w = 3 * (node_count s + node_count c) + 4 * (length s.nodes + leng
 
 -- what `find` asks
 pub record FindAsks (o : Settings) (s c : Mesh) (work : ℕ) : Type 0 where
-  pub most : m ≤ 65536
+  pub most : o.m ≤ 65536
   pub subject : Fit false s
   pub cutter : Fit (eqb o.op 5) c
-  pub room : NetRoom m s c work
+  pub room : NetRoom o.m s c work
 
 -- ---- the regions
 

@@ -15,6 +15,7 @@ use lists::copy_at;
 use meetings::Edges;
 use refusals::Refusal;
 use regions::{Regions, Run};
+use settings::Settings;
 use strips::{Index, Things};
 use views::MeshView;
 
@@ -34,23 +35,23 @@ fn place_coords(sc: &[f64], cc: &[f64], oc: &mut [f64]) -> bool
     copy_at(oc, 0, sc) && copy_at(oc, sc.len(), cc)
 }
 
-// The meetings of the edges that n names: new points behind the first `placed` coordinates, the meetings behind the nets. Both lists are cut here, since the stages
+// The meetings of the edges that n names, on the grid if there is one: new points behind the first `placed` coordinates, the meetings behind the nets. Both lists are cut here, since the stages
 // before and behind take them whole. A meeting is five numbers there: C lends one list of numbers for all of this, and the cells read them by the links.
 #[tactic(auto, using(crate::proofs::Lent::met_written))]
 fn meet(
+    settings: Settings,
     n: NetPlaces,
     placed: usize,
-    limit: usize,
     coords: &mut [f64],
     work: &mut [u32],
 ) -> Result<meetings::Found, Refusal>
-    requires { MeetingsRoom n (length coords.old) (length work.old) placed limit × CutterIndexed n (take placed coords.old) work.old }
-    ensures code { refused_with result ≡ first_refusal limit (length coords.old / 2 - placed / 2) 0 0 (joined of_meeting (met_in n placed coords.old work.old)) }
-    ensures written { IfOk result (MetWritten n placed coords.old work.old coords.new work.new) }
+    requires { MeetingsRoom n (length coords.old) (length work.old) placed settings.m × CutterIndexed n (take placed coords.old) work.old }
+    ensures code { refused_with result ≡ first_refusal settings.m (length coords.old / 2 - placed / 2) 0 0 (joined of_meeting (met_in settings.grid n placed coords.old work.old)) }
+    ensures written { IfOk result (MetWritten settings.grid n placed coords.old work.old coords.new work.new) }
 {
     let (coords, points) = coords.split_at_mut(placed);
     let (nets, rest) = work.split_at_mut(n.behind);
-    let (met, _) = rest.split_at_mut(5 * limit);
+    let (met, _) = rest.split_at_mut(5 * settings.m as usize);
     let nets: &[u32] = nets;
     let things = Things {
         coords,
@@ -62,6 +63,7 @@ fn meet(
         numbers: n.index.part(nets),
     };
     let edges = Edges {
+        grid: settings.grid,
         subject: n.subject.edges.part(nets),
         cutter,
     };
@@ -131,22 +133,21 @@ fn takes_lines(op: u32) -> bool
 // Refusals 12, 8, 12 and 9, in this order; one leaves the lists as they are then. By the operation's number, as `find` is.
 #[tactic(auto, using(crate::proofs::Ends::twelve, crate::proofs::Ends::coords_lent, crate::proofs::Ends::met_stop, crate::proofs::Ends::nine_stop))]
 fn stages(
-    op: u32,
-    limit: u32,
+    settings: Settings,
     subject: &MeshView,
     cutter: &MeshView,
     coords: &mut [f64],
     work: &mut [u32],
 ) -> Result<Found, Refusal>
-    requires { FindAsks op limit (plain_of subject.now) (plain_of cutter.now) (length work.old) }
-    ensures { StagesGive op limit (plain_of subject.now) (plain_of cutter.now) coords.old work.old coords.new work.new result }
+    requires { FindAsks settings (plain_of subject.now) (plain_of cutter.now) (length work.old) }
+    ensures { StagesGive settings (plain_of subject.now) (plain_of cutter.now) coords.old work.old coords.new work.new result }
 {
     if !place_coords(subject.coords, cutter.coords, coords) {
         return Err(Refusal::NoPlace);
     }
     let placed = subject.coords.len() + cutter.coords.len();
-    let n = nets(takes_lines(op), &coords[..placed], subject, cutter, work);
-    let f = meet(n, placed, limit as usize, coords, work)?;
+    let n = nets(takes_lines(settings.op), &coords[..placed], subject, cutter, work);
+    let f = meet(settings, n, placed, coords, work)?;
     let g = link(work, n, f.met, placed / 2 + 1);
     if crowded(work, g) {
         return Err(Refusal::CrowdedEdge);
@@ -161,18 +162,17 @@ fn stages(
 // leaves zeros. By the operation's number, as the promise is for each number.
 #[tactic(auto, using(crate::proofs::Ends::kept_all))]
 pub fn find(
-    op: u32,
-    limit: u32,
+    settings: Settings,
     subject: &MeshView,
     cutter: &MeshView,
     coords: &mut [f64],
     work: &mut [u32],
 ) -> Result<Found, Refusal>
-    requires { FindAsks op limit (plain_of subject.now) (plain_of cutter.now) (length work.old) }
+    requires { FindAsks settings (plain_of subject.now) (plain_of cutter.now) (length work.old) }
     ensures { record { answer = by_number result; coords = coords.new; work = work.new }
-        ≡ found_of op limit (plain_of subject.now) (plain_of cutter.now) coords.old work.old }
+        ≡ found_of settings (plain_of subject.now) (plain_of cutter.now) coords.old work.old }
 {
-    let answer = stages(op, limit, subject, cutter, coords, work);
+    let answer = stages(settings, subject, cutter, coords, work);
     if answer.is_err() {
         coords.fill(0.0);
         work.fill(0);

@@ -9,7 +9,7 @@ use native.Mathlib.Nat.{le_refl}
 use native.Mathlib.Omega.{arith}
 use lib.Dec.{eqb}
 use lib.ListN.{length, get_or}
-use lib.Ieee.{Float, nan}
+use lib.Ieee.{Float, nan, binary64, fits}
 use lib.Ieee.Exact.{HasValue}
 use Rattle.lists.proofs.Gather.{in_list}
 use Rattle.lists.proofs.Regions.{front_in}
@@ -18,6 +18,12 @@ use Rattle.exact.proofs.ExactUnits.{exact_units}
 use Rattle.cutting.specs.Edges.{Edge, edge_at, key}
 use Rattle.cutting.specs.Edition.{ours}
 use Rattle.plane.specs.Plane.{is_number, point_at}
+use Rattle.std.specs.Prelude.{None, Some}
+use Rattle.grid.specs.Grid.{Grid, on_grid, booked}
+use Rattle.grid.proofs.Whole.{le_or_lt}
+use Rattle.grid.proofs.Ways.{no_grid}
+use Rattle.grid.proofs.OnGrid.{is_true, still_fits, still_finite, bounded_42}
+use Rattle.settings.specs.declared.Settings.{Settings}
 use Rattle.entry.specs.Mesh.{Mesh, node_count}
 use Rattle.entry.specs.Refused.{entry_of}
 use Rattle.entry.proofs.Passed.{passed}
@@ -35,7 +41,20 @@ use Rattle.rounding.proofs.Booked.{allowed_bounded, new_point_lem}
 use Rattle.rounding.proofs.Nodes.{each_joined, collected_under, key_under}
 use Rattle.rounding.proofs.InScene.{scene_length, met_nodes_lem, edge_nodes}
 use Rattle.rounding.proofs.Projections.{BoundedPoint, projection_finite, finite_number, numbers_ordered}
-use Rattle.rounding.proofs.Points.{Each, each_join, each_none, each_cons, Both, edges_under, mesh_allowed, allowed_ends, Origin, meetings_origin}
+use Rattle.rounding.proofs.Points.{Each, each_join, each_none, each_cons, Both, edges_under, mesh_allowed, allowed_ends, Origin, meetings_origin, before_moved}
+
+-- where a coordinate is put on a grid, it is still finite and at most 2^42 in size
+booked_bounded : (g : Grid) (x : Float) → Bounded x → Bounded (booked g x)
+unfolding booked
+booked_bounded None x b = b
+booked_bounded (Some k) x b = elim (le_or_lt k 10) [
+  | inl h ↦ record {
+      fit = is_true (fits binary64 (on_grid k x)) (still_fits k x h b.fit b.end);
+      end = still_finite k x h b.fit b.end;
+      size = bounded_42 k x h b.fit b.end b.size;
+    }
+  | inr h ↦ subst Bounded (no_grid k x h) b
+]
 
 -- What every theorem below takes: the entry passes, and the coordinates are f64, as in every list of f64 that a caller lends.
 module _ (o : Settings) (s c : Mesh) (w : ℕ) (pass : entry_of o s c w ≡ 0) (subject : Doubles s.coords) (cutter : Doubles c.coords) where
@@ -51,8 +70,8 @@ module _ (o : Settings) (s c : Mesh) (w : ℕ) (pass : entry_of o s c w ≡ 0) (
       each_join s.coords c.coords (λ x h. allowed_bounded x (mesh_allowed false s p.subject subject x h))
       (λ x h. allowed_bounded x (mesh_allowed (eqb o.op 5) c p.cutter cutter x h))
 
-  point_bounded : (mt : Met) → Origin lent (subject_net s) (cutter_net (eqb o.op 5) s c) mt → Each Bounded mt.point
-  point_bounded mt o = go o.shape
+  point_bounded : (mt : Met) → Origin o.grid lent (subject_net s) (cutter_net (eqb o.op 5) s c) mt → Each Bounded mt.point
+  point_bounded mt from = go from.shape
     where
       go : (mt.point ≡ []) ⊎ ((x : Float) × (y : Float) × (mt.point ≡ x ∷ y ∷ [])) → Each Bounded mt.point
       go (inl e) = subst (Each Bounded) (sym e) (each_none Bounded)
@@ -61,9 +80,11 @@ module _ (o : Settings) (s c : Mesh) (w : ℕ) (pass : entry_of o s c w ≡ 0) (
           let n = (subject_net s).edges in
           let e = edge_at n mt.subject_edge in
           let f = edge_at (cutter_net (eqb o.op 5) s c).edges mt.cutter_edge in
-          let u : Both (node_count s) e = edges_under false s ok e (in_list n mt.subject_edge o.edge (0, 0)) in
-          let b = new_point_lem (segment_of lent e) (segment_of lent f) (allowed_ends s c ok subject e u) q.0 q.1 (o.new q.0 q.1 q.2) in
-          subst (Each Bounded) (sym q.2) (each_cons q.0 (q.1 ∷ []) b.0 (each_cons q.1 [] b.1 (each_none Bounded)))
+          let u : Both (node_count s) e = edges_under false s ok e (in_list n mt.subject_edge from.edge (0, 0)) in
+          let p = before_moved o.grid (segment_of lent e) (segment_of lent f) q.0 q.1 (from.new q.0 q.1 q.2) in
+          let b = new_point_lem (segment_of lent e) (segment_of lent f) (allowed_ends s c ok subject e u) p.0 p.1 p.2 in
+          let at : (x z : Float) → booked o.grid x ≡ z → Bounded x → Bounded z = λ x z e h. subst Bounded e (booked_bounded o.grid x h) in
+          subst (Each Bounded) (sym q.2) (each_cons q.0 (q.1 ∷ []) (at p.0 q.0 p.3 b.0) (each_cons q.1 [] (at p.1 q.1 p.4 b.1) (each_none Bounded)))
 
   scene_each : Each Bounded scene
   unfolding scene_of meetings
@@ -72,7 +93,7 @@ module _ (o : Settings) (s c : Mesh) (w : ℕ) (pass : entry_of o s c w ≡ 0) (
       let k = cutter_net (eqb o.op 5) s c in
       each_join lent (added_by (scene_for o s c).met) lent_bounded
       (each_joined Bounded (λ (mt : Met). mt.point) (scene_for o s c).met
-      (λ mt h. point_bounded mt (meetings_origin lent n k (length n.edges) (le_refl (length n.edges)) mt h)))
+      (λ mt h. point_bounded mt (meetings_origin o.grid lent n k (length n.edges) (le_refl (length n.edges)) mt h)))
 
   -- Every coordinate of the scene, lent or new, is finite and at most 2^42 in size.
   pub scene_finite : (i : ℕ) → i < length (scene_for o s c).coords → Bounded (get_or (scene_for o s c).coords i nan)

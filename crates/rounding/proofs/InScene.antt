@@ -10,6 +10,7 @@ use lib.ListN.{length, length-append}
 use lib.Ieee.{Float}
 use Rattle.lists.proofs.Gather.{length_each, get_or_each}
 use Rattle.cutting.specs.Edges.{Edge}
+use Rattle.settings.specs.declared.Settings.{Settings}
 use Rattle.entry.specs.Mesh.{Mesh, node_count}
 use Rattle.entry.specs.Refused.{entry_of}
 use Rattle.entry.proofs.Passed.{passed, cell_some, corner_below}
@@ -49,7 +50,7 @@ module _ (o : Settings) (s c : Mesh) (w : ℕ) (pass : entry_of o s c w ≡ 0) w
   unfolding scene_of meetings
   met_nodes_lem mt h n k =
       let a : 2 * n + 1 < length lent + length (added_by (scene_for o s c).met) =
-      meetings_stand lent (subject_net s) (cutter_net (eqb o.op 5) s c) (node_count s + node_count c) (le_of_eq (sym lent_even)) subject_all cutter_all
+      meetings_stand o.grid lent (subject_net s) (cutter_net (eqb o.op 5) s c) (node_count s + node_count c) (le_of_eq (sym lent_even)) subject_all cutter_all
       (length (subject_net s).edges) (le_refl (length (subject_net s).edges)) mt h n k in
       omega (arith, a, scene_length o s c, length-append s.coords c.coords)
 

@@ -9,3 +9,4 @@ pub mod Pieces
 pub mod InScene
 pub mod Projections
 pub mod Finite
+pub mod Gridded

@@ -9,9 +9,9 @@ use lib.Dec.{ltb, eqb}
 use lib.ListN.{length, get_or, length-append, length-map, get_or-map}
 use lib.Ieee.{Float}
 use borrow.Author.Tests.{ltb-true, ltb-false}
-use Rattle.lists.specs.Gather.{joined, slim_after, slim}
+use Rattle.lists.specs.Gather.{joined, slim_after, slim, passing}
 use Rattle.lists.specs.Sort.{insert, sort_onto}
-use Rattle.lists.proofs.Gather.{length_each, get_or_each, in_list, mem_at, joined_append}
+use Rattle.lists.proofs.Gather.{length_each, get_or_each, in_list, mem_at, joined_append, passing_at}
 use Rattle.lists.proofs.Regions.{length_run}
 use Rattle.std.proofs.lemmas.List.{get_or_past}
 use Rattle.segments.specs.Meet.{meeting}
@@ -24,12 +24,14 @@ use Rattle.cutting.specs.Cell.{Laid, or_ends, darts_along, own_darts, outline_da
 use Rattle.entry.specs.Mesh.{Mesh, node_count, prior, cell_size}
 use Rattle.entry.specs.Passed.{Sound}
 use Rattle.entry.proofs.Passed.{cell_within}
+use Rattle.std.specs.Prelude.{None, Some}
+use Rattle.grid.specs.Grid.{Grid}
 use Rattle.rules.specs.Mesh.{Side, cell_at, cells_of}
 use Rattle.rules.specs.Snap.{weld}
 use Rattle.rules.specs.Neighbours.{Net, compute_descending, line_edges, renumbered, cutter_net}
 use Rattle.rules.specs.SpatialIndex.{edge_box, candidates}
 use Rattle.rules.specs.Meetings.{Met, Scene, segment_of, node_of, added_by, recorded, met_pair, met_all, meetings_to, meeting_on}
-use Rattle.rules.specs.Nodes.{Projected, projected, by_projection, along_edge, collected, unless_none, sorted_nodes}
+use Rattle.rules.specs.Nodes.{Projected, projected, by_projection, by_projections, inner_of, before_last, along_edge, collected, unless_none, sorted_nodes}
 use Rattle.rules.specs.Cell.{laid, darts_of, treated_by, treated, cell_of, near_of, outline_of}
 use Rattle.snap.proofs.Welds.{length_weld, weld_below}
 use Rattle.rounding.proofs.Points.{Each, each_join, each_none, each_cons, hops_each, ring_each, Under, Both, descending_under, corners_under}
@@ -132,7 +134,7 @@ recorded_stand n i j k e f (Overlap p q) h a b =
     each_cons _ [] (each_cons (node_of e f p) (node_of e f q ∷ []) (omega arith) (each_cons (node_of e f q) [] (omega arith) (each_none (Stands (k + 0))))) (each_none (StandAll (k + 0)))
 
 -- where the ends of edges are below n
-module _ (coords : List Float) (s c : Net) (n : ℕ) (room : 2 * n ≤ length coords) (sub : Each (Both n) s.edges) (cut : Each (Both n) c.edges) where
+module _ (g : Grid) (coords : List Float) (s c : Net) (n : ℕ) (room : 2 * n ≤ length coords) (sub : Each (Both n) s.edges) (cut : Each (Both n) c.edges) where
   -- with what meetings add
   abbrev long : List Met → ℕ
   long ms = length coords + length (added_by ms)
@@ -212,13 +214,19 @@ module _ (sc : Scene) (n : ℕ) (met : (m : Met) → Memᴰ m sc.met → Each (U
   pub key_under : (e : Edge) → Both n e → Both n (key e)
   key_under e h = (omega (arith, h.0, h.1), omega (arith, h.0, h.1))
 
-  along_under : (k : Edge) (ns : List ℕ) → Both n k → Each (Under n) ns → Each (Under n) (along_edge sc.coords k ns)
+  by_under : (k : Edge) (ns : List ℕ) → Each (Under n) ns → Each (Under n) (by_projections sc.coords k ns)
+  by_under k ns a =
+      each_map (Under n) (λ (p : Projected). p.node) _ (each_sorted (λ (p : Projected). Under n p.node) by_projection [] _ (each_none (λ (p : Projected). Under n p.node))
+      (each_map (λ (p : Projected). Under n p.node) (projected sc.coords k) ns a))
+
+  before_under : (g : Grid) (k : Edge) (ns : List ℕ) → Both n k → Each (Under n) ns → Each (Under n) (before_last g sc.coords k ns)
+  unfolding before_last
+  before_under None k ns h a = by_under k (k.0 ∷ ns) (each_cons k.0 ns h.0 a)
+  before_under (Some i) k ns h a = each_cons k.0 _ h.0 (by_under k (passing (inner_of k) ns) (λ x m. a x (passing_at (inner_of k) ns x m).0))
+
+  along_under : (k : Edge) (ns : List ℕ) → Both n k → Each (Under n) ns → Each (Under n) (along_edge sc.grid sc.coords k ns)
   unfolding along_edge
-  along_under k ns h a =
-      each_slim (Under n) eqb _ (each_join _ (k.1 ∷ [])
-      (each_map (Under n) (λ (p : Projected). p.node) _ (each_sorted (λ (p : Projected). Under n p.node) by_projection [] _ (each_none (λ (p : Projected). Under n p.node))
-      (each_map (λ (p : Projected). Under n p.node) (projected sc.coords k) (k.0 ∷ ns) (each_cons k.0 ns h.0 a))))
-      (each_cons k.1 [] h.1 (each_none (Under n))))
+  along_under k ns h a = each_slim (Under n) eqb _ (each_join _ (k.1 ∷ []) (before_under sc.grid k ns h a) (each_cons k.1 [] h.1 (each_none (Under n))))
 
   pub sorted_under : (e : Edge) → Both n e → Each (Under n) (sorted_nodes sc e)
   unfolding sorted_nodes

@@ -21,14 +21,15 @@ use Rattle.entry.specs.Passed.{Placed, Sound}
 use Rattle.entry.proofs.Passed.{cell_within, corner_below, node_within}
 use Rattle.plane.specs.Plane.{point_at}
 use Rattle.segments.specs.Meet.{meeting}
+use Rattle.segments.specs.declared.Segment.{Segment}
 use Rattle.segments.specs.declared.Meeting.{Meeting}
 use Rattle.segments.specs.declared.Meeting.TheVariants.{Apart, Existing, New, Overlap}
 use Rattle.cutting.specs.Edges.{Edge, edge_at, same_key, hops, ring}
-use Rattle.grid.specs.Grid.{Grid}
+use Rattle.grid.specs.Grid.{Grid, booked}
 use Rattle.rules.specs.Mesh.{cell_at, cells_of}
 use Rattle.rules.specs.Neighbours.{Net, added, added_all, descending_to, subject_net}
 use Rattle.rules.specs.SpatialIndex.{edge_box, candidates}
-use Rattle.rules.specs.Meetings.{Met, segment_of, added_by, recorded, met_pair, met_all, meetings_to, meeting_on}
+use Rattle.rules.specs.Meetings.{Met, segment_of, added_by, recorded, met_pair, met_all, meetings_to, meeting_on, moved_to}
 use Rattle.rounding.specs.Booked.{Allowed, AllowedEnds}
 use Rattle.rounding.specs.Points.{Doubles}
 
@@ -183,3 +184,15 @@ module _ (g : Grid) (coords : List Float) (s c : Net) where
   unfolding meetings_to
   meetings_origin zero h = each_none Origin
   meetings_origin (suc i) h = all_origin i (candidates coords c.edges (edge_box coords (edge_at s.edges i))) (meetings_to g coords s c i) (omega arith) (meetings_origin i (omega arith))
+
+-- a new point on the grid is one before it was put there
+pub before_moved : (g : Grid) (s o : Segment) (x y : Float) → meeting_on g s o ≡ New x y
+    → (u : Float) × (v : Float) × (meeting s o ≡ New u v) × (booked g u ≡ x) × (booked g v ≡ y)
+unfolding meeting_on
+before_moved g s o x y e = go (meeting s o) refl e
+  where
+    go : (r : Meeting) → meeting s o ≡ r → moved_to g r ≡ New x y → (u : Float) × (v : Float) × (meeting s o ≡ New u v) × (booked g u ≡ x) × (booked g v ≡ y)
+    go Apart i e = absurd cc
+    go (Existing p) i e = absurd cc
+    go (New u v) i e = (u, v, i, cc, cc)
+    go (Overlap p q) i e = absurd cc

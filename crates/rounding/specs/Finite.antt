@@ -1,10 +1,11 @@
 -- What every coordinate of a scene is once the entry passes, its nodes, and what the order along an edge is then. The theorems stand in
 -- proofs/InScene.antt and proofs/Finite.antt. Assumes nothing.
-use Rattle.std.specs.Prelude.{◌⊎◌, ◌≡◌, true, ℕ, ◌*◌, ◌/◌, ◌^◌, ◌≤◌, ◌<◌, T, length, Float}
+use Rattle.std.specs.Prelude.{◌⊎◌, ◌≡◌, true, false, ℕ, ◌*◌, ◌/◌, ◌^◌, ◌≤◌, ◌<◌, T, length, Float}
 use Rattle.std.specs.Float.{binary64}
 use Rattle.std.specs.Float.Ieee.{fits, eq}
 use Rattle.std.specs.Float.Ieee.Scale.{finite}
-use Rattle.exact.specs.Exact.{mag}
+use Rattle.exact.specs.Exact.{mag, minus}
+use Rattle.grid.specs.Grid.{is_on_grid}
 use Rattle.rules.specs.Meetings.{Scene}
 use Rattle.rules.specs.Nodes.{sign_bit, total_before}
 
@@ -13,6 +14,11 @@ pub record Bounded (x : Float) : Type 0 where
   pub fit : fits binary64 x ≡ true
   pub end : T (finite x)
   pub size : mag x ≤ 2 ^ 42 * 2 ^ 1074
+
+-- document 02, W6: a number on the grid of 2^-k, "zero always as +0"
+pub record Gridded (k : ℕ) (x : Float) : Type 0 where
+  pub on : is_on_grid k x ≡ true
+  pub plus : mag x ≡ 0 → minus x ≡ false
 
 -- a node of the scene: both its coordinates stand in the list
 abbrev pub NodeOf : Scene → ℕ → Type 0
