@@ -23,7 +23,7 @@ abbrev pub mesh_of : Counts → MeshLists → ReadMesh
 mesh_of c l = mesh_seen c l.coords.now l.nodes.now l.ends.now l.kinds.now l.families.now
 
 abbrev pub input_seen : Input → MeshLists → MeshLists → Given
-input_seen i s c = record { first = record { op = i.op; m = i.m }; subject = mesh_of i.subject s; cutter = mesh_of i.cutter c }
+input_seen i s c = record { settings = i.settings; subject = mesh_of i.subject s; cutter = mesh_of i.cutter c }
 
 abbrev pub input_as : Option Input → MeshLists → MeshLists → Parsed Given
 input_as r s c = option_map (λ i. (input_seen i s c, [])) r

@@ -7,8 +7,9 @@ ghost use Rattle.text.specs.Given.{at_most};
 ghost use Rattle.reading_lines.specs.Lines.{read_by};
 ghost use Rattle.reading.specs.Seen.{limits_of, mesh_seen, mesh_of, input_as, subject_of, cutter_of, Within, SameLists, Zeroed, MeshRest};
 
-use reading_lines::lines::{CellCounts, CellLists, First, read_cells, read_first, read_nodes};
+use reading_lines::lines::{CellCounts, CellLists, read_cells, read_first, read_nodes};
 use reading_lines::words::{CLOSE, MESH, read_word};
+use settings::Settings;
 
 // the lists that a mesh is read into, those of a `MeshView`, lent to be written: coordinates (x then y), node numbers (flat), cell ends, kinds, families. Each contract
 // says that the lists are the same still, as a struct of `&mut` lists needs. The counts are an answer beside it: who lends lists has none to give yet
@@ -29,11 +30,10 @@ pub struct Counts {
     pub entries: usize,
 }
 
-// The operation is a number, as it is read: one that is none is refused 1, no fault of the text.
+// an input: what its first line sets, and how much of the lent lists its meshes are
 #[derive(Clone, Copy)]
 pub struct Input {
-    pub op: u32,
-    pub m: u32,
+    pub settings: Settings,
     pub subject: Counts,
     pub cutter: Counts,
 }
@@ -111,7 +111,7 @@ fn read_text(s: &[u8], subject_lists: &mut MeshLists, cutter_lists: &mut MeshLis
     if 65536 < s.len() {
         return None;
     }
-    let (First { op, m }, s) = read_first(s)?;
+    let (settings, s) = read_first(s)?;
     let (subject, s) = read_mesh(s, subject_lists)?;
     let (cutter, s) = read_mesh(s, cutter_lists)?;
     let s = read_word(s, CLOSE)?;
@@ -119,8 +119,7 @@ fn read_text(s: &[u8], subject_lists: &mut MeshLists, cutter_lists: &mut MeshLis
         return None;
     }
     Some(Input {
-        op,
-        m,
+        settings,
         subject,
         cutter,
     })

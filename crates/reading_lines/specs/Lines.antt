@@ -3,13 +3,12 @@ use Rattle.std.specs.Prelude.{ℕ, List, take, [], ◌∷◌, Float, Option, opt
 use denote.Ref.{Bor}
 use Rattle.lists.specs.Same.{SameList}
 use Rattle.text.specs.Read.{Heading, Cell}
-use Rattle.text.specs.Given.{Parsed, Cells, First}
+use Rattle.text.specs.Given.{Parsed, Cells}
 use Rattle.reading_lines.specs.declared.lines.Node.{Node}
 use Rattle.reading_lines.specs.declared.lines.Heading.{Heading as HeadingRead}
 use Rattle.reading_lines.specs.declared.lines.Cell.{Cell as CellRead}
 use Rattle.reading_lines.specs.declared.lines.CellLists.{CellLists}
 use Rattle.reading_lines.specs.declared.lines.CellCounts.{CellCounts}
-use Rattle.reading_lines.specs.declared.lines.First.{First as FirstRead}
 
 -- what f makes of the value read, and the text after it
 abbrev pub read_by : {A B : Type 0} → (A → B) → Option (A × Bor (List ℕ)) → Parsed B
@@ -38,6 +37,3 @@ pub record SameCellLists (l m : CellLists) : Type 0 where
   pub ends : SameList l.ends m.ends
   pub kinds : SameList l.kinds m.kinds
   pub families : SameList l.families m.families
-
-abbrev pub first_of : FirstRead → First
-first_of f = record { op = f.op; m = f.m }

@@ -1,11 +1,12 @@
 // Lines: what is read of them stands in the front of the lent lists.
 ghost use Rattle.std.specs.Prelude.{◌≡◌, [], ◌/◌, ◌*◌, ◌≤◌, length, take, IfSome};
-ghost use Rattle.text.specs.Read.{node_from, nodes_from, entries_from, head_from, cell_from, cells_from, first_from, empty};
-ghost use Rattle.reading_lines.specs.Lines.{read_by, node_of, heading_of, cell_of, cells_of, first_of, SameCellLists};
+ghost use Rattle.text.specs.Read.{node_from, nodes_from, entries_from, head_from, cell_from, cells_from, grid_from, first_from, empty};
+ghost use Rattle.reading_lines.specs.Lines.{read_as, read_by, node_of, heading_of, cell_of, cells_of, SameCellLists};
 
 use crate::words::{
     CELL, CLOSE, NEWLINE, NODE, OVERLAY, SPACE, coordinate_of, read_decimal, read_hex, read_word,
 };
+use settings::Settings;
 
 // Not plane's Point: the crates of the text rest on no geometry, and its two numbers alone go on.
 #[derive(Clone, Copy)]
@@ -14,7 +15,7 @@ pub struct Node {
     pub y: f64,
 }
 
-// Any number up to 255 is read as a kind, as any as an operation (`First`): the entry refuses one that is none.
+// Any number up to 255 is read as a kind, as any as an operation (`read_first`): the entry refuses one that is none.
 #[derive(Clone, Copy)]
 pub struct Heading {
     pub kind: u8,
@@ -41,13 +42,6 @@ pub struct CellLists<'a> {
 pub struct CellCounts {
     pub cells: usize,
     pub entries: usize,
-}
-
-// Any number is read as an operation: one that is none is refused 1, no fault of the text.
-#[derive(Clone, Copy)]
-pub struct First {
-    pub op: u32,
-    pub m: u32,
 }
 
 // a node line after its word
@@ -78,17 +72,30 @@ pub fn read_head(s: &[u8]) -> Option<(Heading, &[u8])>
     Some((Heading { kind, family }, s))
 }
 
-// the first line
+// k of the grid, where a space follows M
+#[tactic(auto, unfolding(text::specs::Read::grid_from, text::specs::Read::and_then, text::specs::Read::if_word))]
+fn read_grid(s: &[u8]) -> Option<(Option<u32>, &[u8])>
+    ensures { read_as result ≡ grid_from s.now }
+{
+    let Some(number) = read_word(s, SPACE) else {
+        return Some((None, s));
+    };
+    let (k, s) = read_decimal(number)?;
+    Some((Some(k), s))
+}
+
+// The first line. Any number is read as an operation and as k: one that is none is refused 1 or 13, no fault of the text.
 #[tactic(auto, unfolding(text::specs::Read::first_from, text::specs::Read::and_then, text::specs::Read::after_word))]
-pub fn read_first(s: &[u8]) -> Option<(First, &[u8])>
-    ensures { read_by first_of result ≡ first_from s.now }
+pub fn read_first(s: &[u8]) -> Option<(Settings, &[u8])>
+    ensures { read_as result ≡ first_from s.now }
 {
     let s = read_word(s, OVERLAY)?;
     let (op, s) = read_decimal(s)?;
     let s = read_word(s, SPACE)?;
     let (m, s) = read_decimal(s)?;
+    let (grid, s) = read_grid(s)?;
     let s = read_word(s, NEWLINE)?;
-    Some((First { op, m }, s))
+    Some((Settings { op, m, grid }, s))
 }
 
 // Node lines, as many as the list has room for: how many there are, and the text after them. The list is written by index, since after a loop over

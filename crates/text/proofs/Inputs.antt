@@ -4,8 +4,9 @@ use mathlib.Core.List.{List, [], ◌++◌, append_assoc, map}
 use Prim.Native.Nat.{ℕ, ◌≤◌}
 use lib.ListN.{length}
 use lib.Seq.{take-length}
-use Rattle.std.specs.Prelude.{None, Some}
+use Rattle.std.specs.Prelude.{Option, None, Some, IfSome}
 use Rattle.std.proofs.lemmas.Option.{some_pair_parts}
+use Rattle.settings.specs.declared.Settings.{Settings}
 use Rattle.text.specs.Text.{
   space,
   close,
@@ -21,14 +22,15 @@ use Rattle.text.specs.Text.{
   Bits,
   body_text,
   mesh_text,
+  grid_text,
   first_text,
   input_text,
 }
-use Rattle.text.specs.Read.{and_then, after_word, word_from, cells_from, mesh_from, first_from, input_from, empty}
+use Rattle.text.specs.Read.{and_then, after_word, if_word, word_from, cells_from, mesh_from, grid_from, first_from, input_from, empty}
 use Rattle.text.specs.Given.{Parsed, coordinate, Limits, Given}
 use Rattle.text.proofs.Inverse.{word_self}
-use Rattle.text.specs.Inputs.{Rises, no_cells, cell, Fine, read, Within, Input, text_of, given, Readable}
-use Rattle.text.proofs.Lines.{nodes_read, cells_read, so_far, before_stop, stop_space, stop_newline}
+use Rattle.text.specs.Inputs.{Rises, no_cells, cell, Fine, read, Within, Fits, Input, text_of, given, Readable}
+use Rattle.text.proofs.Lines.{nodes_read, cells_read, so_far, Stop, before_stop, stop_space, stop_newline}
 use Rattle.text.proofs.Whole.{mesh_read, input_read}
 
 no_cell_close : (t : List ℕ) → word_from cell_word (close ++ t) ≡ None
@@ -62,24 +64,41 @@ mesh_back l m t f w =
     (whole_cells l.cells l.entries m.nodes m.ends m.kinds m.families t f.rises w.cells w.entries)
     (word_self close t)
 
-pub first_apart : (op m : ℕ) (t : List ℕ) → first_text op m ++ t ≡ overlay_word ++ (decimal op ++ (space ++ (decimal m ++ (newline ++ t))))
-unfolding first_text
-first_apart op m t = simp append_assoc
+stop_grid : (g : Option ℕ) (t : List ℕ) → Stop (grid_text g ++ (newline ++ t))
+unfolding grid_text
+stop_grid None t = stop_newline t
+stop_grid (Some k) t = stop_space (decimal k ++ (newline ++ t))
 
-first_line : (op m : ℕ) (t : List ℕ) → op ≤ 4294967295 → m ≤ 4294967295
-    → first_from (overlay_word ++ (decimal op ++ (space ++ (decimal m ++ (newline ++ t))))) ≡ Some (record { op = op; m = m }, t)
+no_grid : (t : List ℕ) → word_from space (newline ++ t) ≡ None
+unfolding word_from
+no_grid t = refl
+
+grid_back : (g : Option ℕ) (t : List ℕ) → IfSome g (λ k. k ≤ 4294967295) → grid_from (grid_text g ++ (newline ++ t)) ≡ Some (g, newline ++ t)
+unfolding grid_text grid_from if_word and_then
+grid_back None t h = rw (no_grid t)
+grid_back (Some k) t h = rw (word_self space (decimal k ++ (newline ++ t)), before_stop k (newline ++ t) h (stop_newline t))
+
+pub first_apart : (s : Settings) (t : List ℕ)
+    → first_text s ++ t ≡ overlay_word ++ (decimal s.op ++ (space ++ (decimal s.m ++ (grid_text s.grid ++ (newline ++ t)))))
+unfolding first_text
+first_apart s t = simp append_assoc
+
+first_line : (s : Settings) (t : List ℕ) → Fits s
+    → first_from (overlay_word ++ (decimal s.op ++ (space ++ (decimal s.m ++ (grid_text s.grid ++ (newline ++ t)))))) ≡ Some (s, t)
 unfolding first_from and_then after_word
-first_line op m t h g =
+first_line s t f =
+    let grid = grid_text s.grid ++ (newline ++ t) in
     rw (
-      word_self overlay_word (decimal op ++ (space ++ (decimal m ++ (newline ++ t)))),
-      before_stop op (space ++ (decimal m ++ (newline ++ t))) h (stop_space (decimal m ++ (newline ++ t))),
-      word_self space (decimal m ++ (newline ++ t)),
-      before_stop m (newline ++ t) g (stop_newline t),
+      word_self overlay_word (decimal s.op ++ (space ++ (decimal s.m ++ grid))),
+      before_stop s.op (space ++ (decimal s.m ++ grid)) f.op (stop_space (decimal s.m ++ grid)),
+      word_self space (decimal s.m ++ grid),
+      before_stop s.m grid f.m (stop_grid s.grid t),
+      grid_back s.grid t f.grid,
       word_self newline t,
     )
 
-pub first_back : (op m : ℕ) (t : List ℕ) → op ≤ 4294967295 → m ≤ 4294967295 → first_from (first_text op m ++ t) ≡ Some (record { op = op; m = m }, t)
-first_back op m t h g = ap first_from (first_apart op m t) ∙ first_line op m t h g
+pub first_back : (s : Settings) (t : List ℕ) → Fits s → first_from (first_text s ++ t) ≡ Some (s, t)
+first_back s t f = ap first_from (first_apart s t) ∙ first_line s t f
 
 -- an input is read back from its text
 pub input_back : (l k : Limits) (i : Input) → Readable l k i → input_from l k (text_of i) ≡ Some (given i, [])
@@ -87,8 +106,7 @@ unfolding input_text
 input_back l k i r =
     let s = mesh_text i.subject in
     let c = mesh_text i.cutter in
-    input_read l k (first_text i.op i.m ++ (s ++ (c ++ close))) r.bytes (record { op = i.op; m = i.m }) (s ++ (c ++ close))
-    (first_back i.op i.m (s ++ (c ++ close)) r.op r.m)
+    input_read l k (first_text i.settings ++ (s ++ (c ++ close))) r.bytes i.settings (s ++ (c ++ close)) (first_back i.settings (s ++ (c ++ close)) r.settings)
     (read i.subject) (c ++ close) (mesh_back l i.subject (c ++ close) r.subject r.within) (read i.cutter) close
     (mesh_back k i.cutter close r.cutter r.within') [] (word_self close []) refl
 

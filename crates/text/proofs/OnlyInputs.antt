@@ -1,17 +1,18 @@
 -- Only printed text is read: whatever is read is an input whose text this is. Assumes nothing.
 use mathlib.Core.Path.{◌≡◌, refl, sym, ap, ◌∙◌}
-use mathlib.Core.List.{List, [], ◌∷◌, ◌++◌, map}
+use mathlib.Core.List.{List, [], ◌∷◌, ◌++◌, append_assoc, map}
 use Prim.Native.Nat.{ℕ, ◌≤◌}
 use native.Mathlib.Omega.{arith}
 use borrow.Author.Tests.{leb-true, eqb-true}
 use lib.Dec.{leb, eqb}
 use lib.ListN.{length}
 use lib.Ieee.{Float}
-use Rattle.std.specs.Prelude.{None, Some}
-use Rattle.text.specs.Text.{space, newline, close, overlay_word, mesh_word, node_word, cell_word, decimal, nodes_text, cells_text, Bits, mesh_text, first_text, input_text}
-use Rattle.text.specs.Read.{word_from, decimal_from, repeated, node_step, nodes_from, cell_step, cells_from, mesh_from, first_from, input_from, empty}
-use Rattle.text.specs.Given.{Parsed, coordinate, Cells, Limits, ReadMesh, First, Given}
-use Rattle.text.specs.Inputs.{Fine, read, Within, Input, text_of, given, Readable}
+use Rattle.std.specs.Prelude.{Option, None, Some, IfSome}
+use Rattle.settings.specs.declared.Settings.{Settings}
+use Rattle.text.specs.Text.{space, newline, close, overlay_word, mesh_word, node_word, cell_word, decimal, nodes_text, cells_text, Bits, mesh_text, grid_text, first_text, input_text}
+use Rattle.text.specs.Read.{Rest, if_word, and_then, word_from, decimal_from, repeated, node_step, nodes_from, cell_step, cells_from, mesh_from, grid_from, first_from, input_from, empty}
+use Rattle.text.specs.Given.{Parsed, coordinate, Cells, Limits, ReadMesh, Given}
+use Rattle.text.specs.Inputs.{Fine, read, Within, Fits, Input, text_of, given, Readable}
 use Rattle.text.proofs.Inputs.{mesh_apart, first_apart, input_back}
 use Rattle.text.proofs.Only.{then_got, after_got, cond_got, moved, none_got, same_value, same_rest, word_only, decimal_only, repeated_only}
 use Rattle.text.proofs.OnlyLines.{nodes_turns, cells_turns}
@@ -53,31 +54,48 @@ mesh_only l t e =
           ∙ sym (mesh_apart m _);
     }
 
-record FirstOf (h : First) (t u : List ℕ) : Type 0 where
-  op : h.op ≤ 4294967295
-  m : h.m ≤ 4294967295
-  is : t ≡ first_text h.op h.m ++ u
+record GridOf (g : Option ℕ) (t u : List ℕ) : Type 0 where
+  fits : IfSome g (λ k. k ≤ 4294967295)
+  is : t ≡ grid_text g ++ u
 
-first_only : {h : First} {u : List ℕ} (t : List ℕ) → first_from t ≡ Some (h, u) → FirstOf h t u
+grid_only : {g : Option ℕ} {u : List ℕ} (t : List ℕ) → grid_from t ≡ Some (g, u) → GridOf g t u
+unfolding grid_from grid_text if_word
+grid_only {g} {u} t e = go (word_from space t) refl e
+  where
+    go : (r : Rest) → word_from space t ≡ r → if_word r (λ t₁. and_then (decimal_from t₁) (λ k t₂. Some (Some k, t₂))) (Some (None, t)) ≡ Some (g, u) → GridOf g t u
+    go None w e = moved (λ g u. GridOf g t u) e (record { fits = tt; is = refl })
+    go (Some t₁) w e =
+        let a = then_got (decimal_from t₁) _ e in
+        let p = decimal_only t₁ a.first in
+        moved (λ g u. GridOf g t u) a.second
+        (record { fits = p.fits; is = word_only space t w ∙ ap (λ (l : List ℕ). space ++ l) p.is ∙ sym (append_assoc space (decimal a.value) a.rest) })
+
+record FirstOf (s : Settings) (t u : List ℕ) : Type 0 where
+  fits : Fits s
+  is : t ≡ first_text s ++ u
+
+first_only : {s : Settings} {u : List ℕ} (t : List ℕ) → first_from t ≡ Some (s, u) → FirstOf s t u
 unfolding first_from
 first_only t e =
     let a = after_got (word_from overlay_word t) _ e in
     let b = then_got (decimal_from a.rest) _ a.second in
     let c = after_got (word_from space b.rest) _ b.second in
     let d = then_got (decimal_from c.rest) _ c.second in
-    let f = after_got (word_from newline d.rest) _ d.second in
+    let g = then_got (grid_from d.rest) _ d.second in
+    let f = after_got (word_from newline g.rest) _ g.second in
     let p = decimal_only a.rest b.first in
     let q = decimal_only c.rest d.first in
-    moved (λ h u. FirstOf h t u) f.second
+    let r = grid_only d.rest g.first in
+    moved (λ s u. FirstOf s t u) f.second
     (record {
-      op = p.fits;
-      m = q.fits;
+      fits = record { op = p.fits; m = q.fits; grid = r.fits };
       is =
           word_only overlay_word t a.word
           ∙ ap (λ (l : List ℕ). overlay_word ++ l) (p.is ∙ ap (λ (l : List ℕ). decimal b.value ++ l)
           (word_only space b.rest c.word ∙ ap (λ (l : List ℕ). space ++ l)
-          (q.is ∙ ap (λ (l : List ℕ). decimal d.value ++ l) (word_only newline d.rest f.word))))
-          ∙ sym (first_apart b.value d.value f.rest);
+          (q.is ∙ ap (λ (l : List ℕ). decimal d.value ++ l)
+          (r.is ∙ ap (λ (l : List ℕ). grid_text g.value ++ l) (word_only newline g.rest f.word)))))
+          ∙ sym (first_apart (record { op = b.value; m = d.value; grid = g.value }) f.rest);
     })
 
 -- whatever is read is an input whose text this is
@@ -91,7 +109,7 @@ empty_rest : (l : List ℕ) → length l ≡ 0 → l ≡ []
 empty_rest [] e = refl
 empty_rest (x ∷ l) e = absurd (omega (arith, e))
 
-same_given : (f : First) {s s' c c' : ReadMesh} → s ≡ s' → c ≡ c' → ◌≡◌ {A = Given} (record { first = f; subject = s; cutter = c }) (record { first = f; subject = s'; cutter = c' })
+same_given : (f : Settings) {s s' c c' : ReadMesh} → s ≡ s' → c ≡ c' → ◌≡◌ {A = Given} (record { settings = f; subject = s; cutter = c }) (record { settings = f; subject = s'; cutter = c' })
 same_given f p q = rw (p, q)
 
 pub input_only : {g : Given} {u : List ℕ} (l k : Limits) (t : List ℕ) → input_from l k t ≡ Some (g, u) → InputOf l k g t
@@ -106,17 +124,16 @@ input_only l k t e =
     let f = first_only t a.first in
     let s = mesh_only l a.rest b.first in
     let x = mesh_only k b.rest c.first in
-    let i : Input = record { op = a.value.op; m = a.value.m; subject = s.bits; cutter = x.bits } in
+    let i : Input = record { settings = a.value; subject = s.bits; cutter = x.bits } in
     let q : t ≡ text_of i
-    = f.is ∙ ap (λ (l : List ℕ). first_text a.value.op a.value.m ++ l)
+    = f.is ∙ ap (λ (l : List ℕ). first_text a.value ++ l)
     (s.is ∙ ap (λ (l : List ℕ). mesh_text s.bits ++ l) (x.is ∙ ap (λ (l : List ℕ). mesh_text x.bits ++ l)
     (word_only close c.rest d.word ∙ ap (λ (l : List ℕ). close ++ l) (empty_rest d.rest (eqb-true (length d.rest) 0 n.0))))) in
     record {
       input = i;
       readable =
           record {
-            op = f.op;
-            m = f.m;
+            settings = f.fits;
             subject = s.fine;
             cutter = x.fine;
             within = s.within;

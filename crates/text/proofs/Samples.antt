@@ -18,6 +18,7 @@ use Rattle.text.specs.Text.{
   decimal,
   decimal_to,
   first_text,
+  grid_text,
   glyph,
   hex,
   hex_to,
@@ -32,7 +33,7 @@ use Rattle.text.specs.Text.{
   pieces_text,
   piece_lines,
 }
-use Rattle.text.specs.Read.{input_from, first_from, mesh_from, nodes_from, cells_from, repeated, node_step, node_from, entry_step, entries_from, head_from, cell_from}
+use Rattle.text.specs.Read.{input_from, first_from, grid_from, mesh_from, nodes_from, cells_from, repeated, node_step, node_from, entry_step, entries_from, head_from, cell_from}
 use Rattle.text.specs.Read.{add_cell, cell_step, decimal_from, more_from, hex_from, digit_val, hex_val, word_from, after_word, and_then, if_word}
 use Rattle.text.specs.Given.{Limits, at_most, limits}
 use Rattle.text.specs.Inputs.{Input, text_of, given, read}
@@ -64,7 +65,7 @@ k1_cutter =
     }
 
 abbrev pub k1 : Input
-k1 = record { op = 0; m = 9; subject = k1_subject; cutter = k1_cutter }
+k1 = record { settings = record { op = 0; m = 9; grid = None }; subject = k1_subject; cutter = k1_cutter }
 
 abbrev pub k1_text : List ℕ
 k1_text =
@@ -96,11 +97,11 @@ unfolding limits
 document_limits = (refl, refl)
 
 k1_text_lem : text_of k1 ≡ k1_text
-unfolding input_text first_text mesh_text body_text nodes_text node_text hex hex_to glyph decimal decimal_to cells_text cell_text numbers_text
+unfolding input_text first_text grid_text mesh_text body_text nodes_text node_text hex hex_to glyph decimal decimal_to cells_text cell_text numbers_text
 k1_text_lem = refl
 
 pub k1_read : input_from most most k1_text ≡ Some (given k1, [])
-unfolding input_from first_from mesh_from nodes_from cells_from repeated node_step node_from entry_step entries_from head_from cell_from add_cell cell_step decimal_from more_from hex_from digit_val
+unfolding input_from first_from grid_from mesh_from nodes_from cells_from repeated node_step node_from entry_step entries_from head_from cell_from add_cell cell_step decimal_from more_from hex_from digit_val
     hex_val word_from after_word and_then if_word read
 k1_read = refl
 
@@ -143,6 +144,15 @@ parent_printed : piece_text (record { kind = 11; family = 7; mesh = 1; cell = 5;
 unfolding piece_text cell_text numbers_text decimal decimal_to
 parent_printed = refl
 
+-- W6: k after M where a grid is set
+grid_printed : first_text (record { op = 0; m = 9; grid = Some 10 }) ≡ bytes "(overlay 0 9 10\n"
+unfolding first_text grid_text decimal decimal_to
+grid_printed = refl
+
+grid_read : first_from (bytes "(overlay 0 9 10\n") ≡ Some (record { op = 0; m = 9; grid = Some 10 }, [])
+unfolding first_from grid_from decimal_from more_from digit_val word_from after_word and_then if_word
+grid_read = refl
+
 -- ---- read or not
 abbrev is_read : List ℕ → Bool
 is_read t = elim (input_from most most t) [ None ↦ false | Some (g, u) ↦ true ]
@@ -157,8 +167,12 @@ read_samples : T (every (λ s. is_read (bytes s))
     "(overlay 0 9\n(mesh\n(node 0000000000000000 000000000000000a)\n(cell 255 4294967295)\n)\n(mesh\n)\n)\n" ∷
     "(overlay 0 9\n(mesh\n(node 7ff8000000000000 fff0000000000001)\n(cell 8 7 0 1)\n)\n(mesh\n)\n)\n" ∷
     "(overlay 5 1\n(mesh\n)\n(mesh\n)\n)\n" ∷
+    "(overlay 5 1 0\n(mesh\n)\n(mesh\n)\n)\n" ∷
+    "(overlay 5 1 10\n(mesh\n)\n(mesh\n)\n)\n" ∷
+    "(overlay 5 1 11\n(mesh\n)\n(mesh\n)\n)\n" ∷
+    "(overlay 5 1 4294967295\n(mesh\n)\n(mesh\n)\n)\n" ∷
     []))
-unfolding input_from first_from mesh_from nodes_from cells_from repeated node_step node_from entry_step entries_from head_from cell_from add_cell cell_step decimal_from more_from hex_from digit_val
+unfolding input_from first_from grid_from mesh_from nodes_from cells_from repeated node_step node_from entry_step entries_from head_from cell_from add_cell cell_step decimal_from more_from hex_from digit_val
     hex_val word_from after_word and_then if_word
 read_samples = tt
 
@@ -170,6 +184,13 @@ unread_samples : T (every (λ s. not (is_read (bytes s)))
     " (overlay 0 9\n(mesh\n(node 0000000000000000 000000000000000a)\n(cell 8 7 0 1)\n)\n(mesh\n)\n)\n" ∷
     "(overlay 0 9 \n(mesh\n(node 0000000000000000 000000000000000a)\n(cell 8 7 0 1)\n)\n(mesh\n)\n)\n" ∷
     "(overlay 0 9\r\n(mesh\n(node 0000000000000000 000000000000000a)\n(cell 8 7 0 1)\n)\n(mesh\n)\n)\n" ∷
+    "(overlay 5 1  3\n(mesh\n)\n(mesh\n)\n)\n" ∷
+    "(overlay 5  1 3\n(mesh\n)\n(mesh\n)\n)\n" ∷
+    "(overlay 5 1 00\n(mesh\n)\n(mesh\n)\n)\n" ∷
+    "(overlay 5 1 03\n(mesh\n)\n(mesh\n)\n)\n" ∷
+    "(overlay 5 1 3 \n(mesh\n)\n(mesh\n)\n)\n" ∷
+    "(overlay 5 1 3 0\n(mesh\n)\n(mesh\n)\n)\n" ∷
+    "(overlay 5 1 4294967296\n(mesh\n)\n(mesh\n)\n)\n" ∷
     "(overlay 0\n(mesh\n(node 0000000000000000 000000000000000a)\n(cell 8 7 0 1)\n)\n(mesh\n)\n)\n" ∷
     "(overlay 4294967296 9\n(mesh\n(node 0000000000000000 000000000000000a)\n(cell 8 7 0 1)\n)\n(mesh\n)\n)\n" ∷
     "(overlay 0 9\n(mesh\n(node 0000000000000000 000000000000000A)\n(cell 8 7 0 1)\n)\n(mesh\n)\n)\n" ∷
@@ -186,6 +207,6 @@ unread_samples : T (every (λ s. not (is_read (bytes s)))
     "(overlay 0 9\n(mesh\n(node 0000000000000000 000000000000000a)\n(cell 8 7 0 1)\n)\n)\n" ∷
     "" ∷
     []))
-unfolding input_from first_from mesh_from nodes_from cells_from repeated node_step node_from entry_step entries_from head_from cell_from add_cell cell_step decimal_from more_from hex_from digit_val
+unfolding input_from first_from grid_from mesh_from nodes_from cells_from repeated node_step node_from entry_step entries_from head_from cell_from add_cell cell_step decimal_from more_from hex_from digit_val
     hex_val word_from after_word and_then if_word
 unread_samples = tt

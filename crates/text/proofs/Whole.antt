@@ -6,9 +6,10 @@ use borrow.Author.Tests.{le-leb, lt-leb, eq-eqb, ne_eqb}
 use lib.ListN.{length}
 use lib.Ieee.{Float}
 use Rattle.std.specs.Prelude.{None, Some}
+use Rattle.settings.specs.declared.Settings.{Settings}
 use Rattle.text.specs.Text.{mesh_word, close}
 use Rattle.text.specs.Read.{and_then, after_word, word_from, nodes_from, cells_from, mesh_from, first_from, input_from, empty}
-use Rattle.text.specs.Given.{Cells, Limits, at_most, limits, ReadMesh, First}
+use Rattle.text.specs.Given.{Cells, Limits, at_most, limits, ReadMesh}
 
 pub mesh_read : (l : Limits) (t t₁ t₂ t₃ t₄ : List ℕ) (cs : List Float) (cl : Cells) → word_from mesh_word t ≡ Some t₁ → nodes_from l.nodes [] t₁ ≡ Some (cs, t₂)
     → cells_from l.entries l.cells empty t₂ ≡ Some (cl, t₃) → word_from close t₃ ≡ Some t₄ → mesh_from l t ≡ Some (record { coords = cs; cells = cl }, t₄)
@@ -30,7 +31,7 @@ module _ (l k : Limits) (t : List ℕ) where
     unfolding input_from and_then
     input_no_first e = rw (le-leb _ _ h, e)
 
-    module _ (f : First) (t₁ : List ℕ) (e₁ : first_from t ≡ Some (f, t₁)) where
+    module _ (f : Settings) (t₁ : List ℕ) (e₁ : first_from t ≡ Some (f, t₁)) where
       pub input_no_subject : mesh_from l t₁ ≡ None → input_from l k t ≡ None
       unfolding input_from and_then
       input_no_subject e = rw (le-leb _ _ h, e₁, e)
@@ -50,6 +51,6 @@ module _ (l k : Limits) (t : List ℕ) where
             unfolding input_from and_then after_word
             input_more z = rw (le-leb _ _ h, e₁, e₂, e₃, e₄, ne_eqb _ _ z)
 
-            pub input_read : length t₄ ≡ 0 → input_from l k t ≡ Some (record { first = f; subject = s; cutter = c }, [])
+            pub input_read : length t₄ ≡ 0 → input_from l k t ≡ Some (record { settings = f; subject = s; cutter = c }, [])
             unfolding input_from and_then after_word
             input_read z = rw (le-leb _ _ h, e₁, e₂, e₃, e₄, eq-eqb _ _ z)

@@ -2,6 +2,7 @@
 use Rattle.std.specs.Prelude.{ℕ, ◌/◌, min, List, Float, Option}
 use Rattle.std.specs.Float.Ieee.{of_bits}
 use Rattle.std.specs.Float.{binary64}
+use Rattle.settings.specs.declared.Settings.{Settings}
 
 -- what was read, and what follows it
 abbrev pub Parsed : Type 0 → Type 0
@@ -34,12 +35,8 @@ unfoldable pub limits : ℕ → ℕ → ℕ → ℕ → ℕ → Limits
 limits coords nodes ends kinds families =
     at_most (min 512 (coords / 2)) (min 512 (min ends (min kinds families))) (min 2048 nodes)
 
--- the first line
-pub record First : Type 0 where
-  pub op : ℕ
-  pub m : ℕ
-
+-- an input: its first line gives the settings
 pub record Given : Type 0 where
-  pub first : First
+  pub settings : Settings
   pub subject : ReadMesh
   pub cutter : ReadMesh

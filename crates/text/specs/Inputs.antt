@@ -1,5 +1,6 @@
 -- The inputs that have a text. Assumes nothing.
-use Rattle.std.specs.Prelude.{List, [], ◌∷◌, map, ℕ, ◌-◌, ◌*◌, ◌≤◌, ◌<◌, length, take, drop}
+use Rattle.std.specs.Prelude.{List, [], ◌∷◌, map, ℕ, ◌-◌, ◌*◌, ◌≤◌, ◌<◌, length, take, drop, IfSome}
+use Rattle.settings.specs.declared.Settings.{Settings}
 use Rattle.text.specs.Text.{Bits, input_text}
 use Rattle.text.specs.Given.{coordinate, ReadMesh, Limits, Given}
 
@@ -33,23 +34,27 @@ pub record Within (l : Limits) (m : Bits) : Type 0 where
   pub cells : length m.ends ≤ l.cells
   pub entries : length m.nodes ≤ l.entries
 
--- an input: the operation, M and the two meshes, as bits
+-- settings that have a text: numbers that fit
+pub record Fits (s : Settings) : Type 0 where
+  pub op : s.op ≤ 4294967295
+  pub m : s.m ≤ 4294967295
+  pub grid : IfSome s.grid (λ k. k ≤ 4294967295)
+
+-- an input: the settings and the two meshes, as bits
 pub record Input : Type 0 where
-  pub op : ℕ
-  pub m : ℕ
+  pub settings : Settings
   pub subject : Bits
   pub cutter : Bits
 
 abbrev pub text_of : Input → List ℕ
-text_of i = input_text i.op i.m i.subject i.cutter
+text_of i = input_text i.settings i.subject i.cutter
 
 abbrev pub given : Input → Given
-given i = record { first = record { op = i.op; m = i.m }; subject = read i.subject; cutter = read i.cutter }
+given i = record { settings = i.settings; subject = read i.subject; cutter = read i.cutter }
 
 -- numbers that fit, meshes within their limits, at most 65,536 bytes
 pub record Readable (l k : Limits) (i : Input) : Type 0 where
-  pub op : i.op ≤ 4294967295
-  pub m : i.m ≤ 4294967295
+  pub settings : Fits i.settings
   pub subject : Fine i.subject
   pub cutter : Fine i.cutter
   pub within : Within l i.subject

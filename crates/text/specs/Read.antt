@@ -1,7 +1,8 @@
 -- Reading, as a function of the rest of the text. proofs/Inputs.antt shows that it undoes printing, proofs/OnlyInputs.antt that nothing but printed text is read.
 -- Assumes nothing.
 use Rattle.std.specs.Prelude.{ℕ, zero, suc, ◌+◌, ◌-◌, ◌*◌, cond, List, [], ◌∷◌, ◌++◌, length, ltb, leb, eqb, Float, Option, None, Some}
-use Rattle.text.specs.Given.{Parsed, coordinate, Cells, ReadMesh, Limits, First, Given}
+use Rattle.settings.specs.declared.Settings.{Settings}
+use Rattle.text.specs.Given.{Parsed, coordinate, Cells, ReadMesh, Limits, Given}
 use Rattle.text.specs.Text.{node_word, cell_word, mesh_word, overlay_word, space, newline, close}
 
 -- what follows a word, where it stands there
@@ -128,14 +129,19 @@ mesh_from l t =
     (λ cl t₃. after_word (word_from close t₃)
     (λ t₄. Some (record { coords = cs; cells = cl }, t₄)))))
 
-unfoldable pub first_from : List ℕ → Parsed First
+-- k, where a space follows M
+unfoldable pub grid_from : List ℕ → Parsed (Option ℕ)
+grid_from t = if_word (word_from space t) (λ t₁. and_then (decimal_from t₁) (λ k t₂. Some (Some k, t₂))) (Some (None, t))
+
+unfoldable pub first_from : List ℕ → Parsed Settings
 first_from t =
     after_word (word_from overlay_word t)
     (λ t₁. and_then (decimal_from t₁)
     (λ op t₂. after_word (word_from space t₂)
     (λ t₃. and_then (decimal_from t₃)
-    (λ m t₄. after_word (word_from newline t₄)
-    (λ t₅. Some (record { op = op; m = m }, t₅))))))
+    (λ m t₄. and_then (grid_from t₄)
+    (λ grid t₅. after_word (word_from newline t₅)
+    (λ t₆. Some (record { op = op; m = m; grid = grid }, t₆)))))))
 
 -- an input of at most 65,536 bytes, its two meshes within their limits, and nothing after it
 unfoldable pub input_from : Limits → Limits → List ℕ → Parsed Given
@@ -145,5 +151,5 @@ input_from l k t =
     (λ h t₁. and_then (mesh_from l t₁)
     (λ s t₂. and_then (mesh_from k t₂)
     (λ c t₃. after_word (word_from close t₃)
-    (λ t₄. cond (eqb (length t₄) 0) (Some (record { first = h; subject = s; cutter = c }, [])) None)))))
+    (λ t₄. cond (eqb (length t₄) 0) (Some (record { settings = h; subject = s; cutter = c }, [])) None)))))
     None

@@ -1,7 +1,8 @@
 -- The text, as printing gives it: lists of bytes. Assumes nothing.
-use Rattle.std.specs.Prelude.{ℕ, zero, suc, ◌+◌, ◌-◌, ◌/◌, ◌%◌, cond, List, [], ◌∷◌, ◌++◌, take, drop, ltb}
+use Rattle.std.specs.Prelude.{ℕ, zero, suc, ◌+◌, ◌-◌, ◌/◌, ◌%◌, cond, List, [], ◌∷◌, ◌++◌, take, drop, ltb, Option, None, Some}
 use Prim.Native.Char.{code}
 use Prim.Native.String.{String, [] as nil, ◌∷◌ as ◌and◌}
+use Rattle.settings.specs.declared.Settings.{Settings}
 
 -- ---- fixed words
 -- the bytes of a quoted text
@@ -101,12 +102,17 @@ body_text m = nodes_text m.coords ++ cells_text 0 m.nodes m.ends m.kinds m.famil
 unfoldable pub mesh_text : Bits → List ℕ
 mesh_text m = mesh_word ++ (body_text m ++ close)
 
--- the first line
-unfoldable pub first_text : ℕ → ℕ → List ℕ
-first_text op m = overlay_word ++ (decimal op ++ (space ++ (decimal m ++ newline)))
+-- W6: "the program's first line carries k after M where a grid is set"
+unfoldable pub grid_text : Option ℕ → List ℕ
+grid_text None = []
+grid_text (Some k) = space ++ decimal k
 
-unfoldable pub input_text : ℕ → ℕ → Bits → Bits → List ℕ
-input_text op m s c = first_text op m ++ (mesh_text s ++ (mesh_text c ++ close))
+-- the first line
+unfoldable pub first_text : Settings → List ℕ
+first_text s = overlay_word ++ (decimal s.op ++ (space ++ (decimal s.m ++ (grid_text s.grid ++ newline))))
+
+unfoldable pub input_text : Settings → Bits → Bits → List ℕ
+input_text settings s c = first_text settings ++ (mesh_text s ++ (mesh_text c ++ close))
 
 -- ---- answers
 -- a piece as it is printed: its kind, family, parent (the mesh, 0 the subject or 1 the cutter, and the cell there) and corners
