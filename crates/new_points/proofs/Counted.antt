@@ -13,13 +13,15 @@ use Rattle.lists.proofs.Search.{many_all, many_bound, and_true}
 use Rattle.lists.proofs.Gather.{in_list, mem_at, places_at, places_has, places_rise}
 use Rattle.lists.proofs.Members.{named_in, in_named}
 use Rattle.cutting.specs.Edition.{ours}
+use Rattle.grid.specs.Grid.{Grid}
+use Rattle.settings.specs.declared.Settings.{Settings}
 use Rattle.entry.specs.Mesh.{Mesh, node_count}
 use Rattle.entry.specs.Refused.{entry_of}
 use Rattle.rules.specs.Mesh.{the_subject}
 use Rattle.rules.specs.Meetings.{Scene}
 use Rattle.rules.specs.Operations.{keeps, scene_for, pieces_of, piece_at, piece_with, lies_inside, listing}
 use Rattle.rules.specs.Overlay.{Lists, Result, named_points, answered, answered_with, overlay_of}
-use Rattle.rules.specs.Demand3.{Accepted}
+use Rattle.rules.specs.Demand3.{Accepted, on}
 use Rattle.rules.proofs.Endings.{Ending, input, state_met, success, ending, input_refused, state_refused, succeeds, no_refusal}
 use Rattle.rules.proofs.Accepts.{Taken, accepted}
 use Rattle.rules.proofs.Parts.{among, listed, listed_kept, kept_listed}
@@ -47,8 +49,8 @@ module _ (o : Settings) (s c : Mesh) where
   entries = entries_of (listing o s c)
 
   -- their corners are nodes of the scene
-  entry_node : (m w : ℕ) → entry_of o s c w ≡ 0 → (n : ℕ) → Memᴰ n entries → n < all
-  entry_node m w pass n h =
+  entry_node : (w : ℕ) → entry_of o s c w ≡ 0 → (n : ℕ) → Memᴰ n entries → n < all
+  entry_node w pass n h =
       let r = entry_is_corner (listing o s c) n h in
       let p = r.0 in
       let k = listed_kept o s c p (listed o s c p r.1) in
@@ -63,7 +65,7 @@ module _ (o : Settings) (s c : Mesh) where
       let q = piece_at sc the_subject i j in
       corner_is_entry (listing o s c) q n
       (among o s c q
-      (kept_listed o s c q (record { cut = refl; cell = omega (arith, h, cells_lent (eqb o.op 5) s c the_subject); place = k; same = refl; passes = passes }))) m
+      (kept_listed o s c q (record { cut = refl; cell = omega (arith, h, cells_lent o.grid (eqb o.op 5) s c the_subject); place = k; same = refl; passes = passes }))) m
 
 -- ---- the theorems
 
@@ -94,7 +96,7 @@ counts_named o s c l h = subst (λ (r : Result). CountsPoints r (lent o s c) poi
     all_such : (n : ℕ) → (lent o s c ≤ n) × Entered (answered o s c l) n → Among points (length points) n
     all_such n (low, k) =
         let e = entered_in o s c l n k in
-        places_has new (all o s c) n (entry_node o s c m (length l.work) t.entry n e)
+        places_has new (all o s c) n (entry_node o s c (length l.work) t.entry n e)
         (ap (λ (b : Bool). b && named (entries o s c) n) (le-leb (lent o s c) n low) ∙ in_named (entries o s c) n e)
 
     answer : CountsPoints (answered o s c l) (lent o s c) points
@@ -148,7 +150,7 @@ pub entries_listed : (o : Settings) (s c : Mesh) (l : Lists) → Accepted o s c 
     → (n : ℕ) → Entered (overlay_of o s c l) n → n < node_count s + node_count c + (overlay_of o s c l).added
 entries_listed o s c l h n k =
     let e = entered_in o s c l n (subst (λ (x : Result). Entered x n) (answer_is o s c l h) k) in
-    let low = entry_node o s c m (length l.work) (accepted ours o s c l h).entry n e in
+    let low = entry_node o s c (length l.work) (accepted ours o s c l h).entry n e in
     omega (arith, low, all_are o s c l h)
 
 -- The second number is never above the fourth, of a refusal too.
@@ -161,27 +163,27 @@ never_above o s c l = go (ending ours o s c l)
     go (success e f) = below_fourth o s c l (ap (λ (x : Result). x.code) (succeeds ours o s c l e f) ∙ no_refusal ours o s c l)
 
 -- Imprint, Union and lines list every piece of the subject, so they count every added point.
-pub imprint_counts_all : (m : ℕ) (s c : Mesh) (l : Lists) → Accepted 0 m s c l → (overlay_of 0 m s c l).points ≡ (overlay_of 0 m s c l).added
-imprint_counts_all m s c l h = all_counted 0 m s c l h (λ inside. refl)
+pub imprint_counts_all : (g : Grid) (m : ℕ) (s c : Mesh) (l : Lists) → Accepted (on g 0 m) s c l → (overlay_of (on g 0 m) s c l).points ≡ (overlay_of (on g 0 m) s c l).added
+imprint_counts_all g m s c l h = all_counted (on g 0 m) s c l h (λ inside. refl)
 
-pub union_counts_all : (m : ℕ) (s c : Mesh) (l : Lists) → Accepted 1 m s c l → (overlay_of 1 m s c l).points ≡ (overlay_of 1 m s c l).added
-union_counts_all m s c l h = all_counted 1 m s c l h (λ inside. refl)
+pub union_counts_all : (g : Grid) (m : ℕ) (s c : Mesh) (l : Lists) → Accepted (on g 1 m) s c l → (overlay_of (on g 1 m) s c l).points ≡ (overlay_of (on g 1 m) s c l).added
+union_counts_all g m s c l h = all_counted (on g 1 m) s c l h (λ inside. refl)
 
-pub lines_count_all : (m : ℕ) (s c : Mesh) (l : Lists) → Accepted 5 m s c l → (overlay_of 5 m s c l).points ≡ (overlay_of 5 m s c l).added
-lines_count_all m s c l h = all_counted 5 m s c l h (λ inside. refl)
+pub lines_count_all : (g : Grid) (m : ℕ) (s c : Mesh) (l : Lists) → Accepted (on g 5 m) s c l → (overlay_of (on g 5 m) s c l).points ≡ (overlay_of (on g 5 m) s c l).added
+lines_count_all g m s c l h = all_counted (on g 5 m) s c l h (λ inside. refl)
 
--- Intersection and Difference may each count fewer, but together they miss none: of the same meshes each added point is named by a piece of one or of the other.
-pub either_counts : (m₂ m₃ : ℕ) (s c : Mesh) (l₂ l₃ : Lists) → Accepted 2 m₂ s c l₂ → Accepted 3 m₃ s c l₃
-    → (n : ℕ) → node_count s + node_count c ≤ n → n < node_count s + node_count c + (overlay_of 2 m₂ s c l₂).added
-    → Entered (overlay_of 2 m₂ s c l₂) n ⊎ Entered (overlay_of 3 m₃ s c l₃) n
-either_counts m₂ m₃ s c l₂ l₃ h₂ h₃ n low high =
-    let (i, j, x, y, on) = corner_of 2 m₂ s c l₂ h₂ n low (omega (arith, high, all_are 2 m₂ s c l₂ h₂)) in
-    go i j x y on (lies_inside (sc 2 s c) the_subject (piece_at (sc 2 s c) the_subject i j)) refl
+-- Intersection and Difference may each count fewer, but together they miss none: of the same meshes, on one grid or on none, each added point is named by a piece of one or of the other.
+pub either_counts : (g : Grid) (m₂ m₃ : ℕ) (s c : Mesh) (l₂ l₃ : Lists) → Accepted (on g 2 m₂) s c l₂ → Accepted (on g 3 m₃) s c l₃
+    → (n : ℕ) → node_count s + node_count c ≤ n → n < node_count s + node_count c + (overlay_of (on g 2 m₂) s c l₂).added
+    → Entered (overlay_of (on g 2 m₂) s c l₂) n ⊎ Entered (overlay_of (on g 3 m₃) s c l₃) n
+either_counts g m₂ m₃ s c l₂ l₃ h₂ h₃ n low high =
+    let (i, j, x, y, corner) = corner_of (on g 2 m₂) s c l₂ h₂ n low (omega (arith, high, all_are (on g 2 m₂) s c l₂ h₂)) in
+    go i j x y corner (lies_inside (sc (on g 2 m₂) s c) the_subject (piece_at (sc (on g 2 m₂) s c) the_subject i j)) refl
   where
-    go : (i j : ℕ) → i < length s.ends → j < length (pieces_of (sc 2 s c) the_subject i) → Memᴰ n (get_or (pieces_of (sc 2 s c) the_subject i) j [])
-        → (t : Bool) → lies_inside (sc 2 s c) the_subject (piece_at (sc 2 s c) the_subject i j) ≡ t
-        → Entered (overlay_of 2 m₂ s c l₂) n ⊎ Entered (overlay_of 3 m₃ s c l₃) n
-    go i j x y on true e =
-        inl (subst (λ (z : Result). Entered z n) (sym (answer_is 2 m₂ s c l₂ h₂)) (in_entered 2 s c l₂ n (kept_entry 2 s c i j x y e n on)))
-    go i j x y on false e =
-        inr (subst (λ (z : Result). Entered z n) (sym (answer_is 3 m₃ s c l₃ h₃)) (in_entered 3 s c l₃ n (kept_entry 3 s c i j x y (ap not e) n on)))
+    go : (i j : ℕ) → i < length s.ends → j < length (pieces_of (sc (on g 2 m₂) s c) the_subject i) → Memᴰ n (get_or (pieces_of (sc (on g 2 m₂) s c) the_subject i) j [])
+        → (t : Bool) → lies_inside (sc (on g 2 m₂) s c) the_subject (piece_at (sc (on g 2 m₂) s c) the_subject i j) ≡ t
+        → Entered (overlay_of (on g 2 m₂) s c l₂) n ⊎ Entered (overlay_of (on g 3 m₃) s c l₃) n
+    go i j x y corner true e =
+        inl (subst (λ (z : Result). Entered z n) (sym (answer_is (on g 2 m₂) s c l₂ h₂)) (in_entered (on g 2 m₂) s c l₂ n (kept_entry (on g 2 m₂) s c i j x y e n corner)))
+    go i j x y corner false e =
+        inr (subst (λ (z : Result). Entered z n) (sym (answer_is (on g 3 m₃) s c l₃ h₃)) (in_entered (on g 3 m₃) s c l₃ n (kept_entry (on g 3 m₃) s c i j x y (ap not e) n corner)))

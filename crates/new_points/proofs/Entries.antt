@@ -17,6 +17,7 @@ use Rattle.lists.specs.Regions.{front}
 use Rattle.lists.proofs.Gather.{in_list, mem_at}
 use Rattle.lists.proofs.Regions.{front_in}
 use Rattle.cutting.specs.Outcome.{flat, stops}
+use Rattle.settings.specs.declared.Settings.{Settings}
 use Rattle.entry.specs.Mesh.{Mesh, prior}
 use Rattle.rules.specs.Operations.{Piece, listing}
 use Rattle.rules.specs.Overlay.{Lists, answered, answered_with, written}

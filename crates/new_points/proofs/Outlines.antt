@@ -11,6 +11,7 @@ use lib.Ieee.Scale.{finite}
 use Rattle.lists.proofs.Gather.{get_or_each, in_list}
 use Rattle.plane.specs.Plane.{is_number, point_at}
 use Rattle.cutting.specs.Edges.{Edge, edge_at, key, ring}
+use Rattle.settings.specs.declared.Settings.{Settings}
 use Rattle.entry.specs.Mesh.{Mesh, node_count}
 use Rattle.entry.specs.Passed.{Sound}
 use Rattle.entry.specs.Refused.{entry_of}
@@ -51,10 +52,10 @@ module _ (o : Settings) (s c : Mesh) (w : ℕ) (pass : entry_of o s c w ≡ 0) w
   cutting = cutter_net (eqb o.op 5) s c
 
   -- the number of a new point comes from a meeting
-  point_met : (n : ℕ) → node_count s + node_count c ≤ n → n < length sc.coords / 2 → From lent (subject_net s) cutting sc.met n
+  point_met : (n : ℕ) → node_count s + node_count c ≤ n → n < length sc.coords / 2 → From o.grid lent (subject_net s) cutting sc.met n
   unfolding scene_of
   point_met n low high =
-      new_points_met lent (subject_net s) cutting n (omega (arith, low, lent_even o s c w pass))
+      new_points_met o.grid lent (subject_net s) cutting n (omega (arith, low, lent_even o s c w pass))
       (omega (arith, high, scene_length o s c, length-append s.coords c.coords))
 
   -- a lent node is where it was
@@ -83,7 +84,7 @@ module _ (o : Settings) (s c : Mesh) (w : ℕ) (pass : entry_of o s c w ≡ 0) w
   -- an edge of the subject is an edge of one of its cells
   own_cell : (e : Edge) → Memᴰ e sc.subject.edges → (i : ℕ) × (i < length s.ends) × Memᴰ e (ring (cell_of sc the_subject i))
   unfolding scene_of subject_net
-  own_cell e k = let r = descending_in (cells_of s) e k in (r.0, omega (arith, r.1, cells_lent (eqb o.op 5) s c the_subject), r.2)
+  own_cell e k = let r = descending_in (cells_of s) e k in (r.0, omega (arith, r.1, cells_lent o.grid (eqb o.op 5) s c the_subject), r.2)
 
   -- the ends of the subject's edges
   subject_ends : (e : Edge) → Memᴰ e sc.subject.edges → Both (node_count s) e
@@ -91,7 +92,7 @@ module _ (o : Settings) (s c : Mesh) (w : ℕ) (pass : entry_of o s c w ≡ 0) w
   subject_ends = edges_under false s (passed o s c w pass).subject
 
   -- where boxes of edges meet over the lent coordinates, they meet over all
-  close_boxes : (i j : ℕ) → Close lent (subject_net s) cutting i j
+  close_boxes : (i j : ℕ) → Close o.grid lent (subject_net s) cutting i j
       → boxes_meet (edge_box sc.coords (edge_at sc.cutter.edges j)) (edge_box sc.coords (edge_at sc.subject.edges i)) ≡ true
   unfolding scene_of
   close_boxes i j k =
@@ -105,7 +106,7 @@ module _ (o : Settings) (s c : Mesh) (w : ℕ) (pass : entry_of o s c w ≡ 0) w
   abbrev OnOutline : ℕ → Type 0
   OnOutline n = (i : ℕ) × (i < length s.ends) × Touched n (outline_of sc the_subject i)
 
-  met_outline : (n : ℕ) → node_count s + node_count c ≤ n → (mt : Met) → Memᴰ mt sc.met → Source lent (subject_net s) cutting n mt → OnOutline n
+  met_outline : (n : ℕ) → node_count s + node_count c ≤ n → (mt : Met) → Memᴰ mt sc.met → Source o.grid lent (subject_net s) cutting n mt → OnOutline n
   unfolding scene_of
   met_outline n low mt k src =
       let es = (subject_net s).edges in

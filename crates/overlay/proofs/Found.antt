@@ -14,6 +14,7 @@ use Rattle.segments.specs.declared.Meeting.{Meeting}
 use Rattle.segments.specs.declared.Meeting.TheVariants.{Apart, Existing, New, Overlap}
 use Rattle.segments.specs.Meet as Meet
 use Rattle.cutting.specs.Edges.{Edge, edge_at}
+use Rattle.settings.specs.declared.Settings.{Settings}
 use Rattle.entry.specs.Mesh.{Mesh, node_count}
 use Rattle.entry.specs.Passed.{Passed}
 use Rattle.entry.specs.Refused.{entry_of}
@@ -88,18 +89,18 @@ module _ (o : Settings) (s c : Mesh) (es : length s.coords ≡ 2 * node_count s)
   coords_long : (k : ℕ) × (length (scene_for o s c).coords ≡ 2 * (node_count s + node_count c + k)) × (k ≤ length (scene_for o s c).met)
   unfolding scene_of
   coords_long =
-      let ms : List Met = meetings g (s.coords ++ c.coords) (subject_net s) (cutter_net (eqb o.op 5) s c) in
-      let k = even_met (s.coords ++ c.coords) (subject_net s) (cutter_net (eqb o.op 5) s c) in
+      let ms : List Met = meetings o.grid (s.coords ++ c.coords) (subject_net s) (cutter_net (eqb o.op 5) s c) in
+      let k = even_met o.grid (s.coords ++ c.coords) (subject_net s) (cutter_net (eqb o.op 5) s c) in
       (k.0, omega (arith, es, ec, k.1, length-append (s.coords ++ c.coords) (added_by ms), length-append s.coords c.coords), k.2)
 
 -- ---- what `find` leaves
 
 module _ (o : Settings) (s c : Mesh) (w₀ : List ℕ) (ok : Passed o s c (length w₀)) (oc oc' : List Float) (w' : List ℕ) (r : Result Found Refusal)
-    (told : leaves (by_number r) oc' w' ≡ found_of o.op m (bare s) (bare c) oc w₀) (x : Found) (z : r ≡ Ok x) where
+    (told : leaves (by_number r) oc' w' ≡ found_of o (bare s) (bare c) oc w₀) (x : Found) (z : r ≡ Ok x) where
   abbrev sc : Scene
   sc = scene_for o s c
 
-  abbrev asks : FindAsks o.op m (bare s) (bare c) (length w₀)
+  abbrev asks : FindAsks o (bare s) (bare c) (length w₀)
   asks = ready o s c (length w₀) ok
 
   held : Holds o s c x.regions w'
@@ -160,7 +161,7 @@ module _ (o : Settings) (s c : Mesh) (w₀ : List ℕ) (ok : Passed o s c (lengt
 
     lists_ready : MeshesReady o.op (take (2 * x.next) oc') w'' x.regions i s.ends c.ends
     lists_ready =
-        meshes_ready o s c x.regions w'' held'' m (length w₀) ok (calm o s c w₀ asks oc oc' w' r told x z) (take (2 * x.next) oc') i
+        meshes_ready o s c x.regions w'' held'' (length w₀) ok (calm o s c w₀ asks oc oc' w' r told x z) (take (2 * x.next) oc') i
         (both (λ (y : Indexes) (v : List ℕ). MeshIndexed (take (2 * x.next) oc') v x.regions.subject s.ends y.subject)
         (subject_indexed (take (2 * x.next) oc') w' x.regions s.ends c.ends index_ready))
         (both (λ (y : Indexes) (v : List ℕ). MeshIndexed (take (2 * x.next) oc') v x.regions.cutter c.ends y.cutter)
@@ -186,15 +187,15 @@ module _ (o : Settings) (s c : Mesh) (w₀ : List ℕ) (ok : Passed o s c (lengt
 -- ---- what `prepare` comes to, where the entry refuses nothing
 
 module _ (o : Settings) (s c : Mesh) (w : List ℕ) (entered : entry_of o s c (length w) ≡ 0) where
-  pub find_asked : FindAsks o.op m (bare s) (bare c) (length w)
+  pub find_asked : FindAsks o (bare s) (bare c) (length w)
   find_asked = ready o s c (length w) (passed o s c (length w) entered)
 
   module _ (oc oc' : List Float) (w' : List ℕ) where
-    pub refusal_is : (r : Result Found Refusal) → leaves (by_number r) oc' w' ≡ found_of o.op m (bare s) (bare c) oc w
-        → (q n : ℕ) → refused_with r ≡ first_refusal m (length oc / 2) q n (found_events o s c)
+    pub refusal_is : (r : Result Found Refusal) → leaves (by_number r) oc' w' ≡ found_of o (bare s) (bare c) oc w
+        → (q n : ℕ) → refused_with r ≡ first_refusal o.m (length oc / 2) q n (found_events o s c)
     refusal_is r told = code_is o s c w find_asked oc oc' w' r told
 
-    module _ (x : Found) (told : leaves (Ok x) oc' w' ≡ found_of o.op m (bare s) (bare c) oc w) where
+    module _ (x : Found) (told : leaves (Ok x) oc' w' ≡ found_of o (bare s) (bare c) oc w) where
       abbrev ok : Passed o s c (length w)
       ok = passed o s c (length w) entered
 

@@ -35,7 +35,7 @@ use Rattle.passes.specs.Tags.{kind_by, family_by, mesh_by, cell_by}
 
 -- what happens at cell i
 abbrev pub cell_events : ℕ → Scene → Side → ℕ → List Event
-cell_events o.op sc w i = of_cell (outcome_of sc w i) (kept sc w o.op i)
+cell_events op sc w i = of_cell (outcome_of sc w i) (kept sc w op i)
 
 abbrev pub nodes_of : List Piece → List (List ℕ)
 nodes_of ps = map (λ p. p.nodes) ps
@@ -63,13 +63,13 @@ module _ (sc : Scene) (w : Side) (i : ℕ) where
 
 -- ---- cell i
 
-module _ (o : Settings) (sc : Scene) (w : Side) (coords : List Float) (work : List ℕ) (g : Regions) (o : MeshRuns) (ends : List ℕ) (scene : SceneIn sc w coords work g o ends)
+module _ (op : ℕ) (sc : Scene) (w : Side) (coords : List Float) (work : List ℕ) (g : Regions) (o : MeshRuns) (ends : List ℕ) (scene : SceneIn sc w coords work g o ends)
     (i number : ℕ) (cell : List ℕ) (this : cell_of sc w i ≡ cell) where
   abbrev near : List ℕ
   near = Yields.near_of coords work g o ends cell
 
   abbrev y : Yield
-  y = yield_of coords work g o ends (keep_of o.op w) number cell
+  y = yield_of coords work g o ends (keep_of op w) number cell
 
   -- the tag of its pieces
   abbrev pub tag_in : ℕ
@@ -84,19 +84,19 @@ module _ (o : Settings) (sc : Scene) (w : Side) (coords : List Float) (work : Li
       ∙ outcome_as sc w i work g scene.nodes_are o.edges (sym scene.near_edges) near near_is
 
   abbrev these : List Piece
-  these = kept sc w o.op i
+  these = kept sc w op i
 
   -- those of its pieces that pass
-  kept_are : passing (is_kept (keep_of o.op w) coords (runs_of (run_in work o.entries) ends)) (outcome_pieces (outcome_of sc w i)) ≡ nodes_of these
+  kept_are : passing (is_kept (keep_of op w) coords (runs_of (run_in work o.entries) ends)) (outcome_pieces (outcome_of sc w i)) ≡ nodes_of these
   kept_are =
-      sym (λ s. passing (is_kept (keep_of o.op w) (scene.points s) (scene.near_cells s)) (outcome_pieces (outcome_of sc w i))) ∙ sym (kept_nodes sc o.op w i)
+      sym (λ s. passing (is_kept (keep_of op w) (scene.points s) (scene.near_cells s)) (outcome_pieces (outcome_of sc w i))) ∙ sym (kept_nodes sc op w i)
 
-  by_outcome : y ≡ yield_by coords work g o ends (keep_of o.op w) tag_in (outcome_of sc w i)
+  by_outcome : y ≡ yield_by coords work g o ends (keep_of op w) tag_in (outcome_of sc w i)
   unfolding yield_of
-  by_outcome = ap (yield_by coords work g o ends (keep_of o.op w) tag_in) outcome_is
+  by_outcome = ap (yield_by coords work g o ends (keep_of op w) tag_in) outcome_is
 
-  pieces_by : (x : Outcome) → (yield_by coords work g o ends (keep_of o.op w) tag_in x).pieces ≡ passing
-      (is_kept (keep_of o.op w) coords (runs_of (run_in work o.entries) ends)) (outcome_pieces x)
+  pieces_by : (x : Outcome) → (yield_by coords work g o ends (keep_of op w) tag_in x).pieces ≡ passing
+      (is_kept (keep_of op w) coords (runs_of (run_in work o.entries) ends)) (outcome_pieces x)
   unfolding passing
   pieces_by (refusal r) = refl
   pieces_by (pieces ps) = refl
@@ -104,15 +104,15 @@ module _ (o : Settings) (sc : Scene) (w : Side) (coords : List Float) (work : Li
   pub pieces_are : y.pieces ≡ nodes_of these
   pieces_are = ap (λ (u : Yield). u.pieces) by_outcome ∙ pieces_by (outcome_of sc w i) ∙ kept_are
 
-  events_by : (x : Outcome) → x ≡ outcome_of sc w i → (yield_by coords work g o ends (keep_of o.op w) tag_in x).events ≡ of_cell x these
+  events_by : (x : Outcome) → x ≡ outcome_of sc w i → (yield_by coords work g o ends (keep_of op w) tag_in x).events ≡ of_cell x these
   events_by (refusal r) e = refl
   events_by (pieces ps) e =
-      ap events (ap (λ (u : Outcome). passing (is_kept (keep_of o.op w) coords (runs_of (run_in work o.entries) ends)) (outcome_pieces u)) e ∙ kept_are) ∙ sym (events_nodes these)
+      ap events (ap (λ (u : Outcome). passing (is_kept (keep_of op w) coords (runs_of (run_in work o.entries) ends)) (outcome_pieces u)) e ∙ kept_are) ∙ sym (events_nodes these)
 
-  pub events_are : y.events ≡ cell_events o.op sc w i
+  pub events_are : y.events ≡ cell_events op sc w i
   events_are = ap (λ (u : Yield). u.events) by_outcome ∙ events_by (outcome_of sc w i) refl
 
-  tags_by : (x : Outcome) → (yield_by coords work g o ends (keep_of o.op w) tag_in x).tags ≡ replicate (length (yield_by coords work g o ends (keep_of o.op w) tag_in x).pieces) tag_in
+  tags_by : (x : Outcome) → (yield_by coords work g o ends (keep_of op w) tag_in x).tags ≡ replicate (length (yield_by coords work g o ends (keep_of op w) tag_in x).pieces) tag_in
   tags_by (refusal r) = refl
   tags_by (pieces ps) = refl
 
@@ -133,7 +133,7 @@ module _ (o : Settings) (sc : Scene) (w : Side) (coords : List Float) (work : Li
   -- a number that its tag says of a piece
   module _ (by : ℕ → ℕ) (part : Piece → ℕ) where
     said : (v : ℕ) → by tag_in ≡ v → ((j : ℕ) → part (piece_at sc w i j) ≡ v) → map by (replicate (length these) tag_in) ≡ map part these
-    said v e h = map_replicate by (length these) tag_in ∙ ap (replicate (length these)) e ∙ sym (kept_alike sc o.op w i part v h)
+    said v e h = map_replicate by (length these) tag_in ∙ ap (replicate (length these)) e ∙ sym (kept_alike sc op w i part v h)
 
   module _ (sk ck : List ℕ) (kind : get_or (sk ++ ck) number 0 ≡ get_or (net_of sc w).kinds i 0) where
     kind_is : kind_by sk ck tag_in ≡ kind_of sc w i

@@ -11,6 +11,7 @@ use borrow.Author.Tests.{eqb-true, ne_eqb}
 use Rattle.cutting.specs.Edges.{Edge}
 use Rattle.cutting.specs.Lent.{pairs}
 use Rattle.cutting.proofs.Pairs.{pairs_ends}
+use Rattle.settings.specs.declared.Settings.{Settings}
 use Rattle.entry.specs.Mesh.{Mesh}
 use Rattle.entry.specs.Passed.{Passed}
 use Rattle.rules.specs.Mesh.{the_cutter, cell_at, cells_of}
@@ -38,12 +39,12 @@ use Rattle.overlay.proofs.Keys.{cells_ready, not_crowded}
 
 -- ---- lines are never cut
 
-not_lines : (o : Settings) → cuts o.op the_cutter ≡ true → eqb o.op 5 ≡ false
-not_lines o.op h = go (eqb o.op 1) (eqb o.op 4) refl refl h
+not_lines : (op : ℕ) → cuts op the_cutter ≡ true → eqb op 5 ≡ false
+not_lines op h = go (eqb op 1) (eqb op 4) refl refl h
   where
-    go : (x y : Bool) → eqb o.op 1 ≡ x → eqb o.op 4 ≡ y → x || y ≡ true → eqb o.op 5 ≡ false
-    go true y e f t = ne_eqb o.op 5 (λ z. absurd (omega (arith, z, eqb-true o.op 1 e)))
-    go false true e f t = ne_eqb o.op 5 (λ z. absurd (omega (arith, z, eqb-true o.op 4 f)))
+    go : (x y : Bool) → eqb op 1 ≡ x → eqb op 4 ≡ y → x || y ≡ true → eqb op 5 ≡ false
+    go true y e f t = ne_eqb op 5 (λ z. absurd (omega (arith, z, eqb-true op 1 e)))
+    go false true e f t = ne_eqb op 5 (λ z. absurd (omega (arith, z, eqb-true op 4 f)))
     go false false e f t = absurd (omega (arith, ap (λ (b : Bool). cond {A = ℕ} b 1 0) t))
 
 module _ (o : Settings) (s c : Mesh) (g : Regions) (w : List ℕ) (h : Holds o s c g w) where
@@ -63,7 +64,7 @@ module _ (o : Settings) (s c : Mesh) (g : Regions) (w : List ℕ) (h : Holds o s
   stored =
       subst (λ (l : List ℕ). Stored sc.met l) (sym h.met)
       (numbers_stored sc.met (booked sc.met) (length_booked sc.met) (λ k i b l. booked_at sc.met k i no_met b l)
-      (λ k b. (meetings_fit (s.coords ++ c.coords) (subject_net s) (cutter_net (eqb o.op 5) s c) k no_met b).3))
+      (λ k b. (meetings_fit o.grid (s.coords ++ c.coords) (subject_net s) (cutter_net (eqb o.op 5) s c) k no_met b).3))
 
   collected_are : (e : Edge) → collected_on w g e ≡ collected sc e
   collected_are e =
@@ -112,7 +113,7 @@ module _ (o : Settings) (s c : Mesh) (g : Regions) (w : List ℕ) (h : Holds o s
   few_of : (es fs : List Edge) → es ≡ fs → AllFew w g fs → AllFew w g es
   few_of es fs e few = subst (λ (l : List Edge). AllFew w g l) (sym e) few
 
-  module _ (m n : ℕ) (ok : Passed o s c n) (calm : crowded sc ≡ false) where
+  module _ (n : ℕ) (ok : Passed o s c n) (calm : crowded sc ≡ false) where
     few : AllFew w g sc.subject.edges × AllFew w g sc.cutter.edges
     few = not_crowded sc w g (holds_linked o s c g w h) collected_are calm
 

@@ -15,6 +15,7 @@ use Rattle.lists.specs.Regions.{front, zeros}
 use Rattle.lists.proofs.Regions.{front_put, take_front_of}
 use Rattle.cutting.specs.Outcome.{Outcome, refusal, pieces, flat, stops}
 use Rattle.cutting.proofs.Runs.{stops_length}
+use Rattle.settings.specs.declared.Settings.{Settings}
 use Rattle.entry.specs.Mesh.{Mesh, node_count}
 use Rattle.entry.specs.Passed.{Passed}
 use Rattle.rules.specs.Mesh.{Side, the_subject, the_cutter, side_number}
@@ -98,17 +99,17 @@ unfolding gathered
 cells_gathered zero f h = tt
 cells_gathered (suc n) f h = cells_append (gathered n f) (f n) (cells_gathered n f h) (h n)
 
-cells_over : (o : Settings) (sc : Scene) → Cells (over_both o.op sc (cell_events o.op sc))
-cells_over o.op sc = cells_append (one the_subject) (one the_cutter) (of the_subject) (of the_cutter)
+cells_over : (op : ℕ) (sc : Scene) → Cells (over_both op sc (cell_events op sc))
+cells_over op sc = cells_append (one the_subject) (one the_cutter) (of the_subject) (of the_cutter)
   where
     one : Side → List Event
-    one w = over_cells o.op sc w (cell_events o.op sc w)
+    one w = over_cells op sc w (cell_events op sc w)
 
-    of : (w : Side) → Cells (over_cells o.op sc w (cell_events o.op sc w))
-    of w = go (cuts o.op w)
+    of : (w : Side) → Cells (over_cells op sc w (cell_events op sc w))
+    of w = go (cuts op w)
       where
-        go : (b : Bool) → Cells (cond b (gathered (length (net_of sc w).cells) (cell_events o.op sc w)) [])
-        go true = cells_gathered (length (net_of sc w).cells) (cell_events o.op sc w) (λ i. cells_of (outcome_of sc w i) (kept sc w o.op i))
+        go : (b : Bool) → Cells (cond b (gathered (length (net_of sc w).cells) (cell_events op sc w)) [])
+        go true = cells_gathered (length (net_of sc w).cells) (cell_events op sc w) (λ i. cells_of (outcome_of sc w i) (kept sc w op i))
         go false = tt
 
 -- ---- the refusal
@@ -178,12 +179,12 @@ module _ (o : Settings) (s c : Mesh) where
         e ∙ ap (λ (ns : List ℕ). many (λ k. named ns (lent + k)) (p.next - lent)) read ∙ sym (points_counted lent (p.next - lent) ps)
         ∙ ap₂ (λ (i n : ℕ). length (named_points i n ps)) is all
 
-    pub placed_in : (m n : ℕ) → Passed o s c n → (on oe ot on' oe' ot' : List ℕ) (r : Listed)
+    pub placed_in : (n : ℕ) → Passed o s c n → (on oe ot on' oe' ot' : List ℕ) (r : Listed)
         → AllPlaced none_yet (meshes_yield o.op (take (2 * p.next) oc) w p.regions s.ends c.ends) on oe ot r on' oe' ot' → r.count ≤ length oe
         → (points : ℕ) → (let lent : ℕ = (length s.coords + length c.coords) / 2 in points ≡ many (λ k. named (take r.entries on') (lent + k)) (p.next - lent))
         → PlacedIn o s c (record { pieces = r.count; points = points; added = p.next - (length s.coords + length c.coords) / 2 }) oc₀ on oe ot oc on' oe' ot'
     unfolding listing_with
-    placed_in m n ok on oe ot on' oe' ot' r a low points counted =
+    placed_in n ok on oe ot on' oe' ot' r a low points counted =
         let sc = sc₀ in
         let coords = take (2 * p.next) oc in
         let g = p.regions in
@@ -216,9 +217,9 @@ in_ends l room most = length-take-le room l.ends (omega (arith, most))
 
 -- the pieces' room is that of the ends lent
 pub state_is : (o : Settings) (s c : Mesh) (l : Lists)
-    → state_of o s c l ≡ first_refusal m (length l.coords / 2) (length (take (piece_room l) l.ends)) (length l.nodes) (course o s c)
+    → state_of o s c l ≡ first_refusal o.m (length l.coords / 2) (length (take (piece_room l) l.ends)) (length l.nodes) (course o s c)
 unfolding state_with
-state_is o s c l = ap (λ (q : ℕ). first_refusal m (length l.coords / 2) q (length l.nodes) (course o s c)) (sym (in_ends l (piece_room l) refl))
+state_is o s c l = ap (λ (q : ℕ). first_refusal o.m (length l.coords / 2) q (length l.nodes) (course o s c)) (sym (in_ends l (piece_room l) refl))
 
 module _ (o : Settings) (s c : Mesh) (l : Lists) (room : ℕ) (most : room ≡ piece_room l) where
   module _ (k : Counts) (oc : List Float) (on oe ot : List ℕ) (h : PlacedIn o s c k l.coords l.nodes (take room l.ends) (take room l.families) oc on oe ot) where

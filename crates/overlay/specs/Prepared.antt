@@ -3,8 +3,8 @@ use Rattle.std.specs.Prelude.{◌≡◌, List, map, ℕ, ◌+◌, ◌-◌, ◌*�
 use Rattle.lists.specs.Regions.{front}
 use Rattle.cutting.specs.Edges.{Edge}
 use Rattle.cutting.specs.Outcome.{flat, stops}
+use Rattle.settings.specs.declared.Settings.{Settings}
 use Rattle.entry.specs.Mesh.{Mesh, mesh_of, node_count}
-use Rattle.entry.specs.Named.{op_number}
 use Rattle.entry.specs.Refused.{entry_of}
 use Rattle.rules.specs.Mesh.{Side, the_subject, the_cutter, other, side_number}
 use Rattle.rules.specs.Meetings.{Scene, net_of, added_by}
@@ -22,10 +22,7 @@ use Rattle.overlay.specs.declared.Call.{Call}
 use Rattle.overlay.specs.declared.Counts.{Counts}
 use Rattle.overlay.specs.declared.Prepared.{Prepared}
 
--- what a call asks
-abbrev pub op_of : Call → ℕ
-op_of c = op_number c.operation
-
+-- the meshes of a call
 abbrev pub subject_of : Call → Mesh
 subject_of c = mesh_of c.subject.now
 
@@ -34,12 +31,12 @@ cutter_of c = mesh_of c.cutter.now
 
 -- the entry refuses nothing of it, with a working list of n numbers
 abbrev pub Entered : Call → ℕ → Type 0
-Entered c n = entry_of (op_of c) c.m (subject_of c) (cutter_of c) n ≡ 0
+Entered c n = entry_of c.settings (subject_of c) (cutter_of c) n ≡ 0
 
 -- What the cells of the mesh w are cut by: the coordinates, the sorted nodes of edges, and the other mesh's edges and cells.
 pub record SceneIn (sc : Scene) (w : Side) (coords : List Float) (work : List ℕ) (g : Regions) (o : MeshRuns) (ends : List ℕ) : Type 0 where
   pub points : sc.coords ≡ coords
-  pub nodes_are : (e : Edge) → nodes_on sc.coords work g e ≡ sorted_nodes sc e
+  pub nodes_are : (e : Edge) → nodes_on sc.grid sc.coords work g e ≡ sorted_nodes sc e
   pub near_edges : (net_of sc (other w)).edges ≡ mesh_edges work o
   pub near_cells : (net_of sc (other w)).cells ≡ runs_of (run_in work o.entries) ends
 
@@ -61,7 +58,7 @@ pub record PreparedIn (o : Settings) (s c : Mesh) (oc₀ oc : List Float) (w : L
   pub stands : MeshesIn (scene_for o s c) (take (2 * p.next) oc) w p.regions s.ends c.ends
   pub ready : MeshesReady o.op (take (2 * p.next) oc) w p.regions p.indexes s.ends c.ends
 
-abbrev pub runs_in : ℕ → Mesh → Mesh → List (List ℕ)
+abbrev pub runs_in : Settings → Mesh → Mesh → List (List ℕ)
 runs_in o s c = map (λ p. p.nodes) (listing o s c)
 
 -- what the tags ts say of the pieces ps

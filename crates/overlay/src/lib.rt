@@ -10,16 +10,17 @@ ghost use Rattle.rules.specs.Overlay.{piece_room, state_of, answered, overlay_of
 ghost use Rattle.finding.specs.Found.{found_events};
 ghost use Rattle.views.specs.Same.{SameLists};
 ghost use Rattle.overlay.specs.Shown.{lists_of, answer_of};
-ghost use Rattle.overlay.specs.Prepared.{op_of, subject_of, cutter_of, Entered, PreparedIn, PlacedIn};
+ghost use Rattle.overlay.specs.Prepared.{subject_of, cutter_of, Entered, PreparedIn, PlacedIn};
 
 use cutting_cells::cut_meshes;
 use edge_nodes::SceneLists;
-use entry::{Operation, entry};
+use entry::entry;
 use finding::find;
 use indexing::index_meshes;
 use passes::{count_named, write_families, write_kinds, write_parents};
 use refusals::Refusal;
 use regions::{Indexes, Regions};
+use settings::Settings;
 use views::{MeshView, OutputView};
 
 // How many pieces there are, how many of the new points they name, and how many new points there are.
@@ -47,11 +48,10 @@ fn first_nodes(coords: &[f64], n: usize) -> &[f64]
     &coords[..2 * n]
 }
 
-// A call behind the entry: the operation, the limit of meetings and both meshes.
+// A call behind the entry: what is set for it, and both meshes.
 #[derive(Clone, Copy)]
 struct Call<'a> {
-    operation: Operation,
-    m: u32,
+    settings: Settings,
     subject: &'a MeshView<'a>,
     cutter: &'a MeshView<'a>,
 }
@@ -61,11 +61,10 @@ impl Call<'_> {
     // The stages between the entry and the cells: all coordinates go to the front of their list, what the cells are cut by to the working list.
     fn prepare(self, coords: &mut [f64], work: &mut [u32]) -> Result<Prepared, Refusal>
         requires { Entered self (length work.old) }
-        ensures refusal { (q n : ℕ) → refused_with result ≡ first_refusal self.entry.m (length coords.old / 2) q n (found_events (op_of self.entry) (subject_of self.entry) (cutter_of self.entry)) }
-        ensures prepared { IfOk result (λ p. PreparedIn (op_of self.entry) (subject_of self.entry) (cutter_of self.entry) coords.old coords.new work.new p) }
+        ensures refusal { (q n : ℕ) → refused_with result ≡ first_refusal self.entry.settings.m (length coords.old / 2) q n (found_events self.entry.settings (subject_of self.entry) (cutter_of self.entry)) }
+        ensures prepared { IfOk result (λ p. PreparedIn self.entry.settings (subject_of self.entry) (cutter_of self.entry) coords.old coords.new work.new p) }
     {
-        let op = u32::from(self.operation);
-        let found = find(op, self.m, self.subject, self.cutter, coords, work)?;
+        let found = find(self.settings, self.subject, self.cutter, coords, work)?;
         let points = first_nodes(coords, found.next);
         let indexes = index_meshes(
             points,
@@ -95,19 +94,20 @@ impl Call<'_> {
     ) -> Result<Counts, Refusal>
         requires entered { Entered self (length work.old) }
         requires as_many { length ends.old ≡ length tags.old }
-        ensures refusal { refused_with result ≡ first_refusal self.entry.m (length coords.old / 2) (length ends.old) (length nodes.old)
-            (course (op_of self.entry) (subject_of self.entry) (cutter_of self.entry)) }
-        ensures placed { IfOk result (λ k. PlacedIn (op_of self.entry) (subject_of self.entry) (cutter_of self.entry) k
+        ensures refusal { refused_with result ≡ first_refusal self.entry.settings.m (length coords.old / 2) (length ends.old) (length nodes.old)
+            (course self.entry.settings (subject_of self.entry) (cutter_of self.entry)) }
+        ensures placed { IfOk result (λ k. PlacedIn self.entry.settings (subject_of self.entry) (cutter_of self.entry) k
             coords.old nodes.old ends.old tags.old coords.new nodes.new ends.new tags.new) }
     {
         let p = self.prepare(coords, work)?;
         let scene = SceneLists {
+            grid: self.settings.grid,
             coords: first_nodes(coords, p.next),
             work,
             regions: p.regions,
         };
         let listed = cut_meshes(
-            u32::from(self.operation),
+            self.settings.op,
             scene,
             p.indexes,
             self.subject.ends,
@@ -131,9 +131,9 @@ impl Call<'_> {
     #[tactic(auto, using(crate::proofs::Whole::state_is))]
     fn run(self, out: &mut OutputView, work: &mut [u32]) -> Result<Counts, Refusal>
         requires { Entered self (length work.old) }
-        ensures refusal { refused_with result ≡ state_of (op_of self.entry) self.entry.m (subject_of self.entry) (cutter_of self.entry) (lists_of out.old work.old) }
+        ensures refusal { refused_with result ≡ state_of self.entry.settings (subject_of self.entry) (cutter_of self.entry) (lists_of out.old work.old) }
         ensures answer { IfOk result (λ k. answer_of (Ok k) (lists_of out.new (zeros (length work.old)))
-            ≡ answered (op_of self.entry) (subject_of self.entry) (cutter_of self.entry) (lists_of out.old work.old)) }
+            ≡ answered self.entry.settings (subject_of self.entry) (cutter_of self.entry) (lists_of out.old work.old)) }
         ensures same_lists { SameLists out.new out.old }
     {
         let room = piece_room(out);
@@ -164,25 +164,22 @@ fn piece_room(out: &OutputView) -> usize
     out.ends.len().min(of_each)
 }
 
-// Operation, meeting limit M, subject, cutter, output lists, working list. The operation by its number: any number is answered. The first four come one by one, as
-// `entry` takes them: a struct of them would be made for each call. Behind the entry they are a `Call`.
+// What is set (operation, meeting limit M, grid), subject, cutter, output lists, working list. The operation by its number: any number is answered.
 #[tactic(auto, using(rules::proofs::Endings::input_refused, refusals::proofs::Numbers::number_positive))]
 pub fn overlay(
-    op: u32,
-    m: u32,
+    settings: Settings,
     subject: &MeshView,
     cutter: &MeshView,
     out: &mut OutputView,
     work: &mut [u32],
 ) -> Result<Counts, Refusal>
     ensures answer { answer_of result (lists_of out.new work.new)
-        ≡ overlay_of op m (mesh_of subject.now) (mesh_of cutter.now) (lists_of out.old work.old) }
+        ≡ overlay_of settings (mesh_of subject.now) (mesh_of cutter.now) (lists_of out.old work.old) }
     ensures same_lists { SameLists out.new out.old }
 {
-    let operation = entry(op, m, subject, cutter, work.len())?;
+    entry(settings, subject, cutter, work.len())?;
     let call = Call {
-        operation,
-        m,
+        settings,
         subject,
         cutter,
     };

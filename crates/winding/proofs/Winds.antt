@@ -7,6 +7,7 @@ use lib.ListN.{length}
 use Rattle.lists.specs.Gather.{tally}
 use Rattle.winding.specs.Winding.{Spot, winding, winding_of, positive, WindsUp, NoneBackward, OneWinds}
 use Rattle.winding.proofs.Windings.{windings_add, at_most_the_outline, exactly_one}
+use Rattle.settings.specs.declared.Settings.{Settings}
 use Rattle.entry.specs.Mesh.{Mesh}
 use Rattle.rules.specs.Mesh.{Side, lent_mesh}
 use Rattle.rules.specs.Meetings.{Scene}
