@@ -3,13 +3,14 @@ use mathlib.Core.Path.{◌≡◌, refl, sym, ap, subst, ◌∙◌}
 use mathlib.Core.List.{List, [], ◌++◌}
 use Prim.Native.Nat.{ℕ, ◌+◌, ◌≤◌}
 use native.Mathlib.Omega.{arith}
-use lib.Dec.{eqb}
 use lib.ListN.{length, length-append}
 use borrow.Author.Tests.{ne_eqb}
 use Rattle.lists.specs.Regions.{zeros, fzeros}
 use Rattle.cutting.specs.Edition.{ours}
+use Rattle.settings.specs.declared.Settings.{Settings}
 use Rattle.entry.specs.Mesh.{Mesh, node_count}
 use Rattle.rules.specs.Meetings.{added_by, scene_of}
+use Rattle.rules.specs.Operations.{scene_for}
 use Rattle.rules.specs.Overlay.{Lists, Result as Answered, lent_lists, answered as succeeded, answered_with, overlay_of}
 use Rattle.rules.proofs.Endings.{Ending, input, state_met, success, ending, input_refused, state_refused, succeeds}
 use Rattle.rules.proofs.Lengths.{accepted_fits}
@@ -44,41 +45,41 @@ printed_told n (Err r) v ws = rw (ne_eqb (number r) 0 (some_not_zero r)) refl
 abbrev lists : Lists
 lists = lent_lists (fzeros 4096) (zeros 8192) (zeros 2048) (zeros 2048) (zeros 2048) (zeros 2048) (zeros 2048) (zeros 16384)
 
-module _ (op m : ℕ) (s c : Mesh) where
-  coords_added : length (scene_of (eqb op 5) s c).coords ≡ length (s.coords ++ c.coords) + length (added_by (scene_of (eqb op 5) s c).met)
+module _ (settings : Settings) (s c : Mesh) where
+  coords_added : length (scene_for settings s c).coords ≡ length (s.coords ++ c.coords) + length (added_by (scene_for settings s c).met)
   unfolding scene_of
   coords_added = length-append (s.coords ++ c.coords) _
 
-  success_few : overlay_of op m s c lists ≡ succeeded op s c lists → (succeeded op s c lists).added ≤ 2048
+  success_few : overlay_of settings s c lists ≡ succeeded settings s c lists → (succeeded settings s c lists).added ≤ 2048
   unfolding answered_with
   success_few same =
-      let fits = (accepted_fits op m s c lists (ap (λ (r : Answered). r.code) same)).coords in
+      let fits = (accepted_fits settings s c lists (ap (λ (r : Answered). r.code) same)).coords in
       omega (arith, coords_added, fits)
 
-  added_few : (overlay_of op m s c lists).added ≤ 2048
-  added_few = go (ending ours op m s c lists)
+  added_few : (overlay_of settings s c lists).added ≤ 2048
+  added_few = go (ending ours settings s c lists)
     where
-      go : Ending ours op m s c lists → (overlay_of op m s c lists).added ≤ 2048
-      go (input n) = rw (input_refused ours op m s c lists n) (omega arith)
-      go (state_met e n) = rw (state_refused ours op m s c lists e n) (omega arith)
-      go (success e f) = let same = succeeds ours op m s c lists e f in rw same (success_few same)
+      go : Ending ours settings s c lists → (overlay_of settings s c lists).added ≤ 2048
+      go (input n) = rw (input_refused ours settings s c lists n) (omega arith)
+      go (state_met e n) = rw (state_refused ours settings s c lists e n) (omega arith)
+      go (success e f) = let same = succeeds ours settings s c lists e f in rw same (success_few same)
 
   module _ (n : ℕ) (a : Result Counts Refusal) (l : Lists)
-      (same : answer_of a l ≡ overlay_of op m s c
+      (same : answer_of a l ≡ overlay_of settings s c
       (lent_lists (fzeros 4096) (zeros 8192) (zeros 2048) (zeros 2048) (zeros 2048) (zeros 2048) (zeros 2048) (zeros 16384))) where
     pub nodes_fit_lem : n ≤ 1024 → IfOk a (λ k. n + k.added ≤ 4294967295)
     nodes_fit_lem h = go a same
       where
-        go : (a : Result Counts Refusal) → answer_of a l ≡ overlay_of op m s c lists → IfOk a (λ k. n + k.added ≤ 4294967295)
+        go : (a : Result Counts Refusal) → answer_of a l ≡ overlay_of settings s c lists → IfOk a (λ k. n + k.added ≤ 4294967295)
         go (Ok k) e = omega (arith, h, added_few, ap (λ (r : Answered). r.added) e)
         go (Err r) e = tt
 
     pub cut_printed : (v : Listing) (r : Place) (o u : List ℕ) → n ≡ node_count s + node_count c → shown v l.work ≡ l
-        → Prints r o u (answer_text (told (printed_of n a) v)) → Prints r o u (answer_text (overlay_told op m s c))
+        → Prints r o u (answer_text (told (printed_of n a) v)) → Prints r o u (answer_text (overlay_told settings s c))
     unfolding blank overlay_told
     cut_printed v r o u z f h =
-        let text : told (printed_of n a) v ≡ result_told (node_count s + node_count c) (overlay_of op m s c lists) =
-        printed_told n a v l.work ∙ ap (λ x. result_told n (answer_of a x)) f ∙ ap (result_told n) same ∙ ap (λ k. result_told k (overlay_of op m s c lists)) z in
+        let text : told (printed_of n a) v ≡ result_told (node_count s + node_count c) (overlay_of settings s c lists) =
+        printed_told n a v l.work ∙ ap (λ x. result_told n (answer_of a x)) f ∙ ap (result_told n) same ∙ ap (λ k. result_told k (overlay_of settings s c lists)) z in
         rw text at h
 
 -- ---- what was read
@@ -101,10 +102,10 @@ module _ (s : List ℕ) where
   unread_answer e = sym (answer_read None e)
 
   -- read, and overlaid
-  pub read_printed : (op m : ℕ) (subject cutter : ReadMesh) (x y : Mesh) (o u : List ℕ) (r : Place)
-      → Some (record { first = record { op = op; m = m }; subject = subject; cutter = cutter }, []) ≡ input_from whole whole s
-      → Prints r o u (answer_text (overlay_told op m x y)) → x ≡ lent subject → y ≡ lent cutter → Prints r o u (answer_to s)
+  pub read_printed : (settings : Settings) (subject cutter : ReadMesh) (x y : Mesh) (o u : List ℕ) (r : Place)
+      → Some (record { settings = settings; subject = subject; cutter = cutter }, []) ≡ input_from whole whole s
+      → Prints r o u (answer_text (overlay_told settings x y)) → x ≡ lent subject → y ≡ lent cutter → Prints r o u (answer_to s)
   unfolding answer_given
-  read_printed op m subject cutter x y o u r e h f g =
-      let text : answer_text (overlay_told op m x y) ≡ answer_to s = rw (f, g) (answer_read _ e) in
+  read_printed settings subject cutter x y o u r e h f g =
+      let text : answer_text (overlay_told settings x y) ≡ answer_to s = rw (f, g) (answer_read _ e) in
       subst (Prints r o u) text h

@@ -12,6 +12,7 @@ use Rattle.lists.proofs.Regions.{take_front_of}
 use Rattle.cutting.specs.Edition.{ours}
 use Rattle.cutting.specs.Outcome.{flat, stops}
 use Rattle.cutting.proofs.Runs.{stops_length}
+use Rattle.settings.specs.declared.Settings.{Settings}
 use Rattle.entry.specs.Mesh.{Mesh}
 use Rattle.rules.specs.Mesh.{side_number}
 use Rattle.rules.specs.Operations.{Piece, listing}
@@ -51,31 +52,31 @@ lines_back k (p ∷ ps) ns rest ks fs ms is e =
     ap₂ ◌∷◌ (ap (λ (x : List ℕ). record { kind = p.kind; family = p.family; mesh = side_number p.mesh; cell = p.cell; nodes = x }) corners)
     (lines_back (k + length own) ps ns rest ks fs ms is next)
 
-module _ (op : ℕ) (s c : Mesh) (l : Lists) where
-  ends_of : take (answered op s c l).pieces (answered op s c l).lists.ends ≡ stops 0 (runs (listing op s c))
+module _ (settings : Settings) (s c : Mesh) (l : Lists) where
+  ends_of : take (answered settings s c l).pieces (answered settings s c l).lists.ends ≡ stops 0 (runs (listing settings s c))
   unfolding answered_with written
   ends_of =
-      let ps = runs (listing op s c) in
-      take_front_of l.ends (stops 0 ps) _ (stops_length 0 ps ∙ length-map (listing op s c) (λ (p : Piece). p.nodes))
+      let ps = runs (listing settings s c) in
+      take_front_of l.ends (stops 0 ps) _ (stops_length 0 ps ∙ length-map (listing settings s c) (λ (p : Piece). p.nodes))
 
-  answered_lines : lines_of (answered op s c l) ≡ map line_of (listing op s c)
+  answered_lines : lines_of (answered settings s c l) ≡ map line_of (listing settings s c)
   unfolding answered_with written front
   answered_lines =
-      let a = (answered op s c l).lists in
+      let a = (answered settings s c l).lists in
       ap (λ (es : List ℕ). piece_lines 0 a.nodes es a.kinds a.families a.meshes a.cells) ends_of
-      ∙ lines_back 0 (listing op s c) a.nodes _ _ _ _ _ refl
+      ∙ lines_back 0 (listing settings s c) a.nodes _ _ _ _ _ refl
 
-  -- For every operation, meeting limit, pair of meshes and lists: the pieces that an accepted overlay's lists hold, as they are printed, are those of
-  -- its listing, each with its parent.
-  pub listing_lines : (m : ℕ) → Accepted op m s c l → lines_of (overlay_of op m s c l) ≡ map line_of (listing op s c)
-  listing_lines m h = ap lines_of (accepted ours op m s c l h).answer ∙ answered_lines
+  -- For all settings, meshes and lists: the pieces that an accepted overlay's lists hold, as they are printed, are those of its listing, each with its
+  -- parent.
+  pub listing_lines : Accepted settings s c l → lines_of (overlay_of settings s c l) ≡ map line_of (listing settings s c)
+  listing_lines h = ap lines_of (accepted ours settings s c l h).answer ∙ answered_lines
 
   -- and so what is told of it, where `nodes` nodes are lent.
-  pub listing_told : (nodes m : ℕ) → Accepted op m s c l → let r = overlay_of op m s c l in
-      result_told nodes r ≡ overlay (bits (take (2 * (nodes + r.added)) r.lists.coords)) (map line_of (listing op s c)) r.pieces r.points r.doubled
+  pub listing_told : (nodes : ℕ) → Accepted settings s c l → let r = overlay_of settings s c l in
+      result_told nodes r ≡ overlay (bits (take (2 * (nodes + r.added)) r.lists.coords)) (map line_of (listing settings s c)) r.pieces r.points r.doubled
   unfolding result_told
-  listing_told nodes m h =
-      let r = overlay_of op m s c l in
+  listing_told nodes h =
+      let r = overlay_of settings s c l in
       let coords = bits (take (2 * (nodes + r.added)) r.lists.coords) in
       ap (λ (b : Bool). cond b (overlay coords (lines_of r) r.pieces r.points r.doubled) (refused r.code)) (eq-eqb r.code 0 h)
-      ∙ ap (λ (ps : List PieceLine). overlay coords ps r.pieces r.points r.doubled) (listing_lines m h)
+      ∙ ap (λ (ps : List PieceLine). overlay coords ps r.pieces r.points r.doubled) (listing_lines h)

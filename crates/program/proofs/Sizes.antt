@@ -16,6 +16,7 @@ use Rattle.lists.proofs.Regions.{take_front_of}
 use Rattle.cutting.specs.Outcome.{flat, stops}
 use Rattle.cutting.proofs.Runs.{stops_length}
 use Rattle.cutting.specs.Edition.{ours}
+use Rattle.settings.specs.declared.Settings.{Settings}
 use Rattle.entry.specs.Mesh.{Mesh}
 use Rattle.rules.specs.Operations.{Piece, listing}
 use Rattle.rules.specs.Overlay.{Result, cleared, written, answered as succeeded, answered_with, overlay_of}
@@ -38,45 +39,45 @@ unfolding flat stops
 stops_rise m k [] h = no_end {n = k} (omega (arith, h))
 stops_rise m k (p ∷ ps) h = end {n = k} {e = k + length p} (omega arith) (stops_rise m (k + length p) ps (omega (arith, h, length-append p (flat ps))))
 
-module _ (op m : ℕ) (s c : Mesh) where
+module _ (settings : Settings) (s c : Mesh) where
   abbrev r : Result
-  r = overlay_of op m s c blank
+  r = overlay_of settings s c blank
 
-  ends_of : (succeeded op s c blank).lists.ends ≡ front blank.ends (stops 0 (map (λ (p : Piece). p.nodes) (listing op s c)))
+  ends_of : (succeeded settings s c blank).lists.ends ≡ front blank.ends (stops 0 (map (λ (p : Piece). p.nodes) (listing settings s c)))
   unfolding answered_with written
   ends_of = refl
 
-  pieces_of_lem : (succeeded op s c blank).pieces ≡ length (listing op s c)
+  pieces_of_lem : (succeeded settings s c blank).pieces ≡ length (listing settings s c)
   unfolding answered_with
   pieces_of_lem = refl
 
-  success_rises : overlay_of op m s c blank ≡ succeeded op s c blank → r.code ≡ 0 → Rising 8192 0 (take (succeeded op s c blank).pieces (succeeded op s c blank).lists.ends)
+  success_rises : overlay_of settings s c blank ≡ succeeded settings s c blank → r.code ≡ 0 → Rising 8192 0 (take (succeeded settings s c blank).pieces (succeeded settings s c blank).lists.ends)
   unfolding blank
   success_rises same z =
-      let runs = map (λ (p : Piece). p.nodes) (listing op s c) in
-      let fits = (accepted_fits op m s c blank z).nodes in
-      let ends = ap (take (succeeded op s c blank).pieces) ends_of ∙ take_front_of blank.ends (stops 0 runs) _
-      (stops_length 0 runs ∙ length-map (listing op s c) (λ (p : Piece). p.nodes) ∙ sym pieces_of_lem) in
+      let runs = map (λ (p : Piece). p.nodes) (listing settings s c) in
+      let fits = (accepted_fits settings s c blank z).nodes in
+      let ends = ap (take (succeeded settings s c blank).pieces) ends_of ∙ take_front_of blank.ends (stops 0 runs) _
+      (stops_length 0 runs ∙ length-map (listing settings s c) (λ (p : Piece). p.nodes) ∙ sym pieces_of_lem) in
       rw ends (stops_rise 8192 0 runs (omega (arith, fits)))
 
   rises : r.code ≡ 0 → Rising 8192 0 (take r.pieces r.lists.ends)
-  rises z = go (ending ours op m s c blank)
+  rises z = go (ending ours settings s c blank)
     where
       no_pieces : (l : List ℕ) → Rising 8192 0 (take 0 l)
       no_pieces l = no_end {n = 0} (omega arith)
 
-      go : Ending ours op m s c blank → Rising 8192 0 (take r.pieces r.lists.ends)
-      go (input n) = rw (input_refused ours op m s c blank n) (no_pieces blank.ends)
-      go (state_met e n) = rw (state_refused ours op m s c blank e n) (no_pieces (cleared blank).ends)
-      go (success e f) = let same = succeeds ours op m s c blank e f in rw same (success_rises same z)
+      go : Ending ours settings s c blank → Rising 8192 0 (take r.pieces r.lists.ends)
+      go (input n) = rw (input_refused ours settings s c blank n) (no_pieces blank.ends)
+      go (state_met e n) = rw (state_refused ours settings s c blank e n) (no_pieces (cleared blank).ends)
+      go (success e f) = let same = succeeds ours settings s c blank e f in rw same (success_rises same z)
 
   coords_few : (k : ℕ) → length (bits (take k r.lists.coords)) ≤ 4096
   unfolding bits blank
-  coords_few k = omega (arith, length-map (take k r.lists.coords) (to_bits binary64), take-le k r.lists.coords, (lengths_kept op m s c blank).coords)
+  coords_few k = omega (arith, length-map (take k r.lists.coords) (to_bits binary64), take-le k r.lists.coords, (lengths_kept settings s c blank).coords)
 
   ends_few : (k : ℕ) → length (take k r.lists.ends) ≤ 2048
   unfolding blank
-  ends_few k = omega (arith, take-le k r.lists.ends, (lengths_kept op m s c blank).ends)
+  ends_few k = omega (arith, take-le k r.lists.ends, (lengths_kept settings s c blank).ends)
 
   -- what is printed of an overlay
   told_size : (n : ℕ) → length (answer_text (result_told n r)) ≤ 278580
@@ -96,7 +97,7 @@ unread_size = omega arith
 answered_size : (g : Parsed Given) → length (answer_text (answer_given g)) ≤ 278580
 unfolding answer_given overlay_told
 answered_size None = unread_size
-answered_size (Some (g, t)) = told_size g.first.op g.first.m (lent g.subject) (lent g.cutter) _
+answered_size (Some (g, t)) = told_size g.settings (lent g.subject) (lent g.cutter) _
 
 -- every answer
 pub answer_size : (t : List ℕ) → length (answer_to t) ≤ 278580

@@ -1,6 +1,7 @@
 -- What the program answers to a text. Assumes nothing.
 use Rattle.std.specs.Prelude.{ℕ, ◌+◌, ◌*◌, cond, List, eqb, take, None, Some}
 use Rattle.lists.specs.Regions.{zeros, fzeros}
+use Rattle.settings.specs.declared.Settings.{Settings}
 use Rattle.entry.specs.Mesh.{Mesh, mesh, node_count}
 use Rattle.rules.specs.Overlay.{Lists, Result, lent_lists, overlay_of}
 use Rattle.text.specs.Text.{piece_lines, Answer, unread, refused, overlay, answer_text}
@@ -30,13 +31,13 @@ result_told nodes r =
     (refused r.code)
 
 -- what is told of the overlay of two meshes, into the program's lists
-unfoldable pub overlay_told : ℕ → ℕ → Mesh → Mesh → Answer
-overlay_told op m s c = result_told (node_count s + node_count c) (overlay_of op m s c blank)
+unfoldable pub overlay_told : Settings → Mesh → Mesh → Answer
+overlay_told settings s c = result_told (node_count s + node_count c) (overlay_of settings s c blank)
 
 -- what was read, or that nothing was
 unfoldable pub answer_given : Parsed Given → Answer
 answer_given None = unread
-answer_given (Some (g, t)) = overlay_told g.first.op g.first.m (lent g.subject) (lent g.cutter)
+answer_given (Some (g, t)) = overlay_told g.settings (lent g.subject) (lent g.cutter)
 
 -- the bytes that the program writes for the bytes t
 unfoldable pub answer_to : List ℕ → List ℕ

@@ -14,6 +14,7 @@ use overlay::overlay;
 use printing::{Answer, Counts, Full, Listing};
 use reading::MeshLists;
 use refusals::Refusal;
+use settings::Settings;
 use views::{MeshView, OutputView};
 
 // A text of more than 65,536 bytes is refused, so a program reads one byte more.
@@ -72,17 +73,16 @@ fn view<'a>(lists: &'a MeshLists, counts: reading::Counts) -> MeshView<'a>
     }
 }
 
-// the answer for two meshes as read, the operation by its number, which is read whatever it is
+// the answer for two meshes as read, by settings that are read whatever they are
 fn cut(
-    op: u32,
-    m: u32,
+    settings: Settings,
     subject: &MeshView,
     cutter: &MeshView,
     out: &mut [u8],
 ) -> Result<usize, Full>
     requires subject_nodes { length subject.now.coords.now ≤ 1024 }
     requires cutter_nodes { length cutter.now.coords.now ≤ 1024 }
-    ensures { Prints result out.old out.new (answer_text (overlay_told op m (mesh_of subject.now) (mesh_of cutter.now))) }
+    ensures { Prints result out.old out.new (answer_text (overlay_told settings (mesh_of subject.now) (mesh_of cutter.now))) }
 {
     let mut oc = [0.0; 4096];
     let mut on = [0u32; 8192];
@@ -102,7 +102,7 @@ fn cut(
         meshes: &mut om,
         cells: &mut oi,
     };
-    let answer = overlay(op, m, subject, cutter, &mut pieces, &mut work);
+    let answer = overlay(settings, subject, cutter, &mut pieces, &mut work);
     printing::print_answer(out, told(nodes, answer), &listing(&pieces))
 }
 
@@ -141,7 +141,7 @@ pub fn answer(s: &[u8], out: &mut [u8]) -> Result<usize, Full>
     };
     let subject = view(&subject_lists, input.subject);
     let cutter = view(&cutter_lists, input.cutter);
-    cut(input.op, input.m, &subject, &cutter, out)
+    cut(input.settings, &subject, &cutter, out)
 }
 
 // The same in a list that holds any answer: how many bytes it has.
