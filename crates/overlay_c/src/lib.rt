@@ -4,10 +4,20 @@
 ghost use Rattle.std.specs.Prelude.{◌≡◌};
 ghost use Rattle.entry.specs.Mesh.{mesh};
 ghost use Rattle.rules.specs.Overlay.{lent_lists, overlay_of};
-ghost use Rattle.overlay_c.specs.Answer.{AnswerOf, placed};
+ghost use Rattle.overlay_c.specs.Answer.{grid_of, settings_of, AnswerOf, placed};
 
 use overlay::overlay;
+use settings::Settings;
 use views::{OutputView, view};
+
+// No grid, where C hands over a number.
+const NO_GRID: u32 = u32::MAX;
+
+fn grid_of(grid: u32) -> Option<u32>
+    ensures { result ≡ grid_of grid }
+{
+    if grid == NO_GRID { None } else { Some(grid) }
+}
 
 // The counts are put into the first places, as many as there are. The third, once the count of doubled cells, is 0.
 #[tactic(auto, using(crate::proofs::Placed::in_places))]
@@ -19,13 +29,14 @@ fn put(counts: &mut [u32], pieces: u32, points: u32, added: u32)
     counts[..n].copy_from_slice(&all[..n]);
 }
 
-// Operation, meeting limit M; the subject's and the cutter's coordinates, node numbers, cell ends, kinds and families; the same five output lists, and
+// Operation, meeting limit M, grid or none; the subject's and the cutter's coordinates, node numbers, cell ends, kinds and families; the same five output lists, and
 // those of the parents' meshes and cells; the working list; the counts of pieces, of new points that a piece names, 0, and of all new points. Plain lists, as C
 // lends them; the output is written out, not made by `output`, so that the prover knows what each list ends as.
 #[unsafe(no_mangle)]
 pub extern "C" fn daqwimay_overlay<'a, 'b, 'c>(
     op: u32,
     m: u32,
+    grid: u32,
     sc: &'a [f64],
     sn: &'a [u32],
     se: &'a [u32],
@@ -46,7 +57,7 @@ pub extern "C" fn daqwimay_overlay<'a, 'b, 'c>(
     work: &mut [u32],
     counts: &mut [u32],
 ) -> u32
-    ensures { AnswerOf (overlay_of op m
+    ensures { AnswerOf (overlay_of (settings_of op m grid)
         (mesh sc.now sn.now se.now sk.now sf.now)
         (mesh cc.now cn.now ce.now ck.now cf.now)
         (lent_lists oc.old on.old oe.old ok.old of.old om.old oi.old work.old)) counts.old
@@ -63,7 +74,12 @@ pub extern "C" fn daqwimay_overlay<'a, 'b, 'c>(
         meshes: om,
         cells: oi,
     };
-    match overlay(op, m, &subject, &cutter, &mut out, work) {
+    let settings = Settings {
+        op,
+        m,
+        grid: grid_of(grid),
+    };
+    match overlay(settings, &subject, &cutter, &mut out, work) {
         Ok(k) => {
             put(counts, k.pieces, k.points, k.added);
             0
