@@ -33,7 +33,8 @@ use Rattle.rules.specs.Cell.{outline_of}
 use Rattle.rules.specs.Operations.{pieces_of}
 use Rattle.rules.specs.Overlay.{Lists, Result, result_of, overlay_with, overlay_of}
 use Rattle.rules.specs.Forward.{forward_on, forward_cell}
-use Rattle.rules.proofs.Tables.{Case, case, lent, on_lists, floats, both, same, right_by}
+use Rattle.rules.specs.Demand3.{on}
+use Rattle.rules.proofs.Tables.{Case, asked, case, lent, on_lists, floats, both, same, right_by}
 use Rattle.plane.specs.declared.Point.{Point}
 use Rattle.segments.specs.declared.Segment.{Segment}
 
@@ -53,7 +54,7 @@ data Row : Type 0 where
   near_box : List ℕ → Edge → Edge → List ℕ → Row  -- coordinates, an edge, another: it as a candidate
   areas_of_lem : Mesh → Mesh → List ℕ → Row  -- two meshes: the exact doubled areas of the subject's first outline as cut and of its pieces, a sign and a size each
   crowded_by_lem : ℕ → Bool → Row  -- so many nodes collected under an edge: whether they are too many
-  forward_of : Mesh → Mesh → Side → Bool → Row  -- two meshes and one of them: whether its first cell's edges are all forward
+  forward_of : Grid → Mesh → Mesh → Side → Bool → Row  -- a grid or none, two meshes and one of them: whether its first cell's edges are all forward
 
 -- ---- numbers, meshes and lists of the rows
 
@@ -137,6 +138,16 @@ wall =
 abbrev hair : Mesh
 hair = lent (-i ∷ i ∷ iii ∷ i ∷ iii ∷ i_next ∷ []) (0 ∷ 1 ∷ 2 ∷ []) (3 ∷ []) (5 ∷ []) (0 ∷ [])
 
+-- lines through the square whose points stand at x = 3/4 and 5/4, and at y = 1/2 and 1; one through the strip at y = -1/4
+abbrev steep : Mesh
+steep = lent (half ∷ -i ∷ i_half ∷ iii ∷ []) (0 ∷ 1 ∷ []) (2 ∷ []) (1 ∷ []) (0 ∷ [])
+
+abbrev flat_line : Mesh
+flat_line = lent (-i ∷ quarter ∷ iii ∷ 0x3ff4_0000_0000_0000 ∷ []) (0 ∷ 1 ∷ []) (2 ∷ []) (1 ∷ []) (0 ∷ [])
+
+abbrev low_line : Mesh
+low_line = lent (o ∷ 0xbfd0_0000_0000_0000 ∷ iv ∷ 0xbfd0_0000_0000_0000 ∷ []) (0 ∷ 1 ∷ []) (2 ∷ []) (1 ∷ []) (0 ∷ [])
+
 -- A triangle with a node 2^-27 before the first of another, on whose third edge it is collected: there it stands before that edge's first node, so
 -- the other's outline as cut doesn't close.
 abbrev corner : Mesh
@@ -212,6 +223,24 @@ rows =
     ∷ overlay (case 5 9 square line (fives 15 8 2 2 2 2 2 500) (result_of 0 1 1 0 1 (on_lists
     (square_coords ++ i ∷ -i ∷ i ∷ i ∷ i ∷ o ∷ ii ∷ []) (3 ∷ 0 ∷ 6 ∷ 5 ∷ 6 ∷ 1 ∷ 2 ∷ 5 ∷ []) (7 ∷ 5 ∷ []) (11 ∷ 5 ∷ []) (7 ∷ 5 ∷ []) (0 ∷ 5 ∷ []) (0 ∷ 5 ∷ []) (replicate 500 0))))
     ∷ set_to base (case 5 9 square line (fives 15 8 2 2 2 2 2 500) (refused 11 (noughts 15 8 2 2 2 2 2 500)))
+    -- W6: on a grid of 1/2 both are halfway and go to the even multiple, 1; on whole metres 1/2 goes to 0, a corner's place, and stays a node of its own;
+    -- -1/4 goes to +0
+    ∷ overlay (asked (on (Some 1) 5 9) square steep (fives 16 8 2 2 2 2 2 500) (result_of 0 2 2 0 2 (on_lists
+    (square_coords ++ half ∷ -i ∷ i_half ∷ iii ∷ i ∷ o ∷ i ∷ ii ∷ []) (3 ∷ 0 ∷ 6 ∷ 7 ∷ 7 ∷ 6 ∷ 1 ∷ 2 ∷ []) (4 ∷ 8 ∷ []) (11 ∷ 11 ∷ []) (7 ∷ 7 ∷ [])
+    (0 ∷ 0 ∷ []) (0 ∷ 0 ∷ []) (replicate 500 0))))
+    ∷ overlay (asked (on (Some 0) 5 9) square flat_line (fives 16 8 2 2 2 2 2 500) (result_of 0 2 2 0 2 (on_lists
+    (square_coords ++ -i ∷ quarter ∷ iii ∷ 0x3ff4_0000_0000_0000 ∷ ii ∷ i ∷ o ∷ o ∷ []) (3 ∷ 7 ∷ 6 ∷ 2 ∷ 6 ∷ 7 ∷ 0 ∷ 1 ∷ []) (4 ∷ 8 ∷ []) (11 ∷ 11 ∷ []) (7 ∷ 7 ∷ [])
+    (0 ∷ 0 ∷ []) (0 ∷ 0 ∷ []) (replicate 500 0))))
+    ∷ overlay (asked (on (Some 0) 5 9) strip low_line (fives 16 8 2 2 2 2 2 500) (result_of 0 2 2 0 2 (on_lists
+    (i ∷ -i ∷ iii ∷ -i ∷ iii ∷ iii ∷ i ∷ iii ∷ o ∷ 0xbfd0_0000_0000_0000 ∷ iv ∷ 0xbfd0_0000_0000_0000 ∷ iii ∷ o ∷ i ∷ o ∷ [])
+    (3 ∷ 7 ∷ 6 ∷ 2 ∷ 6 ∷ 7 ∷ 0 ∷ 1 ∷ []) (4 ∷ 8 ∷ []) (11 ∷ 11 ∷ []) (0 ∷ 0 ∷ []) (0 ∷ 0 ∷ []) (0 ∷ 0 ∷ []) (replicate 500 0))))
+    -- a grid finer than 1/1,024 is refused; before W6 no overlay had one
+    ∷ overlay (asked (on (Some 11) 0 2) square strip (fives 20 8 2 2 2 2 2 352) (refused 13 (fives 20 8 2 2 2 2 2 352)))
+    ∷ set_to (record { turning = true; once = true; grids = false }) (asked (on (Some 11) 0 2) square strip (fives 20 8 2 2 2 2 2 352) (result_of 0 2 2 0 2
+    (on_lists cut_coords (3 ∷ 0 ∷ 8 ∷ 9 ∷ 9 ∷ 8 ∷ 1 ∷ 2 ∷ []) (4 ∷ 8 ∷ []) (11 ∷ 11 ∷ []) (7 ∷ 7 ∷ []) (0 ∷ 0 ∷ []) (0 ∷ 0 ∷ []) (replicate 352 0))))
+    -- with a grid a key's first node is put first and its other entries are dropped, as its second node's are
+    ∷ nodes_along None (o ∷ o ∷ ii ∷ o ∷ -i ∷ o ∷ i ∷ o ∷ []) (0, 1) (1 ∷ 2 ∷ 0 ∷ 3 ∷ []) (2 ∷ 0 ∷ 3 ∷ 1 ∷ [])
+    ∷ nodes_along (Some 0) (o ∷ o ∷ ii ∷ o ∷ -i ∷ o ∷ i ∷ o ∷ iii ∷ o ∷ []) (0, 1) (1 ∷ 2 ∷ 0 ∷ 3 ∷ 4 ∷ []) (0 ∷ 2 ∷ 3 ∷ 4 ∷ 1 ∷ [])
     -- tempting: a piece closes when its first node returns, not its first dart
     ∷ pieces_of_lem (o ∷ o ∷ i ∷ -i ∷ i ∷ i ∷ -i ∷ i ∷ -i ∷ -i ∷ []) ((1, 2) ∷ (2, 0) ∷ (0, 3) ∷ (3, 4) ∷ (4, 0) ∷ (0, 1) ∷ []) (0 ∷ 1 ∷ 2 ∷ 4 ∷ 0 ∷ 3 ∷ []) (3 ∷ 6 ∷ [])
     -- the key's second node isn't sorted with the others
@@ -281,11 +310,12 @@ rows =
     ∷ overlay (case 1 9 corner wedge (fives 14 7 1 1 1 1 1 500) (refused 12 (noughts 14 7 1 1 1 1 1 500)))
     ∷ overlay (case 1 9 corner wedge (fives 14 7 2 2 2 2 2 500) (refused 11 (noughts 14 7 2 2 2 2 2 500)))
     ∷ overlay (case 4 9 corner wedge (fives 14 7 2 2 2 2 2 500) (refused 11 (noughts 14 7 2 2 2 2 2 500)))
-    -- of these the wedge isn't forward; both meshes of K1 are
-    ∷ forward_of corner wedge the_subject true
-    ∷ forward_of corner wedge the_cutter false
-    ∷ forward_of square strip the_subject true
-    ∷ forward_of square strip the_cutter true
+    -- of these the wedge isn't forward, but on a grid; both meshes of K1 are
+    ∷ forward_of None corner wedge the_subject true
+    ∷ forward_of None corner wedge the_cutter false
+    ∷ forward_of (Some 10) corner wedge the_cutter true
+    ∷ forward_of None square strip the_subject true
+    ∷ forward_of None square strip the_cutter true
     -- a ditch with a bend and an end; one with a fork, where the walk turns back twice; one that reaches no side is never walked
     ∷ overlay (case 5 9 square bent (fives 16 9 1 1 1 1 1 500) (result_of 0 1 1 0 1 (on_lists
     (square_coords ++ i ∷ -i ∷ i ∷ i ∷ half ∷ i ∷ i ∷ o ∷ []) (3 ∷ 0 ∷ 7 ∷ 5 ∷ 6 ∷ 5 ∷ 7 ∷ 1 ∷ 2 ∷ []) (9 ∷ []) (11 ∷ []) (7 ∷ []) (0 ∷ []) (0 ∷ []) (replicate 500 0))))
@@ -370,7 +400,7 @@ holds (weld_of s c ns) = same (weld s c) ns
 holds (near_box coords e f js) = same (candidates (floats coords) (f ∷ []) (edge_box (floats coords) e)) js
 holds (areas_of_lem s c ns) = same (joined sign_size (areas_of (scene_of None false s c))) ns
 holds (crowded_by_lem n t) = eqb (bit (crowded (met_often n))) (bit t)
-holds (forward_of s c w t) = eqb (bit (forward_cell (scene_of None false s c) w 0)) (bit t)
+holds (forward_of g s c w t) = eqb (bit (forward_cell (scene_of g false s c) w 0)) (bit t)
 
 all_hold : List Row → Bool
 unfolding both holds
