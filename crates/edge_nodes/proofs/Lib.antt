@@ -1,4 +1,5 @@
 pub mod Signs
+pub mod Placing
 pub mod Under
 pub mod Linked
 pub mod Linking

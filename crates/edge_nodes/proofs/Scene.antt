@@ -84,11 +84,11 @@ module _ (sc : Scene) (met : List ℕ) (stored : Stored sc.met met) where
       (under_is sc.met met stored sc.subject.edges 0 e (λ m. m.subject_edge) (λ q h. ap (λ (k : ℕ). get_or met k 0) (zero_on q) ∙ stored.subjects q h))
       (under_is sc.met met stored sc.cutter.edges 1 e (λ m. m.cutter_edge) (λ q h. stored.cutters q h))
 
-  unless_is : (e : Edge) (ns : List ℕ) → unless_none sc.coords e ns ≡ Nodes.unless_none sc e ns
+  unless_is : (e : Edge) (ns : List ℕ) → unless_none sc.grid sc.coords e ns ≡ Nodes.unless_none sc e ns
   unless_is e [] = refl
   unless_is e (n ∷ ns) = refl
 
-  pub sorted_is : (e : Edge) → sorted_in sc.coords sc.subject.edges sc.cutter.edges met e ≡ sorted_nodes sc e
+  pub sorted_is : (e : Edge) → sorted_in sc.grid sc.coords sc.subject.edges sc.cutter.edges met e ≡ sorted_nodes sc e
   unfolding sorted_in sorted_nodes
   sorted_is e = unless_is e (collected_in sc.subject.edges sc.cutter.edges met e) ∙ ap (Nodes.unless_none sc e) (collected_is e)
 

@@ -1,23 +1,25 @@
 -- The nodes that meetings collect under a key, put in order one after the other. Assumes nothing.
 use mathlib.Core.Path.{◌≡◌, sym, ap, ap₂, ◌∙◌}
 use mathlib.Core.Bool.{Bool, true, false, cond, ◌&&◌}
-use mathlib.Core.List.{List, [], ◌∷◌, ◌++◌, map}
+use mathlib.Core.List.{List, [], ◌∷◌, ◌++◌}
 use Prim.Native.Nat.{ℕ, zero, suc, ◌+◌, ◌*◌, ◌-◌, ◌/◌, ◌≤◌, ◌<◌, min, max}
 use native.Mathlib.Omega.{arith}
 use lib.Dec.{eqb}
-use lib.ListN.{length, get_or, take, drop, length-append, length-map}
+use lib.Ieee.{Float}
+use lib.ListN.{length, get_or, take, drop, length-append}
 use lib.Seq.{drop-cons}
 use Rattle.std.specs.List.{concat}
-use Rattle.std.proofs.lemmas.List.{map-append}
-use Rattle.lists.specs.Gather.{gathered}
+use Rattle.lists.specs.Gather.{gathered, passing}
 use Rattle.lists.specs.Sort.{sort_onto}
 use Rattle.lists.proofs.Gather.{gathered_more}
 use Rattle.lists.proofs.Sort.{sort_onto_append, length_sort_onto}
+use Rattle.grid.specs.Grid.{Grid}
 use Rattle.cutting.specs.Edges.{Edge, edge_at, key, same_key}
 use Rattle.keys.specs.declared.SortedKey.{SortedKey}
 use Rattle.edge_nodes.specs.declared.nodes.Placed.{Placed}
-use Rattle.edge_nodes.specs.Lent.{stands_before, met_nodes, under_at, under}
+use Rattle.edge_nodes.specs.Lent.{all_placed, stands_before, met_nodes, under_at, under}
 use Rattle.edge_nodes.specs.Chained.{edge_of}
+use Rattle.edge_nodes.proofs.Placing.{placed_append, placed_few}
 
 -- ---- the nodes of a meeting
 
@@ -93,15 +95,33 @@ module _ (es : List Edge) (met : List ℕ) (which : ℕ) (e : Edge) where
 
 -- ---- one list after the other
 
-module _ (f : ℕ → Placed) (part : List ℕ) (before after : List (List ℕ)) (ys zs : List Placed) (e : before ≡ part ∷ after) (z : zs ≡ sort_onto stands_before ys (map f part)) where
-  pub part_put_in : sort_onto stands_before zs (map f (concat after)) ≡ sort_onto stands_before ys (map f (concat before))
-  part_put_in =
-      rw e (ap (λ (l : List Placed). sort_onto stands_before l (map f (concat after))) z ∙ sym (sort_onto_append stands_before ys (map f part) (map f (concat after)))
-      ∙ sym (ap (sort_onto stands_before ys) (map-append f part (concat after))))
+module _ (grid : Grid) (coords : List Float) (k : Edge) (part : List ℕ) (before after : List (List ℕ)) (ys zs : List Placed) (e : before ≡ part ∷ after)
+    (z : zs ≡ sort_onto stands_before ys (all_placed grid coords k part)) where
+  abbrev puts : List ℕ → List Placed
+  puts = all_placed grid coords k
 
-  pub part_counted : length zs + length (concat after) ≡ length ys + length (concat before)
-  part_counted = rw e (omega (arith, ap length z ∙ length_sort_onto stands_before ys (map f part), length-map part f, length-append part (concat after)))
+  pub part_put_in : {all : List Placed} → sort_onto stands_before ys (all_placed grid coords k (concat before)) ≡ all
+      → sort_onto stands_before zs (all_placed grid coords k (concat after)) ≡ all
+  part_put_in h =
+      ap (λ (l : List Placed). sort_onto stands_before l (puts (concat after))) z ∙ sym (sort_onto_append stands_before ys (puts part) (puts (concat after)))
+      ∙ sym (ap (sort_onto stands_before ys) (ap (λ (l : List (List ℕ)). puts (concat l)) e ∙ placed_append grid coords k part (concat after))) ∙ h
 
-pub no_part_left : (f : ℕ → Placed) (rest : List (List ℕ)) (ys : List Placed) → rest ≡ [] → sort_onto stands_before ys (map f (concat rest)) ≡ ys
-unfolding sort_onto
-no_part_left f rest ys e = rw e
+  pub part_fits : {m : ℕ} → length ys + length (concat before) ≤ m → length zs + length (concat after) ≤ m
+  part_fits h =
+      omega (
+        arith,
+        h,
+        ap length z ∙ length_sort_onto stands_before ys (puts part),
+        placed_few grid coords k part,
+        ap (λ (l : List (List ℕ)). length (concat l)) e,
+        length-append part (concat after),
+      )
+
+pub part_counted : (n : ℕ) {m : ℕ} (part : List ℕ) (before after : List (List ℕ)) → before ≡ part ∷ after → n + length (concat before) ≡ m
+    → n + length part + length (concat after) ≡ m
+part_counted n part before after e h = omega (arith, h, ap (λ (l : List (List ℕ)). length (concat l)) e, length-append part (concat after))
+
+pub no_part_left : (grid : Grid) (coords : List Float) (k : Edge) (rest : List (List ℕ)) (ys : List Placed) → rest ≡ []
+    → sort_onto stands_before ys (all_placed grid coords k (concat rest)) ≡ ys
+unfolding sort_onto all_placed passing
+no_part_left grid coords k rest ys e = rw e

@@ -1,9 +1,11 @@
 -- The nodes of an edge as they stand in lent lists: what only this crate's contracts cite. Assumes nothing.
-use Rattle.std.specs.Prelude.{Bool, cond, List, [], ◌∷◌, ◌++◌, ℕ, ◌+◌, ◌*◌, ◌-◌, ◌/◌, ◌≤◌, ltb, eqb, length, get_or, take, Float}
-use Rattle.lists.specs.Gather.{gathered}
+use Rattle.std.specs.Prelude.{Bool, true, cond, List, [], ◌∷◌, ◌++◌, map, ℕ, ◌+◌, ◌*◌, ◌-◌, ◌/◌, ◌≤◌, ltb, eqb, length, get_or, take, Float, None, Some}
+use Rattle.std.specs.Float.{inf}
+use Rattle.lists.specs.Gather.{gathered, passing}
+use Rattle.grid.specs.Grid.{Grid}
 use Rattle.cutting.specs.Edges.{Edge, edge_at, key, same_key}
 use Rattle.cutting.specs.Lent.{pairs}
-use Rattle.rules.specs.Nodes.{total_before, projected, along_edge}
+use Rattle.rules.specs.Nodes.{total_before, projected, inner_of, along_edge}
 use Rattle.regions.specs.declared.Regions.{Regions}
 use Rattle.regions.specs.Runs.{Lies, run_in, mesh_edges}
 use Rattle.edge_nodes.specs.declared.sides.Meetings.{Meetings}
@@ -21,6 +23,20 @@ stands_before p q = total_before p.along q.along
 
 abbrev pub node_of : Placed → ℕ
 node_of p = p.node
+
+-- the key's first node: before all others with a grid
+unfoldable pub first_placed : Grid → List Float → Edge → Placed
+first_placed None coords k = placed coords k k.0
+first_placed (Some i) coords k = record { along = inf true; node = k.0 }
+
+-- whether a collected node is put among the others: with a grid the key's nodes are not
+unfoldable pub goes_in : Grid → Edge → ℕ → Bool
+goes_in None k n = true
+goes_in (Some i) k n = inner_of k n
+
+-- those of the nodes ns that are, along the key k
+unfoldable pub all_placed : Grid → List Float → Edge → List ℕ → List Placed
+all_placed grid coords k ns = map (placed coords k) (passing (goes_in grid k) ns)
 
 -- the nodes of meeting q
 unfoldable pub met_nodes : List ℕ → ℕ → List ℕ
@@ -42,13 +58,13 @@ under_in m e = under (length m.met.now / 5) (pairs m.edges.now) m.met.now (numbe
 unfoldable pub collected_in : List Edge → List Edge → List ℕ → Edge → List ℕ
 collected_in subject cutter met e = under (length met / 5) subject met 0 e ++ under (length met / 5) cutter met 1 e
 
-abbrev pub unless_none : List Float → Edge → List ℕ → List ℕ
-unless_none coords e [] = []
-unless_none coords e (n ∷ ns) = along_edge coords (key e) (n ∷ ns)
+abbrev pub unless_none : Grid → List Float → Edge → List ℕ → List ℕ
+unless_none grid coords e [] = []
+unless_none grid coords e (n ∷ ns) = along_edge grid coords (key e) (n ∷ ns)
 
 -- the sorted nodes of the key of e; none where nothing was collected under it
-unfoldable pub sorted_in : List Float → List Edge → List Edge → List ℕ → Edge → List ℕ
-sorted_in coords subject cutter met e = unless_none coords e (collected_in subject cutter met e)
+unfoldable pub sorted_in : Grid → List Float → List Edge → List Edge → List ℕ → Edge → List ℕ
+sorted_in grid coords subject cutter met e = unless_none grid coords e (collected_in subject cutter met e)
 
 -- refusal 9 is for more than these
 abbrev pub most_nodes : ℕ
@@ -69,8 +85,8 @@ abbrev pub collected_on : List ℕ → Regions → Edge → List ℕ
 collected_on w g e = collected_in (mesh_edges w g.subject) (mesh_edges w g.cutter) (run_in w g.met) e
 
 -- the sorted nodes of the key of e
-abbrev pub nodes_on : List Float → List ℕ → Regions → Edge → List ℕ
-nodes_on coords w g e = sorted_in coords (mesh_edges w g.subject) (mesh_edges w g.cutter) (run_in w g.met) e
+abbrev pub nodes_on : Grid → List Float → List ℕ → Regions → Edge → List ℕ
+nodes_on grid coords w g e = sorted_in grid coords (mesh_edges w g.subject) (mesh_edges w g.cutter) (run_in w g.met) e
 
 -- The meetings are chained, and under the key of e at most 256 nodes were collected (refusal 9).
 pub record Few (w : List ℕ) (g : Regions) (e : Edge) : Type 0 where

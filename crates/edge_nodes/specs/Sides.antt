@@ -1,5 +1,6 @@
 -- The meetings by the edges of either mesh, and what they collect. Assumes nothing.
 use Rattle.std.specs.Prelude.{List, ℕ, Float}
+use Rattle.grid.specs.Grid.{Grid}
 use Rattle.cutting.specs.Edges.{Edge}
 use Rattle.cutting.specs.Lent.{pairs}
 use Rattle.edge_nodes.specs.Lent.{collected_in, sorted_in}
@@ -17,5 +18,5 @@ cutter_meetings m = record { edges = m.cutter; met = m.met; side = Cutter }
 abbrev pub collected_under : LinkedMeetings → Edge → List ℕ
 collected_under m e = collected_in (pairs m.subject.now) (pairs m.cutter.now) m.met.now e
 
-abbrev pub sorted_under : List Float → LinkedMeetings → Edge → List ℕ
-sorted_under coords m e = sorted_in coords (pairs m.subject.now) (pairs m.cutter.now) m.met.now e
+abbrev pub sorted_under : Grid → List Float → LinkedMeetings → Edge → List ℕ
+sorted_under grid coords m e = sorted_in grid coords (pairs m.subject.now) (pairs m.cutter.now) m.met.now e

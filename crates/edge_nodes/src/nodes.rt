@@ -6,7 +6,7 @@ ghost use Rattle.lists.specs.Sort.{insert, sort_onto};
 ghost use Rattle.rules.specs.Nodes.{total_before};
 ghost use Rattle.edge_nodes.specs.declared.nodes.Placed.{Placed};
 ghost use Rattle.edge_nodes.specs.Chained.{edge_of};
-ghost use Rattle.edge_nodes.specs.Lent.{placed, stands_before, node_of, pushed};
+ghost use Rattle.edge_nodes.specs.Lent.{placed, first_placed, goes_in, all_placed, stands_before, node_of, pushed};
 ghost use Rattle.lists.specs.Regions.{FrontIs};
 
 use arrayvec::ArrayVec;
@@ -60,6 +60,31 @@ pub(crate) fn place(coords: &[f64], key: SortedKey, v: u32) -> Placed
     }
 }
 
+// The key's first node. With a grid it stands before all others, wherever these lie.
+#[tactic(auto, unfolding(crate::specs::Lent::first_placed))]
+pub(crate) fn place_first(grid: Option<u32>, coords: &[f64], key: SortedKey) -> Placed
+    ensures { result ≡ first_placed grid coords.now (edge_of key) }
+{
+    match grid {
+        None => place(coords, key, key.first),
+        Some(_) => Placed {
+            along: f64::NEG_INFINITY,
+            node: key.first,
+        },
+    }
+}
+
+// Whether v is put among the nodes of the key: its own are not where there is a grid.
+#[tactic(auto, unfolding(crate::specs::Lent::goes_in))]
+fn goes_in(grid: Option<u32>, key: SortedKey, v: u32) -> bool
+    ensures { result ≡ goes_in grid (edge_of key) v }
+{
+    match grid {
+        None => true,
+        Some(_) => v != key.first && v != key.second,
+    }
+}
+
 // Before which of them one more goes; none where it goes behind them.
 fn position_of(items: &[Placed], x: Placed) -> Option<usize>
     ensures { result ≡ position (stands_before x) items.now }
@@ -94,13 +119,21 @@ impl Nodes {
     }
 
     // Puts nodes in their places along the key.
-    #[tactic(auto, using(crate::proofs::Sorted::one_on, crate::proofs::Sorted::none_left, lists::proofs::Sort::length_insert))]
-    pub(crate) fn insert_all(&mut self, coords: &[f64], key: SortedKey, nodes: &[u32])
+    #[tactic(auto, using(crate::proofs::Sorted::one_on, crate::proofs::Sorted::one_passed, crate::proofs::Sorted::none_left, lists::proofs::Sort::length_insert))]
+    pub(crate) fn insert_all(
+        &mut self,
+        grid: Option<u32>,
+        coords: &[f64],
+        key: SortedKey,
+        nodes: &[u32],
+    )
         requires { length self.old + length nodes.now ≤ 257 }
-        ensures { self.new ≡ sort_onto stands_before self.old (map (placed coords.now (edge_of key)) nodes.now) }
+        ensures { self.new ≡ sort_onto stands_before self.old (all_placed grid coords.now (edge_of key) nodes.now) }
     {
         for v in nodes {
-            self.insert(place(coords, key, *v));
+            if goes_in(grid, key, *v) {
+                self.insert(place(coords, key, *v));
+            }
         }
     }
 }
