@@ -335,27 +335,27 @@ module _ (o : Settings) (sc cc : List Float) (sn se cn ce : List ℕ) (w₀ : Li
         link_asked h e = rw (re, count, lw, length_work) (link_asked_of h e)
 
         -- the meetings, and nothing behind them yet
-        work_then : w₂ ≡ with o.op sc cc sn se cn ce fs fc w₀ room₀ []
+        work_then : w₂ ≡ with o sc cc sn se cn ce fs fc w₀ room₀ []
         unfolding nets_of
         work_then =
             all.work ∙ ap₂ (λ (w : List ℕ) (ms : List Met). put w r.behind (booked ms)) we met_are
             ∙ ap (λ (x : NetPlaces). put (netted lines s c w₀) x.behind (booked scene.met)) re
             ∙ ap (put (netted lines s c w₀) (met_at s c)) (sym (append-nil (booked scene.met)))
 
-        linked_is : linked_by (nets_of lines s c) (length scene.met) (chains s c) (with o.op sc cc sn se cn ce fs fc w₀ room₀ []) ≡ worked o s c w₀
+        linked_is : linked_by (nets_of lines s c) (length scene.met) (chains s c) (with o sc cc sn se cn ce fs fc w₀ room₀ []) ≡ worked o s c w₀
         unfolding linked_by nets_of worked scene_of
         linked_is =
-            let w = with o.op sc cc sn se cn ce fs fc w₀ room₀ [] in
+            let w = with o sc cc sn se cn ce fs fc w₀ room₀ [] in
             let base : met_at s c ≤ length (netted lines s c w₀) = omega (arith, ok.room, length_held lines sc cc sn se cn ce fs fc w₀ room₀) in
             let end : met_at s c + 5 * length scene.met ≡ met_at s c + length (booked scene.met) = omega (arith, length_booked scene.met) in
             let fit : met_at s c + length (booked scene.met) ≤ length (netted lines s c w₀) = omega
             (arith, length_booked scene.met, few, ok.room, length_held lines sc cc sn se cn ce fs fc w₀ room₀) in
             ap₂ (λ (es fs : List ℕ). put w (met_at s c + 5 * length scene.met) (links_of (chains s c) (pairs es) (pairs fs) (run w (met_at s c) (5 * length scene.met))))
-            (run_long w (subject_at s c) (2 * length subjects) ∙ subjects_found o.op sc cc sn se cn ce fs fc w₀ room₀ [])
-            (run_long w (cond lines (length cc / 2) (cutter_at s c)) (2 * length cutters) ∙ cutters_found o.op sc cc sn se cn ce fs fc w₀ room₀ [])
+            (run_long w (subject_at s c) (2 * length subjects) ∙ subjects_found o sc cc sn se cn ce fs fc w₀ room₀ [])
+            (run_long w (cond lines (length cc / 2) (cutter_at s c)) (2 * length cutters) ∙ cutters_found o sc cc sn se cn ce fs fc w₀ room₀ [])
             ∙ ap₂ (λ (es fs : List Edge). put w (met_at s c + 5 * length scene.met) (links_of (chains s c) es fs (run w (met_at s c) (5 * length scene.met))))
             (pairs_ends subjects) (pairs_ends cutters)
-            ∙ ap₂ (λ (i : ℕ) (ms : List ℕ). put w i (links_of (chains s c) subjects cutters ms)) end (met_found o.op sc cc sn se cn ce fs fc w₀ room₀ [])
+            ∙ ap₂ (λ (i : ℕ) (ms : List ℕ). put w i (links_of (chains s c) subjects cutters ms)) end (met_found o sc cc sn se cn ce fs fc w₀ room₀ [])
             ∙ ap (λ (v : List ℕ). put (put (netted lines s c w₀) (met_at s c) v) (met_at s c + length (booked scene.met)) (links_in o s c)) (append-nil (booked scene.met))
             ∙ put_append (netted lines s c w₀) (met_at s c) base (booked scene.met) (links_in o s c) fit
 
@@ -372,7 +372,7 @@ module _ (o : Settings) (sc cc : List Float) (sn se cn ce : List ℕ) (w₀ : Li
           work_is : w₃ ≡ worked o s c w₀
           work_is =
               le.1 ∙ ap₂ (λ (x : NetPlaces) (w : List ℕ). linked_by x f.met h w) re work_then
-              ∙ ap₂ (λ (i j : ℕ). linked_by (nets_of lines s c) i j (with o.op sc cc sn se cn ce fs fc w₀ room₀ [])) count chains_are ∙ linked_is
+              ∙ ap₂ (λ (i j : ℕ). linked_by (nets_of lines s c) i j (with o sc cc sn se cn ce fs fc w₀ room₀ [])) count chains_are ∙ linked_is
 
           held : Holds o s c g w₃
           held = rw (regions_are, work_is) (worked_holds o sc cc sn se cn ce fs fc w₀ room₀ ok.room few ok.most)

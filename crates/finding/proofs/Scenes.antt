@@ -13,6 +13,7 @@ use Rattle.cutting.specs.Edges.{Edge}
 use Rattle.cutting.specs.Lent.{flat_edges}
 use Rattle.settings.specs.declared.Settings.{Settings}
 use Rattle.entry.specs.Mesh.{Mesh, node_count}
+use Rattle.std.specs.Prelude.{None}
 use Rattle.rules.specs.Mesh.{cell_at, cells_of, Side, the_subject, the_cutter}
 use Rattle.rules.specs.Snap.{used_nodes, sorted_indices_for, weld}
 use Rattle.rules.specs.Neighbours.{subject_net, cutter_net}
@@ -37,7 +38,7 @@ use Rattle.finding.proofs.Events.{early_nine, passes}
 
 -- 9 goes by the edges and the meetings
 abbrev crowded_by : List Edge → List Edge → List Met → Bool
-crowded_by es fs ms = crowded (record { coords = []; subject = net_on es; cutter = net_on fs; met = ms })
+crowded_by es fs ms = crowded (record { grid = None; coords = []; subject = net_on es; cutter = net_on fs; met = ms })
 
 crowded_by_lem : (sc : Scene) → crowded sc ≡ crowded_by sc.subject.edges sc.cutter.edges sc.met
 unfolding crowded collected

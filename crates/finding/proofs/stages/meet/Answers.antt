@@ -9,7 +9,7 @@ use Rattle.finding.proofs.stages.meet.Goals.{After-part}
 
 -- the index of the cutter's edges as they are lent
 lent : (c : After-part) → Indexed c.split_at_mut-coords.result.0.now c.part.result.now [] (run_in c.split_at_mut-nets.result.0.now c.args.n.index)
-lent c = index_lent _ _ _ _ _ _ c.requires.0 _ c.split_at_mut-nets.ensures.front c.requires.1 _ c.split_at_mut-coords.ensures.front _ c.part.ensures
+lent c = index_lent c.args.settings.grid _ _ _ _ _ c.requires.0 _ c.split_at_mut-nets.ensures.front c.requires.1 _ c.split_at_mut-coords.ensures.front _ c.part.ensures
 
 pub invariant_of-things : goal.invariant_of-things
 invariant_of-things c = let ix = lent (goal.at.invariant_of-things c).After-part in record { rising = ix.rising; few = ix.few }
@@ -18,7 +18,7 @@ pub invariant_of-cutter : goal.invariant_of-cutter
 invariant_of-cutter c = record { is = c.part-2.ensures ∙ (lent (goal.at.invariant_of-cutter c).After-part).is }
 
 pub invariant_of-edges-clause-few : goal.invariant_of-edges-clause-few
-invariant_of-edges-clause-few c = few_lent _ _ _ _ _ _ c.requires.0 _ c.split_at_mut-nets.ensures.front _ c.part-3.ensures
+invariant_of-edges-clause-few c = few_lent c.args.settings.grid _ _ _ _ _ c.requires.0 _ c.split_at_mut-nets.ensures.front _ c.part-3.ensures
 
 pub returns-clause-code : goal.returns-clause-code
 returns-clause-code c =
