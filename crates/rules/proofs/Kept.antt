@@ -28,7 +28,7 @@ use Rattle.rules.specs.Operations.{cuts, keeps, scene_for, Piece, piece_with, ke
 use Rattle.rules.specs.Refusals.{Event, meeting, point, piece, stop, of_meeting, of_cell, course_with, first_refusal}
 use Rattle.rules.specs.Overlay.{Lists, Result, result_of, cleared, piece_room, written, named_points, answered_with, state_with, seen_by, overlay_with, overlay_of}
 use Rattle.rules.specs.Demand3.{AcceptedWith}
-use Rattle.rules.proofs.Endings.{told, overlay_told, Ending, input, state_met, success, ending, input_refused, state_refused, succeeds, no_refusal}
+use Rattle.rules.proofs.Endings.{told, overlay_told, Ending, input, state_met, success, ending, input_refused, state_refused, succeeds}
 use Rattle.rules.proofs.Accepts.{Made, all_made, accepted}
 
 -- ---- cells that come to the same by two editions

@@ -9,7 +9,6 @@ use lib.ListN.{length, replicate, length-append, length-map, length-replicate}
 use lib.Ieee.{Float}
 use borrow.Author.Tests.{leb-true}
 use Rattle.lists.specs.Gather.{gathered, joined}
-use Rattle.segments.specs.Meet.{meeting}
 use Rattle.cutting.specs.Edges.{edge_at, Edge}
 use Rattle.cutting.specs.Outcome.{Outcome, refusal, pieces, flat, stops}
 use Rattle.cutting.specs.Edition.{ours}

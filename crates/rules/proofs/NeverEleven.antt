@@ -1,12 +1,15 @@
 -- Where every edge of the cells that are cut is forward, refusal 11 doesn't come. Assumes nothing.
-use mathlib.Core.Path.{◌≡◌, sym, ap, ◌∙◌}
+use mathlib.Core.Path.{◌≡◌, refl, sym, ap, ◌∙◌}
 use mathlib.Core.Bool.{Bool, true, false, not, ◌&&◌, cond}
 use mathlib.Core.List.{List, [], ◌∷◌}
-use Prim.Native.Nat.{ℕ, zero, suc, ◌-◌, ◌≤◌}
+use Prim.Native.Nat.{ℕ, zero, suc, ◌-◌}
 use native.Mathlib.Omega.{arith}
 use lib.Dec.{leb, eqb}
 use lib.ListN.{length}
 use lib.Ieee.{Float}
+use Rattle.std.specs.Prelude.{Some}
+use Rattle.lists.specs.Gather.{all}
+use Rattle.grid.specs.Grid.{Grid}
 use Rattle.cutting.specs.Edges.{Edge, ring}
 use Rattle.cutting.specs.Cell.{Laid, cell_table, repeats}
 use Rattle.cutting.specs.Walk.{Next}
@@ -18,12 +21,12 @@ use Rattle.settings.specs.declared.Settings.{Settings}
 use Rattle.entry.specs.Mesh.{Mesh, node_count}
 use Rattle.entry.specs.Refused.{call_ok, grid_ok, shape_ok, coords_ok, kinds_ok, nodes_ok, cells_ok, work_ok, entry_of}
 use Rattle.rules.specs.Mesh.{Side, other}
-use Rattle.rules.specs.Meetings.{Scene, net_of}
+use Rattle.rules.specs.Meetings.{Scene, net_of, scene_of}
 use Rattle.rules.specs.Cell.{darts_of, near_edges, cell_of, near_of, treated_by, treated, outcome_of}
 use Rattle.rules.specs.Operations.{scene_for}
 use Rattle.rules.specs.Refusals.{Event, meeting, point, piece, stop, course, first_refusal}
 use Rattle.rules.specs.Overlay.{Lists, Result, state_with, overlay_of}
-use Rattle.rules.specs.Forward.{forward_cell, Forward}
+use Rattle.rules.specs.Forward.{forward_on, forward_edge, forward_cell, Forward}
 use Rattle.rules.proofs.Endings.{Ending, input, state_met, success, ending, input_refused, state_refused, succeeds, no_refusal}
 use Rattle.rules.proofs.Accepts.{Without, without_course}
 use Rattle.rules.proofs.Closing.{cells_lent}
@@ -118,3 +121,19 @@ never_eleven o s c l h e = go (ending ours o s c l)
     go (input n) = entry_low o s c (length l.work) (code _ (input_refused ours o s c l n))
     go (state_met f n) = first_without (course o s c) o.m _ _ _ calm (code _ (state_refused ours o s c l f n))
     go (success f g) = omega (arith, code _ (succeeds ours o s c l f g), no_refusal ours o s c l)
+
+-- On a grid they are, since each key's first node is put first (W6).
+forward_on_grid : (k : ℕ) (sc : Scene) (e : Edge) → sc.grid ≡ Some k → forward_edge sc e ≡ true
+unfolding forward_on
+forward_on_grid k sc e grid = ap (λ (g : Grid). forward_on g sc e) grid
+
+all_pass : (p : Edge → Bool) (es : List Edge) → ((e : Edge) → p e ≡ true) → all p es ≡ true
+unfolding all
+all_pass p [] h = refl
+all_pass p (e ∷ es) h = rw (all, h e) (all_pass p es h)
+
+-- So an overlay with a grid is never refused with 11.
+pub never_on_grid : (o : Settings) (s c : Mesh) (l : Lists) (k : ℕ) → o.grid ≡ Some k → (overlay_of o s c l).code ≡ 11 → ⊥
+unfolding scene_of forward_cell
+never_on_grid o s c l k grid = never_eleven o s c l
+    (λ w e i h. all_pass (forward_edge (scene_for o s c)) (ring (cell_of (scene_for o s c) w i)) (λ f. forward_on_grid k (scene_for o s c) f grid))

@@ -1,15 +1,13 @@
 -- The outline darts of a cell whose edges are all forward lead round: as many into each node as out of it. Assumes nothing.
 use mathlib.Core.Path.{◌≡◌, refl, sym, ap, subst}
-use mathlib.Core.Bool.{true, not}
+use mathlib.Core.Bool.{true}
 use mathlib.Core.List.{List, [], ◌∷◌, ◌++◌, map}
 use Prim.Native.Nat.{ℕ}
 use native.Mathlib.Omega.{arith}
 use lib.Dec.{eqb}
-use lib.Ieee.{Float}
 use borrow.Author.Tests.{eqb-true}
 use Rattle.lists.specs.Search.{bit}
 use Rattle.lists.specs.Gather.{all, tally, passing, slim_after, slim, joined}
-use Rattle.lists.specs.Sort.{sorted}
 use Rattle.lists.proofs.Gather.{all_both}
 use Rattle.lists.proofs.Sort.{sorted_head}
 use Rattle.cutting.specs.Edges.{Edge, key, hops, ring}
