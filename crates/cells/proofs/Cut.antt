@@ -10,6 +10,7 @@ use lib.Ieee.{Float}
 use Rattle.lists.specs.Gather.{joined}
 use Rattle.lists.specs.Regions.{front, FrontIs}
 use Rattle.lists.proofs.Regions.{take_front_of}
+use Rattle.grid.specs.Grid.{Grid}
 use Rattle.cutting.specs.Edges.{Edge}
 use Rattle.cutting.specs.Cell.{Laid, new_to, inner_with, cell_table, repeats}
 use Rattle.cutting.specs.declared.Slot.{Slot}
@@ -56,24 +57,24 @@ module _ (coords : List Float) (outline : List Edge) (w : List ℕ) (put_in : w 
 
 -- ---- `cut_cell`
 
-module _ (coords : List Float) (work : List ℕ) (g : Regions) (edges : Run) (js cell on os : List ℕ) where
+module _ (grid : Grid) (coords : List Float) (work : List ℕ) (g : Regions) (edges : Run) (js cell on os : List ℕ) where
   abbrev own : List Edge
-  own = outline_in coords work g cell
+  own = outline_in grid coords work g cell
 
   abbrev others : List Laid
-  others = near_in coords work g (edges_in work edges) js
+  others = near_in grid coords work g (edges_in work edges) js
 
   pub cut_as_lent : (w : List ℕ) (x : Cut) → w ≡ flat_edges own
-      → x ≡ cut_by (pairs w) (cell_table coords (pairs w) others) on os → x ≡ cut_cell coords work g edges js cell on os
+      → x ≡ cut_by (pairs w) (cell_table coords (pairs w) others) on os → x ≡ cut_cell grid coords work g edges js cell on os
   unfolding cut_cell table_in
   cut_as_lent w x put_in e = as_lent coords own w put_in others on os x e
 
   -- too many slots of the own edges are too many in all
-  pub too_many_own : repeats own ≡ false → 1024 < length (cell_table coords own []) → cut_as (refusal 10) on os ≡ cut_cell coords work g edges js cell on os
+  pub too_many_own : repeats own ≡ false → 1024 < length (cell_table coords own []) → cut_as (refusal 10) on os ≡ cut_cell grid coords work g edges js cell on os
   unfolding cut_cell table_in inner_with new_to joined
   too_many_own once many = too_many coords own others on os once (omega (arith, many, cell_length coords own [], cell_length coords own others))
 
-  pub repeated_own : repeats own ≡ true → cut_as (refusal 19) on os ≡ cut_cell coords work g edges js cell on os
+  pub repeated_own : repeats own ≡ true → cut_as (refusal 19) on os ≡ cut_cell grid coords work g edges js cell on os
   unfolding cut_cell table_in
   repeated_own e = repeated coords own others on os e
 

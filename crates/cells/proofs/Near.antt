@@ -24,7 +24,7 @@ use Rattle.cells.specs.Near.{laid_near}
 -- the table holds the edges at the first k places
 pub record Nearing (n : NearEdges) (outline : List Edge) (t : List Slot) (k : ℕ) : Type 0 where
   pub within : k ≤ length n.places.now
-  pub held : t ≡ cell_table n.scene.coords.now outline (near_in n.scene.coords.now n.scene.work.now n.scene.regions (map pair_of n.edges.now) (take k n.places.now))
+  pub held : t ≡ cell_table n.scene.coords.now outline (near_in n.scene.grid n.scene.coords.now n.scene.work.now n.scene.regions (map pair_of n.edges.now) (take k n.places.now))
 
 module _ (n : NearEdges) (outline : List Edge) where
   abbrev coords : List Float
@@ -37,10 +37,10 @@ module _ (n : NearEdges) (outline : List Edge) where
   js = n.places.now
 
   abbrev laid : Edge → Laid
-  laid = laid_in n.scene.coords.now n.scene.work.now n.scene.regions
+  laid = laid_in n.scene.grid n.scene.coords.now n.scene.work.now n.scene.regions
 
   abbrev near_by : List ℕ → List Laid
-  near_by = near_in n.scene.coords.now n.scene.work.now n.scene.regions (map pair_of n.edges.now)
+  near_by = near_in n.scene.grid n.scene.coords.now n.scene.work.now n.scene.regions (map pair_of n.edges.now)
 
   pub near_start : (t : List Slot) → t ≡ cell_table n.scene.coords.now outline [] → Nearing n outline t 0
   unfolding near_in
@@ -76,7 +76,7 @@ module _ (n : NearEdges) (outline : List Edge) where
           sym (append_assoc (near_by (take k js)) (laid e ∷ []) (near_by (drop (k + 1) js))) ∙ ap (λ (l : List Laid). l ++ near_by (drop (k + 1) js)) more
           ∙ sym (map-append (λ (i : ℕ). laid (edge_at near i)) (take (k + 1) js) (drop (k + 1) js)) ∙ ap near_by (take-append-drop (k + 1) js)
 
-      module _ {ns : List ℕ} (en : ns ≡ nodes_on n.scene.coords.now n.scene.work.now n.scene.regions
+      module _ {ns : List ℕ} (en : ns ≡ nodes_on n.scene.grid n.scene.coords.now n.scene.work.now n.scene.regions
           (pair_of (get_or n.edges.now (get_or n.places.now k 0) []))) (r : Result (Unit {0}) Full) (t' : List Slot)
           (lent : table_in r t' ≡ with_edges n.scene.coords.now
           (near_darts (record { edge = pair_of (get_or n.edges.now (get_or n.places.now k 0) []); nodes = ns })) t) where

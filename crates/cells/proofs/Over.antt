@@ -7,6 +7,8 @@ use native.Mathlib.Omega.{arith}
 use lib.Dec.{eqb}
 use lib.ListN.{length, get_or, take, drop, length-append, length-map}
 use lib.Ieee.{Float}
+use Rattle.std.specs.Prelude.{None, Some}
+use Rattle.grid.specs.Grid.{Grid}
 use Rattle.cutting.specs.Edges.{Edge, key, ring}
 use Rattle.cutting.specs.Cell.{Laid, own_darts, outline_darts, among, repeats}
 use Rattle.cutting.specs.Lent.{flat_edges, pairs}
@@ -16,12 +18,12 @@ use Rattle.outlines.specs.Meets.{edges_meet}
 use Rattle.outlines.proofs.Flat.{Holds}
 use Rattle.outlines.proofs.Appended.{meets_append, repeats_append}
 use Rattle.corners.specs.Corners.{next_corner}
-use Rattle.lists.specs.Gather.{joined}
+use Rattle.lists.specs.Gather.{passing, joined}
 use Rattle.lists.specs.Sort.{sorted}
-use Rattle.lists.proofs.Gather.{length_slim}
+use Rattle.lists.proofs.Gather.{tally_le, length_passing, length_slim}
 use Rattle.lists.proofs.Regions.{take_front_of}
 use Rattle.lists.proofs.Sort.{length_sorted}
-use Rattle.rules.specs.Nodes.{Projected, projected, by_projection, along_edge}
+use Rattle.rules.specs.Nodes.{Projected, projected, by_projection, by_projections, inner_of, before_last, along_edge}
 use Rattle.rules.proofs.Rings.{length_ring, ring_from}
 use Rattle.edge_nodes.specs.Lent.{collected_on, unless_none, sorted_in, nodes_on, Few}
 use Rattle.regions.specs.declared.Regions.{Regions}
@@ -32,28 +34,31 @@ use Rattle.cells.proofs.Own.{few_at}
 
 -- ---- `lay`
 
-along_short : (coords : List Float) (k : Edge) (ns : List ℕ) → length (along_edge coords k ns) ≤ length ns + 2
-unfolding along_edge
-along_short coords k ns =
-    let ps = map (projected coords k) (k.0 ∷ ns) in
-    let zs = map (λ (p : Projected). p.node) (sorted by_projection ps) in
-    omega (
-      arith,
-      length_slim eqb (zs ++ k.1 ∷ []),
-      length-append zs (k.1 ∷ []),
-      length-map (sorted by_projection ps) (λ (p : Projected). p.node),
-      length_sorted by_projection ps,
-      length-map (k.0 ∷ ns) (projected coords k),
-    )
+projections_long : (coords : List Float) (k : Edge) (ns : List ℕ) → length (by_projections coords k ns) ≡ length ns
+projections_long coords k ns =
+    let ps = map (projected coords k) ns in
+    length-map (sorted by_projection ps) (λ (p : Projected). p.node) ∙ length_sorted by_projection ps ∙ length-map ns (projected coords k)
 
-sorted_short : (coords : List Float) (work : List ℕ) (g : Regions) (e : Edge) → length (collected_on work g e) ≤ 256
-    → length (nodes_on coords work g e) ≤ 258
+before_short : (grid : Grid) (coords : List Float) (k : Edge) (ns : List ℕ) → length (before_last grid coords k ns) ≤ length ns + 1
+unfolding before_last
+before_short None coords k ns = omega (arith, projections_long coords k (k.0 ∷ ns))
+before_short (Some i) coords k ns =
+    omega (arith, projections_long coords k (passing (inner_of k) ns), length_passing (inner_of k) ns, tally_le (inner_of k) ns)
+
+along_short : (grid : Grid) (coords : List Float) (k : Edge) (ns : List ℕ) → length (along_edge grid coords k ns) ≤ length ns + 2
+unfolding along_edge
+along_short grid coords k ns =
+    let zs = before_last grid coords k ns in
+    omega (arith, length_slim eqb (zs ++ k.1 ∷ []), length-append zs (k.1 ∷ []), before_short grid coords k ns)
+
+sorted_short : (grid : Grid) (coords : List Float) (work : List ℕ) (g : Regions) (e : Edge) → length (collected_on work g e) ≤ 256
+    → length (nodes_on grid coords work g e) ≤ 258
 unfolding sorted_in
-sorted_short coords work g e h = go (collected_on work g e) h
+sorted_short grid coords work g e h = go (collected_on work g e) h
   where
-    go : (ns : List ℕ) → length ns ≤ 256 → length (unless_none coords e ns) ≤ 258
+    go : (ns : List ℕ) → length ns ≤ 256 → length (unless_none grid coords e ns) ≤ 258
     go [] k = omega arith
-    go (n ∷ ns) k = omega (arith, along_short coords (key e) (n ∷ ns), k)
+    go (n ∷ ns) k = omega (arith, along_short grid coords (key e) (n ∷ ns), k)
 
 own_short : (e : Edge) (ns : List ℕ) → length (own_darts (record { edge = e; nodes = ns })) ≤ length ns + 1
 unfolding own_darts
@@ -62,11 +67,11 @@ own_short e (m ∷ ns) = omega (arith, darts_length e.1 (m ∷ ns) (omega arith)
 
 -- the own edge at corner i, by its nodes as they are found
 module _ (o : OwnEdges) (i : ℕ) (h : i < length o.cell.now) {b : ℕ} (eb : b ≡ next_corner o.cell.now i) {ns : List ℕ}
-    (en : ns ≡ nodes_on o.scene.coords.now o.scene.work.now o.scene.regions (get_or o.cell.now i 0, b)) where
+    (en : ns ≡ nodes_on o.scene.grid o.scene.coords.now o.scene.work.now o.scene.regions (get_or o.cell.now i 0, b)) where
   pub nodes_few : length ns ≤ 258
   nodes_few =
       let few = subst (λ (c : ℕ). Few o.scene.work.now o.scene.regions (get_or o.cell.now i 0, c)) (sym eb) (few_at o i h) in
-      omega (arith, ap length en, sorted_short o.scene.coords.now o.scene.work.now o.scene.regions (get_or o.cell.now i 0, b) few.few)
+      omega (arith, ap length en, sorted_short o.scene.grid o.scene.coords.now o.scene.work.now o.scene.regions (get_or o.cell.now i 0, b) few.few)
 
   pub laid_fits : (r : ℕ) → r ≡ 2 * length (own_darts (record { edge = (get_or o.cell.now i 0, b); nodes = ns })) → r ≤ 518
   laid_fits r e = omega (arith, own_short (get_or o.cell.now i 0, b) ns, nodes_few)
@@ -77,7 +82,7 @@ module _ (o : OwnEdges) (i : ℕ) (h : i < length o.cell.now) {b : ℕ} (eb : b 
       let own = own_darts (record { edge = (get_or o.cell.now i 0, b); nodes = ns }) in
       ap (take r) v.1 ∙ take_front_of list (flat_edges own) r (ends_length own ∙ sym v.0)
       ∙ ap (λ (l : List ℕ). flat_edges (own_darts (record { edge = (get_or o.cell.now i 0, b); nodes = l }))) en
-      ∙ ap (λ (c : ℕ). flat_edges (own_darts (laid_in o.scene.coords.now o.scene.work.now o.scene.regions (get_or o.cell.now i 0, c)))) eb
+      ∙ ap (λ (c : ℕ). flat_edges (own_darts (laid_in o.scene.grid o.scene.coords.now o.scene.work.now o.scene.regions (get_or o.cell.now i 0, c)))) eb
 
 -- read back
 laid_read : {darts : List Edge} {list : List ℕ} → list ≡ flat_edges darts → pairs list ≡ darts
@@ -90,7 +95,7 @@ module _ (o : OwnEdges) where
   cell = o.cell.now
 
   abbrev laid : Edge → Laid
-  laid = laid_in o.scene.coords.now o.scene.work.now o.scene.regions
+  laid = laid_in o.scene.grid o.scene.coords.now o.scene.work.now o.scene.regions
 
   pub all_from : outline_from o 0 ≡ outline_of o
   unfolding outline_in outline_from

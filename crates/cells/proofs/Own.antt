@@ -26,8 +26,8 @@ use Rattle.cells.specs.Near.{outline_of}
 -- after the first i own edges: the outline's entries and the table's slots are theirs
 pub record Outlining (o : OwnEdges) (d : Darts) (i : ℕ) : Type 0 where
   pub low : i ≤ length o.cell.now
-  pub outlined : d.outline ≡ flat_edges (outline_darts (map (laid_in o.scene.coords.now o.scene.work.now o.scene.regions) (sides o.cell.now i)))
-  pub held : d.slots ≡ sorted (stands_before o.scene.coords.now) (edge_slots reverse_mark (outline_darts (map (laid_in o.scene.coords.now o.scene.work.now o.scene.regions) (sides o.cell.now i))))
+  pub outlined : d.outline ≡ flat_edges (outline_darts (map (laid_in o.scene.grid o.scene.coords.now o.scene.work.now o.scene.regions) (sides o.cell.now i)))
+  pub held : d.slots ≡ sorted (stands_before o.scene.coords.now) (edge_slots reverse_mark (outline_darts (map (laid_in o.scene.grid o.scene.coords.now o.scene.work.now o.scene.regions) (sides o.cell.now i))))
 
 module _ (o : OwnEdges) where
   abbrev coords : List Float
@@ -37,7 +37,7 @@ module _ (o : OwnEdges) where
   cell = o.cell.now
 
   abbrev laid : Edge → Laid
-  laid = laid_in o.scene.coords.now o.scene.work.now o.scene.regions
+  laid = laid_in o.scene.grid o.scene.coords.now o.scene.work.now o.scene.regions
 
   pub outline_start : Outlining o (darts [] []) 0
   unfolding sort_onto edge_slots outline_darts flat_edges joined gathered
@@ -66,7 +66,7 @@ module _ (o : OwnEdges) where
       laid_split : ls ++ laid e ∷ map laid rest ≡ map laid (ring cell)
       laid_split = sym (map-append laid done (e ∷ rest)) ∙ ap (map laid) (ap (λ (f : Edge). done ++ f ∷ rest) e_is ∙ sides_next cell i h)
 
-      module _ {ns : List ℕ} (en : ns ≡ nodes_on o.scene.coords.now o.scene.work.now o.scene.regions (get_or o.cell.now i 0, b)) (r : Result (Unit {0}) Full) (d' : Darts)
+      module _ {ns : List ℕ} (en : ns ≡ nodes_on o.scene.grid o.scene.coords.now o.scene.work.now o.scene.regions (get_or o.cell.now i 0, b)) (r : Result (Unit {0}) Full) (d' : Darts)
           (lent : table_in r d'.slots ≡ with_darts o.scene.coords.now true (own_darts (record { edge = (get_or o.cell.now i 0, b); nodes = ns })) d.slots)
           (laid_lent : d'.outline ≡ outline_with (own_darts (record { edge = (get_or o.cell.now i 0, b); nodes = ns })) (length d.slots) d.outline) where
         got : table_in r d'.slots ≡ with_darts coords true (own_darts (laid e)) d.slots

@@ -38,15 +38,15 @@ same_keys work g es u fs among i h =
 
 -- ---- outline, table and outcome
 
-module _ (sc : Scene) (work : List ℕ) (g : Regions) (same : (e : Edge) → nodes_on sc.coords work g e ≡ sorted_nodes sc e) where
-  laid_is : laid_in sc.coords work g ≡ laid sc
+module _ (sc : Scene) (work : List ℕ) (g : Regions) (same : (e : Edge) → nodes_on sc.grid sc.coords work g e ≡ sorted_nodes sc e) where
+  laid_is : laid_in sc.grid sc.coords work g ≡ laid sc
   laid_is = λ t e. record { edge = e; nodes = same e t }
 
-  pub outline_is : (cell : List ℕ) → outline_in sc.coords work g cell ≡ darts_of sc cell
+  pub outline_is : (cell : List ℕ) → outline_in sc.grid sc.coords work g cell ≡ darts_of sc cell
   unfolding outline_in darts_of
   outline_is cell = ap (λ (f : Edge → Laid). outline_darts (map f (ring cell))) laid_is
 
-  pub table_is : (es : List Edge) (cell : List ℕ) (j : ℕ) (js : List ℕ) → table_in sc.coords work g es (j ∷ js) cell
+  pub table_is : (es : List Edge) (cell : List ℕ) (j : ℕ) (js : List ℕ) → table_in sc.grid sc.coords work g es (j ∷ js) cell
       ≡ cell_table sc.coords (darts_of sc cell) (near_edges sc es (j ∷ js))
   unfolding table_in near_in
   table_is es cell j js = ap₂ (λ (o : List Edge) (f : Edge → Laid). cell_table sc.coords o (map (λ i. f (edge_at es i)) (j ∷ js))) (outline_is cell) laid_is
@@ -57,13 +57,13 @@ module _ (sc : Scene) (w : Side) (i : ℕ) where
   es = (net_of sc (other w)).edges
 
   -- with edges near it it comes to what the rules say of it
-  pub cut_is : (work : List ℕ) (g : Regions) → ((e : Edge) → nodes_on sc.coords work g e ≡ sorted_nodes sc e) → (fs : List Edge) → fs ≡ (net_of sc (other w)).edges
+  pub cut_is : (work : List ℕ) (g : Regions) → ((e : Edge) → nodes_on sc.grid sc.coords work g e ≡ sorted_nodes sc e) → (fs : List Edge) → fs ≡ (net_of sc (other w)).edges
       → (j : ℕ) (js : List ℕ) → candidates sc.coords (net_of sc (other w)).edges (box_of sc.coords (cell_of sc w i)) ≡ j ∷ js
-      → cut_outcome (outline_in sc.coords work g (cell_of sc w i)) (table_in sc.coords work g fs (j ∷ js) (cell_of sc w i)) ≡ outcome_of sc w i
+      → cut_outcome (outline_in sc.grid sc.coords work g (cell_of sc w i)) (table_in sc.grid sc.coords work g fs (j ∷ js) (cell_of sc w i)) ≡ outcome_of sc w i
   unfolding near_of treated
   cut_is work g same fs edges j js found =
       let cell = cell_of sc w i in
-      ap (λ (l : List Edge). cut_outcome (outline_in sc.coords work g cell) (table_in sc.coords work g l (j ∷ js) cell)) edges
+      ap (λ (l : List Edge). cut_outcome (outline_in sc.grid sc.coords work g cell) (table_in sc.grid sc.coords work g l (j ∷ js) cell)) edges
       ∙ ap₂ (λ (o : List Edge) (u : List Slot). cut_outcome o u) (outline_is sc work g same cell) (table_is sc work g same es cell j js)
       ∙ ap (λ (l : List ℕ). (treated_by sc w i l).outcome ours) (sym found)
 

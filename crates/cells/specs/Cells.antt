@@ -2,6 +2,7 @@
 -- Assumes nothing.
 use Rattle.std.specs.Prelude.{Result, Ok, Err, List, map, ℕ, ◌<◌, length, get_or, Float}
 use Rattle.lists.specs.Regions.{front, zeros}
+use Rattle.grid.specs.Grid.{Grid}
 use Rattle.cutting.specs.Edges.{Edge, edge_at, ring}
 use Rattle.cutting.specs.Cell.{Laid, outline_darts, cell_table}
 use Rattle.cutting.specs.declared.Slot.{Slot}
@@ -16,10 +17,10 @@ use Rattle.refusals.specs.declared.Refusal.{Refusal}
 use Rattle.refusals.specs.Numbers.{number}
 use Rattle.dart_walk.specs.declared.Counts.{Counts}
 
-module _ (coords : List Float) (work : List ℕ) (g : Regions) where
+module _ (grid : Grid) (coords : List Float) (work : List ℕ) (g : Regions) where
   -- an edge with its sorted nodes
   abbrev pub laid_in : Edge → Laid
-  laid_in e = record { edge = e; nodes = nodes_on coords work g e }
+  laid_in e = record { edge = e; nodes = nodes_on grid coords work g e }
 
   -- the outline darts of a cell
   unfoldable pub outline_in : List ℕ → List Edge
@@ -74,8 +75,8 @@ unfoldable pub cut_by : List Edge → List Slot → List ℕ → List ℕ → Cu
 cut_by outline t on os = cut_as (cut_outcome outline t) on os
 
 -- a cell that those of the edges cut that stand at the places js
-unfoldable pub cut_cell : List Float → List ℕ → Regions → Run → List ℕ → List ℕ → List ℕ → List ℕ → Cut
-cut_cell coords work g edges js cell on os = cut_by (outline_in coords work g cell) (table_in coords work g (edges_in work edges) js cell) on os
+unfoldable pub cut_cell : Grid → List Float → List ℕ → Regions → Run → List ℕ → List ℕ → List ℕ → List ℕ → Cut
+cut_cell grid coords work g edges js cell on os = cut_by (outline_in grid coords work g cell) (table_in grid coords work g (edges_in work edges) js cell) on os
 
 -- The meetings are chained, and under no key of the edges es over 256 nodes were collected (refusal 9).
 abbrev pub AllFew : List ℕ → Regions → List Edge → Type 0

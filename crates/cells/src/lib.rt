@@ -173,7 +173,7 @@ pub fn cut_cell(
         × AllFew scene.work.now scene.regions (edges_in scene.work.now edges)
         × Places js.now (edges_in scene.work.now edges) × (1024 ≤ length runs.old) × (1024 ≤ length stops.old) }
     ensures { cut result runs.new stops.new
-        ≡ cut_cell scene.entry.coords.now scene.entry.work.now scene.entry.regions edges js.now cell.now runs.old stops.old }
+        ≡ cut_cell scene.entry.grid scene.entry.coords.now scene.entry.work.now scene.entry.regions edges js.now cell.now runs.old stops.old }
 {
     let own = OwnEdges { scene, cell };
     let near = NearEdges {

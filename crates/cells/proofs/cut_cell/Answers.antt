@@ -26,9 +26,9 @@ returns-then-is_err c =
     → cut (Err c.if-outline_repeats.why) c.clear.new.runs c.clear.new.stops ≡ cut_as (refusal (number r)) a.runs.now a.stops.now =
     λ r e. c.clear.ensures (number c.if-outline_repeats.why) ∙ ap (λ (s : Refusal). cut_as (refusal (number s)) a.runs.now a.stops.now) e in
     elim c.if-outline_repeats.branch [
-      | then-outline_repeats w ↦ as_refused RepeatedEdge w.why-is ∙ repeated_own a.scene.coords.now a.scene.work.now a.scene.regions a.edges a.js.now a.cell.now a.runs.now a.stops.now
+      | then-outline_repeats w ↦ as_refused RepeatedEdge w.why-is ∙ repeated_own a.scene.grid a.scene.coords.now a.scene.work.now a.scene.regions a.edges a.js.now a.cell.now a.runs.now a.stops.now
           (sym c.outline_repeats.ensures ∙ w.if-outline_repeats.true)
-      | else-outline_repeats w ↦ as_refused FullTable w.why-is ∙ too_many_own a.scene.coords.now a.scene.work.now a.scene.regions a.edges a.js.now a.cell.now a.runs.now a.stops.now
+      | else-outline_repeats w ↦ as_refused FullTable w.why-is ∙ too_many_own a.scene.grid a.scene.coords.now a.scene.work.now a.scene.regions a.edges a.js.now a.cell.now a.runs.now a.stops.now
           (sym c.outline_repeats.ensures ∙ w.if-outline_repeats.false) (c.add_darts.ensures.held.over (sym c.is_err.ensures.value ∙ c.if-is_err.true))
     ]
 
@@ -37,7 +37,7 @@ cut-requires c =
     let a = c.args in
     let own = c.add_darts in
     let fits = sym c.is_err.ensures.value ∙ c.if-is_err.false in (
-      own_table a.scene.coords.now (outline_in a.scene.coords.now a.scene.work.now a.scene.regions a.cell.now) own.new.table.outline
+      own_table a.scene.coords.now (outline_in a.scene.grid a.scene.coords.now a.scene.work.now a.scene.regions a.cell.now) own.new.table.outline
           (own.ensures.outlined fits) own.new.table.slots (own.ensures.held.fits fits),
       c.requires.4,
       c.requires.5,
@@ -48,7 +48,7 @@ returns c =
     let a = c.args in
     let own = c.add_darts in
     let fits = sym c.is_err.ensures.value ∙ c.if-is_err.false in
-    cut_as_lent a.scene.coords.now a.scene.work.now a.scene.regions a.edges a.js.now a.cell.now a.runs.now a.stops.now own.new.table.outline _
+    cut_as_lent a.scene.grid a.scene.coords.now a.scene.work.now a.scene.regions a.edges a.js.now a.cell.now a.runs.now a.stops.now own.new.table.outline _
     (own.ensures.outlined fits) (c.cut.ensures ∙ ap (λ (es : List Edge). cut_by (pairs own.new.table.outline)
-    (cell_table a.scene.coords.now (pairs own.new.table.outline) (near_in a.scene.coords.now a.scene.work.now a.scene.regions es a.js.now)) a.runs.now a.stops.now)
+    (cell_table a.scene.coords.now (pairs own.new.table.outline) (near_in a.scene.grid a.scene.coords.now a.scene.work.now a.scene.regions es a.js.now)) a.runs.now a.stops.now)
     (as_pairs a.scene.work.now a.edges _ _ c.part.ensures c.as_chunks.ensures.front))
