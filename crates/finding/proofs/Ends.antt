@@ -265,7 +265,8 @@ module _ (o : Settings) (sc cc : List Float) (sn se cn ce : List ℕ) (w₀ : Li
     unfolding scene_of
     met_are =
         ap (λ (x : NetPlaces). met_in o.grid x placed oc₁ w₁) re
-        ∙ ap₂ (λ (es fs : List ℕ). meetings_of o.grid (take placed oc₁) es fs) subjects_read cutters_read ∙ ap (λ (l : List Float). meetings_of o.grid l (flat_edges subjects) (flat_edges cutters)) coords_read
+        ∙ ap₂ (λ (es fs : List ℕ). meetings_of o.grid (take placed oc₁) es fs) subjects_read cutters_read
+        ∙ ap (λ (l : List Float). meetings_of o.grid l (flat_edges subjects) (flat_edges cutters)) coords_read
         ∙ ap₂ (λ (es fs : List Edge). meetings o.grid (sc ++ cc) (net_on es) (net_on fs)) (pairs_ends subjects) (pairs_ends cutters)
         ∙ sym (by_edges o.grid (sc ++ cc) (subject_net s) (cutter_net lines s c))
 

@@ -61,7 +61,8 @@ impl Call<'_> {
     // The stages between the entry and the cells: all coordinates go to the front of their list, what the cells are cut by to the working list.
     fn prepare(self, coords: &mut [f64], work: &mut [u32]) -> Result<Prepared, Refusal>
         requires { Entered self (length work.old) }
-        ensures refusal { (q n : ℕ) → refused_with result ≡ first_refusal self.entry.settings.m (length coords.old / 2) q n (found_events self.entry.settings (subject_of self.entry) (cutter_of self.entry)) }
+        ensures refusal { (q n : ℕ) → refused_with result ≡ first_refusal self.entry.settings.m (length coords.old / 2) q n
+            (found_events self.entry.settings (subject_of self.entry) (cutter_of self.entry)) }
         ensures prepared { IfOk result (λ p. PreparedIn self.entry.settings (subject_of self.entry) (cutter_of self.entry) coords.old coords.new work.new p) }
     {
         let found = find(self.settings, self.subject, self.cutter, coords, work)?;

@@ -1,7 +1,22 @@
 -- The refusals' numbers. Assumes nothing.
 use Rattle.std.specs.Prelude.{ℕ, Result, Ok, Err}
 use Rattle.refusals.specs.declared.Refusal.{Refusal}
-use Rattle.refusals.specs.declared.Refusal.TheVariants.{Call, Lists, Coordinates, Kinds, NodeNumbers, NodeTwice, WorkingList, TooManyMeetings, CrowdedEdge, FullTable, OpenWalk, NoPlace, FineGrid, RepeatedEdge}
+use Rattle.refusals.specs.declared.Refusal.TheVariants.{
+  Call,
+  Lists,
+  Coordinates,
+  Kinds,
+  NodeNumbers,
+  NodeTwice,
+  WorkingList,
+  TooManyMeetings,
+  CrowdedEdge,
+  FullTable,
+  OpenWalk,
+  NoPlace,
+  FineGrid,
+  RepeatedEdge,
+}
 
 -- document 01's number; document 02's 13 (W6) and 19 (W14)
 abbrev pub number : Refusal → ℕ

@@ -92,7 +92,8 @@ pub in_exactly_one : (g : Grid) (s c : Mesh) (m₀ m₂ m₃ : ℕ) (l₀ l₂ l
     → InExactlyOne p s c (on g 2 m₂) (overlay_of (on g 2 m₂) s c l₂) (on g 3 m₃) (overlay_of (on g 3 m₃) s c l₃)
 in_exactly_one g s c m₀ m₂ m₃ l₀ l₂ l₃ h₀ h₂ h₃ p h = go (parts g m₀ m₂ m₃ s c p (h.at, h.listed))
   where
-    go : (Listed p (on g 2 m₂) s c × Unlisted p (on g 3 m₃) s c) ⊎ (Listed p (on g 3 m₃) s c × Unlisted p (on g 2 m₂) s c) → InExactlyOne p s c (on g 2 m₂) (overlay_of (on g 2 m₂) s c l₂) (on g 3 m₃) (overlay_of (on g 3 m₃) s c l₃)
+    go : (Listed p (on g 2 m₂) s c × Unlisted p (on g 3 m₃) s c) ⊎ (Listed p (on g 3 m₃) s c × Unlisted p (on g 2 m₂) s c)
+        → InExactlyOne p s c (on g 2 m₂) (overlay_of (on g 2 m₂) s c l₂) (on g 3 m₃) (overlay_of (on g 3 m₃) s c l₃)
     go (inl k) = inl (listed_in (on g 2 m₂) s c l₂ h₂ p k.0, k.1)
     go (inr k) = inr (listed_in (on g 3 m₃) s c l₃ h₃ p k.0, k.1)
 

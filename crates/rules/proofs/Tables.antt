@@ -106,8 +106,8 @@ unfolding both same same_lists same_result add sub mul div neg lt le eq of_bits 
     lowest strict_interior_point hops ring rings times darts_along own_darts outline_darts near_darts among repeats is_new new_to inner_with edge_slots table stands
     cell_table_with copied_table doubled slot next_open begin rest onward arrive follow step walk_steps starts walk_from walk_with closes_up cut_outcome_with flat stops
     every prior ends_ok coord_ok coords_ok kind_ok kinds_ok nodes_ok absent cell_ok cells_ok shape_ok call_ok grid_ok work_ok mesh_refusal lower_refusal entry_of cell_at cells_of used_nodes
-    sorted_indices_for nearest_to closest_within weld added added_all descending_to subject_net cutter_net box_to boxes_meet box_holds candidates steps grid_number on_grid booked meeting_on met_pair met_all
-    meetings_to meetings scene_of collected crowded before_last along_edge sorted_nodes darts_of near_of treated some_holds point_inside piece_with
+    sorted_indices_for nearest_to closest_within weld added added_all descending_to subject_net cutter_net box_to boxes_meet box_holds candidates steps grid_number on_grid booked meeting_on met_pair
+    met_all meetings_to meetings scene_of collected crowded before_last along_edge sorted_nodes darts_of near_of treated some_holds point_inside piece_with
     lies_inside kept_with listing_with doubled_cells course_with first_refusal cleared written named_points answered_with state_with overlay_with
 right_by overlay [] = true
 right_by overlay (asked o s c l r ∷ cs) = both (same_result (overlay o s c l) r) (right_by overlay cs)
