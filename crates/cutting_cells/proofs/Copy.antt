@@ -11,6 +11,7 @@ use Rattle.lists.specs.Gather.{gathered, joined}
 use Rattle.lists.specs.Regions.{front, copied}
 use Rattle.lists.proofs.Gather.{each_more}
 use Rattle.lists.proofs.Regions.{front_store, copied_fits, front_put, put_none}
+use Rattle.grid.specs.Grid.{Grid}
 use Rattle.cutting.specs.Edges.{ring}
 use Rattle.cutting.specs.Cell.{repeats}
 use Rattle.cutting.specs.Outcome as Outcome
@@ -91,13 +92,13 @@ module _ (cell on os : List ℕ) (t : Bool) (et : t ≡ repeats (ring cell)) whe
 
 -- ---- cut or copied
 
-module _ (coords : List Float) (work : List ℕ) (g : Regions) (edges : Run) (cell on os : List ℕ) (x : Cut) where
-  pub out_copied : (js : List ℕ) → length js ≡ 0 → x ≡ cut_as (copied_outcome cell) on os → x ≡ cut_as (outcome_by coords work g edges js cell) on os
+module _ (grid : Grid) (coords : List Float) (work : List ℕ) (g : Regions) (edges : Run) (cell on os : List ℕ) (x : Cut) where
+  pub out_copied : (js : List ℕ) → length js ≡ 0 → x ≡ cut_as (copied_outcome cell) on os → x ≡ cut_as (outcome_by grid coords work g edges js cell) on os
   unfolding outcome_by
   out_copied [] h e = e
   out_copied (j ∷ js) h e = absurd (omega (arith, h))
 
-  pub out_cut : (js : List ℕ) → (length js ≡ 0 → ⊥) → x ≡ cut_cell coords work g edges js cell on os → x ≡ cut_as (outcome_by coords work g edges js cell) on os
+  pub out_cut : (js : List ℕ) → (length js ≡ 0 → ⊥) → x ≡ cut_cell grid coords work g edges js cell on os → x ≡ cut_as (outcome_by grid coords work g edges js cell) on os
   unfolding outcome_by cut_cell cut_by
   out_cut [] h e = absurd (h refl)
   out_cut (j ∷ js) h e = e

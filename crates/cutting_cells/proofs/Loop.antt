@@ -55,7 +55,7 @@ module _ {t : Treatment} {own stops : List ℕ} {from : ℕ} {l : PieceLists} (a
   f i = yield_for t (from + i) (get_or (runs_of own stops) i [])
 
   steady : (i : ℕ) → Steady (f i)
-  steady i = yield_steady t.scene.coords.now t.scene.work.now t.scene.regions t.other t.ends.now t.keep (from + i) (get_or (runs_of own stops) i [])
+  steady i = yield_steady t.scene.grid t.scene.coords.now t.scene.work.now t.scene.regions t.other t.ends.now t.keep (from + i) (get_or (runs_of own stops) i [])
 
   pub begin : (i : ℕ) (rest : List (List ℕ)) → i ≡ 0 → rest ≡ runs_of own stops → Going t own stops from l l i rest
   unfolding all_of

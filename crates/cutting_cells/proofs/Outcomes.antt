@@ -11,6 +11,7 @@ use Rattle.std.specs.Prelude.{Result, Ok, Err, IfOk, OnOk}
 use Rattle.lists.specs.Search.{bit}
 use Rattle.lists.specs.Gather.{passing}
 use Rattle.lists.proofs.Gather.{length_passing, tally_le}
+use Rattle.grid.specs.Grid.{Grid}
 use Rattle.cutting.specs.Edition.{ours}
 use Rattle.cutting.specs.Outcome as Outcome
 use Rattle.cutting.specs.Outcome.{Outcome, refusal, pieces}
@@ -40,22 +41,22 @@ use Rattle.cutting_cells.specs.Treated.{near_to, outcome_of, Readable, yield_for
 
 -- ---- a refusal isn't 0
 
-pub outcome_sound : (coords : List Float) (work : List ℕ) (g : Regions) (edges : Run) (js cell : List ℕ) → Sound (outcome_by coords work g edges js cell)
+pub outcome_sound : (grid : Grid) (coords : List Float) (work : List ℕ) (g : Regions) (edges : Run) (js cell : List ℕ) → Sound (outcome_by grid coords work g edges js cell)
 unfolding outcome_by
-outcome_sound coords work g edges [] cell = sound_copy true cell
-outcome_sound coords work g edges (j ∷ js) cell = sound_cut ours (outline_in coords work g cell) (table_in coords work g (edges_in work edges) (j ∷ js) cell)
+outcome_sound grid coords work g edges [] cell = sound_copy true cell
+outcome_sound grid coords work g edges (j ∷ js) cell = sound_cut ours (outline_in grid coords work g cell) (table_in grid coords work g (edges_in work edges) (j ∷ js) cell)
 
-module _ (coords : List Float) (work : List ℕ) (g : Regions) (o : MeshRuns) (ends : List ℕ) (k : Keep) where
+module _ (grid : Grid) (coords : List Float) (work : List ℕ) (g : Regions) (o : MeshRuns) (ends : List ℕ) (k : Keep) where
   steady_by : (t : ℕ) (x : Outcome) → Sound x → Steady (yield_by coords work g o ends k t x)
   unfolding first_refusal
   steady_by t (refusal r) s = record { placing = λ q n z. absurd (s z); tags = refl }
   steady_by t (pieces ps) s = steady_tagged t (passing (is_kept k coords (runs_of (run_in work o.entries) ends)) ps)
 
-  pub yield_steady : (i : ℕ) (cell : List ℕ) → Steady (yield_of coords work g o ends k i cell)
+  pub yield_steady : (i : ℕ) (cell : List ℕ) → Steady (yield_of grid coords work g o ends k i cell)
   unfolding yield_of
   yield_steady i cell =
-      steady_by (2 * i + bit (is_cut coords work g o ends cell)) (outcome_by coords work g o.edges (near_of coords work g o ends cell) cell)
-      (outcome_sound coords work g o.edges (near_of coords work g o ends cell) cell)
+      steady_by (2 * i + bit (is_cut coords work g o ends cell)) (outcome_by grid coords work g o.edges (near_of coords work g o ends cell) cell)
+      (outcome_sound grid coords work g o.edges (near_of coords work g o ends cell) cell)
 
 -- ---- the pieces that an answer counts
 
@@ -124,7 +125,7 @@ module _ (t : Treatment) (cell near : List ℕ) (at : near ≡ near_to t cell) (
       → (n : ℕ) → n ≡ length near → (i tag : ℕ) → tag ≡ 2 * i + bit (ltb 0 n)
       → tagged tag (passing (is_kept t.keep o.coords.now (cells_in o)) (runs_of (take k.entries runs) (take k.pieces stops))) ≡ yield_for t i cell
   pieces_yielded k is o lent n count i tag tag_is =
-      let r = read made (outcome_sound t.scene.coords.now t.scene.work.now t.scene.regions t.other.edges near cell) runs₀ stops₀ runs stops k is in
+      let r = read made (outcome_sound t.scene.grid t.scene.coords.now t.scene.work.now t.scene.regions t.other.edges near cell) runs₀ stops₀ runs stops k is in
       (λ s. tagged (tag_is s) (passing (is_kept t.keep (lent.0 s) (runs_of (lent.1 s) (lent.2 s))) (runs_of (r.nodes_are s) (r.ends_are s))))
       ∙ (λ s. tagged (2 * i + bit (ltb 0 (count s)))
       (passing (is_kept t.keep t.scene.coords.now (runs_of (run_in t.scene.work.now t.other.entries) t.ends.now)) (read_back r.all s)))

@@ -12,7 +12,7 @@ abbrev pub near_to : Treatment → List ℕ → List ℕ
 near_to t = near_of t.scene.coords.now t.scene.work.now t.scene.regions t.other t.ends.now
 
 abbrev pub outcome_of : Treatment → List ℕ → List ℕ → Outcome
-outcome_of t = outcome_by t.scene.coords.now t.scene.work.now t.scene.regions t.other.edges
+outcome_of t = outcome_by t.scene.grid t.scene.coords.now t.scene.work.now t.scene.regions t.other.edges
 
 -- the pieces that an answer counts can be read
 pub record Readable (k : Counts) (runs stops : List ℕ) : Type 0 where
@@ -21,7 +21,7 @@ pub record Readable (k : Counts) (runs stops : List ℕ) : Type 0 where
   pub rise : Rising (take k.pieces stops) (length (take k.entries runs))
 
 abbrev pub yield_for : Treatment → ℕ → List ℕ → Yield
-yield_for t = yield_of t.scene.coords.now t.scene.work.now t.scene.regions t.other t.ends.now t.keep
+yield_for t = yield_of t.scene.grid t.scene.coords.now t.scene.work.now t.scene.regions t.other t.ends.now t.keep
 
 abbrev pub all_yield : Treatment → (own stops : List ℕ) → ℕ → Yield
 all_yield t own stops from = all_of (length stops) (λ i. yield_for t (from + i) (get_or (runs_of own stops) i []))

@@ -3,6 +3,7 @@
 use Rattle.std.specs.Prelude.{◌≡◌, Bool, true, cond, List, [], ◌∷◌, ℕ, ◌+◌, ◌*◌, ◌≤◌, ◌<◌, ltb, length, get_or, Float}
 use Rattle.lists.specs.Search.{bit}
 use Rattle.lists.specs.Gather.{passing}
+use Rattle.grid.specs.Grid.{Grid}
 use Rattle.cutting.specs.Edges.{ring}
 use Rattle.cutting.specs.Outcome.{Outcome, refusal, pieces, cut_outcome, copied_outcome}
 use Rattle.entry.specs.Mesh.{cell_size}
@@ -25,9 +26,9 @@ use Rattle.pieces.specs.Pieces.{runs_of, keep_of, is_kept, Yield, tagged, nothin
 -- ---- one cell
 
 -- what it comes to: cut by those of the edges that stand at the places js, or copied where there is none
-unfoldable pub outcome_by : List Float → List ℕ → Regions → Run → List ℕ → List ℕ → Outcome
-outcome_by coords work g edges [] cell = copied_outcome cell
-outcome_by coords work g edges (j ∷ js) cell = cut_outcome (outline_in coords work g cell) (table_in coords work g (edges_in work edges) (j ∷ js) cell)
+unfoldable pub outcome_by : Grid → List Float → List ℕ → Regions → Run → List ℕ → List ℕ → Outcome
+outcome_by grid coords work g edges [] cell = copied_outcome cell
+outcome_by grid coords work g edges (j ∷ js) cell = cut_outcome (outline_in grid coords work g cell) (table_in grid coords work g (edges_in work edges) (j ∷ js) cell)
 
 -- by the other mesh, whose cells end at `ends`
 module _ (coords : List Float) (work : List ℕ) (g : Regions) (o : MeshRuns) (ends : List ℕ) where
@@ -44,9 +45,10 @@ module _ (coords : List Float) (work : List ℕ) (g : Regions) (o : MeshRuns) (e
   yield_by k t (refusal r) = record { events = stop r ∷ []; pieces = []; tags = [] }
   yield_by k t (pieces ps) = tagged t (passing (is_kept k coords (runs_of (run_in work o.entries) ends)) ps)
 
-  -- The cell with the number i among those of both meshes. The tag of a piece is twice that number, and one more where the cell is cut.
-  unfoldable pub yield_of : Keep → ℕ → List ℕ → Yield
-  yield_of k i cell = yield_by k (2 * i + bit (is_cut cell)) (outcome_by coords work g o.edges (near_of cell) cell)
+-- The cell with the number i among those of both meshes. The tag of a piece is twice that number, and one more where the cell is cut.
+unfoldable pub yield_of : Grid → List Float → List ℕ → Regions → MeshRuns → List ℕ → Keep → ℕ → List ℕ → Yield
+yield_of grid coords work g o ends k i cell =
+    yield_by coords work g o ends k (2 * i + bit (is_cut coords work g o ends cell)) (outcome_by grid coords work g o.edges (near_of coords work g o ends cell) cell)
 
 -- ---- all cells
 
@@ -60,15 +62,15 @@ numbered_from the_subject n = 0
 numbered_from the_cutter n = n
 
 -- those of one mesh, which end at `stops`, and the other's at `ends`
-unfoldable pub cells_yield : ℕ → List Float → List ℕ → Regions → Side → (ends stops : List ℕ) → Yield
-cells_yield op coords work g w ends stops =
+unfoldable pub cells_yield : ℕ → Grid → List Float → List ℕ → Regions → Side → (ends stops : List ℕ) → Yield
+cells_yield op grid coords work g w ends stops =
     let cell : ℕ → List ℕ = λ i. get_or (runs_of (run_in work (runs_on g w).entries) stops) i [] in
-    all_of (length stops) (λ i. yield_of coords work g (runs_on g (other w)) ends (keep_of op w) (numbered_from w (length ends) + i) (cell i))
+    all_of (length stops) (λ i. yield_of grid coords work g (runs_on g (other w)) ends (keep_of op w) (numbered_from w (length ends) + i) (cell i))
 
 -- the subject's, and then the cutter's where the operation cuts both meshes
-unfoldable pub meshes_yield : ℕ → List Float → List ℕ → Regions → (se ce : List ℕ) → Yield
-meshes_yield op coords work g se ce =
-    both (cells_yield op coords work g the_subject ce se) (cond (cuts op the_cutter) (cells_yield op coords work g the_cutter se ce) nothing)
+unfoldable pub meshes_yield : ℕ → Grid → List Float → List ℕ → Regions → (se ce : List ℕ) → Yield
+meshes_yield op grid coords work g se ce =
+    both (cells_yield op grid coords work g the_subject ce se) (cond (cuts op the_cutter) (cells_yield op grid coords work g the_cutter se ce) nothing)
 
 -- before the first cell
 abbrev pub none_yet : Listed

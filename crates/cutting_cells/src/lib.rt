@@ -242,7 +242,7 @@ fn cut_both(
 ) -> Result<(), Refusal>
     requires { MeshesReady op scene.coords.now scene.work.now scene.regions x se.now ce.now × (lists.old.placed ≡ none_yet) }
     ensures placed { left result lists.new ≡ placed_on
-        (meshes_yield op scene.entry.coords.now scene.entry.work.now scene.entry.regions se.now ce.now) lists.old }
+        (meshes_yield op scene.entry.grid scene.entry.coords.now scene.entry.work.now scene.entry.regions se.now ce.now) lists.old }
     ensures few { OnOk result (Few (length se.now + length ce.now) none_yet lists.new.placed) }
     ensures same_lists { SameLists lists.new lists.old }
 {
@@ -283,7 +283,7 @@ pub fn cut_meshes(
 ) -> Result<Listed, Refusal>
     requires { MeshesReady op scene.coords.now scene.work.now scene.regions x se.now ce.now × (length oe.old ≤ length ot.old) }
     ensures placed { placing result on.new oe.new ot.new
-        ≡ placed_behind none_yet (meshes_yield op scene.entry.coords.now scene.entry.work.now scene.entry.regions se.now ce.now) on.old oe.old ot.old }
+        ≡ placed_behind none_yet (meshes_yield op scene.entry.grid scene.entry.coords.now scene.entry.work.now scene.entry.regions se.now ce.now) on.old oe.old ot.old }
     ensures few { IfOk result (λ r. Few (length se.now + length ce.now) none_yet r) }
 {
     let mut lists = PieceLists {

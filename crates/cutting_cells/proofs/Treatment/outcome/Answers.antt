@@ -14,4 +14,4 @@ returns-clause-readable c =
     let t = c.args.self.now in
     let js = c.args.js.now in
     let cell = c.args.cell.corners.now in
-    readable (outcome_of t js cell) (outcome_sound _ _ _ _ js cell) _ _ _ _ c.cut_cell.result (out_cut _ _ _ _ cell _ _ _ js (search rules) c.cut_cell.ensures)
+    readable (outcome_of t js cell) (outcome_sound _ _ _ _ _ js cell) _ _ _ _ c.cut_cell.result (out_cut _ _ _ _ _ cell _ _ _ js (search rules) c.cut_cell.ensures)
