@@ -156,7 +156,7 @@ module _ (o : Settings) (s c : Mesh) (w₀ : List ℕ) (ok : Passed o s c (lengt
         subst (λ (v : List ℕ). Holds o s c x.regions v) (sym built.1)
         (holds_after o s c x.regions w' (length w₀) ok work_long held (low o s c w₀ asks oc oc' w' r told x z) (take (2 * x.next) oc'))
 
-    lists_hold : MeshesIn sc (take (2 * x.next) oc') w'' x.regions s.ends c.ends
+    lists_hold : MeshesIn sc o.grid (take (2 * x.next) oc') w'' x.regions s.ends c.ends
     lists_hold = meshes_in o s c x.regions w'' held'' (take (2 * x.next) oc') (sym points)
 
     lists_ready : MeshesReady o.op (take (2 * x.next) oc') w'' x.regions i s.ends c.ends

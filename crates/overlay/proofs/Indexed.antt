@@ -7,6 +7,7 @@ use native.Mathlib.Numerals.{add-one}
 use lib.ListN.{length, get_or, length-map}
 use lib.Ieee.{Float}
 use Rattle.cutting.proofs.Pairs.{ends_length}
+use Rattle.settings.specs.declared.Settings.{Settings}
 use Rattle.entry.specs.Mesh.{Mesh, prior}
 use Rattle.entry.specs.Passed.{Sound, Passed}
 use Rattle.entry.proofs.Ends.{prior_more}

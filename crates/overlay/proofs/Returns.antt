@@ -7,6 +7,7 @@ use Rattle.refusals.specs.declared.Refusal.{Refusal}
 use Rattle.refusals.specs.Numbers.{number, refused_with}
 use Rattle.refusals.proofs.Numbers.{some_not_zero}
 use Rattle.cutting.specs.Edition.{ours}
+use Rattle.settings.specs.declared.Settings.{Settings}
 use Rattle.entry.specs.Mesh.{Mesh}
 use Rattle.entry.specs.Refused.{entry_of}
 use Rattle.rules.specs.Overlay.{Lists, cleared, state_of, answered, overlay_of}

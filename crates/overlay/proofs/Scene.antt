@@ -12,6 +12,7 @@ use Rattle.lists.specs.Search.{bit}
 use Rattle.lists.specs.Gather.{passing}
 use Rattle.cutting.specs.Edges.{Edge}
 use Rattle.cutting.specs.Outcome.{Outcome, refusal, pieces}
+use Rattle.grid.specs.Grid.{Grid}
 use Rattle.rules.specs.Mesh.{Side, the_subject, the_cutter, other, side_number}
 use Rattle.rules.specs.SpatialIndex.{box_of, candidates}
 use Rattle.rules.specs.Meetings.{Scene, net_of}
@@ -47,9 +48,9 @@ map_replicate f (suc n) v = ap (λ (l : List ℕ). f v ∷ l) (map_replicate f n
 -- ---- by the edges near it
 
 module _ (sc : Scene) (w : Side) (i : ℕ) where
-  outcome_as : (work : List ℕ) (g : Regions) → ((e : Edge) → nodes_on sc.coords work g e ≡ sorted_nodes sc e) → (edges : Run) → edges_in work edges ≡ (net_of sc (other w)).edges
+  outcome_as : (work : List ℕ) (g : Regions) → ((e : Edge) → nodes_on sc.grid sc.coords work g e ≡ sorted_nodes sc e) → (edges : Run) → edges_in work edges ≡ (net_of sc (other w)).edges
       → (js : List ℕ) → js ≡ candidates sc.coords (net_of sc (other w)).edges (box_of sc.coords (cell_of sc w i))
-      → outcome_by sc.coords work g edges js (cell_of sc w i) ≡ outcome_of sc w i
+      → outcome_by sc.grid sc.coords work g edges js (cell_of sc w i) ≡ outcome_of sc w i
   unfolding outcome_by
   outcome_as work g same edges are [] e = sym (copied_is sc w i (sym e))
   outcome_as work g same edges are (j ∷ js) e = cut_is sc w i work g same (edges_in work edges) are j js (sym e)
@@ -63,13 +64,13 @@ module _ (sc : Scene) (w : Side) (i : ℕ) where
 
 -- ---- cell i
 
-module _ (op : ℕ) (sc : Scene) (w : Side) (coords : List Float) (work : List ℕ) (g : Regions) (o : MeshRuns) (ends : List ℕ) (scene : SceneIn sc w coords work g o ends)
+module _ (op : ℕ) (sc : Scene) (w : Side) (grid : Grid) (coords : List Float) (work : List ℕ) (g : Regions) (o : MeshRuns) (ends : List ℕ) (scene : SceneIn sc w grid coords work g o ends)
     (i number : ℕ) (cell : List ℕ) (this : cell_of sc w i ≡ cell) where
   abbrev near : List ℕ
   near = Yields.near_of coords work g o ends cell
 
   abbrev y : Yield
-  y = yield_of coords work g o ends (keep_of op w) number cell
+  y = yield_of grid coords work g o ends (keep_of op w) number cell
 
   -- the tag of its pieces
   abbrev pub tag_in : ℕ
@@ -78,9 +79,9 @@ module _ (op : ℕ) (sc : Scene) (w : Side) (coords : List Float) (work : List �
   near_is : near ≡ candidates sc.coords (net_of sc (other w)).edges (box_of sc.coords (cell_of sc w i))
   near_is = sym (λ s. candidates (scene.points s) (scene.near_edges s) (box_of (scene.points s) (this s)))
 
-  outcome_is : outcome_by coords work g o.edges near cell ≡ outcome_of sc w i
+  outcome_is : outcome_by grid coords work g o.edges near cell ≡ outcome_of sc w i
   outcome_is =
-      sym (λ s. outcome_by (scene.points s) work g o.edges near (this s))
+      sym (λ s. outcome_by (scene.grid_is s) (scene.points s) work g o.edges near (this s))
       ∙ outcome_as sc w i work g scene.nodes_are o.edges (sym scene.near_edges) near near_is
 
   abbrev these : List Piece

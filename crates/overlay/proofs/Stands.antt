@@ -70,9 +70,9 @@ module _ (o : Settings) (s c : Mesh) (g : Regions) (w : List ℕ) (h : Holds o s
   collected_are e =
       ap₂ (λ (a b : List Edge). collected_in a b (run_in w g.met) e) (sym subject_edges_lem) (sym cutter_edges_lem) ∙ collected_is sc (run_in w g.met) stored e
 
-  nodes_are_lem : (e : Edge) → nodes_on sc.coords w g e ≡ sorted_nodes sc e
+  nodes_are_lem : (e : Edge) → nodes_on sc.grid sc.coords w g e ≡ sorted_nodes sc e
   nodes_are_lem e =
-      ap₂ (λ (a b : List Edge). sorted_in sc.coords a b (run_in w g.met) e) (sym subject_edges_lem) (sym cutter_edges_lem) ∙ sorted_is sc (run_in w g.met) stored e
+      ap₂ (λ (a b : List Edge). sorted_in sc.grid sc.coords a b (run_in w g.met) e) (sym subject_edges_lem) (sym cutter_edges_lem) ∙ sorted_is sc (run_in w g.met) stored e
 
   -- ---- cells
 
@@ -89,11 +89,15 @@ module _ (o : Settings) (s c : Mesh) (g : Regions) (w : List ℕ) (h : Holds o s
   unfolding scene_of cutter_net
   cutter_cells_lem = renumbered_cells
 
-  pub meshes_in : (coords : List Float) → sc.coords ≡ coords → MeshesIn sc coords w g s.ends c.ends
+  grid_lem : sc.grid ≡ o.grid
+  unfolding scene_of
+  grid_lem = refl
+
+  pub meshes_in : (coords : List Float) → sc.coords ≡ coords → MeshesIn sc o.grid coords w g s.ends c.ends
   meshes_in coords e =
       record {
-        subject_cut = record { points = e; nodes_are = nodes_are_lem; near_edges = cutter_edges_lem; near_cells = cutter_cells_lem };
-        cutter_cut = record { points = e; nodes_are = nodes_are_lem; near_edges = subject_edges_lem; near_cells = subject_cells_lem };
+        subject_cut = record { grid_is = grid_lem; points = e; nodes_are = nodes_are_lem; near_edges = cutter_edges_lem; near_cells = cutter_cells_lem };
+        cutter_cut = record { grid_is = grid_lem; points = e; nodes_are = nodes_are_lem; near_edges = subject_edges_lem; near_cells = subject_cells_lem };
         subject_cells = subject_cells_lem;
         cutter_cells = cutter_cells_lem;
       }

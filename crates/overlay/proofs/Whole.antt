@@ -143,10 +143,10 @@ module _ (o : Settings) (s c : Mesh) where
   module _ (oc₀ oc : List Float) (w : List ℕ) (p : Prepared) (ready : PreparedIn o s c oc₀ oc w p) where
     -- what they yield
     abbrev y : Yield
-    y = meshes_yield o.op (take (2 * p.next) oc) w p.regions s.ends c.ends
+    y = meshes_yield o.op o.grid (take (2 * p.next) oc) w p.regions s.ends c.ends
 
-    pub yielded_events : (meshes_yield o.op (take (2 * p.next) oc) w p.regions s.ends c.ends).events ≡ over_both o.op (scene_for o s c) (cell_events o.op (scene_for o s c))
-    yielded_events = meshes_events o.op sc₀ (take (2 * p.next) oc) w p.regions s.ends c.ends ready.stands
+    pub yielded_events : (meshes_yield o.op o.grid (take (2 * p.next) oc) w p.regions s.ends c.ends).events ≡ over_both o.op (scene_for o s c) (cell_events o.op (scene_for o s c))
+    yielded_events = meshes_events o.op sc₀ o.grid (take (2 * p.next) oc) w p.regions s.ends c.ends ready.stands
 
     -- the points behind the lent ones are those that the meetings add
     added_are : (k : ℕ) → length s.coords + length c.coords ≡ 2 * k → p.next - k ≡ length (added_by sc₀.met) / 2
@@ -165,11 +165,11 @@ module _ (o : Settings) (s c : Mesh) where
     families_stand the_cutter = refl
 
     -- the corners of the pieces
-    corners_read : (on oe ot on' oe' ot' : List ℕ) (r : Listed) → AllPlaced none_yet (meshes_yield o.op (take (2 * p.next) oc) w p.regions s.ends c.ends) on oe ot r on' oe' ot'
+    corners_read : (on oe ot on' oe' ot' : List ℕ) (r : Listed) → AllPlaced none_yet (meshes_yield o.op o.grid (take (2 * p.next) oc) w p.regions s.ends c.ends) on oe ot r on' oe' ot'
         → take r.entries on' ≡ flat (nodes_of ps)
     corners_read on oe ot on' oe' ot' r a =
         ap (take r.entries) (a.corners ∙ front_put on (flat y.pieces)) ∙ take_front_of on (flat y.pieces) r.entries (sym (a.entered ∙ zero-add (length (flat y.pieces))))
-        ∙ ap flat (meshes_pieces o.op sc₀ (take (2 * p.next) oc) w p.regions s.ends c.ends ready.stands)
+        ∙ ap flat (meshes_pieces o.op sc₀ o.grid (take (2 * p.next) oc) w p.regions s.ends c.ends ready.stands)
 
     -- the new points among them, counted behind the nodes lent
     named_are : (lent points : ℕ) (entries : List ℕ) → lent ≡ node_count s + node_count c → lent ≤ p.next → entries ≡ flat (nodes_of ps)
@@ -180,7 +180,7 @@ module _ (o : Settings) (s c : Mesh) where
         ∙ ap₂ (λ (i n : ℕ). length (named_points i n ps)) is all
 
     pub placed_in : (n : ℕ) → Passed o s c n → (on oe ot on' oe' ot' : List ℕ) (r : Listed)
-        → AllPlaced none_yet (meshes_yield o.op (take (2 * p.next) oc) w p.regions s.ends c.ends) on oe ot r on' oe' ot' → r.count ≤ length oe
+        → AllPlaced none_yet (meshes_yield o.op o.grid (take (2 * p.next) oc) w p.regions s.ends c.ends) on oe ot r on' oe' ot' → r.count ≤ length oe
         → (points : ℕ) → (let lent : ℕ = (length s.coords + length c.coords) / 2 in points ≡ many (λ k. named (take r.entries on') (lent + k)) (p.next - lent))
         → PlacedIn o s c (record { pieces = r.count; points = points; added = p.next - (length s.coords + length c.coords) / 2 }) oc₀ on oe ot oc on' oe' ot'
     unfolding listing_with
@@ -189,7 +189,7 @@ module _ (o : Settings) (s c : Mesh) where
         let coords = take (2 * p.next) oc in
         let g = p.regions in
         let ins = ready.stands in
-        let pieces : y.pieces ≡ nodes_of ps = meshes_pieces o.op sc coords w g s.ends c.ends ins in
+        let pieces : y.pieces ≡ nodes_of ps = meshes_pieces o.op sc o.grid coords w g s.ends c.ends ins in
         let lent : ℕ = (length s.coords + length c.coords) / 2 in
         let half : length s.coords + length c.coords ≡ 2 * lent = omega (arith, ok.subject.even, ok.cutter.even) in
         record {
@@ -203,10 +203,10 @@ module _ (o : Settings) (s c : Mesh) where
           tags = y.tags;
           tagged = a.tags ∙ front_put ot y.tags;
           say = record {
-            kinds = meshes_kinds o.op sc coords w g s.ends c.ends ins s.kinds c.kinds ok.subject.kinds_long kinds_stand;
-            families = meshes_families o.op sc coords w g s.ends c.ends ins s.families c.families ok.subject.families_long families_stand;
-            meshes = meshes_parent_meshes o.op sc coords w g s.ends c.ends ins;
-            cells = meshes_parent_cells o.op sc coords w g s.ends c.ends ins;
+            kinds = meshes_kinds o.op sc o.grid coords w g s.ends c.ends ins s.kinds c.kinds ok.subject.kinds_long kinds_stand;
+            families = meshes_families o.op sc o.grid coords w g s.ends c.ends ins s.families c.families ok.subject.families_long families_stand;
+            meshes = meshes_parent_meshes o.op sc o.grid coords w g s.ends c.ends ins;
+            cells = meshes_parent_cells o.op sc o.grid coords w g s.ends c.ends ins;
           };
         }
 

@@ -6,6 +6,7 @@ use Rattle.cutting.specs.Outcome.{flat, stops}
 use Rattle.settings.specs.declared.Settings.{Settings}
 use Rattle.entry.specs.Mesh.{Mesh, mesh_of, node_count}
 use Rattle.entry.specs.Refused.{entry_of}
+use Rattle.grid.specs.Grid.{Grid}
 use Rattle.rules.specs.Mesh.{Side, the_subject, the_cutter, other, side_number}
 use Rattle.rules.specs.Meetings.{Scene, net_of, added_by}
 use Rattle.rules.specs.Nodes.{sorted_nodes}
@@ -33,17 +34,18 @@ cutter_of c = mesh_of c.cutter.now
 abbrev pub Entered : Call → ℕ → Type 0
 Entered c n = entry_of c.settings (subject_of c) (cutter_of c) n ≡ 0
 
--- What the cells of the mesh w are cut by: the coordinates, the sorted nodes of edges, and the other mesh's edges and cells.
-pub record SceneIn (sc : Scene) (w : Side) (coords : List Float) (work : List ℕ) (g : Regions) (o : MeshRuns) (ends : List ℕ) : Type 0 where
+-- What the cells of the mesh w are cut by: the grid, the coordinates, the sorted nodes of edges, and the other mesh's edges and cells.
+pub record SceneIn (sc : Scene) (w : Side) (grid : Grid) (coords : List Float) (work : List ℕ) (g : Regions) (o : MeshRuns) (ends : List ℕ) : Type 0 where
+  pub grid_is : sc.grid ≡ grid
   pub points : sc.coords ≡ coords
   pub nodes_are : (e : Edge) → nodes_on sc.grid sc.coords work g e ≡ sorted_nodes sc e
   pub near_edges : (net_of sc (other w)).edges ≡ mesh_edges work o
   pub near_cells : (net_of sc (other w)).cells ≡ runs_of (run_in work o.entries) ends
 
 -- a scene whose meshes stand in the working list, with the ends of their cells
-pub record MeshesIn (sc : Scene) (coords : List Float) (work : List ℕ) (g : Regions) (se ce : List ℕ) : Type 0 where
-  pub subject_cut : SceneIn sc the_subject coords work g g.cutter ce
-  pub cutter_cut : SceneIn sc the_cutter coords work g g.subject se
+pub record MeshesIn (sc : Scene) (grid : Grid) (coords : List Float) (work : List ℕ) (g : Regions) (se ce : List ℕ) : Type 0 where
+  pub subject_cut : SceneIn sc the_subject grid coords work g g.cutter ce
+  pub cutter_cut : SceneIn sc the_cutter grid coords work g g.subject se
   pub subject_cells : sc.subject.cells ≡ runs_of (run_in work g.subject.entries) se
   pub cutter_cells : sc.cutter.cells ≡ runs_of (run_in work g.cutter.entries) ce
 
@@ -55,7 +57,7 @@ pub record PreparedIn (o : Settings) (s c : Mesh) (oc₀ oc : List Float) (w : L
   pub least : (length s.coords + length c.coords) / 2 ≤ p.next
   pub most : p.next < 2 ^ 32
   pub marks : p.next - (length s.coords + length c.coords) / 2 ≤ length w
-  pub stands : MeshesIn (scene_for o s c) (take (2 * p.next) oc) w p.regions s.ends c.ends
+  pub stands : MeshesIn (scene_for o s c) o.grid (take (2 * p.next) oc) w p.regions s.ends c.ends
   pub ready : MeshesReady o.op (take (2 * p.next) oc) w p.regions p.indexes s.ends c.ends
 
 abbrev pub runs_in : Settings → Mesh → Mesh → List (List ℕ)

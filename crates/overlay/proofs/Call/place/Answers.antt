@@ -25,7 +25,7 @@ returns-clause-refusal c =
 pub slice_bounds-count_named-end : goal.slice_bounds-count_named-end
 slice_bounds-count_named-end c =
     let told = rw c.first_nodes.ensures at c.in_ok-listed.ensures.placed in
-    omega (arith, (fit _ _ _ _ _ _ _ _ _ told (meshes_steady _ _ _ _ _ _) (omega arith) (omega arith)).1, c.cut_meshes.auto.on)
+    omega (arith, (fit _ _ _ _ _ _ _ _ _ told (meshes_steady _ _ _ _ _ _ _) (omega arith) (omega arith)).1, c.cut_meshes.auto.on)
 
 pub slice_bounds-count_named-end-2 : goal.slice_bounds-count_named-end-2
 slice_bounds-count_named-end-2 c = sym (length-take-le _ _ (slice_bounds-count_named-end c))
@@ -34,5 +34,5 @@ pub returns-clause-placed : goal.returns-clause-placed
 returns-clause-placed c =
     let told = rw c.first_nodes.ensures at c.in_ok-listed.ensures.placed in
     placed_in _ _ _ _ _ _ _ c.in_ok-p.ensures.prepared _ (passed _ _ _ _ c.requires.entered) _ _ _ _ _ _ c.in_ok-listed.listed
-    (all_placed _ _ _ _ _ _ _ _ _ told) (fit _ _ _ _ _ _ _ _ _ told (meshes_steady _ _ _ _ _ _) (omega arith) (omega arith)).0
+    (all_placed _ _ _ _ _ _ _ _ _ told) (fit _ _ _ _ _ _ _ _ _ told (meshes_steady _ _ _ _ _ _ _) (omega arith) (omega arith)).0
     _ (c.count_named-points.ensures.count ∙ ap (many _) (length-take-le _ _ c.in_ok-p.ensures.prepared.marks))
