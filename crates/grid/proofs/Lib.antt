@@ -1,7 +1,8 @@
 pub mod Whole
-pub mod Value
-pub mod Lifted
+pub mod Values
+pub mod Digits
 pub mod GridNumbers
+pub mod Lifted
 pub mod Ways
 pub mod Distances
 pub mod OnGrid

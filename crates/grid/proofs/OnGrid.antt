@@ -3,76 +3,57 @@
 use mathlib.Core.Path.{◌≡◌, refl, sym, ap, ap₂, ◌∙◌, subst}
 use mathlib.Core.Bool.{Bool, true, false, not, ◌&&◌, true≢false}
 use mathlib.Core.Logic.{inl, inr}
-use Prim.Native.Nat.{ℕ, zero, suc, ◌+◌, ◌-◌, ◌*◌, ◌/◌, ◌%◌, ◌^◌, ◌≤◌}
-use native.Mathlib.Nat.{le_trans, le_of_eq, mul_comm, mul_assoc, mul-div_cancel, mul-mod_left, mul-le-mul_right, zero-mul, eq_of_mul-eq-mul_right}
+use Prim.Native.Nat.{ℕ, zero, suc, ◌+◌, ◌*◌, ◌%◌, ◌^◌, ◌≤◌}
+use native.Mathlib.Nat.{le_trans, le_of_eq, mul_assoc, mul-mod_left, mul-le-mul_right, zero-mul, eq_of_mul-eq-mul_right}
 use native.Mathlib.Omega.{arith}
-use lib.Dec.{T, eqb}
+use lib.Dec.{T, eqb, eqb-suc-zero}
 use lib.IntN.{ℤ, pos, nat_abs, ◌-ℤ◌, ◌*ℤ◌}
 use lib.Pow.{pow_pos}
-use lib.Ieee.{Float, nan, inf, fin, binary64, down, round, fits}
-use lib.Ieee.Fits.{down_pos}
-use lib.Ieee.Exact.{HasValue}
+use lib.Ieee.{Float, fin, binary64, round, fits}
+use lib.Ieee.Bits.{is_true}
 use lib.Ieee.Scale.{finite, round_same}
-use borrow.Author.Tests.{ne_eqb, eq-eqb}
+use borrow.Author.Tests.{eq-eqb}
+use Rattle.std.proofs.lemmas.Bool.{cases_lt}
+use Rattle.std.proofs.lemmas.Int.{unsigned_abs-mul}
 use Rattle.exact.specs.Exact.{mag, minus, signed, coord}
-use Rattle.grid.specs.Grid.{step, steps, grid_number, on_grid, is_on_grid}
-use Rattle.grid.proofs.Whole.{le_or_lt, gap, Nearest, closest_nearest}
-use Rattle.grid.proofs.Value.{revalue}
-use Rattle.grid.proofs.Lifted.{whole_steps}
-use Rattle.grid.proofs.GridNumbers.{exact, stays, steps_bound, number_fits}
-use Rattle.grid.proofs.Ways.{placed, no_grid, no_place}
-use Rattle.grid.proofs.Distances.{one_side, two_sides, abs_signed_lem, Side, side, scale_signed_lem, signed_zero}
+use Rattle.std.specs.Prelude.{None, Some}
+use Rattle.grid.specs.Grid.{Grid, step, steps, grid_number, on_grid, booked, is_on_grid}
+use Rattle.grid.proofs.Whole.{gap, Nearest, closest_nearest, none_nearer, even_one}
+use Rattle.grid.proofs.Values.{HasUnits, read_units}
+use Rattle.grid.proofs.GridNumbers.{no_grid, no_place, placed, step_pos, whole_steps, steps_at_most, number_fits, number_exact, stays}
+use Rattle.grid.proofs.Distances.{abs_signed, size_coord, one_side, Multiple, same, other, multiple_of, scale_signed}
 
--- what has the value a / 2 ^ 1074 has the size a
-value_mag_lem : (v : Float) (s : Bool) (a : ℕ) → HasValue v s a (2 ^ 1074) → (minus v ≡ s) × (mag v ≡ a) × T (finite v)
-unfolding mag
-value_mag_lem nan s a h = absurd h
-value_mag_lem (inf t) s a h = absurd h
-value_mag_lem (fin t m e) s a h = (h.0, ap (λ (n : ℕ). n / down e) h.1 ∙ mul-div_cancel a (down_pos e), tt)
-
-pub is_true : (b : Bool) → T b → b ≡ true
-is_true true t = refl
-is_true false t = absurd t
-
-no_steps : (k : ℕ) (s : Bool) → grid_number k s 0 ≡ fin false 0 (pos 0)
+zero_steps : (k : ℕ) (s : Bool) → grid_number k s 0 ≡ fin false 0 (pos 0)
 unfolding grid_number round
-no_steps k s = ap (λ (b : Bool). round binary64 b 0 (2 ^ k)) (never s) ∙ round_same binary64 false 0 (2 ^ k) 0 1 (pow_pos k) (pow_pos 0) (zero-mul 1 ∙ sym (zero-mul (2 ^ k)))
+zero_steps k s = ap (λ (b : Bool). round binary64 b 0 (2 ^ k)) (never s) ∙ round_same binary64 false 0 (2 ^ k) 0 1 (pow_pos k) (pow_pos 0) (zero-mul 1 ∙ sym (zero-mul (2 ^ k)))
   where
     never : (s : Bool) → s && false ≡ false
     never true = refl
     never false = refl
 
--- the size of a multiple of l
-size_of : (s : Bool) (z : ℤ) (l : ℕ) (d : Side s z) → nat_abs (z *ℤ pos l) ≡ d.size * l
-size_of s z l d = elim d.is [
-  | inl e ↦ ap (λ (w : ℤ). nat_abs (w *ℤ pos l)) e ∙ ap nat_abs (scale_signed_lem s d.size l) ∙ abs_signed_lem s (d.size * l)
-  | inr e ↦ ap (λ (w : ℤ). nat_abs (w *ℤ pos l)) e ∙ ap nat_abs (scale_signed_lem (not s) d.size l) ∙ abs_signed_lem (not s) (d.size * l)
-]
-
-size_coord_lem : (x : Float) → nat_abs (coord x) ≡ mag x
-unfolding coord
-size_coord_lem x = abs_signed_lem (minus x) (mag x)
-
 module _ (k : ℕ) (x : Float) (h : k ≤ 10) (f : fits binary64 x ≡ true) (t : T (finite x)) where
   placed_here : grid_number k (minus x) (steps k x) ≡ on_grid k x
-  placed_here = placed k x h (is_true (finite x) t)
+  placed_here = placed k x h t
 
-  pub read : (minus (on_grid k x) ≡ minus x && not (eqb (steps k x) 0)) × (mag (on_grid k x) ≡ steps k x * step k) × T (finite (on_grid k x))
+  -- its sign, its size, and that it is finite
+  read : (minus (on_grid k x) ≡ minus x && not (eqb (steps k x) 0)) × (mag (on_grid k x) ≡ steps k x * step k) × T (finite (on_grid k x))
   read =
-      value_mag_lem (on_grid k x) (minus x && not (eqb (steps k x) 0)) (steps k x * step k)
-      (revalue (on_grid k x) (minus x && not (eqb (steps k x) 0)) (steps k x) (2 ^ k) (steps k x * step k) (2 ^ 1074) (pow_pos k)
-      (mul_assoc (steps k x) (step k) (2 ^ k) ∙ ap (λ (n : ℕ). steps k x * n) (mul_comm (step k) (2 ^ k) ∙ whole_steps k h))
-      (subst (λ (v : Float). HasValue v (minus x && not (eqb (steps k x) 0)) (steps k x) (2 ^ k)) placed_here (exact k x h f t)))
+      read_units (on_grid k x) (minus x && not (eqb (steps k x) 0)) (steps k x * step k)
+      (subst (λ (v : Float). HasUnits v (minus x && not (eqb (steps k x) 0)) (steps k x * step k)) placed_here (number_exact k x h f t))
 
   -- the count of steps, on x's side of 0
   pub counted : coord (on_grid k x) ≡ signed (minus x) (steps k x * step k)
   unfolding coord
-  counted = ap₂ signed read.0 read.1 ∙ go (steps k x) (minus x)
+  counted = ap₂ signed read.0 read.1 ∙ go (minus x) (steps k x)
     where
-      go : (n : ℕ) (s : Bool) → signed (s && not (eqb n 0)) (n * step k) ≡ signed s (n * step k)
-      go zero s = signed_zero (s && not true) s (0 * step k) (zero-mul (step k))
-      go (suc n) false = refl
-      go (suc n) true = ap (λ (b : Bool). signed (not b) (suc n * step k)) (ne_eqb (suc n) 0 (λ e. omega arith))
+      none : (s : Bool) → signed (s && false) 0 ≡ signed s 0
+      none true = refl
+      none false = refl
+
+      go : (s : Bool) (n : ℕ) → signed (s && not (eqb n 0)) (n * step k) ≡ signed s (n * step k)
+      go false n = refl
+      go true zero = rw (zero-mul (step k)) refl
+      go true (suc n) = rw (eqb-suc-zero n) refl
 
   pub still_finite : T (finite (on_grid k x))
   still_finite = read.2
@@ -81,7 +62,7 @@ module _ (k : ℕ) (x : Float) (h : k ≤ 10) (f : fits binary64 x ≡ true) (t 
   still_fits = subst (λ (v : Float). T (fits binary64 v)) placed_here (number_fits k (minus x) (steps k x))
 
   in_steps : coord (on_grid k x) ≡ signed (minus x) (steps k x) *ℤ pos (step k)
-  in_steps = counted ∙ sym (scale_signed_lem (minus x) (steps k x) (step k))
+  in_steps = counted ∙ sym (scale_signed (minus x) (steps k x) (step k))
 
   -- a whole multiple of the step
   pub multiple : (z : ℤ) × (coord (on_grid k x) ≡ z *ℤ pos (step k))
@@ -89,7 +70,7 @@ module _ (k : ℕ) (x : Float) (h : k ≤ 10) (f : fits binary64 x ≡ true) (t 
 
   distances : Nearest (mag x) (step k) (steps k x)
   unfolding steps
-  distances = closest_nearest (mag x) (step k) (pow_pos (1074 - k))
+  distances = closest_nearest (mag x) (step k) (step_pos k)
 
   off : nat_abs (coord x -ℤ coord (on_grid k x)) ≡ gap (mag x) (steps k x * step k)
   unfolding coord
@@ -99,42 +80,34 @@ module _ (k : ℕ) (x : Float) (h : k ≤ 10) (f : fits binary64 x ≡ true) (t 
   pub half_step : 2 * nat_abs (coord x -ℤ coord (on_grid k x)) ≤ step k
   half_step = le_trans (le_of_eq (ap (λ (n : ℕ). 2 * n) off)) distances.half
 
-  same_side_lem : (n : ℕ) → nat_abs (coord x -ℤ signed (minus x) n *ℤ pos (step k)) ≡ gap (mag x) (n * step k)
-  unfolding coord
-  same_side_lem n = ap (λ (z : ℤ). nat_abs (signed (minus x) (mag x) -ℤ z)) (scale_signed_lem (minus x) n (step k)) ∙ one_side (minus x) (mag x) (n * step k)
+  other_multiple : (z : ℤ) → Multiple (minus x) (mag x) (step k) z
+  other_multiple z = multiple_of (minus x) (mag x) (step k) z
 
-  far_side : (n : ℕ) → nat_abs (coord x -ℤ signed (not (minus x)) n *ℤ pos (step k)) ≡ mag x + n * step k
-  unfolding coord
-  far_side n = ap (λ (z : ℤ). nat_abs (signed (minus x) (mag x) -ℤ z)) (scale_signed_lem (not (minus x)) n (step k)) ∙ two_sides (minus x) (mag x) (n * step k)
+  no_nearer : (n : ℕ) → nat_abs (coord x -ℤ coord (on_grid k x)) ≤ gap (mag x) (n * step k)
+  no_nearer n = le_trans (le_of_eq off) (none_nearer (mag x) (step k) (steps k x) n distances)
 
   -- none is nearer
   pub nearest : (z : ℤ) → nat_abs (coord x -ℤ coord (on_grid k x)) ≤ nat_abs (coord x -ℤ z *ℤ pos (step k))
-  nearest z = go (side (minus x) z)
+  unfolding coord
+  nearest z = elim (other_multiple z) [
+    | same n p e ↦ le_trans (no_nearer n) (le_of_eq (sym e))
+    | other n e ↦ le_trans (no_nearer 0) (le_trans (from_zero (mag x) (step k) (n * step k)) (le_of_eq (sym e)))
+  ]
     where
-      go : Side (minus x) z → nat_abs (coord x -ℤ coord (on_grid k x)) ≤ nat_abs (coord x -ℤ z *ℤ pos (step k))
-      go d = elim d.is [
-        | inl e ↦
-            le_trans (le_of_eq off) (le_trans (distances.least d.size) (le_of_eq (sym (ap (λ (w : ℤ). nat_abs (coord x -ℤ w *ℤ pos (step k))) e ∙ same_side_lem d.size))))
-        | inr e ↦
-            le_trans (le_of_eq off)
-            (le_trans (distances.least 0) (le_trans (from_zero (mag x) (step k) (d.size * step k)) (le_of_eq (sym (ap (λ (w : ℤ). nat_abs (coord x -ℤ w *ℤ pos (step k))) e ∙ far_side d.size)))))
-      ]
-        where
-          from_zero : (a b c : ℕ) → gap a (0 * b) ≤ a + c
-          from_zero a b c = let z = zero-mul b in omega arith
+      from_zero : (a b c : ℕ) → gap a (0 * b) ≤ a + c
+      from_zero a b c = let z = zero-mul b in omega arith
 
   -- of two that are equally near it is the even multiple
   pub even : (z : ℤ) → nat_abs (coord x -ℤ coord (on_grid k x)) ≡ nat_abs (coord x -ℤ z *ℤ pos (step k)) → (z *ℤ pos (step k) ≡ coord (on_grid k x) → ⊥)
       → (w : ℤ) × (coord (on_grid k x) ≡ w *ℤ pos (step k)) × (nat_abs w % 2 ≡ 0)
-  even z e d = (signed (minus x) (steps k x), in_steps, ap (λ (n : ℕ). n % 2) (abs_signed_lem (minus x) (steps k x)) ∙ go (side (minus x) z))
+  unfolding coord
+  even z e d = (signed (minus x) (steps k x), in_steps, ap (λ (n : ℕ). n % 2) (abs_signed (minus x) (steps k x)) ∙ go (other_multiple z))
     where
-      go : Side (minus x) z → steps k x % 2 ≡ 0
-      go s = elim s.is [
-        | inl p ↦
-            distances.even s.size (sym off ∙ e ∙ ap (λ (w : ℤ). nat_abs (coord x -ℤ w *ℤ pos (step k))) p ∙ same_side_lem s.size)
-            (λ q. d (ap (λ (w : ℤ). w *ℤ pos (step k)) p ∙ scale_signed_lem (minus x) s.size (step k) ∙ ap (λ (n : ℕ). signed (minus x) (n * step k)) q ∙ sym counted))
-        | inr p ↦ at_zero (steps k x) distances s.size (sym off ∙ e ∙ ap (λ (w : ℤ). nat_abs (coord x -ℤ w *ℤ pos (step k))) p ∙ far_side s.size)
-      ]
+      go : Multiple (minus x) (mag x) (step k) z → steps k x % 2 ≡ 0
+      go (same n p g) =
+          even_one (mag x) (step k) (steps k x) n distances (sym off ∙ e ∙ g)
+          (λ q. d (p ∙ ap (λ (n : ℕ). signed (minus x) (n * step k)) q ∙ sym counted))
+      go (other n g) = at_zero (steps k x) distances n (sym off ∙ e ∙ g)
         where
           -- a number beyond 0 is as near only where 0 is too
           tied : (a b q c : ℕ) → gap a (q * b) ≤ gap a (0 * b) → gap a (q * b) ≡ a + c → gap a (q * b) ≡ gap a (0 * b)
@@ -142,29 +115,26 @@ module _ (k : ℕ) (x : Float) (h : k ≤ 10) (f : fits binary64 x ≡ true) (t 
 
           at_zero : (q : ℕ) → Nearest (mag x) (step k) q → (n : ℕ) → gap (mag x) (q * step k) ≡ mag x + n * step k → q % 2 ≡ 0
           at_zero zero d n g = refl
-          at_zero (suc q) d n g = d.even 0 (tied (mag x) (step k) (suc q) (n * step k) (d.least 0) g) (λ w. omega arith)
+          at_zero (suc q) d n g = even_one (mag x) (step k) (suc q) 0 d (tied (mag x) (step k) (suc q) (n * step k) (none_nearer (mag x) (step k) (suc q) 0 d) g) (λ w. omega arith)
 
   -- zero is +0
   pub plus_zero : mag (on_grid k x) ≡ 0 → on_grid k x ≡ fin false 0 (pos 0)
   plus_zero z =
-      let n : steps k x ≡ 0 = eq_of_mul-eq-mul_right (step k) (pow_pos (1074 - k)) (steps k x) 0 (sym read.1 ∙ z ∙ sym (zero-mul (step k))) in
-      sym placed_here ∙ ap (λ (i : ℕ). grid_number k (minus x) i) n ∙ no_steps k (minus x)
+      let n : steps k x ≡ 0 = eq_of_mul-eq-mul_right (step k) (step_pos k) (steps k x) 0 (sym read.1 ∙ z ∙ sym (zero-mul (step k))) in
+      sym placed_here ∙ ap (λ (i : ℕ). grid_number k (minus x) i) n ∙ zero_steps k (minus x)
 
   pub never_minus_zero : minus (on_grid k x) ≡ true → mag (on_grid k x) ≡ 0 → ⊥
   never_minus_zero n z = true≢false (sym n ∙ ap minus (plus_zero z))
 
   -- a multiple of the step stays, unless it is -0
   pub stays_there : (z : ℤ) → coord x ≡ z *ℤ pos (step k) → (minus x ≡ true → mag x ≡ 0 → ⊥) → on_grid k x ≡ x
-  stays_there z e d = sym placed_here ∙ go (side (minus x) z)
-    where
-      go : Side (minus x) z → grid_number k (minus x) (steps k x) ≡ x
-      go s =
-          let m : mag x ≡ s.size * step k = sym (size_coord_lem x) ∙ ap nat_abs e ∙ size_of (minus x) z (step k) s in
-          stays k s.size x h f t m (λ n w. d n (m ∙ ap (λ (i : ℕ). i * step k) w ∙ zero-mul (step k)))
+  stays_there z e d =
+      let m : mag x ≡ nat_abs z * step k = sym (size_coord x) ∙ ap nat_abs e ∙ unsigned_abs-mul z (pos (step k)) in
+      sym placed_here ∙ stays k x h f t (nat_abs z) m (λ n w. d n (m ∙ ap (λ (i : ℕ). i * step k) w ∙ zero-mul (step k)))
 
   -- n steps are not exceeded where x does not exceed them
   pub bounded : (n : ℕ) → mag x ≤ n * step k → mag (on_grid k x) ≤ n * step k
-  bounded n l = le_trans (le_of_eq read.1) (mul-le-mul_right (step k) (steps_bound k n x l))
+  bounded n l = le_trans (le_of_eq read.1) (mul-le-mul_right (step k) (steps_at_most k n x l))
 
   -- nor is a whole number of metres
   pub bounded_metres : (m : ℕ) → mag x ≤ m * 2 ^ 1074 → mag (on_grid k x) ≤ m * 2 ^ 1074
@@ -187,9 +157,9 @@ module _ (k : ℕ) (x : Float) (h : k ≤ 10) (f : fits binary64 x ≡ true) (t 
 
 -- what is on the grid is so once more
 pub twice : (k : ℕ) (x : Float) → fits binary64 x ≡ true → on_grid k (on_grid k x) ≡ on_grid k x
-twice k x f = elim (le_or_lt k 10) [
-  | inl h ↦ here h (finite x) refl
-  | inr h ↦ sym (no_grid k (on_grid k x) h)
+twice k x f = elim (cases_lt 10 k) [
+  | inl h ↦ sym (no_grid k (on_grid k x) h)
+  | inr h ↦ here h (finite x) refl
 ]
   where
     here : k ≤ 10 → (b : Bool) → finite x ≡ b → on_grid k (on_grid k x) ≡ on_grid k x
@@ -207,3 +177,12 @@ on_it k x f h t = here (finite x) refl
     here : (b : Bool) → finite x ≡ b → is_on_grid k (on_grid k x) ≡ true
     here true e = put_there k x h f (subst T (sym e) tt)
     here false e = absurd (subst T e (subst (λ (y : Float). T (finite y)) (sym (no_place k x e)) t))
+
+-- by an overlay's grid: x as it is, or one of these
+pub by_grid : (P : Float → Type 0) (g : Grid) (x : Float) → P x → ((k : ℕ) → k ≤ 10 → P (on_grid k x)) → P (booked g x)
+unfolding booked
+by_grid P None x here there = here
+by_grid P (Some k) x here there = elim (cases_lt 10 k) [
+  | inl h ↦ subst P (no_grid k x h) here
+  | inr h ↦ there k h
+]

@@ -9,6 +9,7 @@ ghost use Rattle.grid.specs.Grid.{OnGrid, booked, on_grid};
 //
 // From 2^(52-k) up to twice that, neighbouring floats lie 2^-k apart. So the sum with 2^(52-k) is
 // rounded to the grid, and the difference is exact. From 2^(52-k) on every float is on the grid.
+#[tactic(auto, using(crate::proofs::GridNumbers::no_grid, crate::proofs::Lifted::word_exact, crate::proofs::Ways::rounded, crate::proofs::Ways::as_it_is))]
 pub fn on_grid(k: u32, x: f64) -> f64
     ensures { result ≡ on_grid k x }
 {
@@ -16,14 +17,10 @@ pub fn on_grid(k: u32, x: f64) -> f64
         return x;
     }
     let lift = (1u64 << (52 - k)) as f64;
-    if x < 0.0 {
-        if -lift < x {
-            return 0.0 - ((lift - x) - lift);
-        }
-        return x;
-    }
-    if x < lift {
-        return (lift + x) - lift;
+    let size = x.abs();
+    if size < lift {
+        // The sum with +0 is +0 where the rounded number is -0.
+        return ((lift + size) - lift).copysign(x) + 0.0;
     }
     x
 }

@@ -10,6 +10,7 @@ use native.Mathlib.Omega.{arith}
 use lib.Dec.{eqb}
 use lib.ListN.{length, get_or}
 use lib.Ieee.{Float, nan, binary64, fits}
+use lib.Ieee.Bits.{is_true}
 use lib.Ieee.Exact.{HasValue}
 use Rattle.lists.proofs.Gather.{in_list}
 use Rattle.lists.proofs.Regions.{front_in}
@@ -18,11 +19,8 @@ use Rattle.exact.proofs.ExactUnits.{exact_units}
 use Rattle.cutting.specs.Edges.{Edge, edge_at, key}
 use Rattle.cutting.specs.Edition.{ours}
 use Rattle.plane.specs.Plane.{is_number, point_at}
-use Rattle.std.specs.Prelude.{None, Some}
 use Rattle.grid.specs.Grid.{Grid, on_grid, booked}
-use Rattle.grid.proofs.Whole.{le_or_lt}
-use Rattle.grid.proofs.Ways.{no_grid}
-use Rattle.grid.proofs.OnGrid.{is_true, still_fits, still_finite, bounded_42}
+use Rattle.grid.proofs.OnGrid.{still_fits, still_finite, bounded_42, by_grid}
 use Rattle.settings.specs.declared.Settings.{Settings}
 use Rattle.entry.specs.Mesh.{Mesh, node_count}
 use Rattle.entry.specs.Refused.{entry_of}
@@ -45,16 +43,12 @@ use Rattle.rounding.proofs.Points.{Each, each_join, each_none, each_cons, Both, 
 
 -- where a coordinate is put on a grid, it is still finite and at most 2^42 in size
 booked_bounded : (g : Grid) (x : Float) → Bounded x → Bounded (booked g x)
-unfolding booked
-booked_bounded None x b = b
-booked_bounded (Some k) x b = elim (le_or_lt k 10) [
-  | inl h ↦ record {
+booked_bounded g x b =
+    by_grid Bounded g x b (λ k h. record {
       fit = is_true (fits binary64 (on_grid k x)) (still_fits k x h b.fit b.end);
       end = still_finite k x h b.fit b.end;
       size = bounded_42 k x h b.fit b.end b.size;
-    }
-  | inr h ↦ subst Bounded (no_grid k x h) b
-]
+    })
 
 -- What every theorem below takes: the entry passes, and the coordinates are f64, as in every list of f64 that a caller lends.
 module _ (o : Settings) (s c : Mesh) (w : ℕ) (pass : entry_of o s c w ≡ 0) (subject : Doubles s.coords) (cutter : Doubles c.coords) where
