@@ -3,7 +3,7 @@ mod Orders
 pub mod Integers
 mod Leading
 -- floats
-mod Fields
+pub mod Fields
 pub mod ExactUnits
 -- signs and angles
 mod SignLaws

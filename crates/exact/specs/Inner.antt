@@ -1,4 +1,4 @@
--- Cited only by the contracts of inner functions: significands, exponents, products and vectors. Assumes nothing.
+-- Cited by the contracts of inner functions and of `take_apart`: significands, exponents, products and vectors. Assumes nothing.
 use Rattle.std.specs.Prelude.{◌≡◌, Bool, ℕ, ◌*◌, ◌^◌, ◌<◌, ◌≤◌, ℤ, Float}
 use Rattle.exact.specs.Exact.{minus, mag, signed}
 use Rattle.exact.specs.Angle.{cross_product, det}

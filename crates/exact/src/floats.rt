@@ -16,7 +16,7 @@ pub fn is_finite(x: f64) -> bool
 
 // The sign, the significand and the exponent of a float. No `From`: what is not finite counts as 0.
 #[tactic(auto, using(crate::proofs::Fields::none_apart, crate::proofs::Fields::none_coord, crate::proofs::Fields::settled, crate::proofs::Fields::coord_of))]
-pub(crate) fn take_apart(x: f64) -> Parts
+pub fn take_apart(x: f64) -> Parts
     ensures value { (result.neg, result.m, result.e) ≡ take_apart x }
     ensures coord { signed_size result ≡ coord x }
 {

@@ -14,6 +14,6 @@ mod rows; // orientation whatever the exponents
 mod vectors; // points and directions of such numbers
 
 pub use angle::{compare_angles, compare_around};
-pub use floats::is_finite;
+pub use floats::{is_finite, take_apart};
 pub use orient::orient2d;
 pub use parts::Parts;
