@@ -1,9 +1,10 @@
 pub mod Whole
+pub mod Distances
+pub mod Multiples
 pub mod Values
 pub mod Digits
 pub mod GridNumbers
 pub mod Lifted
 pub mod Ways
-pub mod Distances
 pub mod OnGrid
 pub mod Samples

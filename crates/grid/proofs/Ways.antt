@@ -1,14 +1,12 @@
 -- What each way through `on_grid` gives. p is the size of x, r the rounded size with the sign of x. Assumes nothing.
 use mathlib.Core.Path.{◌≡◌, refl, sym, ap, ◌∙◌, subst}
 use mathlib.Core.Bool.{Bool, true, false, not, ◌&&◌, false≢true}
-use Prim.Native.Nat.{ℕ, zero, suc, ◌*◌, ◌^◌, ◌≤◌, ◌<◌}
-use native.Mathlib.Nat.{mul-pos, zero-mul}
-use native.Mathlib.Omega.{arith}
-use lib.Dec.{T, ltb, eqb, eqb-suc-zero}
+use Prim.Native.Nat.{ℕ, ◌*◌, ◌^◌, ◌≤◌, ◌<◌}
+use lib.Dec.{T, ltb, eqb}
 use lib.Pow.{pow_pos}
 use lib.Ieee.{Float, nan, inf, fin, binary64, round, add, sub, lt, of_bits, fits, is_nan}
 use lib.Ieee.Scale.{finite}
-use borrow.Author.Tests.{ltb-true, ltb-false, eq-eqb, ne_eqb}
+use borrow.Author.Tests.{ltb-true, ltb-false}
 use Rattle.exact.specs.Exact.{mag, minus}
 use Rattle.exact.proofs.ExactUnits.{exact_units}
 use Rattle.std.specs.Float.{is_sign_negative, float_with_sign}
@@ -16,6 +14,7 @@ use Rattle.grid.specs.Grid.{step, steps, grid_number, on_grid}
 use Rattle.grid.proofs.Values.{HasUnits, read_units, lt_at, add_zero_at}
 use Rattle.grid.proofs.GridNumbers.{no_place, placed, step_pos, in_units, far}
 use Rattle.grid.proofs.Lifted.{lift, lift_units, lowered}
+use Rattle.grid.proofs.Multiples.{steps_none}
 
 -- ---- the test
 
@@ -48,10 +47,6 @@ signed_units (inf s) r a t v = absurd t
 signed_units (fin s m e) nan a t v = absurd v
 signed_units (fin s m e) (inf u) a t v = absurd v
 signed_units (fin s m e) (fin u n d) a t v = (refl, v.1)
-
-steps_none : (n g : ℕ) → 0 < g → eqb (n * g) 0 ≡ eqb n 0
-steps_none zero g G = eq-eqb (0 * g) 0 (zero-mul g)
-steps_none (suc n) g G = let p : 0 < suc n * g = mul-pos (omega arith) G in ne_eqb (suc n * g) 0 (λ z. omega arith) ∙ sym (eqb-suc-zero n)
 
 -- ---- the answers
 

@@ -2,7 +2,7 @@
 #![tactic(auto)]
 
 ghost use Rattle.std.specs.Prelude.{◌≡◌};
-ghost use Rattle.grid.specs.Grid.{OnGrid, booked, on_grid};
+ghost use Rattle.grid.specs.Grid.{OnGrid, booked, is_on_grid, on_grid};
 
 // The multiple of 2^-k nearest to x, exactly halfway the even one, zero as +0. Where k is above 10,
 // and where x is not finite, x as it is.
@@ -35,4 +35,25 @@ pub fn booked(grid: Option<u32>, x: f64) -> f64
         None => x,
         Some(k) => on_grid(k, x),
     }
+}
+
+// Whether x is a number, and a whole multiple of 2^-k.
+#[tactic(auto, using(crate::proofs::Multiples::no_number, crate::proofs::Multiples::coarse, crate::proofs::Multiples::fine, crate::proofs::Multiples::finest))]
+pub fn is_on_grid(k: u32, x: f64) -> bool
+    ensures { result ≡ is_on_grid k x }
+{
+    if !exact::is_finite(x) {
+        return false;
+    }
+    // In units of 2^-1074 a step is 2^step, and x is ±m · 2^e, m of 53 digits at most.
+    let step = 1074u32.saturating_sub(k) as usize;
+    let p = exact::take_apart(x);
+    if step <= p.e {
+        return true;
+    }
+    let places = step - p.e;
+    if places < 53 {
+        return p.m % (1u64 << places) == 0;
+    }
+    p.m == 0
 }
