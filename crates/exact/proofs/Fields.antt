@@ -85,11 +85,11 @@ large zero t h r = absurd (h refl)
 large {x} {s} (suc f) t h r = subst (λ (n : ℕ). Taken x s (2 ^ 52 + t) n) (sym (sub-one (suc f))) r
 
 -- what has the value a / 2 ^ 1074 has the size a
-value_mag : (v : Float) (s : Bool) (a : ℕ) → HasValue v s a (2 ^ 1074) → (minus v ≡ s) × (mag v ≡ a)
+pub value_mag : (v : Float) (s : Bool) (a : ℕ) → HasValue v s a (2 ^ 1074) → (minus v ≡ s) × (mag v ≡ a) × T (finite v)
 unfolding mag
 value_mag nan s a h = absurd h
 value_mag (inf t) s a h = absurd h
-value_mag (fin t m e) s a h = (h.0, ap (λ (n : ℕ). n / down e) h.1 ∙ mul-div_cancel a (down_pos e))
+value_mag (fin t m e) s a h = (h.0, ap (λ (n : ℕ). n / down e) h.1 ∙ mul-div_cancel a (down_pos e), tt)
 
 pub record Read (v : Float) (s : Bool) (m e : ℕ) : Type 0 where
   pub taken : Taken v s m e

@@ -2,10 +2,10 @@
 use mathlib.Core.Path.{◌≡◌, refl, sym, ap, ap₂, ◌∙◌, subst}
 use mathlib.Core.Bool.{Bool, true, false, cond, not, beq, true≢false, false≢true}
 use Rattle.exact.specs.Angle.{det}
-use Prim.Native.Nat.{ℕ, zero, suc, ◌+◌, ◌*◌}
+use Prim.Native.Nat.{ℕ, zero, suc, ◌+◌, ◌-◌, ◌*◌}
 use native.Mathlib.Nat.{add_assoc, add_comm, add_left_comm, mul_comm, mul-add, add-mul}
 use native.Mathlib.Omega.{arith}
-use lib.IntN.{ℤ, pos, negsuc, neg_ℤ, sub_ℕ, ◌+ℤ◌, ◌-ℤ◌, ◌*ℤ◌}
+use lib.IntN.{ℤ, pos, negsuc, neg_ℤ, nat_abs, sub_ℕ, ◌+ℤ◌, ◌-ℤ◌, ◌*ℤ◌}
 use borrow.Author.Tests.{lt-ltb, le-ltb}
 use Rattle.exact.specs.Exact.{ordered, sign, signed}
 use Rattle.exact.proofs.Orders.{ordered_less, ordered_greater, ordered_equal}
@@ -174,6 +174,10 @@ signed_mul s t m n = ap₂ ◌*ℤ◌ (signed_diff s m) (signed_diff t n) ∙ go
     go true false = diff_mul 0 m n 0 ∙ diff_same _ _ _ _ (omega arith)
     go true true = diff_mul 0 m 0 n ∙ diff_same _ _ _ _ (omega arith)
 
+pub times_signed : (s : Bool) (n k : ℕ) → signed s n *ℤ pos k ≡ signed s (n * k)
+times_signed false n k = refl
+times_signed true n k = signed_mul true false n k
+
 -- a signed number is added to a difference
 pub add_signed : (a b : ℕ) (s : Bool) (t : ℕ) → diff (a + cond s 0 t) (b + cond s t 0) ≡ diff a b +ℤ signed s t
 add_signed a b false t = sym (ap (λ (z : ℤ). diff a b +ℤ z) (signed_diff false t) ∙ diff_add a b t 0)
@@ -219,3 +223,17 @@ minus_unlike false true k m n e h = minus_is false false true k m n (omega arith
 minus_unlike true false k m n e h = minus_is true true false k m n (omega arith)
 minus_unlike true true k m n e h = absurd (true≢false e)
 minus_unlike false false k m n e h = absurd (true≢false e)
+
+-- ---- sizes
+
+pub abs_signed : (s : Bool) (n : ℕ) → nat_abs (signed s n) ≡ n
+abs_signed false n = refl
+abs_signed true zero = refl
+abs_signed true (suc n) = refl
+
+pub abs_diff : (a b : ℕ) → nat_abs (diff a b) ≡ (a - b) + (b - a)
+abs_diff a b = go (way a b)
+  where
+    go : {a b : ℕ} → Way a b → nat_abs (diff a b) ≡ (a - b) + (b - a)
+    go (over a b n e) = ap nat_abs (as_pos a b n e) ∙ omega arith
+    go (under a b n e) = ap nat_abs (as_neg a b n e) ∙ omega arith

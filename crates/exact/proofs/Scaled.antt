@@ -20,7 +20,7 @@ use Rattle.exact.specs.InnerNear.{Close, Over}
 use Rattle.exact.specs.declared.parts.Parts.{Parts}
 use Rattle.std.specs.declared.cmp.Ordering.{Ordering}
 use Rattle.std.specs.declared.cmp.Ordering.TheVariants.{Less, Equal, Greater}
-use Rattle.exact.proofs.Integers.{diff, as_pos, diff_same, diff_neg, diff_add, diff_mul, every, every₂, sign_diff, signed_mul}
+use Rattle.exact.proofs.Integers.{diff, as_pos, diff_same, diff_neg, diff_add, diff_mul, every, every₂, sign_diff, times_signed, abs_signed}
 use Rattle.exact.proofs.Orders.{ordered_scale}
 use Rattle.exact.proofs.SignLaws.{size_none}
 use Rattle.exact.proofs.Nearby.{align_some, align_digits}
@@ -93,15 +93,6 @@ near {base} {u = u} {v} {w} {x} {y} {z} {p} {q} a b c d e f m n =
     ∙ (λ i. sign (det (a.same i) (b.same i) (c.same i) (d.same i) (e.same i) (f.same i)))
 
 -- ---- one number
-
-times_signed : (s : Bool) (n k : ℕ) → signed s n *ℤ pos k ≡ signed s (n * k)
-times_signed false n k = refl
-times_signed true n k = signed_mul true false n k
-
-abs_signed : (s : Bool) (n : ℕ) → unsigned_abs (signed s n) ≡ n
-abs_signed false n = refl
-abs_signed true zero = refl
-abs_signed true (suc n) = refl
 
 pub over_none : (base : ℕ) (p : Parts) → p.m ≡ 0 → Over base p (pos 0)
 over_none base p e = record { same = ap pos (zero-mul (2 ^ base)) ∙ none p.neg ∙ sym (ap (signed p.neg) (size_none p.m p.e e)); small = lit< tt }

@@ -1,35 +1,12 @@
 -- Whole numbers with signs: how far apart they are, and multiples. Assumes nothing.
-use mathlib.Core.Path.{◌≡◌, refl, sym, ap, ◌∙◌}
+use mathlib.Core.Path.{◌≡◌, refl, ap, ◌∙◌}
 use mathlib.Core.Bool.{Bool, true, false, not, cond}
-use Prim.Native.Nat.{ℕ, zero, suc, ◌+◌, ◌-◌, ◌*◌}
-use native.Mathlib.Nat.{zero-mul}
+use Prim.Native.Nat.{ℕ, suc, ◌+◌, ◌*◌}
 use native.Mathlib.Omega.{arith}
-use lib.Dec.{ltb}
-use lib.Ieee.{Float}
-use lib.IntN.{ℤ, pos, negsuc, neg_ℤ, nat_abs, ◌-ℤ◌, ◌*ℤ◌}
-use borrow.Author.Tests.{ltb-true, ltb-false}
-use Rattle.exact.specs.Exact.{mag, minus, signed, coord}
-use Rattle.exact.proofs.Integers.{diff, minus_signed}
+use lib.IntN.{ℤ, pos, negsuc, nat_abs, ◌-ℤ◌, ◌*ℤ◌}
+use Rattle.exact.specs.Exact.{signed}
+use Rattle.exact.proofs.Integers.{minus_signed, abs_diff}
 use Rattle.grid.proofs.Whole.{gap}
-
--- ---- sizes
-
-pub abs_diff : (a b : ℕ) → nat_abs (diff a b) ≡ gap a b
-unfolding diff
-abs_diff a b = go (ltb a b) refl
-  where
-    go : (c : Bool) → ltb a b ≡ c → nat_abs (cond c (negsuc (b - suc a)) (pos (a - b))) ≡ (a - b) + (b - a)
-    go true e = let h = ltb-true a b e in omega arith
-    go false e = let h = ltb-false a b e in omega arith
-
-pub abs_signed : (s : Bool) (n : ℕ) → nat_abs (signed s n) ≡ n
-abs_signed false n = refl
-abs_signed true zero = refl
-abs_signed true (suc n) = refl
-
-pub size_coord : (x : Float) → nat_abs (coord x) ≡ mag x
-unfolding coord
-size_coord x = abs_signed (minus x) (mag x)
 
 -- ---- how far ±a is from a multiple of g
 
@@ -54,8 +31,3 @@ multiple_of false a g (pos n) = same n refl (one_side false a (n * g))
 multiple_of false a g (negsuc n) = other (suc n) (two_sides false a (suc n * g))
 multiple_of true a g (pos n) = other n (two_sides true a (n * g))
 multiple_of true a g (negsuc n) = same (suc n) refl (one_side true a (suc n * g))
-
-pub scale_signed : (s : Bool) (n g : ℕ) → signed s n *ℤ pos g ≡ signed s (n * g)
-scale_signed false n g = refl
-scale_signed true zero g = ap pos (zero-mul g) ∙ sym (ap (λ (n : ℕ). neg_ℤ (pos n)) (zero-mul g))
-scale_signed true (suc n) g = refl

@@ -16,9 +16,10 @@ use lib.Ieee.Scale.{finite, round_same}
 use borrow.Author.Tests.{ne_eqb, le-leb, lt-leb}
 use Rattle.std.proofs.lemmas.Bool.{cases_lt}
 use Rattle.exact.specs.Exact.{mag, minus}
+use Rattle.exact.proofs.Fields.{value_mag}
 use Rattle.grid.specs.Grid.{step, steps, grid_number, on_grid}
 use Rattle.grid.proofs.Whole.{closest_whole, closest_at_most}
-use Rattle.grid.proofs.Values.{HasUnits, read_units, one_float}
+use Rattle.grid.proofs.Values.{HasUnits, one_float}
 use Rattle.grid.proofs.Digits.{Digits, digits}
 
 -- ---- where there is a grid, and where not
@@ -119,7 +120,7 @@ module _ (k : ℕ) (x : Float) (h : k ≤ 10) (f : fits binary64 x ≡ true) (t 
   pub stays : (q : ℕ) → mag x ≡ q * step k → (minus x ≡ true → q ≡ 0 → ⊥) → grid_number k (minus x) (steps k x) ≡ x
   stays q e z =
       let n = steps_on k q x e in
-      let v = read_units (grid_number k (minus x) (steps k x)) sign (steps k x * step k) number_exact in
+      let v = value_mag (grid_number k (minus x) (steps k x)) sign (steps k x * step k) number_exact in
       one_float (grid_number k (minus x) (steps k x)) x (number_fits k (minus x) (steps k x)) (subst T (sym f) tt) v.2 t
       (v.0 ∙ signs (minus x) (steps k x) (λ m o. z m (sym n ∙ o)))
       (v.1 ∙ ap (λ (n : ℕ). n * step k) n ∙ sym e)

@@ -13,8 +13,9 @@ use borrow.Author.Tests.{eq-eqb, ne_eqb}
 use Rattle.exact.specs.Exact.{mag, coord}
 use Rattle.exact.specs.Inner.{signed_size}
 use Rattle.exact.specs.declared.parts.Parts.{Parts}
+use Rattle.exact.proofs.Integers.{abs_signed}
+use Rattle.exact.proofs.ExactUnits.{size_coord}
 use Rattle.grid.specs.Grid.{step, is_on_grid}
-use Rattle.grid.proofs.Distances.{abs_signed, size_coord}
 
 pub steps_none : (n g : ℕ) → 0 < g → eqb (n * g) 0 ≡ eqb n 0
 steps_none zero g G = eq-eqb (0 * g) 0 (zero-mul g)

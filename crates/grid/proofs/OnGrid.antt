@@ -17,11 +17,14 @@ use Rattle.std.proofs.lemmas.Bool.{cases_lt}
 use Rattle.std.proofs.lemmas.Int.{unsigned_abs-mul}
 use Rattle.exact.specs.Exact.{mag, minus, signed, coord}
 use Rattle.std.specs.Prelude.{None, Some}
+use Rattle.exact.proofs.Integers.{abs_signed, times_signed}
+use Rattle.exact.proofs.Fields.{value_mag}
+use Rattle.exact.proofs.ExactUnits.{size_coord}
 use Rattle.grid.specs.Grid.{Grid, step, steps, grid_number, on_grid, booked, is_on_grid}
 use Rattle.grid.proofs.Whole.{gap, Nearest, closest_nearest, none_nearer, even_one}
-use Rattle.grid.proofs.Values.{HasUnits, read_units}
+use Rattle.grid.proofs.Values.{HasUnits}
 use Rattle.grid.proofs.GridNumbers.{no_grid, no_place, placed, step_pos, whole_steps, steps_at_most, number_fits, number_exact, stays}
-use Rattle.grid.proofs.Distances.{abs_signed, size_coord, one_side, Multiple, same, other, multiple_of, scale_signed}
+use Rattle.grid.proofs.Distances.{one_side, Multiple, same, other, multiple_of}
 
 zero_steps : (k : ℕ) (s : Bool) → grid_number k s 0 ≡ fin false 0 (pos 0)
 unfolding grid_number round
@@ -38,7 +41,7 @@ module _ (k : ℕ) (x : Float) (h : k ≤ 10) (f : fits binary64 x ≡ true) (t 
   -- its sign, its size, and that it is finite
   read : (minus (on_grid k x) ≡ minus x && not (eqb (steps k x) 0)) × (mag (on_grid k x) ≡ steps k x * step k) × T (finite (on_grid k x))
   read =
-      read_units (on_grid k x) (minus x && not (eqb (steps k x) 0)) (steps k x * step k)
+      value_mag (on_grid k x) (minus x && not (eqb (steps k x) 0)) (steps k x * step k)
       (subst (λ (v : Float). HasUnits v (minus x && not (eqb (steps k x) 0)) (steps k x * step k)) placed_here (number_exact k x h f t))
 
   -- the count of steps, on x's side of 0
@@ -62,7 +65,7 @@ module _ (k : ℕ) (x : Float) (h : k ≤ 10) (f : fits binary64 x ≡ true) (t 
   still_fits = subst (λ (v : Float). T (fits binary64 v)) placed_here (number_fits k (minus x) (steps k x))
 
   in_steps : coord (on_grid k x) ≡ signed (minus x) (steps k x) *ℤ pos (step k)
-  in_steps = counted ∙ sym (scale_signed (minus x) (steps k x) (step k))
+  in_steps = counted ∙ sym (times_signed (minus x) (steps k x) (step k))
 
   -- a whole multiple of the step
   pub multiple : (z : ℤ) × (coord (on_grid k x) ≡ z *ℤ pos (step k))

@@ -3,7 +3,7 @@ use mathlib.Core.Path.{◌≡◌, refl, sym, ap, ap₂, ◌∙◌}
 use mathlib.Core.Bool.{Bool, true, false, not, cond, ◌&&◌, true≢false}
 use mathlib.Core.Logic.{inl, inr}
 use Prim.Native.Nat.{ℕ, zero, suc, ◌+◌, ◌-◌, ◌*◌, ◌/◌, ◌^◌, ◌≤◌, ◌<◌}
-use native.Mathlib.Nat.{le_trans, le_of_eq, lt_of_lt_of_le, lt_of_le_of_lt, zero-mul, mul-pos, mul-div_cancel, mul-le-mul_right}
+use native.Mathlib.Nat.{le_trans, le_of_eq, lt_of_lt_of_le, lt_of_le_of_lt, zero-mul, mul-pos, mul-le-mul_right}
 use native.Mathlib.Nat.{le_of_mul-le-mul_right, lt_of_mul-lt-mul_right, mul-lt-mul_of_pos_right, eq_of_mul-eq-mul_right}
 use native.Mathlib.Omega.{arith}
 use lib.Dec.{T, ltb, eqb, eqb-suc-zero}
@@ -22,12 +22,6 @@ use Rattle.exact.specs.Exact.{mag, minus}
 -- x is a units, or -a where s is true
 abbrev pub HasUnits : Float → Bool → ℕ → Type 0
 HasUnits x s a = HasValue x s a (2 ^ 1074)
-
-pub read_units : (x : Float) (s : Bool) (a : ℕ) → HasUnits x s a → (minus x ≡ s) × (mag x ≡ a) × T (finite x)
-unfolding mag
-read_units nan s a h = absurd h
-read_units (inf t) s a h = absurd h
-read_units (fin t m e) s a h = (h.0, ap (λ (n : ℕ). n / down e) h.1 ∙ mul-div_cancel a (down_pos e), tt)
 
 -- the bit pattern of a finite f64
 pattern : Bool → ℕ → ℕ

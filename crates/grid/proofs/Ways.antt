@@ -10,8 +10,9 @@ use borrow.Author.Tests.{ltb-true, ltb-false}
 use Rattle.exact.specs.Exact.{mag, minus}
 use Rattle.exact.proofs.ExactUnits.{exact_units}
 use Rattle.std.specs.Float.{is_sign_negative, float_with_sign}
+use Rattle.exact.proofs.Fields.{value_mag}
 use Rattle.grid.specs.Grid.{step, steps, grid_number, on_grid}
-use Rattle.grid.proofs.Values.{HasUnits, read_units, lt_at, add_zero_at}
+use Rattle.grid.proofs.Values.{HasUnits, lt_at, add_zero_at}
 use Rattle.grid.proofs.GridNumbers.{no_place, placed, step_pos, in_units, far}
 use Rattle.grid.proofs.Lifted.{lift, lift_units, lowered}
 use Rattle.grid.proofs.Multiples.{steps_none}
@@ -61,7 +62,7 @@ module _ (k : ℕ) (x p : Float) (h : k ≤ 10) (f : fits binary64 x ≡ true) (
       → add binary64 r (of_bits binary64 0) ≡ on_grid k x
   unfolding of_bits grid_number steps
   rounded r y s =
-      let t : T (finite x) = finite_below x (lift k) (read_units (lift k) false (2 ^ 52 * step k) (lift_units k h)).2 (ap (λ (v : Float). lt v (lift k)) (sym e) ∙ y) in
+      let t : T (finite x) = finite_below x (lift k) (value_mag (lift k) false (2 ^ 52 * step k) (lift_units k h)).2 (ap (λ (v : Float). lt v (lift k)) (sym e) ∙ y) in
       let g = step k in
       let q = steps k x in
       let l : mag x < 2 ^ 52 * g = ltb-true (mag x) (2 ^ 52 * g) (sym (test t) ∙ y) in

@@ -9,9 +9,10 @@ use lib.IntN.{ℤ, pos, nat_abs, ◌+ℤ◌, ◌-ℤ◌, ◌*ℤ◌, -ℤ-+ℤ_c
 use lib.Ieee.{Float, binary64}
 use lib.Ieee.Bits.{is_true}
 use lib.Ieee.Fits.{add-fits, sub-fits, mul-fits}
+use Rattle.std.proofs.lemmas.Int.{unsigned_abs-mul}
 use Rattle.exact.specs.Exact.{coord}
 use Rattle.plane.specs.Plane.{◌⊕◌, ◌⊖◌, ◌⊗◌}
-use Rattle.rounding.proofs.Sizes.{abs_add, abs_sub, abs_mul}
+use Rattle.rounding.proofs.Sizes.{abs_add, abs_sub}
 use Rattle.rounding.proofs.Operations.{Number, Near, NearProduct, add_rounds, sub_rounds, rounds_near, mul_near}
 
 -- ---- the numbers, for a unit l. d, v, w: the sizes of the difference and of the rounded difference and product; e1, e2: the errors
@@ -64,7 +65,7 @@ module _ (p q t : Float) (m : ℕ) (P : Number p) (Q : Number q) (U : Number t)
   size_v = v_size m (nat_abs (coord q -ℤ coord p)) (nat_abs (coord v -ℤ (coord q -ℤ coord p))) (nat_abs (coord v)) difference near_v.off (abs_back (coord v) (coord q -ℤ coord p))
 
   product : nat_abs (coord t *ℤ coord v) ≤ nat_abs (coord v) * 2 ^ 1074
-  product = le_trans (le_of_eq (abs_mul (coord t) (coord v))) (at_most (nat_abs (coord t)) (nat_abs (coord v)) (2 ^ 1074) ht)
+  product = le_trans (le_of_eq (unsigned_abs-mul (coord t) (coord v))) (at_most (nat_abs (coord t)) (nat_abs (coord v)) (2 ^ 1074) ht)
 
   near_w : NearProduct w (coord t *ℤ coord v)
   near_w = mul_near t v U number_v (le_trans product (mul-le-mul_right (2 ^ 1074) (room (nat_abs (coord v)) m (in_room (nat_abs (coord v)) m size_v) small)))
@@ -78,7 +79,7 @@ module _ (p q t : Float) (m : ℕ) (P : Number p) (Q : Number q) (U : Number t)
   size_w : 8 * nat_abs (coord w) ≤ 9 * nat_abs (coord v) + 4
   size_w =
       w_size (2 ^ 1074) (nat_abs (coord v)) (nat_abs (coord w *ℤ pos (2 ^ 1074) -ℤ coord t *ℤ coord v)) (nat_abs (coord t *ℤ coord v)) (nat_abs (coord w)) (pow_pos 1074) product near_w.off
-      (le_trans (le_of_eq (sym (abs_mul (coord w) (pos (2 ^ 1074))))) (abs_back (coord w *ℤ pos (2 ^ 1074)) (coord t *ℤ coord v)))
+      (le_trans (le_of_eq (sym (unsigned_abs-mul (coord w) (pos (2 ^ 1074))))) (abs_back (coord w *ℤ pos (2 ^ 1074)) (coord t *ℤ coord v)))
 
   near_x : Near x (coord p +ℤ coord w)
   near_x = rounds_near (add_rounds p w P number_w) (room _ m (in_room _ (nat_abs (coord p)) m (nat_abs (coord v)) (nat_abs (coord w)) (abs_add (coord p) (coord w)) hp size_v size_w) small)

@@ -7,13 +7,12 @@ use native.Mathlib.Nat.{le_trans, le_of_eq, mul_right_comm, mul-le-mul_right, le
 use native.Mathlib.Omega.{arith}
 use lib.Dec.{leb, ltb, eqb, lit≤}
 use lib.ListN.{get_or}
-use lib.IntN.{nat_abs}
 use lib.Ieee.{Float, nan, inf, fin, binary64, up, down, le, lt, eq, of_bits, fits}
 use lib.Ieee.Bits.{is_true}
 use lib.Ieee.Fits.{down_pos, div-fits}
 use borrow.Author.Tests.{ltb-true, eqb-true, leb-true}
-use Rattle.exact.specs.Exact.{mag, minus, coord}
-use Rattle.exact.proofs.ExactUnits.{exact_units}
+use Rattle.exact.specs.Exact.{mag}
+use Rattle.exact.proofs.ExactUnits.{exact_units, size_coord}
 use Rattle.entry.specs.Refused.{coord_ok}
 use Rattle.plane.specs.Plane.{◌⊕◌, ◌⊖◌, ◌⊗◌, ◌⊘◌, zero_f, one_f, in_unit, between, dot, cross, along, magnitude, tolerance}
 use Rattle.segments.specs.Colinear.{parameters, orderable, in_order, first_then_second, of_order, colinear}
@@ -26,15 +25,10 @@ use Rattle.segments.specs.declared.Meeting.TheVariants.{Apart, Existing, New, Ov
 use Rattle.plane.proofs.FloatOrder.{and_left, and_right}
 use Rattle.rounding.specs.Booked.{Allowed, AllowedEnds, parameter}
 use Rattle.rounding.specs.Finite.{Bounded}
-use Rattle.rounding.proofs.Sizes.{abs_signed}
 use Rattle.rounding.proofs.Operations.{Number}
 use Rattle.rounding.proofs.Along.{along_number, along_size}
 
 -- ---- sizes in units
-
-pub size_coord : (x : Float) → nat_abs (coord x) ≡ mag x
-unfolding coord
-size_coord x = abs_signed (minus x) (mag x)
 
 in_units : (n d k a l : ℕ) → 0 < d → n * l ≡ a * d → n ≤ k * d → a ≤ k * l
 in_units n d k a l h e i = le_of_mul-le-mul_right {m = a} {n = k * l} {k = d} (le_trans (le_of_eq (sym e)) (le_trans (mul-le-mul_right l i) (le_of_eq (mul_right_comm k d l)))) h

@@ -1,9 +1,9 @@
 -- What the operations on f64 round, in units of 2^-1074, and by how much they err. Assumes nothing.
 use mathlib.Core.Path.{◌≡◌, refl, sym, ap, ap₂, ◌∙◌, subst}
 use mathlib.Core.Bool.{Bool, true, false, not, cond, ◌&&◌, beq, true≢false, false≢true}
-use Prim.Native.Nat.{ℕ, zero, suc, ◌+◌, ◌-◌, ◌*◌, ◌/◌, ◌^◌, ◌≤◌, ◌<◌}
+use Prim.Native.Nat.{ℕ, zero, suc, ◌+◌, ◌-◌, ◌*◌, ◌^◌, ◌≤◌, ◌<◌}
 use native.Mathlib.Nat.{le_trans, le_of_eq, le_antisymm, le_of_lt, lt_of_le_of_lt, mul-le-mul_right, le_of_mul-le-mul_right}
-use native.Mathlib.Nat.{mul_comm, mul_assoc, mul_right_comm, mul-mul-mul_comm, mul-pos, mul-sub, zero-mul, mul-div_cancel}
+use native.Mathlib.Nat.{mul_comm, mul_assoc, mul_right_comm, mul-mul-mul_comm, mul-pos, mul-sub}
 use native.Mathlib.Omega.{arith}
 use lib.Dec.{T, ltb, lit<}
 use lib.Pow.{pow_pos}
@@ -16,10 +16,11 @@ use lib.Ieee.Scale.{round_same, finite}
 use lib.Ieee.Bits.{is_true}
 use borrow.Author.Tests.{ltb-true, ltb-false}
 use Rattle.exact.specs.Exact.{mag, signed, coord}
-use Rattle.exact.proofs.Integers.{diff_same, diff_add, signed_diff, signed_mul}
+use Rattle.exact.proofs.Integers.{diff_same, diff_add, signed_diff, signed_mul, times_signed, abs_signed}
+use Rattle.exact.proofs.Fields.{value_mag}
 use Rattle.exact.proofs.ExactUnits.{exact_units}
 use Rattle.rounding.proofs.Nearest.{Close, rounded, rounded_near, rounded_whole, unscale}
-use Rattle.rounding.proofs.Sizes.{abs_signed, apart_signed}
+use Rattle.rounding.proofs.Sizes.{apart_signed}
 
 -- ---- what an operation rounds
 
@@ -142,10 +143,8 @@ sub_rounds x y p q = subst (λ (z : ℤ). Rounds (add binary64 x (neg y)) (coord
 -- ---- by how much it errs
 
 pub value_coord : (x : Float) (s : Bool) (a : ℕ) → HasValue x s a (2 ^ 1074) → T (finite x) × (coord x ≡ signed s a)
-unfolding coord mag
-value_coord nan s a h = absurd h
-value_coord (inf t) s a h = absurd h
-value_coord (fin t m e) s a h = (tt, ap₂ signed h.0 (ap (λ (n : ℕ). n / down e) h.1 ∙ mul-div_cancel a (down_pos e)))
+unfolding coord
+value_coord x s a h = let r = value_mag x s a h in (r.2, ap₂ signed r.0 r.1)
 
 -- below 2^1024 the rounded value is finite
 round_coord : (s : Bool) (a c : ℕ) → rounded (a * 2 ^ 1074) c < 2 ^ 2098
@@ -190,11 +189,6 @@ scaled g q l h k = unscale (2 ^ 53 * (g * l)) (2 ^ 53 * q) (q + 2 ^ 52 * l) l h 
 few : (g q b l : ℕ) → 0 < l → 2 ^ 53 * (g * l) ≤ 2 ^ 53 * q + (q + 2 ^ 52 * l) → q ≤ b * l → g ≤ 2 * b + 1
 few g q b l h k j = le_of_mul-le-mul_right {m = g} {n = 2 * b + 1} {k = l} (omega arith) h
 
-scale_signed : (s : Bool) (a l : ℕ) → signed s (a * l) ≡ signed s a *ℤ pos l
-scale_signed false a l = refl
-scale_signed true zero l = ap (λ (n : ℕ). neg_ℤ (pos n)) (zero-mul l) ∙ sym (ap pos (zero-mul l))
-scale_signed true (suc a) l = refl
-
 product_near : (s : Bool) (q : ℕ) → q ≤ 2 ^ 2000 * 2 ^ 1074 → NearProduct (round binary64 s q (2 ^ 1074 * 2 ^ 1074)) (signed s q)
 product_near s q h =
     let g = rounded (q * 2 ^ 1074) (2 ^ 1074 * 2 ^ 1074) in
@@ -203,7 +197,7 @@ product_near s q h =
     let v = round_coord s q (2 ^ 1074 * 2 ^ 1074) (lt_of_le_of_lt (few g q (2 ^ 2000) (2 ^ 1074) (pow_pos 1074) w.over h) (lit< tt)) in
     record {
       end = v.0;
-      off = subst (λ (y : ℤ). 2 ^ 53 * nat_abs (y -ℤ signed s q) ≤ nat_abs (signed s q) + 2 ^ 52 * 2 ^ 1074) (scale_signed s g (2 ^ 1074) ∙ ap (λ (y : ℤ). y *ℤ pos (2 ^ 1074)) (sym v.1))
+      off = subst (λ (y : ℤ). 2 ^ 53 * nat_abs (y -ℤ signed s q) ≤ nat_abs (signed s q) + 2 ^ 52 * 2 ^ 1074) (sym (times_signed s g (2 ^ 1074)) ∙ ap (λ (y : ℤ). y *ℤ pos (2 ^ 1074)) (sym v.1))
           (le_trans (apart_signed s (g * 2 ^ 1074) q (q + 2 ^ 52 * 2 ^ 1074) w) (le_of_eq (ap (λ (n : ℕ). n + 2 ^ 52 * 2 ^ 1074) (sym (abs_signed s q)))));
     }
 

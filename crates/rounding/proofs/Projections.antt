@@ -12,16 +12,17 @@ use lib.Ieee.{Float, nan, inf, fin, binary64, lt, eq}
 use lib.Ieee.Bits.{is_true}
 use lib.Ieee.Fits.{sub-fits, mul-fits}
 use lib.Ieee.Scale.{finite}
+use Rattle.std.proofs.lemmas.Int.{unsigned_abs-mul}
 use Rattle.exact.specs.Exact.{coord}
 use Rattle.plane.specs.Plane.{◌⊕◌, ◌⊖◌, ◌⊗◌, between, dot}
 use Rattle.plane.specs.declared.Point.{Point}
 use Rattle.plane.proofs.FloatOrder.{number_left, eq_sym, trichotomy}
 use Rattle.rules.specs.Nodes.{sign_bit}
 use Rattle.rounding.specs.Finite.{Bounded, Ordered}
-use Rattle.rounding.proofs.Sizes.{abs_add, abs_sub, abs_mul}
+use Rattle.rounding.proofs.Sizes.{abs_add, abs_sub}
 use Rattle.rounding.proofs.Operations.{Number, Near, NearProduct, add_rounds, sub_rounds, rounds_near, mul_near}
 use Rattle.rounding.proofs.Along.{abs_back}
-use Rattle.rounding.proofs.Booked.{size_coord}
+use Rattle.exact.proofs.ExactUnits.{size_coord}
 
 -- ---- sizes
 
@@ -63,13 +64,13 @@ product_sized : (v w : Float) → Sized (2 ^ 1118) v → Sized (2 ^ 1118) w → 
 product_sized v w H K =
     let z = coord v *ℤ coord w in
     let l = pos (2 ^ 1074) in
-    let most : nat_abs z ≤ 2 ^ 1118 * 2 ^ 1118 = le_trans (le_of_eq (abs_mul (coord v) (coord w))) (both_most (nat_abs (coord v)) (2 ^ 1118) (nat_abs (coord w)) (2 ^ 1118) H.size K.size) in
+    let most : nat_abs z ≤ 2 ^ 1118 * 2 ^ 1118 = le_trans (le_of_eq (unsigned_abs-mul (coord v) (coord w))) (both_most (nat_abs (coord v)) (2 ^ 1118) (nat_abs (coord w)) (2 ^ 1118) H.size K.size) in
     let near : NearProduct (v ⊗ w) z = mul_near v w H.number K.number (le_trans most (lit≤ tt)) in
     let x = coord (v ⊗ w) in
     record {
       number = record { fit = is_true _ (mul-fits binary64 v w); end = near.end };
       size = le_trans (product_most (nat_abs x) (nat_abs (x *ℤ l -ℤ z)) (nat_abs z) (2 ^ 1162) (2 ^ 1074) (pow_pos 1074)
-          (le_trans (le_of_eq (sym (abs_mul x l))) (abs_back (x *ℤ l) z)) near.off (le_trans most (lit≤ tt))) (lit≤ tt);
+          (le_trans (le_of_eq (sym (unsigned_abs-mul x l))) (abs_back (x *ℤ l) z)) near.off (le_trans most (lit≤ tt))) (lit≤ tt);
     }
 
 sum_finite : (v w : Float) → Sized (2 ^ 1164) v → Sized (2 ^ 1164) w → T (finite (v ⊕ w))
