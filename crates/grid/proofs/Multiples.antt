@@ -1,4 +1,4 @@
--- Whether m * 2 ^ e units of 2 ^ -1074 are a whole number of steps. Assumes nothing.
+-- Whether x, which is m * 2 ^ e units of 2 ^ -1074 or as many below 0, is a whole number of steps. Assumes nothing.
 use mathlib.Core.Path.{◌≡◌, refl, sym, ap, ◌∙◌}
 use mathlib.Core.Bool.{Bool, true, false, ◌&&◌}
 use Prim.Native.Nat.{ℕ, zero, suc, ◌+◌, ◌-◌, ◌*◌, ◌/◌, ◌%◌, ◌^◌, ◌≤◌, ◌<◌}
@@ -37,6 +37,7 @@ module _ (k : ℕ) (x : Float) (p : Parts) (t : finite x ≡ true) (c : signed_s
       let same : p.m * 2 ^ p.e ≡ mag x = sym (abs_signed p.neg (p.m * 2 ^ p.e)) ∙ ap nat_abs c ∙ size_coord x in
       e ∙ ap (λ (n : ℕ). eqb (n % step k) 0) same ∙ sym (ap (λ (b : Bool). b && eqb (mag x % step k) 0) t)
 
+  -- a step is no more than 2 ^ e units
   pub coarse : 1074 - k ≤ p.e → true ≡ is_on_grid k x
   coarse l =
       let i = p.e - (1074 - k) in
@@ -44,6 +45,7 @@ module _ (k : ℕ) (x : Float) (p : Parts) (t : finite x ≡ true) (c : signed_s
       let n : p.m * 2 ^ p.e ≡ p.m * 2 ^ i * step k = ap (λ (n : ℕ). p.m * 2 ^ n) (sym s) ∙ ap (λ (n : ℕ). p.m * n) (pow-add 2 i (1074 - k)) ∙ sym (mul_assoc p.m (2 ^ i) (step k)) in
       by_parts (sym (eq-eqb _ 0 (ap (λ (n : ℕ). n % step k) n ∙ mul-mod_left (p.m * 2 ^ i) (step k))))
 
+  -- a step is 2 ^ d times as much
   places : p.e < 1074 - k → eqb (p.m % 2 ^ (1074 - k - p.e)) 0 ≡ eqb (p.m * 2 ^ p.e % step k) 0
   places l =
       let d = 1074 - k - p.e in
@@ -56,5 +58,6 @@ module _ (k : ℕ) (x : Float) (p : Parts) (t : finite x ≡ true) (c : signed_s
       let w : 1 * 2 ^ d % 2 ^ 64 ≡ 2 ^ d = ap (λ (n : ℕ). n % 2 ^ 64) (one-mul (2 ^ d)) ∙ mod-eq_of_lt (pow-lt {i = d} {j = 64} (omega arith)) in
       by_parts (ap (λ (n : ℕ). eqb (p.m % n) 0) w ∙ places l)
 
+  -- m has fewer digits
   pub finest : p.e < 1074 - k → 53 ≤ 1074 - k - p.e → p.m < 2 ^ 53 → eqb p.m 0 ≡ is_on_grid k x
   finest l s u = by_parts (ap (λ (n : ℕ). eqb n 0) (sym (mod-eq_of_lt (lt_of_lt_of_le u (pow_mono s)))) ∙ places l)

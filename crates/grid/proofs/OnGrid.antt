@@ -8,10 +8,9 @@ use native.Mathlib.Nat.{le_trans, le_of_eq, mul_assoc, mul-mod_left, mul-le-mul_
 use native.Mathlib.Omega.{arith}
 use lib.Dec.{T, eqb, eqb-suc-zero}
 use lib.IntN.{ℤ, pos, nat_abs, ◌-ℤ◌, ◌*ℤ◌}
-use lib.Pow.{pow_pos}
-use lib.Ieee.{Float, fin, binary64, round, fits}
+use lib.Ieee.{Float, fin, binary64, fits}
 use lib.Ieee.Bits.{is_true}
-use lib.Ieee.Scale.{finite, round_same}
+use lib.Ieee.Scale.{finite}
 use borrow.Author.Tests.{eq-eqb}
 use Rattle.std.proofs.lemmas.Bool.{cases_lt}
 use Rattle.std.proofs.lemmas.Int.{unsigned_abs-mul}
@@ -22,17 +21,9 @@ use Rattle.exact.proofs.Fields.{value_mag}
 use Rattle.exact.proofs.ExactUnits.{size_coord}
 use Rattle.grid.specs.Grid.{Grid, step, steps, grid_number, on_grid, booked, is_on_grid}
 use Rattle.grid.proofs.Whole.{gap, Nearest, closest_nearest, none_nearer, even_one}
-use Rattle.grid.proofs.Values.{HasUnits}
+use Rattle.grid.proofs.Values.{HasUnits, one_float}
 use Rattle.grid.proofs.GridNumbers.{no_grid, no_place, placed, step_pos, whole_steps, steps_at_most, number_fits, number_exact, stays}
 use Rattle.grid.proofs.Distances.{one_side, Multiple, same, other, multiple_of}
-
-zero_steps : (k : ℕ) (s : Bool) → grid_number k s 0 ≡ fin false 0 (pos 0)
-unfolding grid_number round
-zero_steps k s = ap (λ (b : Bool). round binary64 b 0 (2 ^ k)) (never s) ∙ round_same binary64 false 0 (2 ^ k) 0 1 (pow_pos k) (pow_pos 0) (zero-mul 1 ∙ sym (zero-mul (2 ^ k)))
-  where
-    never : (s : Bool) → s && false ≡ false
-    never true = refl
-    never false = refl
 
 module _ (k : ℕ) (x : Float) (h : k ≤ 10) (f : fits binary64 x ≡ true) (t : T (finite x)) where
   placed_here : grid_number k (minus x) (steps k x) ≡ on_grid k x
@@ -49,10 +40,6 @@ module _ (k : ℕ) (x : Float) (h : k ≤ 10) (f : fits binary64 x ≡ true) (t 
   unfolding coord
   counted = ap₂ signed read.0 read.1 ∙ go (minus x) (steps k x)
     where
-      none : (s : Bool) → signed (s && false) 0 ≡ signed s 0
-      none true = refl
-      none false = refl
-
       go : (s : Bool) (n : ℕ) → signed (s && not (eqb n 0)) (n * step k) ≡ signed s (n * step k)
       go false n = refl
       go true zero = rw (zero-mul (step k)) refl
@@ -122,9 +109,14 @@ module _ (k : ℕ) (x : Float) (h : k ≤ 10) (f : fits binary64 x ≡ true) (t 
 
   -- zero is +0
   pub plus_zero : mag (on_grid k x) ≡ 0 → on_grid k x ≡ fin false 0 (pos 0)
+  unfolding fits mag
   plus_zero z =
       let n : steps k x ≡ 0 = eq_of_mul-eq-mul_right (step k) (step_pos k) (steps k x) 0 (sym read.1 ∙ z ∙ sym (zero-mul (step k))) in
-      sym placed_here ∙ ap (λ (i : ℕ). grid_number k (minus x) i) n ∙ zero_steps k (minus x)
+      one_float (on_grid k x) (fin false 0 (pos 0)) still_fits tt still_finite tt (read.0 ∙ ap (λ (i : ℕ). minus x && not (eqb i 0)) n ∙ never (minus x)) z
+    where
+      never : (s : Bool) → s && false ≡ false
+      never true = refl
+      never false = refl
 
   pub never_minus_zero : minus (on_grid k x) ≡ true → mag (on_grid k x) ≡ 0 → ⊥
   never_minus_zero n z = true≢false (sym n ∙ ap minus (plus_zero z))

@@ -23,7 +23,7 @@ use Rattle.exact.specs.Exact.{mag, minus}
 abbrev pub HasUnits : Float → Bool → ℕ → Type 0
 HasUnits x s a = HasValue x s a (2 ^ 1074)
 
--- the bit pattern of a finite f64
+-- the bit pattern of a finite f64, by its sign and its size
 pattern : Bool → ℕ → ℕ
 pattern s a = cond s (2 ^ 63) 0 + (size a - 53) * 2 ^ 52 + a / 2 ^ (size a - 53)
 
@@ -33,6 +33,7 @@ bits_are nan t = absurd t
 bits_are (inf s) t = absurd t
 bits_are (fin s m e) t = refl
 
+-- so two of one sign and one size are the same
 pub one_float : (x y : Float) → T (fits binary64 x) → T (fits binary64 y) → T (finite x) → T (finite y) → minus x ≡ minus y → mag x ≡ mag y → x ≡ y
 one_float x y p q t u s a =
     sym (of_bits-to_bits binary64 x p) ∙ ap (of_bits binary64) (bits_are x t ∙ ap₂ pattern s a ∙ sym (bits_are y u)) ∙ of_bits-to_bits binary64 y q
