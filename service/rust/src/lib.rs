@@ -11,11 +11,27 @@
 //! assert_eq!(answer.mesh.cells().next().unwrap().family, 7);
 //! assert_eq!(answer.parents().next(), Some(Parent::Subject(0)));
 //! ```
+//!
+//! With a survey grid, a new point goes to the nearest multiples of 1/2^k metre; here k is 1, and the steps are half metres:
+//!
+//! ```
+//! # use daqwimay::{Kind, Mesh, Operation, Settings, overlay_with};
+//! # let mesh = |kind, corners: &[[f64; 2]]| {
+//! #     let mut m = Mesh::default();
+//! #     let nodes: Vec<u32> = corners.iter().map(|[x, y]| m.add_node(*x, *y)).collect();
+//! #     m.add_cell(kind, 0, &nodes);
+//! #     m
+//! # };
+//! let cell = mesh(Kind::Quad4, &[[0.0, 0.0], [2.0, 0.0], [2.0, 2.0], [0.0, 2.0]]);
+//! let ditch = mesh(Kind::Seg2, &[[1.3, -1.0], [1.3, 3.0]]);
+//! let booked = overlay_with(Settings { grid: Some(1), ..Settings::of(Operation::Lines) }, &cell, &ditch).unwrap();
+//! assert_eq!((booked.mesh.node(6), booked.mesh.node(7)), (Some([1.5, 0.0]), Some([1.5, 2.0])));
+//! ```
 
 #[rustfmt::skip]
 unsafe extern "C" {
     fn daqwimay_overlay(
-        operation: u32, limit: u32,
+        operation: u32, limit: u32, grid: u32,
         scoords: *const f64, scoords_len: usize, snodes: *const u32, snodes_len: usize, sends: *const u32, sends_len: usize,
         skinds: *const u8, skinds_len: usize, sfamilies: *const u32, sfamilies_len: usize,
         ccoords: *const f64, ccoords_len: usize, cnodes: *const u32, cnodes_len: usize, cends: *const u32, cends_len: usize,
@@ -29,6 +45,10 @@ unsafe extern "C" {
 
 /// The largest limit of meetings.
 pub const MOST_MEETINGS: u32 = 65_536;
+/// The finest survey grid, of 1/2^10 metre.
+pub const FINEST_GRID: u32 = 10;
+/// No grid, where the library takes a number.
+const NO_GRID: u32 = u32::MAX;
 /// The most slots in a cell's table: no cell has more node entries in its pieces.
 const SLOTS: usize = 1024;
 
@@ -42,6 +62,24 @@ pub enum Operation {
     SymmetricDifference = 4,
     /// The subject cut by lines: the cutter's cells are of `Kind::Seg2`.
     Lines = 5,
+}
+
+/// What is set for an overlay. `Settings::of` has what an operation alone says; write `..Settings::of(operation)` behind what else is set, and a
+/// setting that comes later breaks nothing.
+#[derive(Clone, Copy, Debug, PartialEq, Eq)]
+pub struct Settings {
+    pub operation: Operation,
+    /// The most meetings of the edges, from 1 to `MOST_MEETINGS`; each takes 64 bytes of the working list, which every call clears.
+    pub limit: u32,
+    /// k of the survey grid, from 0 to `FINEST_GRID`: new points are booked on multiples of 1/2^k metre. `None`: they stay as computed.
+    pub grid: Option<u32>,
+}
+
+impl Settings {
+    /// The largest limit of meetings, and no grid.
+    pub const fn of(operation: Operation) -> Settings {
+        Settings { operation, limit: MOST_MEETINGS, grid: None }
+    }
 }
 
 #[derive(Clone, Copy, Debug, PartialEq, Eq)]
@@ -124,6 +162,7 @@ pub enum Refusal {
     CrowdedCell = 10,
     OpenCell = 11,
     FullOutput = 12,
+    FineGrid = 13,
     FoldedCell = 19,
 }
 
@@ -141,6 +180,7 @@ impl Refusal {
             9 => Refusal::CrowdedEdge,
             10 => Refusal::CrowdedCell,
             11 => Refusal::OpenCell,
+            13 => Refusal::FineGrid,
             19 => Refusal::FoldedCell,
             _ => Refusal::FullOutput,
         }
@@ -171,6 +211,7 @@ impl std::fmt::Display for Refusal {
             Refusal::CrowdedCell => "over 1,024 slots in the table of one cell",
             Refusal::OpenCell => "the outline of a cell doesn't lead round once it is cut, as where a node lies a hair beside a corner and not on it",
             Refusal::FullOutput => "no place in an output list",
+            Refusal::FineGrid => "the survey grid is finer than 1/2^10 metre",
             Refusal::FoldedCell => {
                 "the outline of a cell runs along itself once it is cut: corners so close that they became one node, or a spike; merge or \
                  remove those corners"
@@ -230,13 +271,17 @@ fn at_least<T: Clone + Default>(l: &mut Vec<T>, n: usize) {
 }
 
 impl Overlayer {
-    /// Cuts the subject by the cutter. `limit` is the most meetings of their edges, from 1 to `MOST_MEETINGS`; each takes 64 bytes of the
-    /// working list, which every call clears. Lists that prove too short for the pieces grow, and the call is made again.
+    /// Cuts the subject by the cutter with a limit of meetings and no grid: `Settings`.
     pub fn overlay(&mut self, operation: Operation, limit: u32, subject: &Mesh, cutter: &Mesh) -> Result<Overlay, Refusal> {
+        self.overlay_with(Settings { limit, ..Settings::of(operation) }, subject, cutter)
+    }
+
+    /// Cuts the subject by the cutter. Lists that prove too short for the pieces grow, and the call is made again.
+    pub fn overlay_with(&mut self, settings: Settings, subject: &Mesh, cutter: &Mesh) -> Result<Overlay, Refusal> {
         let nodes = subject.node_count() + cutter.node_count();
         let entries = subject.nodes.len() + cutter.nodes.len();
         let cells = subject.ends.len() + cutter.ends.len();
-        let points = nodes + limit.min(MOST_MEETINGS) as usize;
+        let points = nodes + settings.limit.min(MOST_MEETINGS) as usize;
         let work = 16 * (points + entries) + 64;
         let most = SLOTS * cells;
         let mut room = (4 * entries + 256).min(most);
@@ -250,7 +295,7 @@ impl Overlayer {
             at_least(&mut self.meshes, room);
             at_least(&mut self.cells, room);
             let mut counts = [0; 4];
-            let code = self.call(operation, limit, subject, cutter, work, &mut counts);
+            let code = self.call(settings, subject, cutter, work, &mut counts);
             if code == 0 {
                 return Ok(self.answer(nodes, counts));
             }
@@ -277,12 +322,14 @@ impl Overlayer {
     }
 
     #[rustfmt::skip]
-    fn call(&mut self, operation: Operation, limit: u32, s: &Mesh, c: &Mesh, work: usize, counts: &mut [u32; 4]) -> u32 {
+    fn call(&mut self, settings: Settings, s: &Mesh, c: &Mesh, work: usize, counts: &mut [u32; 4]) -> u32 {
+        // the number of no grid is no k: as a k it is as bad as the one below it
+        let grid = settings.grid.map_or(NO_GRID, |k| k.min(NO_GRID - 1));
         let (o, meshes, cells, work) = (&mut self.out, &mut self.meshes, &mut self.cells, &mut self.work[..work]);
         // Each pair is a list of its own, lent for the call; those that are written are borrowed mutably.
         unsafe {
             daqwimay_overlay(
-                operation as u32, limit,
+                settings.operation as u32, settings.limit, grid,
                 s.coords.as_ptr(), s.coords.len(), s.nodes.as_ptr(), s.nodes.len(), s.ends.as_ptr(), s.ends.len(),
                 s.kinds.as_ptr(), s.kinds.len(), s.families.as_ptr(), s.families.len(),
                 c.coords.as_ptr(), c.coords.len(), c.nodes.as_ptr(), c.nodes.len(), c.ends.as_ptr(), c.ends.len(),
@@ -296,7 +343,12 @@ impl Overlayer {
     }
 }
 
-/// Cuts the subject by the cutter, with lists of its own and the largest limit of meetings.
+/// Cuts the subject by the cutter, with lists of its own, the largest limit of meetings and no grid.
 pub fn overlay(operation: Operation, subject: &Mesh, cutter: &Mesh) -> Result<Overlay, Refusal> {
-    Overlayer::default().overlay(operation, MOST_MEETINGS, subject, cutter)
+    overlay_with(Settings::of(operation), subject, cutter)
+}
+
+/// Cuts the subject by the cutter, with lists of its own.
+pub fn overlay_with(settings: Settings, subject: &Mesh, cutter: &Mesh) -> Result<Overlay, Refusal> {
+    Overlayer::default().overlay_with(settings, subject, cutter)
 }

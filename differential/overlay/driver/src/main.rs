@@ -1,8 +1,8 @@
 //! Reads the program's forms from standard input, one after another, overlays each by the proved library and prints what `oracle count`
 //! prints: pieces regrouped by kind, `(count pieces newpoints)`, where the Rust's new points are all added ones, the fourth count; or
-//! `(refused N)`. After a piece's family stand the mesh and the index of its parent, as the program prints them. Standard error has each form's
-//! second and third counts: the added points that a piece names, and 0.
-use daqwimay::{Mesh, Operation, Overlay, Overlayer};
+//! `(refused N)`. A third number on a form's first line is k of the survey grid. After a piece's family stand the mesh and the index of its
+//! parent, as the program prints them. Standard error has each form's second and third counts: the added points that a piece names, and 0.
+use daqwimay::{Mesh, Operation, Overlay, Overlayer, Settings};
 use std::fmt::Write as _;
 use std::io::{Read, Write as _};
 
@@ -43,11 +43,16 @@ impl<'a> Words<'a> {
         }
         Some(m)
     }
-    /// The wrapper has no operation above 5: such a form isn't read.
-    fn form(&mut self) -> Option<(Operation, u32, Mesh, Mesh)> {
+    /// The numbers of the first line: a third one is k of the grid. The wrapper has no operation above 5: such a form isn't read.
+    fn settings(&mut self) -> Option<Settings> {
+        let (operation, limit) = (operation(self.number()?)?, self.number()?);
+        let grid = if *self.0.peek()? == "(" { None } else { Some(self.number()?) };
+        Some(Settings { operation, limit, grid })
+    }
+    fn form(&mut self) -> Option<(Settings, Mesh, Mesh)> {
         self.is("(")?;
         self.is("overlay")?;
-        let f = (operation(self.number()?)?, self.number()?, self.mesh()?, self.mesh()?);
+        let f = (self.settings()?, self.mesh()?, self.mesh()?);
         self.is(")")?;
         Some(f)
     }
@@ -83,11 +88,11 @@ fn main() {
     let mut lists = Overlayer::default();
     let (mut out, mut counts) = (String::new(), String::new());
     while words.0.peek().is_some() {
-        let Some((op, limit, subject, cutter)) = words.form() else {
+        let Some((settings, subject, cutter)) = words.form() else {
             out.push_str("(unread)\n");
             break;
         };
-        match lists.overlay(op, limit, &subject, &cutter) {
+        match lists.overlay_with(settings, &subject, &cutter) {
             Ok(o) => {
                 let _ = writeln!(counts, "{} {}", o.new_points, o.doubled_cells);
                 listing(&mut out, &o);
