@@ -16,7 +16,7 @@ int main(void)
     static uint32_t out[64], oends[16], families[16], meshes[16], cells[16], work[DAQWIMAY_WORK(8, 8, LIMIT)], counts[DAQWIMAY_COUNTS];
     static uint8_t kinds[16];
     uint32_t refused = daqwimay_overlay(
-        DAQWIMAY_IMPRINT, LIMIT,
+        DAQWIMAY_IMPRINT, LIMIT, DAQWIMAY_NO_GRID,
         LENT(scoords), LENT(nodes), LENT(ends), LENT(skinds), LENT(sfamilies),
         LENT(ccoords), LENT(nodes), LENT(ends), LENT(ckinds), LENT(cfamilies),
         LENT(coords), LENT(out), LENT(oends), LENT(kinds), LENT(families), LENT(meshes), LENT(cells),

@@ -25,10 +25,13 @@ enum { DAQWIMAY_SEG2 = 1, DAQWIMAY_TRI3 = 5, DAQWIMAY_QUAD4 = 8, DAQWIMAY_PGON =
 /* The mesh of the cell that a piece was cut from. */
 enum { DAQWIMAY_SUBJECT = 0, DAQWIMAY_CUTTER = 1 };
 
+/* In the place of a grid's number: new points stay as computed. */
+#define DAQWIMAY_NO_GRID 4294967295u
+
 /* Places in the list of counts, and how many there are. */
 enum { DAQWIMAY_PIECES = 0, DAQWIMAY_NEW_POINTS = 1, DAQWIMAY_ADDED_POINTS = 3, DAQWIMAY_COUNTS = 4 };
 
-/* Answers. At 1 to 7 every list but counts keeps its content; at the others but 0 the output lists and the working list are all zero. */
+/* Answers. At 1 to 7 and 13 every list but counts keeps its content; at the others but 0 the output lists and the working list are all zero. */
 enum {
     DAQWIMAY_DONE = 0,
     DAQWIMAY_BAD_OPERATION = 1,       /* operation above 5, or meeting limit outside 1..65,536 */
@@ -43,6 +46,7 @@ enum {
     DAQWIMAY_CROWDED_CELL = 10,       /* over 1,024 slots in a cell's table */
     DAQWIMAY_OPEN_CELL = 11,          /* a cell whose outline doesn't lead round once cut: a node a hair beside a corner, not on it */
     DAQWIMAY_FULL_OUTPUT = 12,        /* no place in an output list */
+    DAQWIMAY_FINE_GRID = 13,          /* a grid finer than 1/2^10 metre; looked at after 1 and before 2 */
     DAQWIMAY_FOLDED_CELL = 19         /* a cell whose outline runs along itself once cut: corners so close that they became one node, a spike */
 };
 
@@ -50,7 +54,9 @@ enum {
 #define DAQWIMAY_WORK(nodes, entries, limit) (16 * ((size_t)(nodes) + (size_t)(entries) + (size_t)(limit)) + 64)
 
 /*
- * Cuts the subject (s..) by the cutter (c..) into the output (o..). Each list is an address and a count of numbers:
+ * Cuts the subject (s..) by the cutter (c..) into the output (o..). `limit` is the most meetings of edges. `grid` is k, from 0 to 10, of the
+ * survey grid of 1/2^k metre: each coordinate of a new point goes to the nearest multiple of 1/2^k, halfway to the even one; no other node
+ * moves. With DAQWIMAY_NO_GRID none does. Each list is an address and a count of numbers:
  *   coords    x and y of each node
  *   nodes     the cells' node numbers, one cell after the other
  *   ends      where each cell's node numbers end
@@ -74,7 +80,7 @@ enum {
  * answered. The call keeps nothing, allocates nothing and may run in many threads at once.
  */
 uint32_t daqwimay_overlay(
-    uint32_t operation, uint32_t limit,
+    uint32_t operation, uint32_t limit, uint32_t grid,
     const double *scoords, size_t scoords_len, const uint32_t *snodes, size_t snodes_len, const uint32_t *sends, size_t sends_len,
     const uint8_t *skinds, size_t skinds_len, const uint32_t *sfamilies, size_t sfamilies_len,
     const double *ccoords, size_t ccoords_len, const uint32_t *cnodes, size_t cnodes_len, const uint32_t *cends, size_t cends_len,

@@ -8,7 +8,7 @@ use mefikit::tools::{OverlayOperation, Overlayable, spatial_index};
 #[rustfmt::skip]
 unsafe extern "C" {
     fn daqwimay_overlay(
-        op: u32, m: u32,
+        op: u32, m: u32, grid: u32,
         sc: *const f64, sc_len: usize, sn: *const u32, sn_len: usize, se: *const u32, se_len: usize,
         sk: *const u8, sk_len: usize, sf: *const u32, sf_len: usize,
         cc: *const f64, cc_len: usize, cn: *const u32, cn_len: usize, ce: *const u32, ce_len: usize,

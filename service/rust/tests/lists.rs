@@ -4,7 +4,7 @@ use daqwimay as _;
 #[rustfmt::skip]
 unsafe extern "C" {
     fn daqwimay_overlay(
-        operation: u32, limit: u32,
+        operation: u32, limit: u32, grid: u32,
         scoords: *const f64, scoords_len: usize, snodes: *const u32, snodes_len: usize, sends: *const u32, sends_len: usize,
         skinds: *const u8, skinds_len: usize, sfamilies: *const u32, sfamilies_len: usize,
         ccoords: *const f64, ccoords_len: usize, cnodes: *const u32, cnodes_len: usize, cends: *const u32, cends_len: usize,
