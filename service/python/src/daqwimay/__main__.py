@@ -14,6 +14,7 @@ from . import __version__, models, picture, program, soils, strips as made, writ
 from .errors import InputError, NotClean, Problem
 from .mesh import Kind, Mesh
 from .models import Model
+from .overlaying import FINEST_GRID, survey_grid_said
 from .refusals import Refused, markdown
 from .soils import SoilMap
 from .strips import Strips
@@ -25,6 +26,7 @@ _EXAMPLES = """\
 examples:
   daqwimay cut model.disv soils.gpkg --soil code -o strips.vtu --table recharge.csv --picture strips.png
   daqwimay cut model.vtu soils.geojson --grid 0.001 --table -        clean the map on a grid of 1 mm first
+  daqwimay cut model.vtu soils.geojson --survey-grid 3 -o strips.vtu book new points on multiples of 1/8 metre
   daqwimay check model.disv soils.shp                                what is not clean, and where
   daqwimay info model.disv soils.gpkg                                what is in the files
   daqwimay explain input.in                                          what `(unread)` or `(refused N)` of the program mean
@@ -85,6 +87,8 @@ def _map_options(p: argparse.ArgumentParser, soils: Any = None) -> None:
     p.add_argument('--mesh-crs', metavar='CRS', help='the model\'s reference system, as EPSG:28992, where its file names none')
     p.add_argument('--soils-crs', metavar='CRS', help='the map\'s reference system, where its file names none')
     p.add_argument('--grid', type=float, metavar='STEP', help='clean the map first on a grid of this step, in the map\'s unit: 0.001 is 1 mm')
+    p.add_argument('--survey-grid', type=_survey_grid, metavar='K', help='book new points on multiples of 1/2^K metre, K from 0 to 10 (default: as '
+                   'computed); no node of the model and no corner of the map moves for that')
     p.add_argument('--background', metavar='NAME', default='(no soil)', help='a name for what no soil covers (default: "(no soil)")')
 
 
@@ -94,6 +98,12 @@ def _cut_options(p: argparse.ArgumentParser) -> None:
     p.add_argument('--table', metavar='CSV', help='cell, soil, area, share; - for standard output')
     p.add_argument('--picture', metavar='PNG', help='the model and the strips, drawn: .png, .svg, .pdf')
     p.add_argument('--by', choices=('soil', 'cell'), default='soil', help='colour the picture by soil, or each strip as the cell that it was cut from')
+
+
+def _survey_grid(words: str) -> int:
+    if not words.isdecimal() or int(words) > FINEST_GRID:
+        raise argparse.ArgumentTypeError(f'"{words}" is no whole number from 0 to {FINEST_GRID}: new points are booked on multiples of 1/2^K metre')
+    return int(words)
 
 
 class Progress:
@@ -142,7 +152,8 @@ def _cut(options: argparse.Namespace) -> int:
     for change in strips.changes:
         say(f'  cleaned: {change}')
     seconds = time.monotonic() - start
-    say(f'{len(strips.pieces):,} pieces, {strips.pieces.new_points:,} new points ({seconds:.1f} s); every piece is simple and in one soil')
+    booked = '' if options.survey_grid is None else f' on {survey_grid_said(options.survey_grid)}'
+    say(f'{len(strips.pieces):,} pieces, {strips.pieces.new_points:,} new points{booked} ({seconds:.1f} s); every piece is simple and in one soil')
     _say_areas(strips)
     _write(options, strips, made.same_crs(model, found))
     return 0
@@ -152,7 +163,7 @@ def _strips(options: argparse.Namespace, model: Model, found: SoilMap) -> Strips
     """Cut and checked, with progress."""
     progress = Progress()
     try:
-        return made.cut(model, found, grid=options.grid, background=options.background, progress=progress)
+        return made.cut(model, found, grid=options.grid, survey_grid=options.survey_grid, background=options.background, progress=progress)
     finally:
         progress.end()
 

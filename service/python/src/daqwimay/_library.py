@@ -3,7 +3,7 @@ from __future__ import annotations
 
 import ctypes
 from pathlib import Path
-from typing import Any, Iterable, NamedTuple, Sequence
+from typing import Any, Iterable, NamedTuple, Optional, Sequence
 
 import numpy as np
 
@@ -30,11 +30,26 @@ OUTPUT_LISTS = (
     ListRecord('parent_meshes', np.dtype(np.uint32), 'cell'),
     ListRecord('parent_cells', np.dtype(np.uint32), 'cell'),
 )
+NO_GRID = 2 ** 32 - 1       # in the place of a survey grid's K
 COUNTS = 4          # pieces; added points that a piece names; 0, once the count of doubled cells; all added points
+
+
+class Settings(NamedTuple):
+    """What is set for a call, in its order. A setting added to the call is a field added here."""
+
+    operation: int
+    limit: int
+    survey_grid: Optional[int] = None       # K of the grid of 1/2^K metre on which new points are booked, or none
+
+    def numbers(self) -> tuple[int, ...]:
+        """As the call takes them. The number of no grid is no K: as a K it is as bad as the one below it."""
+        grid = NO_GRID if self.survey_grid is None else min(self.survey_grid, NO_GRID - 1)
+        return self._replace(survey_grid=grid)
+
 
 _call = ctypes.CDLL(str(Path(__file__).with_name('libdaqwimay.so'))).daqwimay_overlay
 _call.restype = ctypes.c_uint32
-_call.argtypes = [ctypes.c_uint32] * 2 + [ctypes.c_void_p, ctypes.c_size_t] * (2 * len(MESH_LISTS) + len(OUTPUT_LISTS) + 2)
+_call.argtypes = [ctypes.c_uint32] * len(Settings._fields) + [ctypes.c_void_p, ctypes.c_size_t] * (2 * len(MESH_LISTS) + len(OUTPUT_LISTS) + 2)
 
 
 def lendable(values: Any, dtype: np.dtype, name: str) -> np.ndarray:
@@ -49,11 +64,11 @@ def lendable(values: Any, dtype: np.dtype, name: str) -> np.ndarray:
     return taken
 
 
-def call(operation: int, limit: int, subject: Sequence[np.ndarray], cutter: Sequence[np.ndarray],
-         output: Sequence[np.ndarray], work: np.ndarray) -> tuple[int, np.ndarray]:
+def call(settings: Settings, subject: Sequence[np.ndarray], cutter: Sequence[np.ndarray], output: Sequence[np.ndarray],
+         work: np.ndarray) -> tuple[int, np.ndarray]:
     """The refusal's number (0: none) and the counts. Python's lock is free during the call."""
     counts = np.zeros(COUNTS, np.uint32)
-    code = _call(operation, limit, *_addresses((*subject, *cutter, *output, work, counts)))
+    code = _call(*settings.numbers(), *_addresses((*subject, *cutter, *output, work, counts)))
     return code, counts
 
 

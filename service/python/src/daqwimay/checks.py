@@ -1,13 +1,13 @@
 """What the proofs do not say, checked after the call with GEOS: every piece is simple, has an area above 0 and lies in one soil."""
 from __future__ import annotations
 
-from typing import Any
+from typing import Any, Optional
 
 import numpy as np
 
 from . import geos
 from .errors import Problem
-from .mesh import Mesh
+from .mesh import Mesh, following
 from .models import Model
 from .overlaying import Overlay
 from .strips import Progress
@@ -15,13 +15,23 @@ from .strips import Progress
 _STEP = 500             # pieces between two words on progress
 
 
-def checked(model: Model, pieces: Overlay, soils: Mesh, names: list[str], progress: Progress) -> tuple[np.ndarray, np.ndarray, list[Problem]]:
+def checked(model: Model, pieces: Overlay, soils: Mesh, names: list[str], progress: Progress,
+            survey_grid: Optional[int] = None) -> tuple[np.ndarray, np.ndarray, list[Problem]]:
     """The soil of each piece (the last name: none), the area of each soil in the model by GEOS, and what is wrong."""
-    faces = _Faces(soils, names)
-    soil, problems = _pieces(model, pieces, faces, progress)
+    faces, booked = _Faces(soils, names), _by_booking(pieces, survey_grid)
+    soil, problems = _pieces(model, pieces, faces, booked, progress)
     if problems:
         return soil, np.zeros(len(names)), problems
-    return (soil, *_cells(model, pieces, soil, faces, progress))
+    return (soil, *_cells(model, pieces, soil, faces, np.bincount(pieces.parent_cells, booked, len(model.mesh)), progress))
+
+
+def _by_booking(pieces: Overlay, survey_grid: Optional[int]) -> np.ndarray:
+    """How far the area of each piece may be off because its new points moved, each by half a step at most in x and in y."""
+    if survey_grid is None:
+        return np.zeros(len(pieces))
+    far, counts = 2.0 ** -(survey_grid + 0.5), pieces.counts()
+    sides = np.hypot(*(pieces.xy[pieces.nodes] - pieces.xy[pieces.nodes[following(counts)]]).T)
+    return far * np.bincount(np.repeat(np.arange(len(pieces)), counts), sides + far, len(pieces))
 
 
 class _Faces:
@@ -77,7 +87,7 @@ def _longest_sides(mesh: Mesh) -> list[float]:
     return [float((high - low).max()) for low, high in boxes]
 
 
-def _pieces(model: Model, pieces: Overlay, faces: _Faces, progress: Progress) -> tuple[np.ndarray, list[Problem]]:
+def _pieces(model: Model, pieces: Overlay, faces: _Faces, booked: np.ndarray, progress: Progress) -> tuple[np.ndarray, list[Problem]]:
     none = len(faces.names) - 1
     soil = np.full(len(pieces), none)
     problems: list[Problem] = []
@@ -92,7 +102,7 @@ def _pieces(model: Model, pieces: Overlay, faces: _Faces, progress: Progress) ->
         face = faces.around(shape.representative_point())
         soil[i] = faces.soils[face] if face >= 0 else none
         stray = faces.strays(shape, face)
-        if stray.area > 0 and stray.area > faces.slack(shape, longest[parent]):
+        if stray.area > 0 and stray.area > faces.slack(shape, longest[parent]) + booked[i]:
             problems.append(_astray(stray, faces, int(soil[i]), cell))
         if i % _STEP == 0:
             progress('pieces checked', i, len(pieces))
@@ -107,7 +117,8 @@ def _astray(stray: Any, faces: _Faces, soil: int, cell: int) -> Problem:
     return Problem(f'a piece in two soils: {stray.area:.6g} of it in {where}, the rest in "{faces.names[soil]}"', point.x, point.y, cell)
 
 
-def _cells(model: Model, pieces: Overlay, soil: np.ndarray, faces: _Faces, progress: Progress) -> tuple[np.ndarray, list[Problem]]:
+def _cells(model: Model, pieces: Overlay, soil: np.ndarray, faces: _Faces, booked: np.ndarray,
+           progress: Progress) -> tuple[np.ndarray, list[Problem]]:
     """The areas of soils in each cell beside GEOS's."""
     mesh, ours, longest = model.mesh, _by_cell(pieces, soil), _longest_sides(model.mesh)
     by_geos, problems = np.zeros(len(faces.names)), []
@@ -118,7 +129,7 @@ def _cells(model: Model, pieces: Overlay, soil: np.ndarray, faces: _Faces, progr
         for number, area in theirs.items():
             by_geos[number] += area
         off, worst = max((abs(theirs.get(s, 0.0) - mine.get(s, 0.0)), s) for s in theirs.keys() | mine.keys())
-        if off > 0 and off > faces.slack(shape, longest[i]):
+        if off > 0 and off > faces.slack(shape, longest[i]) + booked[i]:
             what = f'"{faces.names[worst]}" has an area of {mine.get(worst, 0.0):.10g} by the pieces, {theirs.get(worst, 0.0):.10g} by GEOS'
             problems.append(Problem.at(shape.centroid.coords[0], what, model.number(i)))
         if i % _STEP == 0:

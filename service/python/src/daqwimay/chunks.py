@@ -5,8 +5,9 @@ from typing import Callable, Optional, Union
 
 import numpy as np
 
+from ._library import Settings
 from .mesh import MOST_CELLS, MOST_CORNERS_OF_MESH, MOST_NODES, Mesh, entries, following
-from .overlaying import Operation, Overlay, operation_number, overlay
+from .overlaying import Operation, Overlay, overlay, settings_of
 from .parts import triangles
 from .refusals import Refused
 
@@ -17,25 +18,27 @@ _SUBJECT_ONLY = (Operation.IMPRINT, Operation.INTERSECTION, Operation.DIFFERENCE
 
 
 def overlay_in_chunks(subject: Mesh, cutter: Mesh, operation: Union[Operation, str, int] = Operation.IMPRINT, *, chunk: int = CHUNK,
-                      parts: bool = False, progress: Optional[Progress] = None) -> Overlay:
+                      survey_grid: Optional[int] = None, parts: bool = False, progress: Optional[Progress] = None) -> Overlay:
     """The overlay of meshes of any size, for operations that cut the subject alone. Pieces are listed by the subject's cells.
 
     A chunk is lent with its rim: the earlier cells that have an edge in common with it. So each edge has the direction that it has in
     the whole mesh, and a point where two edges meet has the same bits in every chunk: points of equal bits are one node. Chunks are
     halved where a limit of the library asks for it. A refused cell is named. `progress` is told how many cells are done, of how many.
+    With a survey grid the rim is all cells around the chunk, since points that come near each other are put in order by their rounded places.
     Added points that no piece names are left out, whichever chunk found them: `added_points` is `new_points`.
 
     With `parts` a cell that is cut by too many edges (refusals 9 and 10) is cut in triangles first: its pieces end at their sides too, and
     nodes on its own sides are not those of its neighbours. The triangles' corners that pieces name count as new points too. `Overlay.parted`
     has the families of such cells.
     """
-    if operation_number(operation) not in _SUBJECT_ONLY:
+    settings = settings_of(operation, survey_grid=survey_grid)
+    if settings.operation not in _SUBJECT_ONLY:
         raise ValueError('in chunks: imprint, intersection, difference and lines; the others cut both meshes')
     if chunk < 1:
         raise ValueError(f'a chunk of {chunk} cells: 1 is the least')
     subject.check()
     cutter.check()
-    whole = _Whole(subject, cutter, Operation(operation_number(operation)), parts)
+    whole = _Whole(subject, cutter, settings, parts)
     waiting, done = [np.arange(len(subject))], 0
     while waiting:
         cells = waiting.pop()
@@ -51,8 +54,8 @@ def overlay_in_chunks(subject: Mesh, cutter: Mesh, operation: Union[Operation, s
 class _Whole:
     """Both meshes, and the pieces made so far."""
 
-    def __init__(self, subject: Mesh, cutter: Mesh, operation: Operation, parts: bool) -> None:
-        self.subject, self.cutter, self.operation, self.parts = subject, cutter, operation, parts
+    def __init__(self, subject: Mesh, cutter: Mesh, settings: Settings, parts: bool) -> None:
+        self.subject, self.cutter, self.settings, self.parts = subject, cutter, settings, parts
         self.boxes, self.cutter_boxes = subject.boxes(), cutter.boxes()
         self.counts = subject.counts()
         self.first = _first_cells(subject, self.counts)
@@ -63,14 +66,20 @@ class _Whole:
         """Cuts a chunk; false where it has to be halved."""
         if not len(cells):
             return True
-        rim = np.setdiff1d(self.first[entries(self.counts, cells)], cells)
+        near = cells if self.settings.survey_grid is None else self._around(cells)
         try:
-            self._lend(np.sort(np.concatenate([cells, rim])), cells)
+            self._lend(np.union1d(near, self.first[entries(self.counts, near)]), cells)
         except Refused as e:
             if len(cells) > 1:
                 return False
             self._alone(cells, e)
         return True
+
+    def _around(self, cells: np.ndarray) -> np.ndarray:
+        """The cells and those that have a node in common with them."""
+        theirs = np.zeros(len(self.subject.xy), bool)
+        theirs[self.subject.nodes[entries(self.counts, cells)]] = True
+        return np.unique(np.repeat(np.arange(len(self.counts)), self.counts)[theirs[self.subject.nodes]])
 
     def _alone(self, cell: np.ndarray, refused: Refused) -> None:
         """One cell that is refused with its rim: the refusal is its own, or that of a cell that comes by itself."""
@@ -86,7 +95,7 @@ class _Whole:
     def _in_parts(self, cell: int) -> bool:
         """Cuts a cell in triangles, in as many as it takes; false where that is no way."""
         corners = self.subject.nodes[entries(self.counts, np.array([cell]))].astype(np.int64)
-        for mesh in triangles(self.subject.xy[corners]):
+        for mesh in triangles(self.subject.xy[corners], self.settings.survey_grid):
             try:
                 self._place(mesh, np.append(corners, np.full(len(mesh.xy) - len(corners), -1)), np.full(len(mesh), cell))
             except Refused:
@@ -107,7 +116,7 @@ class _Whole:
         by, by_nodes = self.cutter.take(near)
         if _too_large(part) or _too_large(by):
             raise Refused(2)
-        answer = overlay(part, by, self.operation)
+        answer = overlay(part, by, self.settings.operation, survey_grid=self.settings.survey_grid)
         numbers = np.concatenate([nodes, len(self.subject.xy) + by_nodes, np.full(answer.added_points, -1)])
         self.done.append((answer, numbers, cells))
 

@@ -8,11 +8,12 @@ from typing import Optional, Union
 import numpy as np
 from numpy.typing import ArrayLike
 
-from ._library import OUTPUT_LISTS, call, lendable
+from ._library import OUTPUT_LISTS, Settings, call, lendable
 from .mesh import Mesh
 from .refusals import Refused
 
 MOST_MEETINGS = 65_536
+FINEST_GRID = 10            # the survey grid of 1/1024 metre
 _SLOTS = 1_024              # the most in a cell's table: no cell has more corners in its pieces
 
 
@@ -55,28 +56,42 @@ class Overlay(Mesh):
 
 
 def overlay(subject: Mesh, cutter: Mesh, operation: Union[Operation, str, int] = Operation.IMPRINT, *,
-            limit: int = MOST_MEETINGS) -> Overlay:
+            limit: int = MOST_MEETINGS, survey_grid: Optional[int] = None) -> Overlay:
     """Cuts the subject along the cutter's edges. `limit` is the most meetings of edges. Raises `Refused`.
+
+    With `survey_grid` K, from 0 to 10, each coordinate of a new point goes to the nearest multiple of 1/2^K metre, halfway to the even one;
+    no other node moves. Points that come nearer to each other than that, or to a corner, may give wrong pieces: `cut` checks them.
 
     For recharge by soils the model is the subject and the soils are the cutter, with the operation "imprint".
     """
-    limit = index(limit)
-    if not 1 <= limit <= MOST_MEETINGS:
-        raise Refused(1, f'the meeting limit is {limit}')
-    number = operation_number(operation)
-    points = len(subject.xy) + len(cutter.xy) + limit
+    settings = settings_of(operation, limit, survey_grid)
+    points = len(subject.xy) + len(cutter.xy) + settings.limit
     corners = subject.nodes.size + cutter.nodes.size
     work = np.zeros(work_size(points, corners), np.uint32)
     most = _SLOTS * (len(subject) + len(cutter))
     room = min(4 * corners + 256, most)
     while True:
         lists = output_lists(points, room, room)
-        code, counts = call(number, limit, subject.lists(), cutter.lists(), lists, work)
+        code, counts = call(settings, subject.lists(), cutter.lists(), lists, work)
         if code == 0:
-            return answer_of(lists, points - limit, counts)
+            return answer_of(lists, points - settings.limit, counts)
         if code != 12 or room == most:
             raise Refused(code)
         room = min(4 * room, most)
+
+
+def settings_of(operation: Union[Operation, str, int], limit: int = MOST_MEETINGS, survey_grid: Optional[int] = None) -> Settings:
+    """The settings of a call; refused where there are none such."""
+    if not 1 <= index(limit) <= MOST_MEETINGS:
+        raise Refused(1, f'the meeting limit is {limit}')
+    number = operation_number(operation)
+    if survey_grid is not None and not 0 <= index(survey_grid) <= FINEST_GRID:
+        raise Refused(13, f'K is {survey_grid}')
+    return Settings(number, index(limit), None if survey_grid is None else index(survey_grid))
+
+
+def survey_grid_said(k: int) -> str:
+    return f'the survey grid of {f"1/{2 ** k:,}" if k else 1} metre'
 
 
 def operation_number(operation: Union[Operation, str, int]) -> int:

@@ -11,22 +11,32 @@ from .mesh import Kind, Mesh
 _LEVELS = 5             # the last has 256 triangles for each side of a cell
 
 
-def triangles(ring: np.ndarray) -> Iterator[Mesh]:
-    """A cell in triangles, coarse ones first; its corners are the first nodes of each mesh. Nothing where its middle doesn't see all its sides."""
+def triangles(ring: np.ndarray, survey_grid: Optional[int] = None) -> Iterator[Mesh]:
+    """A cell in triangles, coarse ones first; its corners are the first nodes of each mesh, the others lie on the survey grid. Nothing where its
+    middle doesn't see all its sides, and none so small that rounding turns one of them."""
     mesh = _fan(ring)
     for _ in range(_LEVELS):
-        if mesh is not None:
-            yield mesh
-            mesh = _refined(mesh)
+        booked = _booked(mesh, len(ring), survey_grid)
+        if not np.all(booked.areas() > 0):
+            return
+        yield booked
+        mesh = _refined(mesh)
 
 
-def _fan(ring: np.ndarray) -> Optional[Mesh]:
-    """Triangles from a cell's middle to its sides, where it sees them all."""
+def _booked(mesh: Mesh, lent: int, survey_grid: Optional[int]) -> Mesh:
+    if survey_grid is None:
+        return mesh
+    many = 2.0 ** survey_grid
+    xy = np.vstack([mesh.xy[:lent], np.round(mesh.xy[lent:] * many) / many + 0.0])
+    return Mesh(xy, mesh.nodes, mesh.ends, mesh.kinds, mesh.families)
+
+
+def _fan(ring: np.ndarray) -> Mesh:
+    """Triangles from a cell's middle to its sides."""
     many = len(ring)
     sides = np.column_stack([np.arange(many), np.roll(np.arange(many), -1)])
     corners = np.column_stack([np.full(many, many), sides])
-    mesh = Mesh(np.vstack([ring, ring.mean(axis=0)]), corners, 3 * np.arange(1, many + 1), np.full(many, Kind.TRI3), np.arange(many))
-    return mesh if np.all(mesh.areas() > 0) else None
+    return Mesh(np.vstack([ring, ring.mean(axis=0)]), corners, 3 * np.arange(1, many + 1), np.full(many, Kind.TRI3), np.arange(many))
 
 
 def _refined(mesh: Mesh) -> Mesh:

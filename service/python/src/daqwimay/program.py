@@ -7,9 +7,9 @@ from typing import NamedTuple, Optional
 
 import numpy as np
 
-from ._library import call
+from ._library import Settings, call
 from .mesh import Mesh
-from .overlaying import Overlay, answer_of, output_lists
+from .overlaying import Overlay, answer_of, output_lists, survey_grid_said
 from .refusals import described, refusal
 
 MOST_BYTES = 65_536
@@ -20,7 +20,7 @@ ROOM = (2_048, 8_192, 2_048)                # nodes, corners and pieces in its o
 _DECIMAL = r'(0|[1-9][0-9]*)'
 _NODE = re.compile(r'\(node ([0-9a-f]{16}) ([0-9a-f]{16})\)')
 _CELL = re.compile(rf'\(cell {_DECIMAL} {_DECIMAL}((?: {_DECIMAL})*)\)')
-_HEAD = re.compile(rf'\(overlay {_DECIMAL} {_DECIMAL}')
+_HEAD = re.compile(rf'\(overlay {_DECIMAL} {_DECIMAL}(?: {_DECIMAL})?')
 _HINTS = (
     (re.compile(r'^$'), 'the line is empty'),
     (re.compile(r'\r'), 'it ends in a carriage return, as files from Windows do'),
@@ -43,8 +43,7 @@ class Unread(ValueError):
 class Question(NamedTuple):
     """What a text asks."""
 
-    operation: int
-    limit: int
+    settings: Settings
     subject: Mesh
     cutter: Mesh
 
@@ -107,13 +106,13 @@ def read_question(data: bytes) -> Question:
     reader = _Reader(data.decode('latin-1'))
     if len(data) > MOST_BYTES:
         raise Unread(data[:MOST_BYTES].count(b'\n') + 1, f'the text has {len(data):,} bytes, {MOST_BYTES:,} are read')
-    head = reader.need(_HEAD, '`(overlay OPERATION LIMIT`')
-    operation, limit = (reader.number(d, 2 ** 32 - 1) for d in head.groups())
+    head = reader.need(_HEAD, '`(overlay OPERATION LIMIT`, with K behind it where there is a survey grid,')
+    settings = Settings(*(reader.number(d, 2 ** 32 - 1) for d in head.groups() if d))
     subject, cutter = reader.mesh(), reader.mesh()
     reader.need(re.compile(r'\)'), 'the last `)`')
     if reader.lines[reader.at:] != ['']:
         raise Unread(reader.at + 1, 'there is text after the end')
-    return Question(operation, limit, subject, cutter)
+    return Question(settings, subject, cutter)
 
 
 def answer(data: bytes) -> str:
@@ -124,8 +123,7 @@ def answer(data: bytes) -> str:
         return '(unread)\n'
     nodes, corners, pieces = ROOM
     lists = output_lists(nodes, corners, pieces)
-    code, counts = call(question.operation, question.limit, question.subject.lists(), question.cutter.lists(), lists,
-                        np.zeros(WORK, np.uint32))
+    code, counts = call(question.settings, question.subject.lists(), question.cutter.lists(), lists, np.zeros(WORK, np.uint32))
     if code:
         return f'(refused {code})\n'
     return listing(answer_of(lists, len(question.subject.xy) + len(question.cutter.xy), counts))
@@ -151,8 +149,9 @@ def explained(data: bytes) -> tuple[int, str]:
     refused = re.fullmatch(r'\(refused (\d+)\)\n', printed)
     if not refused:
         pieces, points, _ = printed.splitlines()[-2].strip('()').split()[1:]
-        return 0, f'answered: {pieces} pieces, {points} new points'
+        grid = question.settings.survey_grid
+        return 0, f'answered: {pieces} pieces, {points} new points' + ('' if grid is None else f' on {survey_grid_said(grid)}')
     row = refusal(int(refused[1]))
-    asked = sum(len(m.xy) + m.nodes.size for m in (question.subject, question.cutter)) + question.limit
+    asked = sum(len(m.xy) + m.nodes.size for m in (question.subject, question.cutter)) + question.settings.limit
     size = f'nodes, corners and the limit are {asked:,} together, the program has room for 1,020' if row.number == 7 else ''
     return 1, described(row, size)

@@ -2,7 +2,7 @@
 from __future__ import annotations
 
 from dataclasses import dataclass, field, replace
-from typing import Any, Callable, Mapping, Optional
+from typing import Any, Callable, Mapping, NamedTuple, Optional
 
 import numpy as np
 
@@ -10,13 +10,14 @@ from .chunks import overlay_in_chunks
 from .errors import InputError, NotClean
 from .mesh import Mesh
 from .models import Model
-from .overlaying import Operation, Overlay
+from .overlaying import Operation, Overlay, settings_of
 from .refusals import Refused
 from .soils import Box, SoilMap, soil_mesh
 
 Progress = Callable[[str, int, int], None]
 BACKGROUND = '(no soil)'
 _CURE = 'clean the map first: --grid 0.001 (docs/PRACTICE.md says what a clean map is)'
+_FINER = 'where strips are about as thin as a step of the survey grid: a larger K, or --grid of some steps, so that soil lines run through nodes'
 
 
 @dataclass
@@ -61,23 +62,25 @@ class Strips:
         return np.bincount(table['cell'] - self.model.first, weighted, len(self.model.mesh))
 
 
-def cut(model: Model, soils: SoilMap, *, grid: Optional[float] = None, background: str = BACKGROUND,
+def cut(model: Model, soils: SoilMap, *, grid: Optional[float] = None, survey_grid: Optional[int] = None, background: str = BACKGROUND,
         progress: Optional[Progress] = None) -> Strips:
-    """The model's cells cut along the soils (operation 0), and checked. With a grid the map is made clean first.
+    """The model's cells cut along the soils (operation 0), and checked. With a grid the map is made clean first. With `survey_grid` K, another
+    thing, new points are booked on multiples of 1/2^K metre: no node of the model and no corner of the map moves for that.
 
     Where soils run along the model's own sides, its nodes may lie a hair beside their lines; if the strips then come out wrong, the
     model's nodes are put on the grid too, and `changes` says so. Raises `NotClean` with the places where the strips would be wrong,
     `Refused` with the refused cell.
     """
     same_crs(model, soils)
-    told = progress or (lambda what, done, of: None)
+    settings_of(Operation.IMPRINT, survey_grid=survey_grid)
+    given = _Given(soils, grid, survey_grid, background, progress or (lambda what, done, of: None))
     try:
-        return _cut(model, soils, grid, background, told)
+        return _cut(model, given)
     except (NotClean, Refused) as e:
         if grid is None or getattr(e, 'number', 11) != 11:
             raise
     moved, change = _on_grid(model, grid)
-    strips = _cut(moved, soils, grid, background, told)
+    strips = _cut(moved, given)
     strips.changes.append(change)
     return strips
 
@@ -92,16 +95,26 @@ def _on_grid(model: Model, grid: float) -> tuple[Model, str]:
     return replace(model, mesh=moved), change
 
 
-def _cut(model: Model, soils: SoilMap, grid: Optional[float], background: str, told: Progress) -> Strips:
+class _Given(NamedTuple):
+    soils: SoilMap
+    grid: Optional[float]
+    survey_grid: Optional[int]
+    background: str
+    told: Progress
+
+
+def _cut(model: Model, given: _Given) -> Strips:
     from .checks import checked
-    mesh, names, changes = _cutter(model, soils, grid, background)
+    mesh, names, changes = _cutter(model, given.soils, given.grid, given.background)
     try:
-        pieces = overlay_in_chunks(model.mesh, mesh, Operation.IMPRINT, parts=True, progress=lambda done, of: told('cells cut', done, of))
+        pieces = overlay_in_chunks(model.mesh, mesh, Operation.IMPRINT, survey_grid=given.survey_grid, parts=True,
+                                   progress=lambda done, of: given.told('cells cut', done, of))
     except Refused as e:
         raise _placed(e, model, mesh) from e
-    soil, by_geos, problems = checked(model, pieces, mesh, names, told)
+    soil, by_geos, problems = checked(model, pieces, mesh, names, given.told, given.survey_grid)
     if problems:
-        raise NotClean(f'{len(problems)} places where the strips are wrong: the map or the model is not clean', problems, '' if grid else _CURE)
+        cures = [_CURE] * (given.grid is None) + [_FINER] * (given.survey_grid is not None)
+        raise NotClean(f'{len(problems)} places where the strips are wrong: the map or the model is not clean', problems, '\n'.join(cures))
     return Strips(model, pieces, soil, names, by_geos, changes + _parted(model, pieces))
 
 
