@@ -5,6 +5,7 @@ from shapely.geometry import Polygon
 
 import maps
 from daqwimay import Mesh, Model, Refused, cut, overlay, overlay_in_chunks
+from daqwimay.geos import why_invalid
 from daqwimay.soils import faces_mesh
 
 
@@ -31,6 +32,19 @@ def test_the_same_pieces_as_one_call(meshes, operation, chunk):
     assert len(np.unique(one.nodes)) == len(np.unique(many.nodes))
     assert one.new_points == many.new_points == many.added_points == len(many.xy) - len(model.xy) - len(soils.xy)
     assert (one.new_points < one.added_points) == (operation == 'difference')
+
+
+@pytest.mark.parametrize('chunk', [7, 333])
+@pytest.mark.parametrize('k, wrong', [(10, False), (5, False), (1, True), (0, True)])
+def test_the_same_pieces_on_a_survey_grid(meshes, k, wrong, chunk):
+    """All of them where the grid is fine; otherwise all that are simple polygons."""
+    model, soils = meshes
+    one, many = overlay(model, soils, survey_grid=k), overlay_in_chunks(model, soils, chunk=chunk, survey_grid=k)
+    rings = [(one.xy[a], many.xy[b]) for a, b in zip(one.cells(), many.cells())]
+    assert len(one) == len(many) and all(a.tobytes() == b.tobytes() for a, b in rings if not (why_invalid(a) and why_invalid(b)))
+    assert any(why_invalid(a) for a, _ in rings) == wrong
+    added = many.xy[-many.added_points:] * 2 ** k
+    assert np.array_equal(added, np.round(added)) and many.new_points <= one.new_points == one.added_points
 
 
 @pytest.mark.parametrize('operation, new', [('imprint', 4), ('intersection', 4), ('difference', 2)])
@@ -132,6 +146,9 @@ def test_a_crowded_cell_in_parts():
     assert np.allclose(np.bincount(pieces.families, pieces.areas()), 100) and [(pieces.families == f).sum() for f in (0, 1, 3)] == [1, 1, 1]
     inside = overlay_in_chunks(model, disc, 'intersection', parts=True)
     assert inside.areas().sum() == pytest.approx(Polygon(xy[:2000]).area)
+    booked = overlay_in_chunks(model, disc, parts=True, survey_grid=10)
+    added = booked.xy[len(model.xy) + len(xy):] * 1024
+    assert np.array_equal(added, np.round(added)) and len(booked) == len(pieces) and np.allclose(booked.areas(), pieces.areas(), atol=0.02)
 
 
 def test_operations_that_cut_both_are_an_error(meshes):

@@ -52,6 +52,22 @@ def test_the_example_as_the_page_has_it(example):
     assert matplotlib.image.imread(example / 'strips.png').std() > 0.05
 
 
+def test_new_points_on_a_survey_grid(example):
+    done = run('cut', 'model.disv', 'soils.gpkg', '--grid', 0.001, '--survey-grid', 10, '-o', 'booked.vtu', '--table', 'booked.csv', cwd=example)
+    assert done.returncode == 0 and ' new points on the survey grid of 1/1,024 metre (' in done.stderr
+    given = {tuple(p) for p in read_model(example / 'model.disv').mesh.xy.tolist()}
+    new = [v for p in meshio.read(example / 'booked.vtu').points[:, :2].tolist() if tuple(p) not in given for v in p]
+    assert len(new) > 300 and all(v * 1024 == round(v * 1024) for v in new)
+    assert abs(sum(float(r['area']) for r in csv.DictReader(open(example / 'booked.csv'))) - 874_800) < 1
+    assert run('check', 'model.disv', 'soils.gpkg', '--grid', 0.001, '--survey-grid', 10, cwd=example).returncode == 0
+
+
+@pytest.mark.parametrize('k', ['11', '-1', '0.5', 'fine', ''])
+def test_a_survey_grid_that_there_is_not_is_told_before_anything_is_read(tmp_path, k):
+    done = run('cut', 'none.vtu', 'none.gpkg', f'--survey-grid={k}', '--table', '-', cwd=tmp_path)
+    assert done.returncode == 2 and f'"{k}" is no whole number from 0 to 10: new points are booked on multiples of 1/2^K metre' in done.stderr
+
+
 def test_strips_in_the_colours_of_their_cells(example):
     """Two pictures that differ, and no colour of two cells that have a node in common."""
     from daqwimay.picture import apart

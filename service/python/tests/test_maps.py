@@ -8,6 +8,7 @@ import maps
 from daqwimay import InputError, Kind, Mesh, Model, NotClean, Refused, cut, mesh_of_rings, overlay
 from daqwimay.checks import checked
 from daqwimay.cleaning import clean, step_of
+from daqwimay.soils import faces_mesh
 from daqwimay.strips import window_of
 
 GRID = 0.001
@@ -27,6 +28,33 @@ def test_random_maps_agree_with_shapely(seed):
     assert np.allclose(np.bincount(strips.table()['cell'], strips.table()['share']), 1, atol=1e-12)
     assert np.allclose(np.bincount(strips.cells(), strips.areas()), made.mesh.areas())
     assert strips.pieces.doubled_cells == 0
+
+
+@pytest.mark.parametrize('seed', range(10))
+@pytest.mark.parametrize('k, grid', [(10, None), (3, 0.25)])
+def test_strips_on_a_survey_grid(seed, k, grid):
+    """All new points are on it, and each area is off by what that moves at most; a finer grid's checks find that too much."""
+    made, shapes = maps.model(12, 10, 60.0, 9.0), maps.voronoi(seed, 30)
+    strips = cut(made, maps.soil_map(shapes), grid=grid, survey_grid=k)
+    pieces, far = strips.pieces, 2.0 ** -(k + 0.5)
+    added = pieces.xy[-pieces.added_points:] * 2 ** k
+    assert pieces.new_points > 50 and np.array_equal(added, np.round(added)) and (pieces.xy[:len(made.mesh.xy)] == made.mesh.xy).all()
+    off = maps.worst(maps.areas_by_strips(strips), maps.areas_by_shapely(made, shapes))
+    assert far / 10 < off < 400 * (far + (grid or 0.0))
+    assert abs(strips.areas().sum() - made.mesh.areas().sum()) < 240 * far
+    soils = faces_mesh(shapes, range(len(shapes))) if grid is None else clean(maps.soil_map(shapes), grid, window_of(made), made.mesh.xy).mesh
+    told = [checked(made, pieces, soils, strips.names, lambda *_: None, other)[2] for other in (k, k + 5, None)]
+    assert not told[0] and told[1] and len(told[2]) >= len(told[1])
+
+
+def test_strips_thinner_than_a_step_are_told():
+    made, soils = maps.model(10, 8, 16.0, 3.0), maps.soil_map(maps.voronoi(5, 150))
+    with pytest.raises(NotClean, match='no simple polygon') as e:
+        cut(made, soils, survey_grid=0)
+    assert 'a larger K' in str(e.value) and '--grid 0.001' in str(e.value) and all(0 <= p.cell < 80 for p in e.value.problems)
+    assert cut(made, soils, survey_grid=5).pieces.new_points > 20
+    with pytest.raises(Refused, match='refused 13'):
+        cut(made, soils, survey_grid=11)
 
 
 UNCLEAN = {

@@ -5,7 +5,7 @@ from pathlib import Path
 import numpy as np
 import pytest
 
-from daqwimay import Kind, Mesh, Operation, overlay
+from daqwimay import Kind, Mesh, Operation, Refused, overlay, overlay_in_chunks
 from daqwimay.program import Unread, answer, explained, listing, read_question
 
 ROOT = Path(__file__).resolve().parents[3]
@@ -42,6 +42,10 @@ def stored():
     return found
 
 
+def asked(q):
+    return overlay(q.subject, q.cutter, q.settings.operation, limit=q.settings.limit, survey_grid=q.settings.survey_grid)
+
+
 def test_k1_is_the_listing_of_the_rules_byte_for_byte():
     cutter = Mesh(RIGHT.xy, RIGHT.nodes, RIGHT.ends, RIGHT.kinds, [0])
     assert listing(overlay(SQUARE, cutter, 'imprint', limit=9)) == K1
@@ -60,7 +64,7 @@ def test_stored_answers_through_lists_of_the_packages_own_sizes():
     for name, text in stored().items():
         if text.startswith('(overlay'):
             q = read_question((CASES / 'data' / name).read_bytes())
-            assert listing(overlay(q.subject, q.cutter, q.operation, limit=q.limit)) == text, name
+            assert listing(asked(q)) == text, name
             seen += 1
     assert seen > 300
 
@@ -102,10 +106,10 @@ def test_new_points_of_every_stored_input():
     for name, text in stored().items():
         if text.startswith('(overlay'):
             q = read_question((CASES / 'data' / name).read_bytes())
-            pieces, lent = overlay(q.subject, q.cutter, q.operation, limit=q.limit), len(q.subject.xy) + len(q.cutter.xy)
+            pieces, lent = asked(q), len(q.subject.xy) + len(q.cutter.xy)
             assert len(pieces.xy) == lent + pieces.added_points, name
             assert pieces.new_points == len(np.unique(pieces.nodes[pieces.nodes >= lent])) <= pieces.added_points, name
-            assert pieces.new_points == pieces.added_points or q.operation in (2, 3, 4), name
+            assert pieces.new_points == pieces.added_points or q.settings.operation in (2, 3, 4), name
             fewer += pieces.new_points < pieces.added_points
     assert fewer > 10
 
@@ -147,7 +151,7 @@ def test_taken_pieces_count_the_new_points_that_they_name():
 def test_a_boundary_traced_twice_cuts_once():
     """The row of cells of the README: the sum was right before, two cells were not."""
     q = read_question((ROOT / 'examples' / 'traced.in').read_bytes())
-    pieces = overlay(q.subject, q.cutter, q.operation)
+    pieces = asked(q)
     assert dict(zip(pieces.families.tolist(), pieces.areas().tolist())) == {2: 7750, 3: 10_000, 4: 10_000, 5: 2250}
     assert (pieces.new_points, pieces.added_points, pieces.doubled_cells) == (0, 0, 0)
 
@@ -156,6 +160,42 @@ def test_lines():
     line = Mesh.from_cells([[1, -1], [1, 3]], [[0, 1]])
     assert line.kinds.tolist() == [Kind.SEG2]
     assert overlay(SQUARE, line, 'lines').areas().tolist() == [2, 2]
+
+
+@pytest.mark.parametrize('k, x, want', [
+    (None, 0.5, 0.5), (0, 0.3, 0), (1, 0.3, 0.5), (2, 0.3, 0.25), (10, 0.3, 307 / 1024), (0, 0.5, 0), (0, 1.5, 2), (0, 2.5, 2), (0, -1.5, -2), (0, -0.5, 0),
+    (0, -0.3, 0), (1, 0.25, 0), (1, 0.75, 1), (10, 1 / 2048, 0), (10, 3 / 2048, 2 / 1024)])
+def test_new_points_are_booked_on_a_survey_grid(k, x, want):
+    """On the nearest multiple of 1/2^K, halfway on the even one, zero as +0; the square's nodes and the line's stay where they are."""
+    square = Mesh.from_cells([[-4, -4.25], [4, -4.25], [4, 4], [-4, 4]], [[0, 1, 2, 3]])
+    line = Mesh.from_cells([[x, -9.25], [x, 9]], [[0, 1]])
+    for call in (overlay, overlay_in_chunks):
+        pieces = call(square, line, 'lines', survey_grid=k)
+        assert pieces.xy[6:, 0].tolist() == [want] * 2 and np.signbit(pieces.xy[6:, 0]).tolist() == [want < 0] * 2
+        assert pieces.xy[:6].tobytes() == np.vstack([square.xy, line.xy]).tobytes() and pieces.new_points == 2
+        assert pieces.areas().tolist() == pytest.approx([(want + 4) * 8.25, (4 - want) * 8.25], rel=0.05)
+
+
+def test_a_survey_grid_that_there_is_not():
+    for k in (11, -1, 2 ** 32 - 1, 2 ** 40):
+        for call in (overlay, overlay_in_chunks):
+            with pytest.raises(Refused, match=f'refused 13 .*\n  K is {k}\n') as e:
+                call(SQUARE, RIGHT, survey_grid=k)
+            assert e.value.number == 13
+    with pytest.raises(Refused, match='refused 1 '):
+        overlay(SQUARE, RIGHT, 6, survey_grid=11)
+    with pytest.raises(TypeError):
+        overlay(SQUARE, RIGHT, survey_grid=0.001)
+
+
+def test_the_programs_first_line_has_the_survey_grid():
+    text = (ROOT / 'examples' / 'k1.in').read_text()
+    given = {line: text.replace('(overlay 0 9', f'(overlay {line}').encode() for line in ('0 9', '0 9 10', '0 9 11', '6 9 11', f'0 9 {2 ** 32 - 1}')}
+    assert [read_question(data).settings.survey_grid for data in given.values()] == [None, 10, 11, 11, 2 ** 32 - 1]
+    assert [answer(data) for data in given.values()] == [K1, K1, '(refused 13)\n', '(refused 1)\n', '(refused 13)\n']
+    assert [explained(given[line])[1] for line in ('0 9', '0 9 10')] == [
+        'answered: 2 pieces, 2 new points', 'answered: 2 pieces, 2 new points on the survey grid of 1/1,024 metre']
+    assert 'whose steps are 1/2^K metre' in explained(given['0 9 11'])[1]
 
 
 def test_an_unknown_name_lists_the_operations():
@@ -184,7 +224,7 @@ def test_threads_get_the_same_answers():
 
 
 @pytest.mark.parametrize('text, line, why', [
-    ('', 1, 'the text ends'), ('(overlay 0 9\r\n', 1, 'Windows'), ('(overlay 0 9\n(mesh\n(node 0.5 1)\n', 3, '16 hexadecimal'),
+    ('', 1, 'the text ends'), ('(overlay 0 9\r\n', 1, 'Windows'), ('(overlay 0 9 03\n', 1, 'leading zero'), ('(overlay 0 9 \n', 1, 'a space too many'), ('(overlay 0 9\n(mesh\n(node 0.5 1)\n', 3, '16 hexadecimal'),
     ('(overlay 0 9\n(mesh\n(cell 8 07 1)\n', 3, 'leading zero'), ('(overlay 0 9\n(mesh\n)\n(mesh\n)\n)', 6, 'without a newline'),
     ('(overlay 0 9\n(mesh\n)\n(mesh\n)\n)\n\n', 7, 'after the end'), ('(overlay 0 9\n(mesh\n(cell 8 7 0 1 2 3)\n(node', 4, 'the text ends'),
     ('(overlay 0 9\n(mesh\n(cell 300 7 0)\n', 3, 'above 255'), ('(overlay 0 9\n(mesh\n' + 513 * '(node 0000000000000000 0000000000000000)\n', 515, '512 nodes')])

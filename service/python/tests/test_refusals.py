@@ -5,7 +5,7 @@ import numpy as np
 import pytest
 
 from daqwimay import Kind, Mesh, REFUSALS, Refused, overlay, overlay_in_chunks
-from daqwimay._library import OUTPUT_LISTS, call
+from daqwimay._library import OUTPUT_LISTS, Settings, call
 from daqwimay.overlaying import output_lists, work_size
 from daqwimay.refusals import markdown
 
@@ -94,7 +94,7 @@ def test_one_output_list_that_is_too_short(short):
         for a in lists:
             a[...] = 9
         work = np.full(work_size(8 + 5, 8), 9, np.uint32)
-        code, counts = call(0, 5, SQUARE.lists(), cutter.lists(), lists, work)
+        code, counts = call(Settings(0, 5), SQUARE.lists(), cutter.lists(), lists, work)
         assert (code, counts.tolist()) == (number, [0] * 4 if number else [2, 2, 0, 2]) and not work.any()
         used = {'node': 10, 'corner': 8, 'cell': 2}
         assert all((a[used[r.per]:] == 9).all() for r, a in zip(OUTPUT_LISTS, lists)) if number == 0 else not any(a.any() for a in lists)
@@ -107,10 +107,22 @@ def test_lists_that_are_too_short(short, number):
     lists = output_lists(**{f'{k if k != "node" else "point"}s': n - (k == short) * (10 if k == 'node' else 1) for k, n in room.items()})
     work = np.zeros(work_size(8 + 5, 8) - (short == 'work'), np.uint32)
     cutter = Mesh([[1, -1], [3, -1], [3, 3], [1, 3]], [0, 1, 2, 3], [4], [11], [0])
-    code, counts = call(0, 5, SQUARE.lists(), cutter.lists(), lists, work)
+    code, counts = call(Settings(0, 5), SQUARE.lists(), cutter.lists(), lists, work)
     assert code == number and counts.tolist() == [0] * 4
     with pytest.raises(Refused, match=f'refused {number}'):
         raise Refused(code)
+
+
+@pytest.mark.parametrize('settings, xy, number', [
+    (Settings(0, 5, 11), XY, 13), (Settings(0, 5, 2 ** 32 - 1), XY, 13), (Settings(6, 5, 11), XY, 1), (Settings(0, 0, 11), XY, 1), (Settings(0, 5, 11), XY[:3], 13)])
+def test_a_grid_too_fine_touches_no_list(settings, xy, number):
+    """13 after 1 and before the others: here the subject's fourth node isn't there."""
+    lists = output_lists(13, 11, 5)
+    for a in lists:
+        a[...] = 9
+    work = np.full(3, 9, np.uint32)
+    code, counts = call(settings, square(xy=xy).lists(), NOTHING.lists(), lists, work)
+    assert (code, counts.tolist()) == (number, [0] * 4) and all((a == 9).all() for a in (*lists, work))
 
 
 def test_a_folded_cell_is_named():
@@ -121,7 +133,7 @@ def test_a_folded_cell_is_named():
 
 
 def test_every_refusal_has_words():
-    assert sorted(REFUSALS) == [*range(1, 13), 19]
+    assert sorted(REFUSALS) == [*range(1, 14), 19]
     assert all(r.name and r.meaning and r.causes and r.cure for r in REFUSALS.values())
     assert markdown().count('\n') == 2 + len(REFUSALS)
 
