@@ -23,6 +23,7 @@ const WORK: usize = 16 * (8 + 8 + LIMIT as usize) + 64;
 /// Numbers that the Union of the two squares takes of the output lists, in the order of the call: ten points, three pieces, sixteen corners.
 const TAKEN: [usize; 7] = [20, 16, 3, 3, 3, 3, 3];
 const FILLED: u32 = 77;
+const NO_GRID: u32 = u32::MAX;
 
 /// The lists that a call writes.
 #[derive(Clone, Debug, PartialEq)]
@@ -47,13 +48,17 @@ fn filled(sizes: [usize; 7]) -> Lists {
 }
 
 /// K1's squares, the cutter of family 5.
-#[rustfmt::skip]
 fn call(operation: u32, subject: &[f64], l: &mut Lists) -> u32 {
+    call_on(NO_GRID, operation, subject, l)
+}
+
+#[rustfmt::skip]
+fn call_on(grid: u32, operation: u32, subject: &[f64], l: &mut Lists) -> u32 {
     let (corners, ends, skinds, sfamilies, ckinds, cfamilies) = ([0u32, 1, 2, 3], [4u32], [8u8], [7u32], [11u8], [5u32]);
     let [nodes, oends, families, meshes, cells] = &mut l.numbers;
     unsafe {
         daqwimay_overlay(
-            operation, LIMIT,
+            operation, LIMIT, grid,
             subject.as_ptr(), subject.len(), corners.as_ptr(), 4, ends.as_ptr(), 1, skinds.as_ptr(), 1, sfamilies.as_ptr(), 1,
             CUTTER.as_ptr(), 8, corners.as_ptr(), 4, ends.as_ptr(), 1, ckinds.as_ptr(), 1, cfamilies.as_ptr(), 1,
             l.coords.as_mut_ptr(), l.coords.len(), nodes.as_mut_ptr(), nodes.len(), oends.as_mut_ptr(), oends.len(),
@@ -115,9 +120,22 @@ fn counts_in_a_list_of_any_length() {
 fn a_refused_input_leaves_the_lists() {
     let mut bad = SUBJECT;
     bad[0] = -0.0;
-    for (operation, subject, code) in [(6, &SUBJECT[..], 1), (1, &SUBJECT[..7], 2), (1, &bad[..], 3)] {
+    let refused = [(NO_GRID, 6, &SUBJECT[..], 1), (NO_GRID, 1, &SUBJECT[..7], 2), (NO_GRID, 1, &bad[..], 3)];
+    let on_a_grid = [(11, 1, &SUBJECT[..], 13), (NO_GRID - 1, 1, &bad[..7], 13), (11, 6, &bad[..7], 1), (10, 1, &bad[..7], 2), (10, 1, &bad[..], 3)];
+    for (grid, operation, subject, code) in refused.into_iter().chain(on_a_grid) {
         let mut l = filled([0, 1, 2, 3, 4, 5, 6]);
-        assert_eq!(call(operation, subject, &mut l), code);
+        assert_eq!(call_on(grid, operation, subject, &mut l), code);
         assert_eq!(l, Lists { counts: vec![0; 4], ..filled([0, 1, 2, 3, 4, 5, 6]) });
     }
+}
+
+/// K1's new points lie on every grid.
+#[test]
+fn no_grid_is_the_largest_number() {
+    let answer = |grid| {
+        let mut l = filled(TAKEN);
+        assert_eq!(call_on(grid, 1, &SUBJECT, &mut l), 0);
+        l
+    };
+    assert!([0, 1, 9, 10].map(answer).into_iter().all(|l| l == answer(NO_GRID)));
 }

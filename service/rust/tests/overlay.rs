@@ -1,5 +1,5 @@
 //! What the wrapper adds to the proved call: sizes, refusals, lists used again.
-use daqwimay::{Kind, MOST_MEETINGS, Mesh, Operation, Overlay, Overlayer, Parent, Refusal, overlay};
+use daqwimay::{FINEST_GRID, Kind, MOST_MEETINGS, Mesh, Operation, Overlay, Overlayer, Parent, Refusal, Settings, overlay, overlay_with};
 
 fn rectangle(m: &mut Mesh, kind: Kind, family: u32, [x, y]: [f64; 2], [u, v]: [f64; 2]) {
     let corners = [[x, y], [u, y], [u, v], [x, v]].map(|[a, b]| m.add_node(a, b));
@@ -178,6 +178,51 @@ fn a_boundary_traced_twice_cuts_once() {
     let pieces: Vec<_> = o.mesh.cells().map(|p| p.nodes.to_vec()).collect();
     assert_eq!(pieces, [vec![5, 0, 1, 4], vec![4, 1, 2, 3]]);
     assert_eq!((o.new_points, o.added_points, o.doubled_cells), (0, 0, 0));
+}
+
+fn on(grid: u32, operation: Operation) -> Settings {
+    Settings { grid: Some(grid), ..Settings::of(operation) }
+}
+
+/// x of the two points where an upright line crosses a square of side 8, as booked.
+fn booked(settings: Settings, x: f64) -> [f64; 2] {
+    let o = overlay_with(settings, &one(Kind::Quad4, 7, [-4.0, -4.25], [4.0, 4.0]), &line([x, -9.25], [x, 9.0])).unwrap();
+    assert_eq!((o.new_points, o.mesh.node(0), o.mesh.node(4)), (2, Some([-4.0, -4.25]), Some([x, -9.25])));
+    [6, 7].map(|n| o.mesh.node(n).unwrap()[0])
+}
+
+#[test]
+fn new_points_go_to_the_nearest_place_of_the_grid() {
+    for (k, x, want) in [(0, 0.3, 0.0), (1, 0.3, 0.5), (2, 0.3, 0.25), (10, 0.3, 307.0 / 1024.0), (0, -1.7, -2.0)] {
+        assert_eq!(booked(on(k, Operation::Lines), x), [want; 2], "{k}, {x}");
+    }
+}
+
+/// Halfway to the even multiple, zero as +0.
+#[test]
+fn ties_go_both_ways() {
+    for (k, x, want) in [(0, 0.5, 0.0), (0, 1.5, 2.0), (0, 2.5, 2.0), (0, -1.5, -2.0), (0, -0.5, 0.0), (1, 0.75, 1.0), (10, 3.0 / 2048.0, 2.0 / 1024.0)] {
+        assert_eq!(booked(on(k, Operation::Lines), x).map(f64::to_bits), [f64::to_bits(want); 2], "{k}, {x}");
+    }
+}
+
+#[test]
+fn without_a_grid_points_stay_as_computed() {
+    let settings = Settings::of(Operation::Lines);
+    assert_eq!((settings.limit, settings.grid, booked(settings, 0.5)), (MOST_MEETINGS, None, [0.5; 2]));
+    let (s, c) = (strips(8, true), strips(6, false));
+    assert_eq!(overlay_with(Settings::of(Operation::Union), &s, &c), overlay(Operation::Union, &s, &c));
+}
+
+#[test]
+fn a_grid_that_is_too_fine() {
+    let (s, c) = k1();
+    for k in [FINEST_GRID + 1, u32::MAX - 1, u32::MAX] {
+        assert_eq!(overlay_with(on(k, Operation::Imprint), &s, &c), Err(Refusal::FineGrid));
+        assert_eq!(overlay_with(Settings { limit: 0, ..on(k, Operation::Imprint) }, &s, &c), Err(Refusal::BadOperation));
+    }
+    assert_eq!(overlay_with(on(FINEST_GRID, Operation::Imprint), &s, &c), overlay(Operation::Imprint, &s, &c));
+    assert_eq!((Refusal::FineGrid.number(), Refusal::FineGrid.to_string().contains("1/2^10")), (13, true));
 }
 
 #[test]
