@@ -1,8 +1,10 @@
 #!/bin/sh
 # oracle-02.sh OUT: builds OUT/release/oracle-law as oracle.sh does, from a copy of the published Rust that goes on as document 02 says
 # (W1: where no other slot is free the walk turns back, if the reverse is unmarked; W14: an edge that the cell's table has, either way
-# round, isn't added again, and none from a node to itself) and that also counts. To standard error it writes for each overlay
-# `meetings N collected N`, the second the most nodes collected under one edge key, and then for each cell that it comes to `cell SLOTS` of
+# round, isn't added again, and none from a node to itself; W6: a third number on a form's first line is k, and new points are booked on the
+# grid of 1/2^k) and that also counts. To standard error it writes for each overlay, where it has a grid, `point` with the coordinates of each
+# new point before it is booked, then `meetings N collected N`, the second the most nodes collected under one edge key, and then for each cell
+# that it comes to `cell SLOTS` of
 # W14's table, with ` doubled` where the table that the published function makes names a neighbour twice at some node, and ` repeats` where
 # the outline as cut passes between the same two nodes twice or from a node to itself (the copy goes on there), and `outline` with the two
 # nodes of each of its outline darts. A cell that is copied has no table in the Rust: its line starts with `copied ` and tells of what the
@@ -15,7 +17,9 @@ here=$(cd "$(dirname "$0")" && pwd)
 rm -rf "$out/copy/oracle"
 cp -Rp "$here/oracle" "$here/oracle.sh" "$out/copy/"
 src=$out/copy/oracle/published/crates/mefikit/src
-python3 - "$src/element_traits/cut.rs" "$src/tools/overlay.rs" <<'END'
+cli=$out/copy/oracle/cli/cli.rs
+lib=$out/copy/oracle/core/lib.rs
+python3 - "$src/element_traits/cut.rs" "$src/tools/overlay.rs" "$cli" "$lib" <<'END'
 import sys
 
 
@@ -70,7 +74,46 @@ NEW_WHOLE = '''            let (n0, n1) = (eid[0], eid[1]);
                 graph.entry(n1).or_default().push((n0, false));
             }
 '''
-cut, overlay = sys.argv[1:]
+# W6. Below 2^52 in size the product with 2^k, its whole part and the way back are exact; from there on a float is a whole number
+GRID = '''
+pub mod grid {
+    use std::cell::Cell;
+    thread_local! {
+        pub static K: Cell<Option<i32>> = const { Cell::new(None) };
+    }
+    fn nearest(k: i32, x: f64) -> f64 {
+        let step = 2f64.powi(-k);
+        let booked = if x.abs() < 2f64.powi(52) { (x / step).round_ties_even() * step } else { x };
+        if booked == 0.0 { 0.0 } else { booked }
+    }
+    pub fn is_set() -> bool {
+        K.get().is_some()
+    }
+    pub fn booked(p: [f64; 2]) -> [f64; 2] {
+        let Some(k) = K.get() else { return p };
+        eprintln!("point {:016x} {:016x}", p[0].to_bits(), p[1].to_bits());
+        p.map(|x| nearest(k, x))
+    }
+}
+'''
+READ_M = '        let _m: u64 = self.num()?;\n'
+READ_K = '''        let k = if *self.it.peek()? == "(" { None } else { Some(self.num()?) };
+        mefikit::grid::K.set(k);
+'''
+POINT = '                    Intersection::New(coord) => {\n'
+BOOKED = '                        let coord = crate::grid::booked(coord);\n'
+INNER = '        sorted_ints.extend(v.iter().map(|&n| (projection(n), n)));\n'
+NEW_INNER = '''        if crate::grid::is_set() {
+            sorted_ints.clear();
+            v.retain(|&n| n != eid[0] && n != eid[1]);
+        }
+'''
+NODES = '        let mut sorted_nodes: Vec<NodeId> = sorted_ints.into_iter().map(|(_, n)| n).collect();\n'
+FIRST = '''        if crate::grid::is_set() {
+            sorted_nodes.insert(0, eid[0]);
+        }
+'''
+cut, overlay, cli, lib = sys.argv[1:]
 published = open(cut).read()
 exchange(cut, WINDOW, NEW_WINDOW)
 exchange(cut, WHOLE, NEW_WHOLE)
@@ -84,7 +127,12 @@ put(cut, again, end)
 put(overlay, COLLECTED, '    sorted_intersections\n}')
 exchange(overlay, '    cut_cells_all(\n', ASKED)
 exchange(overlay, '        None,\n    );\n', PARENTS)
+exchange(overlay, POINT, POINT + BOOKED)
+put(overlay, NEW_INNER, INNER)
+exchange(overlay, NODES, NODES + FIRST)
+exchange(cli, READ_M, READ_M + READ_K)
+put(lib, GRID, '\npub mod probe;\n')
 END
 # so that nothing is compiled anew where nothing has changed
-touch -r "$here/oracle-02.sh" "$src/element_traits/cut.rs" "$src/tools/overlay.rs"
+touch -r "$here/oracle-02.sh" "$src/element_traits/cut.rs" "$src/tools/overlay.rs" "$cli" "$lib"
 sh "$out/copy/oracle.sh" "$out" --bin oracle-law

@@ -456,7 +456,7 @@ def told(law, name, text):
     run = subprocess.run([law, 'count'], input=numbered(text, text[len('(overlay ')]), capture_output=True, text=True, check=True)
     cells = CELL.findall(run.stderr)
     doubled = sum(bool(c[1]) for c in cells)
-    meetings, collected = map(int, re.match(r'meetings (\d+) collected (\d+)\n', run.stderr).groups())
+    meetings, collected = map(int, re.search(r'^meetings (\d+) collected (\d+)$', run.stderr, re.M).groups())
     if meetings > int(text.split()[2]):
         return refused(8), doubled
     if collected > 256:
