@@ -1,5 +1,5 @@
-"""Inputs with a refusal that is known beforehand: limits of the state (8, 9, 10) on both sides, outlines that repeat (19), and bad inputs (1
-to 6)."""
+"""Inputs with a refusal that is known beforehand: limits of the state (8, 9, 10) on both sides, outlines that repeat (19), bad inputs (1 to 6)
+and grids (13)."""
 from made import LINE, PGON, QUAD, TRI, Mesh, text
 
 
@@ -127,7 +127,41 @@ def bad():
     yield 'two at once', text(0, 65537, m, c), 1
 
 
+def corner_fan(n):
+    """n lines from the square's corner outwards: the corner, which they are welded onto, is collected as often under its two edges."""
+    s, c = square(side=1024.0), Mesh()
+    at = c.node(0.0, 0.0)
+    for i in range(n):
+        c.cell(LINE, [at, c.node(-100.0, -3.0 * i - 100.0)])
+    return s, c
+
+
+def grids():
+    s, c = square(), square(PGON, at=(1.0, -1.0))
+    for k, want in [(0, 0), (10, 0), (11, 13), (65536, 13), (4294967295, 13)]:
+        yield 'limit of grids', text(0, 9, s, c, grid=k), want
+    for m in (0, 65537):
+        yield '1 before 13', text(0, m, s, c, grid=11), 1
+    for name, form, _ in bad():
+        if name != 'bad limit' and not form.startswith('(overlay 0 65537'):
+            first, rest = form.split('\n', 1)
+            yield '13 before ' + name, first + ' 11\n' + rest, 13
+    yield '13 before 8', text(0, 1, s, c, grid=11), 13
+    # the state's limits are those without a grid: ends that are met count, though their entries are dropped
+    for k in (None, 0, 5, 10):
+        for m, want in [(200, 0), (199, 8)]:
+            yield 'limit of meetings', text(5, m, *crossings(100), grid=k), want
+        for n, want in [(101, 0), (102, 10), (256, 10), (257, 9)]:
+            yield 'limit of slots', text(5, 4000, *crossings(n), grid=k), want
+        for way in (fan, corner_fan):
+            for n, want in [(128, 0), (256, 0), (257, 9)]:
+                yield 'limit of nodes on an edge', text(5, 4000, *way(n), grid=k), want
+        for spike, want in [(False, 0), (True, 19)]:
+            yield 'outline that repeats', text(5, 4000, *zigzag(100, spike), grid=k), want
+
+
 def known():
     yield from limits()
     yield from repeats()
     yield from bad()
+    yield from grids()

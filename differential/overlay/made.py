@@ -1,7 +1,7 @@
 """Made inputs for the differential run: pairs of meshes in many families, from a seed.
 
 A mesh is a list of nodes and a list of cells (kind, family, node numbers). Each family is a method that answers an operation (or None:
-any of 0 to 4), a subject and a cutter; `form` then scales, renumbers and prints them."""
+any of 0 to 4), a subject and a cutter; `one` then scales and renumbers them and gives some a grid, `text` prints them."""
 import math
 import random
 import struct
@@ -35,8 +35,8 @@ class Mesh:
         self.cell(k, [self.node(x, y) for x, y in points])
 
 
-def text(op, limit, *meshes):
-    out = ['(overlay %d %d' % (op, limit)]
+def text(op, limit, *meshes, grid=None):
+    out = ['(overlay %d %d' % (op, limit) + ('' if grid is None else ' %d' % grid)]
     for m in meshes:
         out.append('(mesh')
         out += ['(node %s %s)' % (bits(x), bits(y)) for x, y in m.nodes]
@@ -47,9 +47,11 @@ def text(op, limit, *meshes):
 
 
 class Made:
-    def __init__(self, seed, only=''):
-        """`only`: the families whose names start so."""
+    def __init__(self, seed, only='', grids=0.25):
+        """`only`: the families whose names start so. `grids`: the share of overlays that get a grid; the others are the same whatever it is."""
         self.r = random.Random(seed)
+        self.g = random.Random('grids %d' % seed)
+        self.grids_share = grids
         families = [
             (self.grids, 12), (self.turned_grids, 10), (self.lattice, 14), (self.near_nodes, 14), (self.t_junctions, 8), (self.colinear, 8),
             (self.concave, 7), (self.touching, 6), (self.twice, 6), (self.collapsing, 5), (self.islands, 4), (self.unmerged, 8),
@@ -669,15 +671,34 @@ class Made:
                 m.nodes = [(max(-LARGEST, min(LARGEST, x)), max(-LARGEST, min(LARGEST, y))) for x, y in m.nodes]
         return name
 
+    def on_steps(self, s, c, k):
+        """The meshes about 0, what is 1 in them so many steps of the grid; their own nodes are mostly on it, or halfway."""
+        dx, dy = (self.g.choice([0.0, 0.0, -1.0, -0.5, -1.5, -2.0, 0.25]) for _ in range(2))
+        side = 2.0 ** (self.g.choice([-2, -1, 0, 0, 1, 1, 2, 3, 4, 6, 9]) - k)
+        for m in (s, c):
+            m.nodes = [((x + dx) * side, (y + dy) * side) for x, y in m.nodes]
+
+    def scaled_with(self, grid, s, c):
+        """The scale's name; with a grid seven in ten by its steps."""
+        as_made = [list(m.nodes) for m in (s, c)]
+        name = self.scaled(s, c)
+        if grid is None or self.g.random() < 0.3:
+            return name
+        for m, nodes in zip((s, c), as_made):
+            m.nodes = nodes
+        self.on_steps(s, c, grid)
+        return 'by steps'
+
     def one(self):
-        """Family, scale, operation, limit, subject, cutter."""
+        """Family, scale, operation, limit, grid, subject, cutter."""
         way = self.r.choices([f for f, _ in self.families], [w for _, w in self.families])[0]
         op, s, c = way()
         if op is None:
             op = self.r.choice([0, 0, 1, 2, 3, 4])
-        scale = self.scaled(s, c)
+        grid = self.g.randint(0, 10) if self.g.random() < self.grids_share else None
+        scale = self.scaled_with(grid, s, c)
         for m in (s, c):
             self.finished(m)
         # refusal 8 now and then; otherwise no made pair meets so often
         limit = self.r.randint(1, 12) if self.r.random() < 0.01 else 4000
-        return way.__name__, scale, op, limit, s, c
+        return way.__name__, scale, op, limit, grid, s, c

@@ -1,7 +1,7 @@
 #!/usr/bin/env python3
 """The whole overlay against the published Rust, bit for bit. No network.
 
-    python3 differential/overlay/run.py [--overlays N] [--seed S] [--only NAME] [--replay DIR]... [--show K] [--built DIR] [--later DIR] [--driver FILE]
+    python3 differential/overlay/run.py [--overlays N] [--seed S] [--only NAME] [--grids SHARE] [--replay DIR]... [--show K] [--built DIR] [--later DIR] [--driver FILE]
 
 Builds the oracle (differential/oracle) into target/oracle, its copy that goes on as document 02 says and counts into target/oracle-02 and
 the driver over the proved library into target/overlays (or takes those given), asks all sides N made overlays (by default 120,000; of the
@@ -10,7 +10,9 @@ because of the state and each answer is held to the copy's, each accepted answer
 table is doubled in the Rust, the answer is also held to the published Rust's, and each difference gets its cause. The Rust answers no parents, so
 answers are compared without them; the parents are held to the copy's families where each cell has its number as its family, and of
 operations 0 and 5 to the list of parents that the copy keeps. The Rust's count of new points is our fourth, and our second must be how many of
-them the copy's pieces name. The last line has the counts; the exit status is 1 where one is unexplained."""
+them the copy's pieces name. A share of the overlays, by default 0.25, has a grid (W6): the published Rust has none, so the copy alone is the
+measure there, and the new points must be those of the published Rust without a grid, booked (booked.py). The last line has the counts; the exit
+status is 1 where one is unexplained."""
 import argparse
 import collections
 import glob
@@ -26,6 +28,8 @@ ROOT = os.path.dirname(os.path.dirname(HERE))
 sys.path.insert(0, HERE)
 sys.dont_write_bytecode = True
 
+import booked
+from booked import grid, without_grid
 from closing import (BOTH_CUT, Told, bare, faults, in_the_family, looked_at, named_points, numbered, operation, parents, parents_of_rust,
                      pieces, pieces_of_rust, with_all_pieces)
 from limits import known
@@ -34,24 +38,25 @@ from made import Made, text
 BATCH = 4000
 ANSWER = re.compile(r'\(overlay\n.*?\n\)\n|\([^\n]*\)\n', re.S)
 # What the program reads; the driver and the oracle also read other layouts, and several forms.
-FORM = re.compile(r'\(overlay \d+ \d+\n(\(mesh\n(\(node \w+ \w+\)\n)*(\(cell( \d+)+\)\n)*\)\n){2}\)\n')
+FORM = re.compile(r'\(overlay \d+ \d+( \d+)?\n(\(mesh\n(\(node \w+ \w+\)\n)*(\(cell( \d+)+\)\n)*\)\n){2}\)\n')
 COUNT = re.compile(r'^\(count (\d+) (\d+)\)$', re.M)
 STOPPED = '(panic no next dart)\n'
 ORDER, ANGLES, BOTH = 'map order at equal projections', 'rounded angles', 'map order and rounded angles'
 CAUSES = [ORDER, ANGLES, BOTH]
 TURNED, ALIKE = 'turns back and closes up, where the Rust stops', 'stops alike (11)'
 DOUBLED, DOUBLED_11 = "doubled in the Rust's table; the copy's answer, and closes up", "doubled in the Rust's table; the copy stops alike (11)"
+ON_GRID, ON_GRID_11 = "with a grid; the copy's answer, booked, and closes up", 'with a grid; the copy stops alike (11)'
 MOST = 65536
 # The operations that drop no piece of the subject, on whose edges all new points are.
 ALL_NAMED = '015'
 # What the copy of the Rust writes of an overlay, and of each of its cells.
-OVERLAY = re.compile(r'meetings (\d+) collected (\d+)\n((?:(?:copied )?cell \d+(?: doubled)?(?: repeats)?\noutline[\d ]*\n)*)(?:parents([\d ]*)\n)?')
+OVERLAY = re.compile(r'((?:point \w+ \w+\n)*)meetings (\d+) collected (\d+)\n((?:(?:copied )?cell \d+(?: doubled)?(?: repeats)?\noutline[\d ]*\n)*)(?:parents([\d ]*)\n)?')
 CELL = re.compile(r'(copied )?cell (\d+)( doubled)?( repeats)?\noutline([\d ]*)\n')
 REFUSED = {8: "refused 8: more meetings in the Rust's count, explained at a higher limit", 9: "refused 9: over 256 nodes under a key of the Rust's",
            10: "refused 10: over 1,024 slots in the copy's table", 19: 'refused 19: the outline as cut repeats in the copy'}
-# An overlay as the copy tells of it: its answer, the meetings, the most nodes collected under one key, its cells in order, and the cell of each
-# piece, where it keeps a list of parents.
-Later = collections.namedtuple('Later', 'answer meetings collected cells parents')
+# An overlay as the copy tells of it: its answer, where it has a grid the new points before they are booked, the meetings, the most nodes
+# collected under one key, its cells in order, and the cell of each piece, where it keeps a list of parents.
+Later = collections.namedtuple('Later', 'answer points meetings collected cells parents')
 
 
 class Sides:
@@ -62,7 +67,11 @@ class Sides:
         for n in ('oracle', 'oracle-law', 'oracle-seq', 'oracle-angle'):
             self.commands[n] = [os.path.join(built, 'release', n), 'count']
         self.commands['later'] = [os.path.join(later, 'release', 'oracle-law'), 'count']
-        self.compared = collections.Counter()
+        self.without, self.on_grid, self.booked = (collections.Counter() for _ in range(3))
+
+    def tally(self, form):
+        """What is counted of overlays with a grid, or of those without."""
+        return self.without if grid(form) is None else self.on_grid
 
     def start(self, side, forms):
         into, out, err = tempfile.TemporaryFile('w+'), tempfile.TemporaryFile('w+'), tempfile.TemporaryFile('w+')
@@ -93,7 +102,8 @@ class Sides:
         told = OVERLAY.findall(told)
         if len(told) != len(forms):
             sys.exit('counts of %d overlays for %d forms' % (len(told), len(forms)))
-        return [Later(a, int(m), int(n), [cell(*c) for c in CELL.findall(cells)], list(map(int, of.split()))) for a, (m, n, cells, of) in zip(answers, told)]
+        return [Later(a, booked.POINT.findall(points), int(m), int(n), [cell(*c) for c in CELL.findall(cells)], list(map(int, of.split())))
+                for a, (points, m, n, cells, of) in zip(answers, told)]
 
 
 def cell(copied, slots, doubled, repeats, outline):
@@ -143,37 +153,57 @@ def descended(sides, forms, answers, told):
     for form, answer, later, law in zip(forms, answers, told, by_families):
         listed = parents(answer)
         right = listed == parents_of_rust(law) and in_the_family(form, answer)
+        tally = sides.tally(form)
         if operation(form) in '05':
-            sides.compared['pieces held to the list of parents'] += len(listed)
+            tally['pieces held to the list of parents'] += len(listed)
             right = right and listed == [(0, i) for i in later.parents]
-        sides.compared['pieces held to their parents'] += len(listed)
-        sides.compared["of these the cutter's"] += sum(mesh for mesh, _ in listed)
+        tally['pieces held to their parents'] += len(listed)
+        tally["of these the cutter's"] += sum(mesh for mesh, _ in listed)
         out.append(right)
     return out
 
 
 def closed(sides, forms, answers, told):
-    """Of each form, its answer and what the copy tells of it, whether it closes up in every cell, and whether the Rust, where a cell is doubled and
-    it finishes, gives the other cells the same pieces."""
+    """Of each form, its answer and what the copy tells of it, whether it closes up in every cell, and whether the Rust, where a cell is doubled, it
+    finishes and there is no grid, gives the other cells the same pieces."""
     asked = [with_all_pieces(form) for form in forms]
     other = [i for i, (form, q) in enumerate(zip(forms, asked)) if form != q]
     subjects = dict(zip(other, sides.ask('ours', [asked[i] for i in other])))
     looked = [(i, asked[i], subjects.get(i, answers[i])) for i in range(len(forms))]
     looked += [(i, forms[i], answers[i]) for i in range(len(forms)) if operation(forms[i]) in BOTH_CUT]
-    sides.compared['answers held to closing up'] += len(forms)
+    for form in forms:
+        sides.tally(form)['answers held to closing up'] += 1
     good = [True] * len(forms)
     for i, q, a in looked:
         for _, c in looked_at(q, told[i].cells):
-            sides.compared['cells of these'] += 1
-            sides.compared['of these doubled in the Rust'] += c.doubled
+            sides.tally(q)['cells of these'] += 1
+            sides.tally(q)['of these doubled in the Rust'] += c.doubled
         good[i] = good[i] and not faults(q, a, told[i].cells)
-    beside = [row for row in looked if any(c.doubled for c in told[row[0]].cells)]
+    beside = [row for row in looked if grid(row[1]) is None and any(c.doubled for c in told[row[0]].cells)]
     for (i, q, answer), law in zip(beside, sides.ask('oracle-law', [numbered(q, operation(q)) for _, q, _ in beside])):
         if law != STOPPED:
             a, b = pieces(answer), pieces_of_rust(law)
             single = [n for n, c in looked_at(q, told[i].cells) if not c.doubled]
-            sides.compared['cells beside a doubled one, held to the Rust'] += len(single)
+            sides.without['cells beside a doubled one, held to the Rust'] += len(single)
             good[i] = good[i] and all(a[n] == b[n] for n in single)
+    return good
+
+
+def on_their_grids(sides, forms, answers, rust, told):
+    """Of each form, its answer, the published Rust's without a grid and what the copy tells, whether the answer's new points are those of the
+    same overlay without a grid, booked. Where the published Rust stops, the copy lists them; where that stops too, it still tells them."""
+    rows = [i for i, form in enumerate(forms) if grid(form) is not None]
+    stopped = [i for i in rows if not rust[i].startswith('(overlay')]
+    turned = dict(zip(stopped, sides.ask('later', [without_grid(forms[i]) for i in stopped])))
+    good = [True] * len(forms)
+    for i in rows:
+        form, points = forms[i], told[i].points
+        for who, a in (("the published Rust's", rust[i]), ("the copy's", turned.get(i, ''))):
+            if a.startswith('(overlay'):
+                sides.on_grid['overlays whose new points are %s without a grid, booked' % who] += 1
+                good[i] = good[i] and booked.new_points(form, a) == points
+        good[i] = good[i] and not booked.faults(form, answers[i], points)
+        sides.booked.update(booked.reached(form, answers[i], points) if good[i] else {})
     return good
 
 
@@ -210,36 +240,40 @@ def points_right(form, answer, points, copy):
 
 
 def counted(sides, forms, later, ours, rust, beside):
-    """For each form what the copy says of our answer and its second and third counts: a refusal explained, that the published table is doubled,
-    that it is unexplained, or nothing: then the published Rust is the measure as well."""
+    """For each form what the copy says of our answer and its second and third counts: a refusal explained, that it has a grid, that the published
+    table is doubled, that it is unexplained, or nothing: then the published Rust is the measure as well."""
     out = []
     for form, told, a, r, (points, third) in zip(forms, later, ours, rust, beside):
         want, got = wanted(form, told), code(a)
         doubled = sum(c.doubled for c in told.cells)
-        sides.compared['overlays'] += 1
-        sides.compared['overlays with a doubled cell'] += doubled > 0
+        tally = sides.tally(form)
+        tally['overlays'] += 1
+        tally['overlays with a doubled cell'] += doubled > 0
         if want != got or third or not got and (a != told.answer or not points_right(form, a, points, told.answer)):
             out.append('unexplained')
             continue
         if not got:
-            sides.compared['accepted'] += 1
+            tally['accepted'] += 1
             added = count_line(a)[1]
-            sides.compared["new points held to the Rust's count"] += added
-            sides.compared["of these named, held to the copy's pieces"] += points
-            sides.compared['overlays with a new point that no piece names'] += points < added
-            sides.compared['cells'] += len(told.cells)
-            sides.compared['accepted with a doubled cell'] += doubled > 0
-            sides.compared['doubled, cut'] += sum(c.doubled and not c.copied for c in told.cells)
-            sides.compared['doubled, copied'] += sum(c.doubled and c.copied for c in told.cells)
-            sides.compared['accepted with a doubled cell, the Rust lists the same'] += doubled > 0 and a == r
-        out.append(REFUSED.get(got) or ((DOUBLED_11 if got else DOUBLED) if doubled else None))
+            tally["new points held to the Rust's count"] += added
+            tally["of these named, held to the copy's pieces"] += points
+            tally['overlays with a new point that no piece names'] += points < added
+            tally['cells'] += len(told.cells)
+            tally['accepted with a doubled cell'] += doubled > 0
+            tally['doubled, cut'] += sum(c.doubled and not c.copied for c in told.cells)
+            tally['doubled, copied'] += sum(c.doubled and c.copied for c in told.cells)
+            tally['accepted with a doubled cell, the Rust lists the same'] += grid(form) is None and doubled > 0 and a == r
+        if grid(form) is None:
+            out.append(REFUSED.get(got) or ((DOUBLED_11 if got else DOUBLED) if doubled else None))
+        else:
+            out.append(REFUSED.get(got) or (ON_GRID_11 if got else ON_GRID))
     return out
 
 
 def compared(sides, forms):
-    """Each form, our answer, the Rust's, the verdict and our second count. The verdict: equal, stops alike, turns back, a cause, doubled, a refusal
-    with its explanation, or unexplained."""
-    jobs = sides.start('oracle', forms), sides.start('ours', forms)
+    """Each form, our answer, the Rust's without a grid, the verdict and our second count. The verdict: equal, stops alike, turns back, a cause,
+    doubled, with a grid, a refusal with its explanation, or unexplained."""
+    jobs = sides.start('oracle', list(map(without_grid, forms))), sides.start('ours', forms)
     (rust, _), (listed, beside) = map(sides.take, jobs)
     beside = [tuple(map(int, line.split())) for line in beside.splitlines()]
     ours = list(map(bare, listed))
@@ -256,9 +290,10 @@ def compared(sides, forms):
     for i, why in zip(left, explained(sides, *rows)):
         verdict[i] = why
     accepted = [i for i, v in enumerate(verdict) if v != 'unexplained' and not code(ours[i])]
-    rows = [[r[i] for i in accepted] for r in (forms, listed, later)]
-    for i, good, right in zip(accepted, closed(sides, *rows), descended(sides, *rows)):
-        verdict[i] = verdict[i] if good and right else 'unexplained'
+    form, answer, alone, told = ([r[i] for i in accepted] for r in (forms, listed, rust, later))
+    held = closed(sides, form, answer, told), descended(sides, form, answer, told), on_their_grids(sides, form, answer, alone, told)
+    for i, *good in zip(accepted, *held):
+        verdict[i] = verdict[i] if all(good) else 'unexplained'
     return list(zip(forms, listed, rust, verdict, [points for points, _ in beside]))
 
 
@@ -266,8 +301,8 @@ def show(title, row, sides):
     form, ours, rust, why, points = row
     told = sides.later([form])[0]
     by_families = sides.ask('later', [numbered(form, operation(form))])[0]
-    print('---- %s: %s\n%sours (%d points named): %srust: %slaw: %scopy (wanted %d, %d points named): %sparents: %s' % (
-        title, why, form, points, ours, rust, sides.ask('oracle-law', [form])[0], wanted(form, told), len(named_points(form, told.answer)), told.answer,
+    print('---- %s: %s\n%sours (%d points named): %srust without a grid: %slaw: %scopy (wanted %d, %d points named): %sparents: %s' % (
+        title, why, form, points, ours, rust, sides.ask('oracle-law', [without_grid(form)])[0], wanted(form, told), len(named_points(form, told.answer)), told.answer,
         parents_of_rust(by_families)))
 
 
@@ -280,19 +315,20 @@ def table(counts, verdicts):
 
 
 def made_overlays(a, sides, shown):
-    made = Made(a.seed, a.only)
+    made = Made(a.seed, a.only, a.grids)
     counts = collections.defaultdict(collections.Counter)
     ops = collections.defaultdict(collections.Counter)
-    scales, reached = collections.Counter(), collections.Counter()
+    scales, grids, reached = collections.Counter(), collections.Counter(), collections.Counter()
     done = 0
     while done < a.overlays:
         rows = [made.one() for _ in range(min(BATCH, a.overlays - done))]
-        forms = [text(*row[2:]) for row in rows]
+        forms = [text(op, limit, *meshes, grid=k) for _, _, op, limit, k, *meshes in rows]
         done += len(rows)
-        for (family, scale, op, _, s, c), row in zip(rows, compared(sides, forms)):
+        for (family, scale, op, _, k, _, _), row in zip(rows, compared(sides, forms)):
             _, ours, _, why, points = row
             counts[family][why] += 1
             scales[scale] += 1
+            grids['no grid' if k is None else 'k %d' % k] += 1
             ops['operation %d' % op][why] += 1
             if ours.startswith('(overlay'):
                 listed, added = count_line(ours)
@@ -304,7 +340,7 @@ def made_overlays(a, sides, shown):
                 reached['operation %d with a new point that no piece names' % op] += points < added
             if why == 'unexplained' and len(shown) < a.show:
                 shown.append((family + ', ' + scale, row))
-    return counts, scales, ops, reached
+    return counts, scales, grids, ops, reached
 
 
 def known_refusals(sides, shown):
@@ -318,7 +354,7 @@ def known_refusals(sides, shown):
             print('known refusal: %s: %d in the place of %d' % (name, got, want))
     asked = [(form, want) for _, form, want in rows if want in (0, 8, 9, 10, 19)]
     for (_, want), row in zip(asked, compared(sides, [form for form, _ in asked])):
-        if row[3] not in ((REFUSED[want],) if want else ('equal', DOUBLED)):
+        if row[3] not in ((REFUSED[want],) if want else ('equal', DOUBLED, ON_GRID)):
             bad += 1
             shown.append(('limit', row))
     return collections.Counter(codes), bad
@@ -330,7 +366,7 @@ def replayed(sides, folders, shown):
         for f in sorted(glob.glob(os.path.join(folder, '*.in'))):
             form = open(f, errors='replace').read()
             ours = subprocess.run(sides.commands['ours'], input=form, text=True, capture_output=True).stdout
-            if not FORM.fullmatch(form) or re.match(r'\(refused [1-7]\)', ours) or '(unread)' in ours:
+            if not FORM.fullmatch(form) or re.match(r'\(refused ([1-7]|13)\)', ours) or '(unread)' in ours:
                 counts['refused because of the input, or unread'] += 1
                 continue
             row = compared(sides, [form])[0]
@@ -361,6 +397,7 @@ def main():
     p.add_argument('--overlays', type=int, default=120000)
     p.add_argument('--seed', type=int, default=1)
     p.add_argument('--only', default='')
+    p.add_argument('--grids', type=float, default=0.25)
     p.add_argument('--replay', action='append', default=[])
     p.add_argument('--show', type=int, default=3)
     p.add_argument('--built')
@@ -370,7 +407,7 @@ def main():
     sides = build(a)
     shown = []
     start = time.time()
-    counts, scales, ops, reached = made_overlays(a, sides, shown)
+    counts, scales, grids, ops, reached = made_overlays(a, sides, shown)
     seconds = time.time() - start
     verdicts = sorted({v for c in counts.values() for v in c}, key=lambda v: (v not in ('equal',), v))
     table(counts, verdicts)
@@ -378,8 +415,11 @@ def main():
     for i, v in enumerate(verdicts):
         print('%d: %s' % (i + 1, v))
     print('scales: ' + ', '.join('%s %d' % s for s in scales.most_common()))
+    print('grids: ' + ', '.join('%s %d' % s for s in sorted(grids.items())))
     print('reached: ' + ', '.join('%s %d' % s for s in sorted(reached.items())))
-    print('counted in the Rust: ' + ', '.join('%s %d' % s for s in sides.compared.items()))
+    print('counted in the Rust: ' + ', '.join('%s %d' % s for s in sides.without.items()))
+    print('the same with a grid: ' + ', '.join('%s %d' % s for s in sides.on_grid.items()))
+    print('booked: ' + ', '.join('%s %d' % s for s in sides.booked.items()))
     codes, bad = known_refusals(sides, shown)
     print('known refusals: ' + ', '.join('%d: %d' % c for c in sorted(codes.items())) + '; %d not as known' % bad)
     named = replayed(sides, [os.path.join(ROOT, 'differential', 'oracle', 'cases')] + a.replay, shown)
@@ -392,8 +432,8 @@ def main():
     left = n['unexplained'] + bad + named['unexplained']
     print('%d made overlays in %.0f s, %d equal, %d turn back and close up, %d stop alike (11), %s, ' % (
         a.overlays, seconds, n['equal'], n[TURNED], n[ALIKE], ', '.join('%d %s' % (n[c], c) for c in CAUSES)), end='')
-    print('%d doubled in the Rust, %d of them 11, %s, %d known refusals and limits, %d named inputs, %d unexplained' % (
-        n[DOUBLED] + n[DOUBLED_11], n[DOUBLED_11], ', '.join('%d refused %d' % (n[REFUSED[c]], c) for c in REFUSED), sum(codes.values()),
+    print('%d doubled in the Rust, %d of them 11, %d with a grid as the copy, %d of them 11, %s, %d known refusals and limits, %d named inputs, %d unexplained' % (
+        n[DOUBLED] + n[DOUBLED_11], n[DOUBLED_11], n[ON_GRID] + n[ON_GRID_11], n[ON_GRID_11], ', '.join('%d refused %d' % (n[REFUSED[c]], c) for c in REFUSED), sum(codes.values()),
         sum(named.values()), left))
     return 1 if left else 0
 
