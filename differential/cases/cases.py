@@ -39,8 +39,14 @@ def mesh(points, cells):
     return ['(mesh', *nodes, *lines, ')']
 
 
-def overlay(op, m, subject, cutter):
-    return '\n'.join([f'(overlay {op} {m}', *mesh(*subject), *mesh(*cutter), ')']) + '\n'
+def overlay(op, m, subject, cutter, grid=None):
+    return '\n'.join([f'(overlay {op} {m}', *mesh(*subject), *mesh(*cutter), ')']) + '\n' if grid is None else on_grid(grid, overlay(op, m, subject, cutter))
+
+
+def on_grid(k, text):
+    """The same with k behind the first line's numbers."""
+    first, rest = text.split('\n', 1)
+    return f'{first} {k}\n{rest}'
 
 
 def box(a, b, c, d, family=0, kind=11):
@@ -57,6 +63,8 @@ W14 = 'W14, document 02'
 ONCE = 'W14, and the published Rust with its table'
 CARRIED = 'W2, and the families of the published Rust'
 NAMED = 'W5, and the pieces of the published Rust'
+BOOKED = 'W6, and the published Rust on that grid'
+W6 = 'W6, document 02'
 SQUARE = box(0., 0., 2., 2., 7, 8)
 STRIP = box(1., -1., 3., 3.)
 K1 = overlay(0, 9, SQUARE, STRIP)
@@ -435,6 +443,81 @@ def pointed():
         yield f'limit-points-op{op}', overlay(op, 764, subject, level), Listed(), NAMED
 
 
+def gridded():
+    """W6: new points on a grid. (name, text, answer, where the answer comes from)"""
+    # sides at a third of the square's width: onto its corners with k 0, which stay two nodes each
+    third = box(1 / 3, -1., 3., 3.)
+    yield 'grid-third-none', overlay(0, 9, SQUARE, third), Listed(), 'the published Rust'
+    for k in 0, 1, 10:
+        yield f'grid-third-k{k}', overlay(0, 9, SQUARE, third, k), Listed(), BOOKED
+    for op in 2, 3, 4:
+        yield f'grid-third-k0-op{op}', overlay(op, 9, SQUARE, third, 0), Listed(), BOOKED
+    yield 'grid-k1', on_grid(0, K1), Listed(), BOOKED
+    # halfway, to the even multiple, up and down; a step of a float beside
+    about = box(-4., -4., 4., 4., 7, 8)
+    for name, k, x in [('down', 0, 2.5), ('up', 0, 1.5), ('down-below-0', 0, -2.5), ('up-below-0', 0, -1.5), ('more', 0, math.nextafter(2.5, 3.)),
+                       ('less', 0, math.nextafter(1.5, 1.)), ('down-k10', 10, 1 + 2. ** -11), ('up-k10', 10, 1 + 3 * 2. ** -11)]:
+        yield f'grid-halfway-{name}', overlay(0, 9, about, box(x, -5., 5., 5.), k), Listed(), BOOKED
+    # zero is +0, from below and from halfway
+    for name, x in ('below', -.25), ('halfway', -.5):
+        yield f'grid-zero-{name}', overlay(0, 9, about, box(x, -5., 5., 5.), 0), Listed(), BOOKED
+    tiny, side = 2. ** -20, -2. ** -21
+    yield 'grid-zero-tiny', overlay(0, 9, box(-tiny, -tiny, tiny, tiny, 7, 8), box(side, -1., 1., 1.), 10), Listed(), BOOKED
+    # from 2^42 steps on, the largest coordinates: every float is halfway or on the grid, or nearer
+    far = 2. ** 40 - 8
+    yield 'grid-far-k10', overlay(0, 9, box(far, far, far + 4, far + 4, 7, 8), box(far + 1 + 2. ** -11, far - 1, far + 8, far + 8), 10), Listed(), BOOKED
+    # two sides that come to one place: a piece of no area, which has no inner point
+    thin = box(.625, -1., .875, 3.)
+    for op in range(5):
+        yield f'grid-thin-op{op}', overlay(op, 9, SQUARE, thin, 0), Listed(), BOOKED
+    # as lines: at one place they go as they were met
+    low, high = [(.625, -1.), (.625, 3.)], [(.875, -1.), (.875, 3.)]
+    for name, *lines in ('there', low, high), ('back', high, low):
+        yield f'grid-thin-lines-{name}', overlay(5, 9, SQUARE, ditch(*lines), 0), Listed(), BOOKED
+    # corners off the grid: a new point comes to stand before an edge's first node, or behind its second; lines from these corners collect them
+    off = box(.375, .375, 2.625, 2.625, 7, 8)
+    before, behind = [(.4375, 0.), (.4375, 3.)], [(2.5625, 0.), (2.5625, 3.)]
+    first, second = [(.375, .375), (0., -1.)], [(2.625, .375), (3., -1.)]
+    for name, *lines in ('before', before), ('behind', behind), ('before-first', before, first), ('behind-second', behind, second), ('both', before, first, behind, second):
+        yield f'grid-{name}', overlay(5, 20, off, ditch(*lines), 0), Listed(), BOOKED
+    for op in 0, 1:
+        yield f'grid-behind-op{op}', overlay(op, 20, off, box(2.5625, 0., 4., 3.), 0), Listed(), BOOKED
+    # no node before an edge's first: what is 11 without a grid
+    corner = [(-2. ** -27, 0.), (1., 0.), (0., 1.)], [(5, 7, (0, 1, 2))]
+    wedge = [(0., 0.), (2., 0.), (2., 2.)], [(5, 3, (0, 1, 2))]
+    for op in 0, 1:
+        yield f'grid-not-round-op{op}', overlay(op, 9, corner, wedge, 10), Listed(), BOOKED
+    # sides on each other in part, and a corner on a side: ends and old nodes are met, a new point is beside them
+    yield 'grid-colinear', overlay(0, 20, SQUARE, cells([(-1., 0.), (1., 0.), (1.3, 3.)]), 1), Listed(), BOOKED
+    yield 'grid-colinear-lines', overlay(5, 20, off, ditch([(0., .375), (1., .375)], [(1., .375), (4., .375)], [(1.3, 0.), (1.6, 3.)]), 0), Listed(), BOOKED
+    yield 'grid-shared-side', overlay(1, 20, off, box(2.625, .5, 4., 2.25), 0), Listed(), BOOKED
+    # a line three times
+    yield 'grid-traced', overlay(5, 20, off, ([(1.3, 0.), (1.3, 4.)], [(1, 0, (0, 1)), (1, 0, (0, 1)), (1, 0, (1, 0))]), 2), Listed(1), BOOKED
+    # the limits of the state are those without a grid: ends count
+    yield 'grid-limit-256-on-an-edge', on_grid(5, along(4)), Listed(1), BOOKED
+    yield 'grid-limit-257-on-an-edge', on_grid(5, along(5)), refused(9), W6
+    yield 'grid-limit-1-meeting', on_grid(0, overlay(0, 1, SQUARE, third)), refused(8), W6
+    yield 'grid-limit-1026-slots', on_grid(3, fan(wide(101, 4), 101)), refused(10), W6
+    yield from beyond_grids()
+
+
+def beyond_grids():
+    """13, directly after 1, and first lines that can't be read."""
+    empty = SQUARE[0], [(8, 7, ())]
+    for k in 11, 4294967295:
+        yield f'refused-13-k{k}', on_grid(k, K1), refused(13), W6
+    for name, op, m in ('operation', 6, 9), ('no-meetings', 0, 0), ('meetings', 0, 65537):
+        yield f'refused-1-{name}-before-13', overlay(op, m, SQUARE, STRIP, 11), refused(1), W6
+    for n, text in [(2, overlay(0, 9, SQUARE, empty)), (3, overlay(0, 9, box(-0., 0., 2., 2.), STRIP)), (4, overlay(5, 9, SQUARE, STRIP)),
+                    (5, overlay(0, 9, SQUARE, (STRIP[0], [(11, 0, (0, 1, 2, 4))]))), (6, overlay(0, 9, (SQUARE[0], [(8, 7, (0, 1, 2, 0))]), STRIP)),
+                    (7, overlay(0, 1005, SQUARE, STRIP)), (8, overlay(0, 1, SQUARE, STRIP))]:
+        yield f'refused-13-before-{n}', on_grid(11, text), refused(13), W6
+    yield 'refused-2-with-a-grid', overlay(0, 9, SQUARE, empty, 10), refused(2), W6
+    yield 'refused-7-with-a-grid', overlay(0, 1005, SQUARE, STRIP, 0), refused(7), W6
+    for name, k in [('too-large', '4294967296'), ('leading-zero', '00'), ('sign', '-1'), ('two-spaces', ' 1'), ('four-numbers', '1 1'), ('space', ''), ('space-after', '1 ')]:
+        yield f'read-grid-{name}', on_grid(k, K1), UNREAD, W6
+
+
 CELL = re.compile(r'^(?:copied )?cell (\d+)( doubled)?( repeats)?$', re.M)
 PIECE = re.compile(r'^\(cell (\d+) (\d+)', re.M)
 
@@ -478,7 +561,7 @@ def listed(law, name, text, doubled, source):
         sys.exit(f'{name}: the oracle says {answer.strip()}')
     if answer != refused(11) and n != doubled:
         sys.exit(f'{name}: the published table doubles {n} cells, not {doubled}')
-    return answer, ONCE if n else source
+    return answer, ONCE if n and source != BOOKED else source
 
 
 TOLD = [refused(n) for n in (8, 9, 10, 11, 19)]
@@ -490,7 +573,7 @@ def stored(law):
     answers = re.split('^(' + '|'.join(map(re.escape, names)) + ')\n', read(f'{REPLAYED}/stdout').decode(), flags=re.M)[1:]
     assert answers[::2] == names
     for name, answer in zip(names, answers[1::2]):
-        if re.match(r'(w[25]-)?\d{3}-', name):
+        if re.match(r'(w[256]-)?\d{3}-', name):
             text = read(f'{REPLAYED}/data/{name}')
             if answer.startswith('(overlay') or answer in TOLD:
                 if told(law, name, text.decode())[0] != answer:
@@ -515,7 +598,7 @@ def answers(law):
     rows = [(f, f'{SMALLEST}/{f}', 'the published Rust') for f in sorted(os.listdir(SMALLEST))]
     rows += [(f, f'{ROOT}/examples/{f}', source) for f, source in (('soil.in', 'the published Rust'), ('model.in', 'the published Rust'), ('ditch.in', TURNING), ('traced.in', ONCE))]
     rows = [(f, read(path), refused(19) if f in REPEATS else Listed(DOUBLED.get(f, 0)), source) for f, path, source in rows]
-    rows += [(f'{name}.in', text.encode(), answer, source) for name, text, answer, source in [*made(), *traced(), *descended(), *pointed()]]
+    rows += [(f'{name}.in', text.encode(), answer, source) for name, text, answer, source in [*made(), *traced(), *descended(), *pointed(), *gridded()]]
     for name, text, answer, source in rows:
         if isinstance(answer, Listed):
             answer, source = listed(law, name, text.decode(), answer.doubled, source)

@@ -45,7 +45,7 @@ ORDER, ANGLES, BOTH = 'map order at equal projections', 'rounded angles', 'map o
 CAUSES = [ORDER, ANGLES, BOTH]
 TURNED, ALIKE = 'turns back and closes up, where the Rust stops', 'stops alike (11)'
 DOUBLED, DOUBLED_11 = "doubled in the Rust's table; the copy's answer, and closes up", "doubled in the Rust's table; the copy stops alike (11)"
-ON_GRID, ON_GRID_11 = "with a grid; the copy's answer, booked, and closes up", 'with a grid; the copy stops alike (11)'
+ON_GRID = "with a grid; the copy's answer, booked, and closes up"
 MOST = 65536
 # The operations that drop no piece of the subject, on whose edges all new points are.
 ALL_NAMED = '015'
@@ -266,7 +266,7 @@ def counted(sides, forms, later, ours, rust, beside):
         if grid(form) is None:
             out.append(REFUSED.get(got) or ((DOUBLED_11 if got else DOUBLED) if doubled else None))
         else:
-            out.append(REFUSED.get(got) or (ON_GRID_11 if got else ON_GRID))
+            out.append(REFUSED.get(got, 'unexplained' if got else ON_GRID))
     return out
 
 
@@ -432,8 +432,8 @@ def main():
     left = n['unexplained'] + bad + named['unexplained']
     print('%d made overlays in %.0f s, %d equal, %d turn back and close up, %d stop alike (11), %s, ' % (
         a.overlays, seconds, n['equal'], n[TURNED], n[ALIKE], ', '.join('%d %s' % (n[c], c) for c in CAUSES)), end='')
-    print('%d doubled in the Rust, %d of them 11, %d with a grid as the copy, %d of them 11, %s, %d known refusals and limits, %d named inputs, %d unexplained' % (
-        n[DOUBLED] + n[DOUBLED_11], n[DOUBLED_11], n[ON_GRID] + n[ON_GRID_11], n[ON_GRID_11], ', '.join('%d refused %d' % (n[REFUSED[c]], c) for c in REFUSED), sum(codes.values()),
+    print('%d doubled in the Rust, %d of them 11, %d with a grid as the copy, %s, %d known refusals and limits, %d named inputs, %d unexplained' % (
+        n[DOUBLED] + n[DOUBLED_11], n[DOUBLED_11], n[ON_GRID], ', '.join('%d refused %d' % (n[REFUSED[c]], c) for c in REFUSED), sum(codes.values()),
         sum(named.values()), left))
     return 1 if left else 0
 
