@@ -42,11 +42,3 @@ impl TryFrom<u32> for Operation {
         }
     }
 }
-
-impl From<Operation> for u32 {
-    ghost from_gives = { λ o n. n ≡ op_number o };
-
-    fn from(operation: Operation) -> u32 {
-        operation as u32
-    }
-}

@@ -146,7 +146,13 @@ fn stages(
         return Err(Refusal::NoPlace);
     }
     let placed = subject.coords.len() + cutter.coords.len();
-    let n = nets(takes_lines(settings.op), &coords[..placed], subject, cutter, work);
+    let n = nets(
+        takes_lines(settings.op),
+        &coords[..placed],
+        subject,
+        cutter,
+        work,
+    );
     let f = meet(settings, n, placed, coords, work)?;
     let g = link(work, n, f.met, placed / 2 + 1);
     if crowded(work, g) {

@@ -17,7 +17,7 @@ use borrow.Author.Tests.{ne_eqb, le-leb, lt-leb}
 use Rattle.std.proofs.lemmas.Bool.{cases_lt}
 use Rattle.exact.specs.Exact.{mag, minus}
 use Rattle.exact.proofs.Fields.{value_mag}
-use Rattle.grid.specs.Grid.{step, steps, grid_number, on_grid}
+use Rattle.grid.specs.Grid.{grid_step, steps, grid_number, on_grid}
 use Rattle.grid.proofs.Whole.{closest_whole, closest_at_most}
 use Rattle.grid.proofs.Values.{HasUnits, one_float}
 use Rattle.grid.proofs.Digits.{Digits, digits}
@@ -42,22 +42,22 @@ placed k x h t = rw (le-leb k 10 h, is_true (finite x) t) refl
 
 -- ---- steps in units of 2 ^ -1074
 
-pub step_pos : (k : ℕ) → 0 < step k
+pub step_pos : (k : ℕ) → 0 < grid_step k
 step_pos k = pow_pos (1074 - k)
 
-pub whole_steps : (k : ℕ) → k ≤ 10 → 2 ^ k * step k ≡ 2 ^ 1074
+pub whole_steps : (k : ℕ) → k ≤ 10 → 2 ^ k * grid_step k ≡ 2 ^ 1074
 whole_steps k h = let e : k + (1074 - k) ≡ 1074 = omega arith in sym (pow-add 2 k (1074 - k)) ∙ ap (λ (n : ℕ). 2 ^ n) e
 
 -- n / 2 ^ k is n steps
-pub in_units : (k n : ℕ) (s : Bool) → k ≤ 10 → round binary64 s n (2 ^ k) ≡ round binary64 s (n * step k) (2 ^ 1074)
+pub in_units : (k n : ℕ) (s : Bool) → k ≤ 10 → round binary64 s n (2 ^ k) ≡ round binary64 s (n * grid_step k) (2 ^ 1074)
 in_units k n s h =
-    round_same binary64 s n (2 ^ k) (n * step k) (2 ^ 1074) (pow_pos k) (pow_pos 1074)
-    (ap (λ (i : ℕ). n * i) (sym (whole_steps k h) ∙ mul_comm (2 ^ k) (step k)) ∙ sym (mul_assoc n (step k) (2 ^ k)))
+    round_same binary64 s n (2 ^ k) (n * grid_step k) (2 ^ 1074) (pow_pos k) (pow_pos 1074)
+    (ap (λ (i : ℕ). n * i) (sym (whole_steps k h) ∙ mul_comm (2 ^ k) (grid_step k)) ∙ sym (mul_assoc n (grid_step k) (2 ^ k)))
 
 -- few steps are an f64
-pub few_exact : (k n : ℕ) (s : Bool) → n < 2 ^ 53 → HasUnits (round binary64 s (n * step k) (2 ^ 1074)) s (n * step k)
+pub few_exact : (k n : ℕ) (s : Bool) → n < 2 ^ 53 → HasUnits (round binary64 s (n * grid_step k) (2 ^ 1074)) s (n * grid_step k)
 few_exact k n s l =
-    round_exact binary64 s (n * step k) (2 ^ 1074) n (1074 - k) (pow_pos 1074) l
+    round_exact binary64 s (n * grid_step k) (2 ^ 1074) n (1074 - k) (pow_pos 1074) l
     (lt_of_lt_of_le (shl_lt 53 (1074 - k) l) (pow_mono {i = 53 + (1074 - k)} {j = 2098} (omega arith))) refl
 
 -- and so is what was one, of either sign
@@ -67,8 +67,8 @@ size_exact x s d = round_exact binary64 s (mag x) (2 ^ 1074) d.m d.e (pow_pos 10
 -- ---- where x stands: on the grid, or below 2 ^ 52 steps
 
 data Place (k : ℕ) (x : Float) : Type 0 where
-  there : (q : ℕ) → mag x ≡ q * step k → Place k x
-  below : mag x < 2 ^ 52 * step k → Place k x
+  there : (q : ℕ) → mag x ≡ q * grid_step k → Place k x
+  below : mag x < 2 ^ 52 * grid_step k → Place k x
 
 short_below : (m e g : ℕ) → m < 2 ^ 53 → suc e ≤ g → m * 2 ^ e < 2 ^ 52 * 2 ^ g
 short_below m e g h l =
@@ -81,18 +81,18 @@ place k x d = elim (cases_lt d.e (1074 - k)) [
   | inr l ↦
       let i = d.e - (1074 - k) in
       let e : i + (1074 - k) ≡ d.e = omega arith in
-      there (d.m * 2 ^ i) (d.same ∙ ap (λ (n : ℕ). d.m * n) (ap (λ (n : ℕ). 2 ^ n) (sym e) ∙ pow-add 2 i (1074 - k)) ∙ sym (mul_assoc d.m (2 ^ i) (step k)))
+      there (d.m * 2 ^ i) (d.same ∙ ap (λ (n : ℕ). d.m * n) (ap (λ (n : ℕ). 2 ^ n) (sym e) ∙ pow-add 2 i (1074 - k)) ∙ sym (mul_assoc d.m (2 ^ i) (grid_step k)))
 ]
 
 -- ---- the value of a grid number
 
-pub steps_on : (k q : ℕ) (x : Float) → mag x ≡ q * step k → steps k x ≡ q
+pub steps_on : (k q : ℕ) (x : Float) → mag x ≡ q * grid_step k → steps k x ≡ q
 unfolding steps
-steps_on k q x e = ap (λ (n : ℕ). closest n (step k)) e ∙ closest_whole q (step k) (step_pos k)
+steps_on k q x e = ap (λ (n : ℕ). closest n (grid_step k)) e ∙ closest_whole q (grid_step k) (step_pos k)
 
-pub steps_at_most : (k n : ℕ) (x : Float) → mag x ≤ n * step k → steps k x ≤ n
+pub steps_at_most : (k n : ℕ) (x : Float) → mag x ≤ n * grid_step k → steps k x ≤ n
 unfolding steps
-steps_at_most k n x l = closest_at_most (mag x) n (step k) (step_pos k) l
+steps_at_most k n x l = closest_at_most (mag x) n (grid_step k) (step_pos k) l
 
 pub number_fits : (k : ℕ) (s : Bool) (n : ℕ) → T (fits binary64 (grid_number k s n))
 unfolding grid_number
@@ -102,13 +102,13 @@ module _ (k : ℕ) (x : Float) (h : k ≤ 10) (f : fits binary64 x ≡ true) (t 
   abbrev sign : Bool
   sign = minus x && not (eqb (steps k x) 0)
 
-  pub number_exact : HasUnits (grid_number k (minus x) (steps k x)) sign (steps k x * step k)
+  pub number_exact : HasUnits (grid_number k (minus x) (steps k x)) sign (steps k x * grid_step k)
   unfolding grid_number
-  number_exact = subst (λ (v : Float). HasUnits v sign (steps k x * step k)) (sym (in_units k (steps k x) sign h)) (go (place k x (digits x f t)))
+  number_exact = subst (λ (v : Float). HasUnits v sign (steps k x * grid_step k)) (sym (in_units k (steps k x) sign h)) (go (place k x (digits x f t)))
     where
-      go : Place k x → HasUnits (round binary64 sign (steps k x * step k) (2 ^ 1074)) sign (steps k x * step k)
+      go : Place k x → HasUnits (round binary64 sign (steps k x * grid_step k) (2 ^ 1074)) sign (steps k x * grid_step k)
       go (there q e) =
-          subst (λ (n : ℕ). HasUnits (round binary64 sign n (2 ^ 1074)) sign n) (e ∙ ap (λ (n : ℕ). n * step k) (sym (steps_on k q x e))) (size_exact x sign (digits x f t))
+          subst (λ (n : ℕ). HasUnits (round binary64 sign n (2 ^ 1074)) sign n) (e ∙ ap (λ (n : ℕ). n * grid_step k) (sym (steps_on k q x e))) (size_exact x sign (digits x f t))
       go (below l) = few_exact k (steps k x) sign (lt_of_le_of_lt (steps_at_most k (2 ^ 52) x (le_of_lt l)) (omega arith))
 
   -- ---- a number on the grid stays, unless it is -0
@@ -117,22 +117,22 @@ module _ (k : ℕ) (x : Float) (h : k ≤ 10) (f : fits binary64 x ≡ true) (t 
   signs false q h = refl
   signs true q h = ap not (ne_eqb q 0 (h refl))
 
-  pub stays : (q : ℕ) → mag x ≡ q * step k → (minus x ≡ true → q ≡ 0 → ⊥) → grid_number k (minus x) (steps k x) ≡ x
+  pub stays : (q : ℕ) → mag x ≡ q * grid_step k → (minus x ≡ true → q ≡ 0 → ⊥) → grid_number k (minus x) (steps k x) ≡ x
   stays q e z =
       let n = steps_on k q x e in
-      let v = value_mag (grid_number k (minus x) (steps k x)) sign (steps k x * step k) number_exact in
+      let v = value_mag (grid_number k (minus x) (steps k x)) sign (steps k x * grid_step k) number_exact in
       one_float (grid_number k (minus x) (steps k x)) x (number_fits k (minus x) (steps k x)) (subst T (sym f) tt) v.2 t
       (v.0 ∙ signs (minus x) (steps k x) (λ m o. z m (sym n ∙ o)))
-      (v.1 ∙ ap (λ (n : ℕ). n * step k) n ∙ sym e)
+      (v.1 ∙ ap (λ (n : ℕ). n * grid_step k) n ∙ sym e)
 
   -- from 2 ^ 52 steps on all are
-  pub far : 2 ^ 52 * step k ≤ mag x → grid_number k (minus x) (steps k x) ≡ x
+  pub far : 2 ^ 52 * grid_step k ≤ mag x → grid_number k (minus x) (steps k x) ≡ x
   far l = go (place k x (digits x f t))
     where
-      some : (q : ℕ) → mag x ≡ q * step k → q ≡ 0 → ⊥
+      some : (q : ℕ) → mag x ≡ q * grid_step k → q ≡ 0 → ⊥
       some q e z =
-          let p : 0 < 2 ^ 52 * step k = mul-pos (pow_pos 52) (step_pos k) in
-          not-le_of_lt p (le_trans l (le_of_eq (e ∙ ap (λ (n : ℕ). n * step k) z ∙ zero-mul (step k))))
+          let p : 0 < 2 ^ 52 * grid_step k = mul-pos (pow_pos 52) (step_pos k) in
+          not-le_of_lt p (le_trans l (le_of_eq (e ∙ ap (λ (n : ℕ). n * grid_step k) z ∙ zero-mul (grid_step k))))
 
       go : Place k x → grid_number k (minus x) (steps k x) ≡ x
       go (there q e) = stays q e (λ _ z. some q e z)

@@ -15,7 +15,7 @@ use Rattle.exact.specs.Inner.{signed_size}
 use Rattle.exact.specs.declared.parts.Parts.{Parts}
 use Rattle.exact.proofs.Integers.{abs_signed}
 use Rattle.exact.proofs.ExactUnits.{size_coord}
-use Rattle.grid.specs.Grid.{step, is_on_grid}
+use Rattle.grid.specs.Grid.{grid_step, is_on_grid}
 
 pub steps_none : (n g : ℕ) → 0 < g → eqb (n * g) 0 ≡ eqb n 0
 steps_none zero g G = eq-eqb (0 * g) 0 (zero-mul g)
@@ -31,22 +31,22 @@ unfolding is_on_grid
 no_number k x n = rw n refl
 
 module _ (k : ℕ) (x : Float) (p : Parts) (t : finite x ≡ true) (c : signed_size p ≡ coord x) where
-  by_parts : {b : Bool} → b ≡ eqb (p.m * 2 ^ p.e % step k) 0 → b ≡ is_on_grid k x
+  by_parts : {b : Bool} → b ≡ eqb (p.m * 2 ^ p.e % grid_step k) 0 → b ≡ is_on_grid k x
   unfolding is_on_grid
   by_parts e =
       let same : p.m * 2 ^ p.e ≡ mag x = sym (abs_signed p.neg (p.m * 2 ^ p.e)) ∙ ap nat_abs c ∙ size_coord x in
-      e ∙ ap (λ (n : ℕ). eqb (n % step k) 0) same ∙ sym (ap (λ (b : Bool). b && eqb (mag x % step k) 0) t)
+      e ∙ ap (λ (n : ℕ). eqb (n % grid_step k) 0) same ∙ sym (ap (λ (b : Bool). b && eqb (mag x % grid_step k) 0) t)
 
   -- a step is no more than 2 ^ e units
   pub coarse : 1074 - k ≤ p.e → true ≡ is_on_grid k x
   coarse l =
       let i = p.e - (1074 - k) in
       let s : i + (1074 - k) ≡ p.e = omega arith in
-      let n : p.m * 2 ^ p.e ≡ p.m * 2 ^ i * step k = ap (λ (n : ℕ). p.m * 2 ^ n) (sym s) ∙ ap (λ (n : ℕ). p.m * n) (pow-add 2 i (1074 - k)) ∙ sym (mul_assoc p.m (2 ^ i) (step k)) in
-      by_parts (sym (eq-eqb _ 0 (ap (λ (n : ℕ). n % step k) n ∙ mul-mod_left (p.m * 2 ^ i) (step k))))
+      let n : p.m * 2 ^ p.e ≡ p.m * 2 ^ i * grid_step k = ap (λ (n : ℕ). p.m * 2 ^ n) (sym s) ∙ ap (λ (n : ℕ). p.m * n) (pow-add 2 i (1074 - k)) ∙ sym (mul_assoc p.m (2 ^ i) (grid_step k)) in
+      by_parts (sym (eq-eqb _ 0 (ap (λ (n : ℕ). n % grid_step k) n ∙ mul-mod_left (p.m * 2 ^ i) (grid_step k))))
 
   -- a step is 2 ^ d times as much
-  places : p.e < 1074 - k → eqb (p.m % 2 ^ (1074 - k - p.e)) 0 ≡ eqb (p.m * 2 ^ p.e % step k) 0
+  places : p.e < 1074 - k → eqb (p.m % 2 ^ (1074 - k - p.e)) 0 ≡ eqb (p.m * 2 ^ p.e % grid_step k) 0
   places l =
       let d = 1074 - k - p.e in
       let s : d + p.e ≡ 1074 - k = omega arith in

@@ -19,7 +19,7 @@ use Rattle.std.specs.Prelude.{None, Some}
 use Rattle.exact.proofs.Integers.{abs_signed, times_signed}
 use Rattle.exact.proofs.Fields.{value_mag}
 use Rattle.exact.proofs.ExactUnits.{size_coord}
-use Rattle.grid.specs.Grid.{Grid, step, steps, grid_number, on_grid, booked, is_on_grid}
+use Rattle.grid.specs.Grid.{Grid, grid_step, steps, grid_number, on_grid, booked, is_on_grid}
 use Rattle.grid.proofs.Whole.{gap, Nearest, closest_nearest, none_nearer, even_one}
 use Rattle.grid.proofs.Values.{HasUnits, one_float}
 use Rattle.grid.proofs.GridNumbers.{no_grid, no_place, placed, step_pos, whole_steps, steps_at_most, number_fits, number_exact, stays}
@@ -30,19 +30,19 @@ module _ (k : ℕ) (x : Float) (h : k ≤ 10) (f : fits binary64 x ≡ true) (t 
   placed_here = placed k x h t
 
   -- its sign, its size, and that it is finite
-  read : (minus (on_grid k x) ≡ minus x && not (eqb (steps k x) 0)) × (mag (on_grid k x) ≡ steps k x * step k) × T (finite (on_grid k x))
+  read : (minus (on_grid k x) ≡ minus x && not (eqb (steps k x) 0)) × (mag (on_grid k x) ≡ steps k x * grid_step k) × T (finite (on_grid k x))
   read =
-      value_mag (on_grid k x) (minus x && not (eqb (steps k x) 0)) (steps k x * step k)
-      (subst (λ (v : Float). HasUnits v (minus x && not (eqb (steps k x) 0)) (steps k x * step k)) placed_here (number_exact k x h f t))
+      value_mag (on_grid k x) (minus x && not (eqb (steps k x) 0)) (steps k x * grid_step k)
+      (subst (λ (v : Float). HasUnits v (minus x && not (eqb (steps k x) 0)) (steps k x * grid_step k)) placed_here (number_exact k x h f t))
 
   -- the count of steps, on x's side of 0
-  pub counted : coord (on_grid k x) ≡ signed (minus x) (steps k x * step k)
+  pub counted : coord (on_grid k x) ≡ signed (minus x) (steps k x * grid_step k)
   unfolding coord
   counted = ap₂ signed read.0 read.1 ∙ go (minus x) (steps k x)
     where
-      go : (s : Bool) (n : ℕ) → signed (s && not (eqb n 0)) (n * step k) ≡ signed s (n * step k)
+      go : (s : Bool) (n : ℕ) → signed (s && not (eqb n 0)) (n * grid_step k) ≡ signed s (n * grid_step k)
       go false n = refl
-      go true zero = rw (zero-mul (step k)) refl
+      go true zero = rw (zero-mul (grid_step k)) refl
       go true (suc n) = rw (eqb-suc-zero n) refl
 
   pub still_finite : T (finite (on_grid k x))
@@ -51,67 +51,67 @@ module _ (k : ℕ) (x : Float) (h : k ≤ 10) (f : fits binary64 x ≡ true) (t 
   pub still_fits : T (fits binary64 (on_grid k x))
   still_fits = subst (λ (v : Float). T (fits binary64 v)) placed_here (number_fits k (minus x) (steps k x))
 
-  in_steps : coord (on_grid k x) ≡ signed (minus x) (steps k x) *ℤ pos (step k)
-  in_steps = counted ∙ sym (times_signed (minus x) (steps k x) (step k))
+  in_steps : coord (on_grid k x) ≡ signed (minus x) (steps k x) *ℤ pos (grid_step k)
+  in_steps = counted ∙ sym (times_signed (minus x) (steps k x) (grid_step k))
 
   -- a whole multiple of the step
-  pub multiple : (z : ℤ) × (coord (on_grid k x) ≡ z *ℤ pos (step k))
+  pub multiple : (z : ℤ) × (coord (on_grid k x) ≡ z *ℤ pos (grid_step k))
   multiple = (signed (minus x) (steps k x), in_steps)
 
-  distances : Nearest (mag x) (step k) (steps k x)
+  distances : Nearest (mag x) (grid_step k) (steps k x)
   unfolding steps
-  distances = closest_nearest (mag x) (step k) (step_pos k)
+  distances = closest_nearest (mag x) (grid_step k) (step_pos k)
 
-  off : nat_abs (coord x -ℤ coord (on_grid k x)) ≡ gap (mag x) (steps k x * step k)
+  off : nat_abs (coord x -ℤ coord (on_grid k x)) ≡ gap (mag x) (steps k x * grid_step k)
   unfolding coord
-  off = ap (λ (z : ℤ). nat_abs (signed (minus x) (mag x) -ℤ z)) counted ∙ one_side (minus x) (mag x) (steps k x * step k)
+  off = ap (λ (z : ℤ). nat_abs (signed (minus x) (mag x) -ℤ z)) counted ∙ one_side (minus x) (mag x) (steps k x * grid_step k)
 
   -- at most half a step away
-  pub half_step : 2 * nat_abs (coord x -ℤ coord (on_grid k x)) ≤ step k
+  pub half_step : 2 * nat_abs (coord x -ℤ coord (on_grid k x)) ≤ grid_step k
   half_step = le_trans (le_of_eq (ap (λ (n : ℕ). 2 * n) off)) distances.half
 
-  other_multiple : (z : ℤ) → Multiple (minus x) (mag x) (step k) z
-  other_multiple z = multiple_of (minus x) (mag x) (step k) z
+  other_multiple : (z : ℤ) → Multiple (minus x) (mag x) (grid_step k) z
+  other_multiple z = multiple_of (minus x) (mag x) (grid_step k) z
 
-  no_nearer : (n : ℕ) → nat_abs (coord x -ℤ coord (on_grid k x)) ≤ gap (mag x) (n * step k)
-  no_nearer n = le_trans (le_of_eq off) (none_nearer (mag x) (step k) (steps k x) n distances)
+  no_nearer : (n : ℕ) → nat_abs (coord x -ℤ coord (on_grid k x)) ≤ gap (mag x) (n * grid_step k)
+  no_nearer n = le_trans (le_of_eq off) (none_nearer (mag x) (grid_step k) (steps k x) n distances)
 
   -- none is nearer
-  pub nearest : (z : ℤ) → nat_abs (coord x -ℤ coord (on_grid k x)) ≤ nat_abs (coord x -ℤ z *ℤ pos (step k))
+  pub nearest : (z : ℤ) → nat_abs (coord x -ℤ coord (on_grid k x)) ≤ nat_abs (coord x -ℤ z *ℤ pos (grid_step k))
   unfolding coord
   nearest z = elim (other_multiple z) [
     | same n p e ↦ le_trans (no_nearer n) (le_of_eq (sym e))
-    | other n e ↦ le_trans (no_nearer 0) (le_trans (from_zero (mag x) (step k) (n * step k)) (le_of_eq (sym e)))
+    | other n e ↦ le_trans (no_nearer 0) (le_trans (from_zero (mag x) (grid_step k) (n * grid_step k)) (le_of_eq (sym e)))
   ]
     where
       from_zero : (a b c : ℕ) → gap a (0 * b) ≤ a + c
       from_zero a b c = let z = zero-mul b in omega arith
 
   -- of two that are equally near it is the even multiple
-  pub even : (z : ℤ) → nat_abs (coord x -ℤ coord (on_grid k x)) ≡ nat_abs (coord x -ℤ z *ℤ pos (step k)) → (z *ℤ pos (step k) ≡ coord (on_grid k x) → ⊥)
-      → (w : ℤ) × (coord (on_grid k x) ≡ w *ℤ pos (step k)) × (nat_abs w % 2 ≡ 0)
+  pub even : (z : ℤ) → nat_abs (coord x -ℤ coord (on_grid k x)) ≡ nat_abs (coord x -ℤ z *ℤ pos (grid_step k)) → (z *ℤ pos (grid_step k) ≡ coord (on_grid k x) → ⊥)
+      → (w : ℤ) × (coord (on_grid k x) ≡ w *ℤ pos (grid_step k)) × (nat_abs w % 2 ≡ 0)
   unfolding coord
   even z e d = (signed (minus x) (steps k x), in_steps, ap (λ (n : ℕ). n % 2) (abs_signed (minus x) (steps k x)) ∙ go (other_multiple z))
     where
-      go : Multiple (minus x) (mag x) (step k) z → steps k x % 2 ≡ 0
+      go : Multiple (minus x) (mag x) (grid_step k) z → steps k x % 2 ≡ 0
       go (same n p g) =
-          even_one (mag x) (step k) (steps k x) n distances (sym off ∙ e ∙ g)
-          (λ q. d (p ∙ ap (λ (n : ℕ). signed (minus x) (n * step k)) q ∙ sym counted))
+          even_one (mag x) (grid_step k) (steps k x) n distances (sym off ∙ e ∙ g)
+          (λ q. d (p ∙ ap (λ (n : ℕ). signed (minus x) (n * grid_step k)) q ∙ sym counted))
       go (other n g) = at_zero (steps k x) distances n (sym off ∙ e ∙ g)
         where
           -- a number beyond 0 is as near only where 0 is too
           tied : (a b q c : ℕ) → gap a (q * b) ≤ gap a (0 * b) → gap a (q * b) ≡ a + c → gap a (q * b) ≡ gap a (0 * b)
           tied a b q c l g = let w = zero-mul b in omega arith
 
-          at_zero : (q : ℕ) → Nearest (mag x) (step k) q → (n : ℕ) → gap (mag x) (q * step k) ≡ mag x + n * step k → q % 2 ≡ 0
+          at_zero : (q : ℕ) → Nearest (mag x) (grid_step k) q → (n : ℕ) → gap (mag x) (q * grid_step k) ≡ mag x + n * grid_step k → q % 2 ≡ 0
           at_zero zero d n g = refl
-          at_zero (suc q) d n g = even_one (mag x) (step k) (suc q) 0 d (tied (mag x) (step k) (suc q) (n * step k) (none_nearer (mag x) (step k) (suc q) 0 d) g) (λ w. omega arith)
+          at_zero (suc q) d n g = even_one (mag x) (grid_step k) (suc q) 0 d (tied (mag x) (grid_step k) (suc q) (n * grid_step k) (none_nearer (mag x) (grid_step k) (suc q) 0 d) g) (λ w. omega arith)
 
   -- zero is +0
   pub plus_zero : mag (on_grid k x) ≡ 0 → on_grid k x ≡ fin false 0 (pos 0)
   unfolding fits mag
   plus_zero z =
-      let n : steps k x ≡ 0 = eq_of_mul-eq-mul_right (step k) (step_pos k) (steps k x) 0 (sym read.1 ∙ z ∙ sym (zero-mul (step k))) in
+      let n : steps k x ≡ 0 = eq_of_mul-eq-mul_right (grid_step k) (step_pos k) (steps k x) 0 (sym read.1 ∙ z ∙ sym (zero-mul (grid_step k))) in
       one_float (on_grid k x) (fin false 0 (pos 0)) still_fits tt still_finite tt (read.0 ∙ ap (λ (i : ℕ). minus x && not (eqb i 0)) n ∙ never (minus x)) z
     where
       never : (s : Bool) → s && false ≡ false
@@ -122,19 +122,19 @@ module _ (k : ℕ) (x : Float) (h : k ≤ 10) (f : fits binary64 x ≡ true) (t 
   never_minus_zero n z = true≢false (sym n ∙ ap minus (plus_zero z))
 
   -- a multiple of the step stays, unless it is -0
-  pub stays_there : (z : ℤ) → coord x ≡ z *ℤ pos (step k) → (minus x ≡ true → mag x ≡ 0 → ⊥) → on_grid k x ≡ x
+  pub stays_there : (z : ℤ) → coord x ≡ z *ℤ pos (grid_step k) → (minus x ≡ true → mag x ≡ 0 → ⊥) → on_grid k x ≡ x
   stays_there z e d =
-      let m : mag x ≡ nat_abs z * step k = sym (size_coord x) ∙ ap nat_abs e ∙ unsigned_abs-mul z (pos (step k)) in
-      sym placed_here ∙ stays k x h f t (nat_abs z) m (λ n w. d n (m ∙ ap (λ (i : ℕ). i * step k) w ∙ zero-mul (step k)))
+      let m : mag x ≡ nat_abs z * grid_step k = sym (size_coord x) ∙ ap nat_abs e ∙ unsigned_abs-mul z (pos (grid_step k)) in
+      sym placed_here ∙ stays k x h f t (nat_abs z) m (λ n w. d n (m ∙ ap (λ (i : ℕ). i * grid_step k) w ∙ zero-mul (grid_step k)))
 
   -- n steps are not exceeded where x does not exceed them
-  pub bounded : (n : ℕ) → mag x ≤ n * step k → mag (on_grid k x) ≤ n * step k
-  bounded n l = le_trans (le_of_eq read.1) (mul-le-mul_right (step k) (steps_at_most k n x l))
+  pub bounded : (n : ℕ) → mag x ≤ n * grid_step k → mag (on_grid k x) ≤ n * grid_step k
+  bounded n l = le_trans (le_of_eq read.1) (mul-le-mul_right (grid_step k) (steps_at_most k n x l))
 
   -- nor is a whole number of metres
   pub bounded_metres : (m : ℕ) → mag x ≤ m * 2 ^ 1074 → mag (on_grid k x) ≤ m * 2 ^ 1074
   bounded_metres m l =
-      let e : m * 2 ^ k * step k ≡ m * 2 ^ 1074 = mul_assoc m (2 ^ k) (step k) ∙ ap (λ (n : ℕ). m * n) (whole_steps k h) in
+      let e : m * 2 ^ k * grid_step k ≡ m * 2 ^ 1074 = mul_assoc m (2 ^ k) (grid_step k) ∙ ap (λ (n : ℕ). m * n) (whole_steps k h) in
       le_trans (bounded (m * 2 ^ k) (le_trans l (le_of_eq (sym e)))) (le_of_eq e)
 
   -- such as 2 ^ 42, the bound of a new point's coordinates
@@ -146,7 +146,7 @@ module _ (k : ℕ) (x : Float) (h : k ≤ 10) (f : fits binary64 x ≡ true) (t 
   unfolding is_on_grid
   put_there =
       rw (is_true (finite (on_grid k x)) still_finite)
-      (eq-eqb (mag (on_grid k x) % step k) 0 (ap (λ (i : ℕ). i % step k) read.1 ∙ mul-mod_left (steps k x) (step k)))
+      (eq-eqb (mag (on_grid k x) % grid_step k) 0 (ap (λ (i : ℕ). i % grid_step k) read.1 ∙ mul-mod_left (steps k x) (grid_step k)))
 
 -- ---- for every f64 and every k
 

@@ -11,7 +11,7 @@ use Rattle.exact.specs.Exact.{mag, minus}
 use Rattle.exact.proofs.ExactUnits.{exact_units}
 use Rattle.std.specs.Float.{is_sign_negative, float_with_sign}
 use Rattle.exact.proofs.Fields.{value_mag}
-use Rattle.grid.specs.Grid.{step, steps, grid_number, on_grid}
+use Rattle.grid.specs.Grid.{grid_step, steps, grid_number, on_grid}
 use Rattle.grid.proofs.Values.{HasUnits, lt_at, add_zero_at}
 use Rattle.grid.proofs.GridNumbers.{no_place, placed, step_pos, in_units, far}
 use Rattle.grid.proofs.Lifted.{lift, lift_units, lowered}
@@ -55,15 +55,15 @@ module _ (k : ℕ) (x p : Float) (h : k ≤ 10) (f : fits binary64 x ≡ true) (
   p_units : T (finite x) → HasUnits p false (mag x)
   p_units t = subst (λ (v : Float). HasUnits v false (mag x)) (sym e) (size_units x f t)
 
-  test : T (finite x) → lt p (lift k) ≡ ltb (mag x) (2 ^ 52 * step k)
-  test t = lt_at (2 ^ 1074) (pow_pos 1074) p (lift k) (mag x) (2 ^ 52 * step k) (p_units t) (lift_units k h)
+  test : T (finite x) → lt p (lift k) ≡ ltb (mag x) (2 ^ 52 * grid_step k)
+  test t = lt_at (2 ^ 1074) (pow_pos 1074) p (lift k) (mag x) (2 ^ 52 * grid_step k) (p_units t) (lift_units k h)
 
   pub rounded : (r : Float) → lt p (lift k) ≡ true → r ≡ float_with_sign (is_sign_negative x) (sub binary64 (add binary64 (lift k) p) (lift k))
       → add binary64 r (of_bits binary64 0) ≡ on_grid k x
   unfolding of_bits grid_number steps
   rounded r y s =
-      let t : T (finite x) = finite_below x (lift k) (value_mag (lift k) false (2 ^ 52 * step k) (lift_units k h)).2 (ap (λ (v : Float). lt v (lift k)) (sym e) ∙ y) in
-      let g = step k in
+      let t : T (finite x) = finite_below x (lift k) (value_mag (lift k) false (2 ^ 52 * grid_step k) (lift_units k h)).2 (ap (λ (v : Float). lt v (lift k)) (sym e) ∙ y) in
+      let g = grid_step k in
       let q = steps k x in
       let l : mag x < 2 ^ 52 * g = ltb-true (mag x) (2 ^ 52 * g) (sym (test t) ∙ y) in
       let v : HasUnits r (minus x) (q * g) = subst (λ (v : Float). HasUnits v (minus x) (q * g)) (sym s) (signed_units x _ (q * g) t (lowered k (mag x) h l p (p_units t))) in
@@ -79,4 +79,4 @@ module _ (k : ℕ) (x p : Float) (h : k ≤ 10) (f : fits binary64 x ≡ true) (
       go false n = no_place k x n
       go true n =
           let t = subst T (sym n) tt in
-          sym (far k x h f t (ltb-false (mag x) (2 ^ 52 * step k) (sym (test t) ∙ y))) ∙ placed k x h t
+          sym (far k x h f t (ltb-false (mag x) (2 ^ 52 * grid_step k) (sym (test t) ∙ y))) ∙ placed k x h t

@@ -14,12 +14,12 @@ Grid = Option ℕ
 -- ---- "the nearest grid number, exactly halfway the even multiple, zero always as +0"
 
 -- a step of the grid, 2^-k, in units of 2^-1074
-abbrev pub step : ℕ → ℕ
-step k = 2 ^ (1074 - k)
+abbrev pub grid_step : ℕ → ℕ
+grid_step k = 2 ^ (1074 - k)
 
 -- how many steps x is from 0: the nearest whole number, exactly halfway the even one
 unfoldable pub steps : ℕ → Float → ℕ
-steps k x = closest (mag x) (step k)
+steps k x = closest (mag x) (grid_step k)
 
 -- the f64 that is n steps from 0, below 0 where s is true; zero is +0
 unfoldable pub grid_number : ℕ → Bool → ℕ → Float
@@ -38,7 +38,7 @@ booked (Some k) x = on_grid k x
 
 -- x is a number, and a whole multiple of 2^-k, 0 of either sign among them
 unfoldable pub is_on_grid : ℕ → Float → Bool
-is_on_grid k x = finite x && eqb (mag x % step k) 0
+is_on_grid k x = finite x && eqb (mag x % grid_step k) 0
 
 -- "Where a grid is set, every caller of the meeting rule relies on a new point being on it": of a coordinate that is a number, and a grid that there is
 abbrev pub OnGrid : Grid → Float → Type 0

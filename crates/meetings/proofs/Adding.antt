@@ -16,7 +16,6 @@ use Rattle.refusals.specs.declared.Refusal.{Refusal}
 use Rattle.refusals.specs.declared.Refusal.TheVariants.{TooManyMeetings, NoPlace}
 use Rattle.refusals.specs.Numbers.{number}
 use Rattle.refusals.proofs.Numbers.{some_not_zero}
-use Rattle.segments.specs.Meet.{meeting}
 use Rattle.segments.specs.declared.PointId.{PointId}
 use Rattle.segments.specs.declared.Meeting.{Meeting}
 use Rattle.segments.specs.declared.Meeting.TheVariants.{Apart, Existing, New, Overlap}

@@ -12,7 +12,6 @@ use Rattle.lists.specs.Regions.{front, put, zeros, fzeros}
 use Rattle.refusals.specs.declared.Refusal.{Refusal}
 use Rattle.refusals.specs.Numbers.{number}
 use Rattle.refusals.proofs.Numbers.{some_not_zero}
-use Rattle.segments.specs.Meet.{meeting}
 use Rattle.segments.specs.declared.Meeting.{Meeting}
 use Rattle.segments.specs.declared.Meeting.TheVariants.{Apart, Existing, New, Overlap}
 use Rattle.cutting.specs.Edges.{Edge, edge_at}

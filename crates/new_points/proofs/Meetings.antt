@@ -11,7 +11,6 @@ use lib.ListN.{length, length-append}
 use lib.Ieee.{Float}
 use Rattle.lists.specs.Gather.{joined}
 use Rattle.lists.proofs.Gather.{joined_append, mem_at, places_at}
-use Rattle.segments.specs.Meet.{meeting}
 use Rattle.segments.specs.declared.Meeting.{Meeting}
 use Rattle.segments.specs.declared.Meeting.TheVariants.{Apart, Existing, New, Overlap}
 use Rattle.cutting.specs.Edges.{Edge, edge_at}

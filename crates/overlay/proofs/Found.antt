@@ -12,7 +12,6 @@ use Rattle.lists.proofs.Gather.{joined_append}
 use Rattle.lists.proofs.Regions.{take_front_of}
 use Rattle.segments.specs.declared.Meeting.{Meeting}
 use Rattle.segments.specs.declared.Meeting.TheVariants.{Apart, Existing, New, Overlap}
-use Rattle.segments.specs.Meet as Meet
 use Rattle.cutting.specs.Edges.{Edge, edge_at}
 use Rattle.settings.specs.declared.Settings.{Settings}
 use Rattle.entry.specs.Mesh.{Mesh, node_count}

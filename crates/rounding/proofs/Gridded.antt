@@ -2,8 +2,8 @@
 -- point's in an answer. Assumes nothing.
 use mathlib.Core.Path.{◌≡◌, sym, ap, ◌∙◌, subst}
 use mathlib.Core.Logic.{◌⊎◌, inl, inr}
-use mathlib.Core.Bool.{Bool, true, false}
-use mathlib.Core.List.{List, [], ◌∷◌, ◌++◌, Memᴰ}
+use mathlib.Core.Bool.{false}
+use mathlib.Core.List.{List, [], ◌∷◌, ◌++◌}
 use Prim.Native.Nat.{ℕ, ◌+◌, ◌-◌, ◌*◌, ◌≤◌, ◌<◌}
 use native.Mathlib.Nat.{le_refl}
 use native.Mathlib.Omega.{arith}
@@ -14,7 +14,7 @@ use lib.Ieee.{Float, nan}
 use Rattle.std.specs.Prelude.{Some}
 use Rattle.lists.proofs.Gather.{in_list}
 use Rattle.lists.proofs.Regions.{front_in}
-use Rattle.exact.specs.Exact.{mag, minus}
+use Rattle.exact.specs.Exact.{minus}
 use Rattle.grid.specs.Grid.{Grid, on_grid, booked}
 use Rattle.grid.proofs.OnGrid.{put_there, plus_zero}
 use Rattle.cutting.specs.Edges.{edge_at}

@@ -14,7 +14,6 @@ use Rattle.lists.specs.Sort.{insert, sort_onto}
 use Rattle.lists.proofs.Gather.{length_each, get_or_each, in_list, mem_at, joined_append, passing_at}
 use Rattle.lists.proofs.Regions.{length_run}
 use Rattle.std.proofs.lemmas.List.{get_or_past}
-use Rattle.segments.specs.Meet.{meeting}
 use Rattle.segments.specs.declared.PointId.{PointId}
 use Rattle.segments.specs.declared.PointId.TheVariants.{P1, P2, P3, P4}
 use Rattle.segments.specs.declared.Meeting.{Meeting}

@@ -1,5 +1,5 @@
 -- `overlay::overlay` meets its contract. Assumes nothing.
-use Rattle.std.proofs.Common.{◌≡◌, sym}
+use Rattle.std.proofs.Common.{sym}
 use Rattle.overlay.proofs.Returns.{cleared_all, at_stage, done}
 use Rattle.overlay.proofs.overlay.Goals as goal
 use Rattle.overlay.proofs.overlay.Goals.{then-is_err, else-is_err}
