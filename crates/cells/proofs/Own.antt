@@ -27,7 +27,8 @@ use Rattle.cells.specs.Near.{outline_of}
 pub record Outlining (o : OwnEdges) (d : Darts) (i : ℕ) : Type 0 where
   pub low : i ≤ length o.cell.now
   pub outlined : d.outline ≡ flat_edges (outline_darts (map (laid_in o.scene.grid o.scene.coords.now o.scene.work.now o.scene.regions) (sides o.cell.now i)))
-  pub held : d.slots ≡ sorted (stands_before o.scene.coords.now) (edge_slots reverse_mark (outline_darts (map (laid_in o.scene.grid o.scene.coords.now o.scene.work.now o.scene.regions) (sides o.cell.now i))))
+  pub held : d.slots ≡ sorted (stands_before o.scene.coords.now)
+      (edge_slots reverse_mark (outline_darts (map (laid_in o.scene.grid o.scene.coords.now o.scene.work.now o.scene.regions) (sides o.cell.now i))))
 
 module _ (o : OwnEdges) where
   abbrev coords : List Float
