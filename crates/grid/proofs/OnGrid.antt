@@ -1,17 +1,17 @@
 -- What `on_grid` gives for every finite f64, k from 0 to 10: a whole multiple of 2 ^ -k, none of them nearer, of two that are equally near the even one, and zero as +0;
 -- a number that is such a multiple stays. Exact coordinates are whole numbers of 2 ^ -1074, of which a step has `step k`. Assumes nothing.
 use mathlib.Core.Path.{◌≡◌, refl, sym, ap, ap₂, ◌∙◌, subst}
-use mathlib.Core.Bool.{Bool, true, false, not, ◌&&◌, true≢false}
+use mathlib.Core.Bool.{Bool, true, false, not, ◌&&◌, ◌||◌, true≢false}
 use mathlib.Core.Logic.{inl, inr}
 use Prim.Native.Nat.{ℕ, zero, suc, ◌+◌, ◌*◌, ◌%◌, ◌^◌, ◌≤◌}
 use native.Mathlib.Nat.{le_trans, le_of_eq, mul_assoc, mul-mod_left, mul-le-mul_right, zero-mul, eq_of_mul-eq-mul_right}
 use native.Mathlib.Omega.{arith}
-use lib.Dec.{T, eqb, eqb-suc-zero}
+use lib.Dec.{T, leb, eqb, eqb-suc-zero}
 use lib.IntN.{ℤ, pos, nat_abs, ◌-ℤ◌, ◌*ℤ◌}
 use lib.Ieee.{Float, fin, binary64, fits}
 use lib.Ieee.Bits.{is_true}
 use lib.Ieee.Scale.{finite}
-use borrow.Author.Tests.{eq-eqb}
+use borrow.Author.Tests.{eq-eqb, leb-true}
 use Rattle.std.proofs.lemmas.Bool.{cases_lt}
 use Rattle.std.proofs.lemmas.Int.{unsigned_abs-mul}
 use Rattle.exact.specs.Exact.{mag, minus, signed, coord}
@@ -19,7 +19,7 @@ use Rattle.std.specs.Prelude.{None, Some}
 use Rattle.exact.proofs.Integers.{abs_signed, times_signed}
 use Rattle.exact.proofs.Fields.{value_mag}
 use Rattle.exact.proofs.ExactUnits.{size_coord}
-use Rattle.grid.specs.Grid.{Grid, grid_step, steps, grid_number, on_grid, booked, is_on_grid}
+use Rattle.grid.specs.Grid.{Grid, grid_step, steps, grid_number, on_grid, booked, is_on_grid, stands_on, OnGrid}
 use Rattle.grid.proofs.Whole.{gap, Nearest, closest_nearest, none_nearer, even_one}
 use Rattle.grid.proofs.Values.{HasUnits, one_float}
 use Rattle.grid.proofs.GridNumbers.{no_grid, no_place, placed, step_pos, whole_steps, steps_at_most, number_fits, number_exact, stays}
@@ -165,13 +165,23 @@ twice k x f = elim (cases_lt 10 k) [
         stays_there k (on_grid k x) h (is_true (fits binary64 (on_grid k x)) (still_fits k x h f t)) (still_finite k x h f t) m.0 m.1
         (never_minus_zero k x h f t)
 
--- where there is a place for it, it is on the grid
-pub on_it : (k : ℕ) (x : Float) → fits binary64 x ≡ true → k ≤ 10 → T (finite (on_grid k x)) → is_on_grid k (on_grid k x) ≡ true
-on_it k x f h t = here (finite x) refl
+-- where there is a place for it, it stands on its overlay's grid
+pub none_stands : (x : Float) → OnGrid None x
+unfolding stands_on
+none_stands x = refl
+
+pub some_stands : (k : ℕ) (x : Float) → fits binary64 x ≡ true → OnGrid (Some k) (on_grid k x)
+unfolding stands_on
+some_stands k x f = go (leb k 10) (finite x) refl refl
   where
-    here : (b : Bool) → finite x ≡ b → is_on_grid k (on_grid k x) ≡ true
-    here true e = put_there k x h f (subst T (sym e) tt)
-    here false e = absurd (subst T e (subst (λ (y : Float). T (finite y)) (sym (no_place k x e)) t))
+    either : (a : Bool) → a || true ≡ true
+    either true = refl
+    either false = refl
+
+    go : (a b : Bool) → leb k 10 ≡ a → finite x ≡ b → not (leb k 10 && finite (on_grid k x)) || is_on_grid k (on_grid k x) ≡ true
+    go false b e h = rw e refl
+    go true false e h = rw (← no_place k x h, h, e) refl
+    go true true e h = rw (put_there k x (leb-true k 10 e) f (subst T (sym h) tt)) (either (not (leb k 10 && finite (on_grid k x))))
 
 -- by an overlay's grid: x as it is, or one of these
 pub by_grid : (P : Float → Type 0) (g : Grid) (x : Float) → P x → ((k : ℕ) → k ≤ 10 → P (on_grid k x)) → P (booked g x)

@@ -1,6 +1,6 @@
 -- Document 02, W6: "computed points are now booked on a grid of 1/2^k metre, k from 0 to 10, or on no grid". The grid's numbers are the whole multiples of
 -- 2^-k. Exact coordinates are whole numbers of 2^-1074. Assumes nothing.
-use Rattle.std.specs.Prelude.{◌≡◌, Bool, true, not, cond, ◌&&◌, ℕ, ◌-◌, ◌%◌, ◌^◌, ◌≤◌, T, leb, eqb, Float, Option, None, Some}
+use Rattle.std.specs.Prelude.{◌≡◌, Bool, true, not, cond, ◌&&◌, ◌||◌, ℕ, ◌-◌, ◌%◌, ◌^◌, leb, eqb, Float, Option, None, Some}
 use Rattle.std.specs.Float.{binary64}
 use Rattle.std.specs.Float.Ieee.{round}
 use Rattle.std.specs.Float.Ieee.Nearest.{closest}
@@ -41,6 +41,9 @@ unfoldable pub is_on_grid : ℕ → Float → Bool
 is_on_grid k x = finite x && eqb (mag x % grid_step k) 0
 
 -- "Where a grid is set, every caller of the meeting rule relies on a new point being on it": of a coordinate that is a number, and a grid that there is
+unfoldable pub stands_on : Grid → Float → Bool
+stands_on None x = true
+stands_on (Some k) x = not (leb k 10 && finite x) || is_on_grid k x
+
 abbrev pub OnGrid : Grid → Float → Type 0
-OnGrid None x = Unit {0}
-OnGrid (Some k) x = k ≤ 10 → T (finite x) → is_on_grid k x ≡ true
+OnGrid g x = stands_on g x ≡ true

@@ -26,7 +26,7 @@ pub fn on_grid(k: u32, x: f64) -> f64
 }
 
 // The same by an overlay's grid: without one x as it is.
-#[tactic(auto, unfolding(crate::specs::Grid::booked), using(crate::proofs::OnGrid::on_it))]
+#[tactic(auto, unfolding(crate::specs::Grid::booked), using(crate::proofs::OnGrid::none_stands, crate::proofs::OnGrid::some_stands))]
 pub fn booked(grid: Option<u32>, x: f64) -> f64
     ensures value { result ≡ booked grid x }
     ensures on_grid { OnGrid grid result }

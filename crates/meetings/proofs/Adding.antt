@@ -38,11 +38,11 @@ length_added ms more = ap length (joined_append (λ m. m.point) ms more) ∙ len
 -- ---- no step, or one
 
 pub same_none : (l : MetLists) → SameLists l l
-same_none l = record { points = record { name = refl; long = refl }; met = record { name = refl; long = refl } }
+same_none l = record { grid = refl; points = record { name = refl; long = refl }; met = record { name = refl; long = refl } }
 
 same_both : {l m n : MetLists} → SameLists n m → SameLists m l → SameLists n l
 same_both s t =
-    record { points = record { name = s.points.name ∙ t.points.name; long = s.points.long ∙ t.points.long }; met = record { name = s.met.name ∙ t.met.name; long = s.met.long ∙ t.met.long } }
+    record { grid = s.grid ∙ t.grid; points = record { name = s.points.name ∙ t.points.name; long = s.points.long ∙ t.points.long }; met = record { name = s.met.name ∙ t.met.name; long = s.met.long ∙ t.met.long } }
 
 module _ (l : MetLists) where
   abbrev m : ℕ

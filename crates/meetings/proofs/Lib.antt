@@ -4,3 +4,4 @@ pub mod Settled
 pub mod Adding
 pub mod Near
 pub mod Loops
+pub mod Front

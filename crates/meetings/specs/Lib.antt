@@ -1,3 +1,4 @@
 pub mod Booked
 pub mod Steps
 pub mod MeetingsFound
+pub mod Front

@@ -24,6 +24,7 @@ met_with g coords i e f next (j ∷ js) =
     x ++ met_with g coords i e f (next + length (added_by x) / 2) js
 
 pub record SameLists (l m : MetLists) : Type 0 where
+  pub grid : l.grid ≡ m.grid
   pub points : SameList l.points m.points
   pub met : SameList l.met m.met
 

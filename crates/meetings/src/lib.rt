@@ -2,7 +2,7 @@
 // structs, since they stand in the caller's working list, which holds numbers of every kind (fixed memory).
 #![tactic(auto)]
 
-ghost use Rattle.std.specs.Prelude.{◌≡◌, [], ◌∷◌, IsOk, IsErrAnd, ◌+◌, ◌*◌, ◌/◌, ◌≤◌, ◌<◌, length};
+ghost use Rattle.std.specs.Prelude.{◌≡◌, [], ◌∷◌, IfOk, IsOk, IsErrAnd, ◌+◌, ◌*◌, ◌/◌, ◌≤◌, ◌<◌, length};
 ghost use Rattle.lists.specs.Regions.{put};
 ghost use Rattle.cutting.specs.Edges.{edge_at};
 ghost use Rattle.cutting.specs.Lent.{pairs};
@@ -12,6 +12,7 @@ ghost use Rattle.rules.specs.SpatialIndex.{edge_box, candidates};
 ghost use Rattle.rules.specs.Meetings.{node_of, segment_of, moved_to, meeting_on, NewOnGrid};
 ghost use Rattle.meetings.specs.Booked.{meetings_of};
 ghost use Rattle.meetings.specs.MeetingsFound.{meetings_found};
+ghost use Rattle.meetings.specs.Front.{AllOnGrid};
 
 use grid::booked;
 use lists::copy_at;
@@ -28,10 +29,11 @@ pub struct Found {
     pub points: usize,
 }
 
-// The lists that new points and meetings are written to, and what stands at their fronts. At most 65,536 meetings have room; each has one new point at most.
-// Each method promises that they are the same lists, so that who lent them knows what they come to hold.
+// The lists that new points and meetings are written to, and what stands at their fronts. At most 65,536 meetings have room; each has one new point at most. The new
+// points are on the grid, where there is one: that is relied on from the meeting rule. Each method promises that they are the same lists, so that who lent them knows what they come to hold.
 #[derive(Drop)]
 struct MetLists<'a> {
+    grid: Option<u32>,
     points: &'a mut [f64],
     met: &'a mut [u32],
     found: Found,
@@ -39,6 +41,7 @@ struct MetLists<'a> {
     ghost within: { found.met ≤ length met.now / 5 },
     ghost placed: { 2 * found.points ≤ length points.now },
     ghost fewer: { found.points ≤ found.met },
+    ghost on_grid: { AllOnGrid grid (2 * found.points) points.now },
 }
 
 // The edges of both meshes, two node numbers each: the subject's, and the cutter's with their index, over the coordinates of both; and the grid of new points, if
@@ -125,10 +128,11 @@ impl<'a> MetLists<'a> {
         Ok(())
     }
 
-    // A meeting at a new point of the grid, if there is one, whose number is n: the limit is looked at before the point's place.
-    #[tactic(auto, using(lists::proofs::Regions::copied_fits))]
+    // A meeting at a new point, whose number is n: the limit is looked at before the point's place.
+    #[tactic(auto, using(lists::proofs::Regions::copied_fits, crate::proofs::Front::one_more, crate::proofs::Front::still_those))]
     fn add_new(&mut self, i: usize, j: usize, n: u32, p: (f64, f64)) -> Result<(), Refusal>
-        requires { (i < 65536) × (j < 65536) }
+        requires few { (i < 65536) × (j < 65536) }
+        requires on_grid { OnGrid self.old.grid p.0 × OnGrid self.old.grid p.1 }
         ensures over { length self.old.met.now / 5 ≤ self.old.found.met → IsErrAnd result (λ e. e ≡ Refusal.TooManyMeetings) }
         ensures full { self.old.found.met < length self.old.met.now / 5 → length self.old.points.now < 2 * self.old.found.points + 2 → IsErrAnd result (λ e. e ≡ Refusal.NoPlace) }
         ensures added { self.old.found.met < length self.old.met.now / 5 → 2 * self.old.found.points + 2 ≤ length self.old.points.now
@@ -153,7 +157,8 @@ impl<'a> Edges<'a> {
     // Adds the meeting of the subject's edge i with the cutter's edge j, if they meet. New points are numbered behind the nodes of both meshes.
     #[tactic(auto, using(crate::proofs::Near::pairs_few))]
     fn add_intersection(&self, lists: &mut MetLists, i: usize, j: usize) -> Result<(), Refusal>
-        requires { (i < length self.now.subject.now / 2) × (j < length self.now.cutter.things.nodes.now / 2) }
+        requires within { (i < length self.now.subject.now / 2) × (j < length self.now.cutter.things.nodes.now / 2) }
+        requires one_grid { lists.old.grid ≡ self.now.grid }
         ensures { Answered (met_of self.now.grid self.now.cutter.things.coords.now i j (length self.now.cutter.things.coords.now / 2 + lists.old.found.points)
             (edge_at (pairs self.now.subject.now) i) (edge_at (pairs self.now.cutter.things.nodes.now) j))
             lists.old lists.new result }
@@ -176,7 +181,8 @@ impl<'a> Edges<'a> {
 
     // Adds those of the subject's edge i with all its candidates.
     fn add_for_edge(&self, lists: &mut MetLists, i: usize) -> Result<(), Refusal>
-        requires { i < length self.now.subject.now / 2 }
+        requires within { i < length self.now.subject.now / 2 }
+        requires one_grid { lists.old.grid ≡ self.now.grid }
         ensures { Answered (met_with self.now.grid self.now.cutter.things.coords.now i (edge_at (pairs self.now.subject.now) i) (edge_at (pairs self.now.cutter.things.nodes.now))
             (length self.now.cutter.things.coords.now / 2 + lists.old.found.points)
             (candidates self.now.cutter.things.coords.now (pairs self.now.cutter.things.nodes.now) (edge_box self.now.cutter.things.coords.now (edge_at (pairs self.now.subject.now) i))))
@@ -192,7 +198,8 @@ impl<'a> Edges<'a> {
 
     // Adds those of all the subject's edges to none.
     fn add_for_edges(&self, lists: &mut MetLists) -> Result<(), Refusal>
-        requires { (lists.old.found.met ≡ 0) × (lists.old.found.points ≡ 0) }
+        requires none { (lists.old.found.met ≡ 0) × (lists.old.found.points ≡ 0) }
+        requires one_grid { lists.old.grid ≡ self.now.grid }
         ensures { Answered (meetings_of self.now.grid self.now.cutter.things.coords.now self.now.subject.now self.now.cutter.things.nodes.now) lists.old lists.new result }
     {
         // By number, which a meeting is written with: `enumerate` over the pairs would give the edge besides, which `add_for_edge` reads by its number.
@@ -203,7 +210,7 @@ impl<'a> Edges<'a> {
     }
 
     // The meetings by subject edge, then candidate in rising index, five numbers each: as many as `met` has room for; new points are numbered as found.
-    // A refusal leaves zeros.
+    // A refusal leaves zeros. Where there is a grid the new points are on it.
     #[tactic(auto, using(crate::proofs::Loops::all_found))]
     pub fn compute_intersections(
         &self,
@@ -211,10 +218,12 @@ impl<'a> Edges<'a> {
         met: &mut [u32],
     ) -> Result<Found, Refusal>
         requires { length met.old / 5 ≤ 65536 }
-        ensures { record { answer = by_number result; points = points.new; met = met.new }
+        ensures found { record { answer = by_number result; points = points.new; met = met.new }
             ≡ meetings_found (meetings_of self.now.grid self.now.cutter.things.coords.now self.now.subject.now self.now.cutter.things.nodes.now) points.old met.old }
+        ensures on_grid { IfOk result (λ f. AllOnGrid self.now.grid (2 * f.points) points.new) }
     {
         let mut lists = MetLists {
+            grid: self.grid,
             points,
             met,
             found: Found { met: 0, points: 0 },

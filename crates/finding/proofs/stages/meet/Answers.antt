@@ -26,4 +26,4 @@ returns-clause-code c =
     let nets = c.split_at_mut-nets.ensures in
     let met = c.split_at_mut-met.ensures in
     met_code _ _ _ _ _ _ c.requires.0 _ _ _ _ _ _ coords.front coords.back nets.front nets.back met.front met.back _ _ c.part-3.ensures c.part.ensures
-    _ _ _ c.compute_intersections.ensures
+    _ _ _ c.compute_intersections.ensures.found
