@@ -1,7 +1,7 @@
 //! Times of the overlay beside the published Rust, on the same inputs in one run. Answers are compared first.
 //!
 //!     bench-overlay [n]...            the table for n x n cells each (by default 10 20 50 100 127), and one of all operations
-//!     bench-overlay alone op n k      k calls of the library alone, for a profiler
+//!     bench-overlay alone op n k [grid]   k calls of the library alone, for a profiler; a grid of 1/2^grid metre
 use mefikit::mesh::{ElementType, UMesh};
 use mefikit::tools::{OverlayOperation, Overlayable, spatial_index};
 
@@ -21,6 +21,7 @@ unsafe extern "C" {
 
 /// The largest meeting limit.
 const M: u32 = 65536;
+const NO_GRID: u32 = u32::MAX;
 
 #[derive(Default)]
 struct Mesh {
@@ -88,11 +89,11 @@ fn lists(s: &Mesh, c: &Mesh) -> Lists {
 }
 
 #[rustfmt::skip]
-fn ours(op: u32, s: &Mesh, c: &Mesh, l: &mut Lists) -> u32 {
+fn ours(op: u32, grid: u32, s: &Mesh, c: &Mesh, l: &mut Lists) -> u32 {
     let o = &mut l.out;
     unsafe {
         daqwimay_overlay(
-            op, M,
+            op, M, grid,
             s.coords.as_ptr(), s.coords.len(), s.nodes.as_ptr(), s.nodes.len(), s.ends.as_ptr(), s.ends.len(),
             s.kinds.as_ptr(), s.kinds.len(), s.families.as_ptr(), s.families.len(),
             c.coords.as_ptr(), c.coords.len(), c.nodes.as_ptr(), c.nodes.len(), c.ends.as_ptr(), c.ends.len(),
@@ -214,7 +215,7 @@ fn row(first: &str, op: u32, n: usize) {
     let mut l = lists(&s, &c);
     let (subject, cutter) = (umesh(&s), umesh(&c));
     let mut code = 0;
-    let stack = stack_of(|| code = ours(op, &s, &c, &mut l));
+    let stack = stack_of(|| code = ours(op, NO_GRID, &s, &c, &mut l));
     assert_eq!(code, 0, "refused");
     let (pieces, added) = (l.counts[0], l.counts[3]);
     spatial_index::use_grid(false);
@@ -226,7 +227,7 @@ fn row(first: &str, op: u32, n: usize) {
     };
     let t = timed(&mut [
         &mut || {
-            std::hint::black_box(ours(op, &s, &c, &mut l));
+            std::hint::black_box(ours(op, NO_GRID, &s, &c, &mut l));
         },
         &mut || by_rust(false),
         &mut || by_rust(true),
@@ -241,6 +242,24 @@ fn row(first: &str, op: u32, n: usize) {
         t[0] / t[2],
         stack
     );
+}
+
+/// Imprint without a survey grid and with one, in turn.
+fn grid_row(n: usize, grid: u32) {
+    let (s, c) = meshes(n);
+    let mut l = lists(&s, &c);
+    assert_eq!(ours(0, grid, &s, &c, &mut l), 0, "refused");
+    let (pieces, added) = (l.counts[0], l.counts[3]);
+    let (mut with, mut without) = (lists(&s, &c), l);
+    let t = timed(&mut [
+        &mut || {
+            std::hint::black_box(ours(0, NO_GRID, &s, &c, &mut without));
+        },
+        &mut || {
+            std::hint::black_box(ours(0, grid, &s, &c, &mut with));
+        },
+    ]);
+    println!("| {n} | 1/{} | {pieces} | {added} | {} | {} | {:.2} |", 1 << grid, milliseconds(t[0]), milliseconds(t[1]), t[1] / t[0]);
 }
 
 /// A comb of so many teeth, counterclockwise; `folded`: its last tooth is a spike, there and back at x = 1, where the bars have nodes.
@@ -284,10 +303,10 @@ fn outline_row(teeth: usize, n: usize, folded: bool) {
     let corners = s.coords.len() / 2;
     let mut l = lists(&s, &c);
     let mut code = 0;
-    let stack = stack_of(|| code = ours(0, &s, &c, &mut l));
+    let stack = stack_of(|| code = ours(0, NO_GRID, &s, &c, &mut l));
     assert_eq!(code, if folded { 19 } else { 10 });
     let t = timed(&mut [&mut || {
-        std::hint::black_box(ours(0, &s, &c, &mut l));
+        std::hint::black_box(ours(0, NO_GRID, &s, &c, &mut l));
     }]);
     println!("| {corners} | {n} | {} | {code} | {} | {stack} |", corners + 4 * teeth * n, milliseconds(t[0]));
 }
@@ -303,9 +322,10 @@ fn main() {
         let op = args[1].parse().unwrap();
         let (s, c) = meshes(args[2].parse().unwrap());
         let mut l = lists(&s, &c);
+        let grid = args.get(4).map_or(NO_GRID, |k| k.parse().unwrap());
         for _ in 0..args[3].parse().unwrap() {
             let t = now();
-            assert_eq!(ours(op, &s, &c, &mut l), 0);
+            assert_eq!(ours(op, grid, &s, &c, &mut l), 0);
             println!("{}", now() - t);
         }
         return;
@@ -323,6 +343,12 @@ fn main() {
     table("operation");
     for (op, name) in ["Imprint", "Union", "Intersection", "Difference", "symmetric difference"].iter().enumerate() {
         row(name, op as u32, 50);
+    }
+    println!("\nNew points booked on a survey grid, Imprint: the library without a grid and with one.\n");
+    println!("| n | grid, metre | pieces | added points | without, ms | with, ms | with to without |");
+    println!("|---|---|---|---|---|---|---|");
+    for (n, grid) in [(50, 10), (50, 3), (127, 10)] {
+        grid_row(n, grid);
     }
     println!("\nA comb and bars across its teeth, Imprint: an outline of over 512 darts, which is refused.\n");
     println!("| corners | bars | outline darts | refusal | Rattle ms | stack bytes |");
