@@ -8,6 +8,9 @@ points that no piece names are rings, where the input stands before the answer: 
 TITLE stands in the place of "before" or "after", and an answer with a title has the cells of the input before it as thin outlines, so that
 what is missing shows. A text that is neither gives a message and exit status 1.
 
+An input's survey grid, the third number of its first line, is drawn in it and in the answers behind it whose added points all lie on it, where
+the lines have room. Of two answers to one input the second has a cross where an added point was in the first, and a stroke to where it is now.
+
 With `--by parent` all pieces of one cell have one colour, its neighbours others, and its index stands in each piece that has room; pieces of
 the cutter's cells are hatched. An answer may also be a listing of differential/oracle, with two counts and without parents, or one with
 doubled cells, from before W14; these are drawn by family alone. A listing from before W5, which counts all added points as new,
@@ -24,12 +27,13 @@ from typing import NamedTuple
 
 COLOURS = '#e8cf92 #d49a74 #9ecbe0 #b9d38f #b09bc8 #e3a9ae #8fc1ab #c9c3b4 #a8b5dd #d8b0d0'.split()
 LINE, DASH, DOT, TEXT, THIN = '#3a3a3a', '#1f5f9f', '#c8322b', '#222222', '#9a9a9a'
+FAINT = f'stroke="{LINE}" stroke-width="0.6" stroke-opacity="0.35"'
 RING = f'fill="#ffffff" stroke="{DOT}" stroke-width="1.2"'
-WIDTH, HEIGHT, LEAST, GAP, HEAD, FOOT, ROOM = 440, 340, 250, 28, 34, 40, 8
+WIDTH, HEIGHT, LEAST, GAP, HEAD, FOOT, ROOM, FINEST = 440, 340, 250, 28, 34, 40, 8, 10
 MESHES = ('subject', 'cutter')
 HATCH = f'<pattern id="hatch" width="6" height="6" patternUnits="userSpaceOnUse" patternTransform="rotate(45)"><path d="M0 0v6" stroke="{DASH}" stroke-width="1.4" stroke-opacity="0.6"/></pattern>'
 NUMBER = r' (\d{1,10})'
-INPUT = rf'\(overlay{NUMBER}{NUMBER}'
+INPUT = rf'\(overlay{NUMBER}{NUMBER}(?:{NUMBER})?'
 
 
 class Malformed(Exception):
@@ -53,7 +57,7 @@ class Mesh:
 
 
 class Panel(NamedTuple):
-    """Cells to fill, outlines to dash, points to dot and to ring; thin outlines below them."""
+    """Cells to fill, outlines to dash, points to dot and to ring; thin outlines below them; the step of a grid, or 0; places before and after."""
 
     title: str
     filled: Mesh
@@ -61,6 +65,8 @@ class Panel(NamedTuple):
     points: list
     rings: list
     thin: Mesh
+    step: float
+    moved: list
 
 
 class Counts(NamedTuple):
@@ -138,13 +144,20 @@ class Reader:
             self.fail('the counts are not those of the listing')
         return new, unnamed
 
-    def panel(self, before, by):
+    def moved(self, mesh, before, earlier):
+        """Where nodes were in another answer to the same input, and are now."""
+        lent = before.filled.nodes + before.dashed.nodes
+        same = lent and len(earlier.nodes) == len(mesh.nodes) and earlier.nodes[:len(lent)] == mesh.nodes[:len(lent)] == lent
+        return [(p, q) for p, q in zip(earlier.nodes, mesh.nodes) if p != q] if same else []
+
+    def panel(self, before, earlier, by):
         if not self.lines:
             self.fail('nothing to draw')
-        if self.match(INPUT):
+        if m := self.match(INPUT):
+            step = 2.0 ** -int(m[3]) if m[3] and int(m[3]) <= FINEST else 0.0
             subject, cutter = self.mesh(0), self.mesh(1)
             title = f'{self.title or "before"}: {count(len(subject.cells), "cell")}, cut by {len(cutter.cells)}'
-            panel = Panel(title, subject, cutter, [], [], Mesh())
+            panel = Panel(title, subject, cutter, [], [], Mesh(), step, [])
         elif self.match(r'\(overlay'):
             mesh, counts = self.body()
             new, unnamed = self.added(mesh, counts, before)
@@ -156,7 +169,8 @@ class Reader:
             if counts.doubled:      # a listing from before W14
                 title += f', {count(counts.doubled, "doubled cell")}'
             points, rings = ([mesh.nodes[n] for n in numbers] for numbers in (new, unnamed))
-            panel = Panel(title, mesh, Mesh(), points, rings, before.filled if self.title else Mesh())
+            step = before.step if before.step and all(v % before.step == 0 for p in points + rings for v in p) else 0.0
+            panel = Panel(title, mesh, Mesh(), points, rings, before.filled if self.title else Mesh(), step, self.moved(mesh, before, earlier.filled))
         else:
             self.fail(f'nothing to draw: {self.lines[0][:60]}')
         self.need(r'\)', 'the last `)`')
@@ -171,7 +185,8 @@ def count(n, word):
 
 def used(panel):
     """The places that a panel draws."""
-    return [m.nodes[c] for m in (panel.filled, panel.dashed, panel.thin) for cell in m.cells for c in cell.corners] + panel.points + panel.rings
+    meshes = panel.filled, panel.dashed, panel.thin
+    return [m.nodes[c] for m in meshes for cell in m.cells for c in cell.corners] + panel.points + panel.rings + [p for p, _ in panel.moved]
 
 
 def edges(mesh):
@@ -245,6 +260,7 @@ class Frame:
         if not math.isfinite(self.scale):
             self.scale = 1.0
         self.width, self.height = max(wide * self.scale, LEAST), high * self.scale
+        self.right, self.bottom = self.left + wide, self.top - high
 
     def on_page(self, p):
         return (p[0] - self.left) * self.scale, (self.top - p[1]) * self.scale
@@ -254,11 +270,28 @@ class Frame:
         return f'{x:.2f},{y:.2f}'
 
     def line(self, mesh, edge):
-        return f'M{self.place(mesh.nodes[edge[0]])}L{self.place(mesh.nodes[edge[1]])}'
+        return self.stroke(mesh.nodes[edge[0]], mesh.nodes[edge[1]])
+
+    def stroke(self, p, q):
+        return f'M{self.place(p)}L{self.place(q)}'
+
+    def has_room(self, step):
+        return step * self.scale >= ROOM
+
+    def grid(self, step):
+        """The lines of a grid."""
+        for i in range(math.ceil(self.left / step), math.floor(self.right / step) + 1):
+            yield self.stroke((i * step, self.bottom), (i * step, self.top))
+        for i in range(math.ceil(self.bottom / step), math.floor(self.top / step) + 1):
+            yield self.stroke((self.left, i * step), (self.right, i * step))
+
+
+def cross(x, y):
+    return f'<path d="M{x - 3:.2f} {y - 3:.2f}l6 6m0 -6l-6 6" stroke="{DOT}" stroke-width="1.2"/>'
 
 
 def drawn(panel, frame, colour, by):
-    title, filled, dashed, points, rings, thin = panel
+    title, filled, dashed, points, rings, thin, step, moved = panel
     yield f'<text x="0" y="-12">{escape(title)}</text>'
     for edge in edges(thin):
         yield f'<path d="{frame.line(thin, edge)}" stroke="{THIN}" stroke-width="0.8"/>'
@@ -267,10 +300,14 @@ def drawn(panel, frame, colour, by):
         yield f'<polygon points="{path}" fill="{colour[getattr(cell, by)]}" stroke="{LINE}" stroke-width="1"/>'
         if by == 'parent' and cell.parent[0] == 1:
             yield f'<polygon points="{path}" fill="url(#hatch)"/>'
+    if frame.has_room(step):
+        yield f'<path d="{"".join(frame.grid(step))}" {FAINT}/>'
     for edge in ditches(panel):
         yield f'<path d="{frame.line(filled, edge)}" stroke="{DASH}" stroke-width="2.6"/>'
     for edge in edges(dashed):
         yield f'<path d="{frame.line(dashed, edge)}" stroke="{DASH}" stroke-width="1.3" stroke-dasharray="5 3"/>'
+    for p, q in moved:
+        yield f'<path d="{frame.stroke(p, q)}" stroke="{DOT}" stroke-width="1.2"/>' + cross(*frame.on_page(p))
     for p in points:
         x, y = frame.place(p).split(',')
         yield f'<circle cx="{x}" cy="{y}" r="2.6" fill="{DOT}"/>'
@@ -284,7 +321,7 @@ def drawn(panel, frame, colour, by):
             yield f'<text x="{x:.2f}" y="{y + 3.5:.2f}" font-size="10" text-anchor="middle">{name}</text>'
 
 
-def legend(colour, by, dashed, dots, rings, twice):
+def legend(colour, by, dashed, dots, rings, twice, step, moved):
     """The lines of the legend, and how wide it is."""
     lines, x, keys = [], 0, sorted(colour)
     if len(keys) > 6:
@@ -310,6 +347,13 @@ def legend(colour, by, dashed, dots, rings, twice):
     if twice:
         lines.append(f'<path d="M{x} 7h26" stroke="{DASH}" stroke-width="2.6"/><text x="{x + 32}" y="11">walked both ways</text>')
         x += 150
+    if moved:
+        lines.append(cross(x + 4, 7) + f'<text x="{x + 13}" y="11">as computed</text>')
+        x += 110
+    if step:
+        words = f'grid of {f"1/{1 / step:g}" if step < 1 else 1} m'
+        lines.append(f'<path d="M{x} 3.5h20m0 6h-20M{x + 6.5} 0v13m7 0v-13" {FAINT}/><text x="{x + 26}" y="11">{words}</text>')
+        x += 40 + 7 * len(words)
     return lines, x
 
 
@@ -318,7 +362,7 @@ def picture(panels, by):
     frame = Frame([q for p in panels for q in used(p)])
     step = round(max(frame.width, *(7 * len(p.title) for p in panels))) + GAP
     lines, wide = legend(colour, by, any(p.dashed.cells for p in panels), any(p.points for p in panels), any(p.rings for p in panels),
-                         any(map(ditches, panels)))
+                         any(map(ditches, panels)), max((p.step for p in panels if frame.has_room(p.step)), default=0.0), any(p.moved for p in panels))
     width = max(len(panels) * step + GAP, GAP + wide, 330)
     height = HEAD + frame.height + FOOT + 10
     yield f'<svg xmlns="http://www.w3.org/2000/svg" width="{width}" height="{height:.0f}" viewBox="0 0 {width} {height:.0f}" font-family="sans-serif" font-size="13" fill="{TEXT}">'
@@ -348,11 +392,12 @@ def main():
     parser.add_argument('--by', choices=('family', 'parent'), default='family', help='what has a colour')
     parser.add_argument('files', nargs='*', default=['-'], metavar='[TITLE=]FILE')
     options = parser.parse_args()
-    panels, before = [], Panel('', Mesh(), Mesh(), [], [], Mesh())
+    none = Panel('', Mesh(), Mesh(), [], [], Mesh(), 0.0, [])
+    panels, before = [], none
     try:
         for argument in options.files:
             reader = read(argument)
-            panels.append(reader.panel(before, options.by))
+            panels.append(reader.panel(before, panels[-1] if panels else none, options.by))
             before = panels[-1] if reader.is_input() else before
     except (Malformed, OSError, UnicodeDecodeError) as e:
         sys.exit(f'draw.py: {e}')

@@ -17,7 +17,7 @@ from .soils import Box, SoilMap, soil_mesh
 Progress = Callable[[str, int, int], None]
 BACKGROUND = '(no soil)'
 _CURE = 'clean the map first: --grid 0.001 (docs/PRACTICE.md says what a clean map is)'
-_FINER = 'where strips are about as thin as a step of the survey grid: a larger K, or --grid of some steps, so that soil lines run through nodes'
+_FINER = 'where strips are about as thin as a step of the survey grid: a larger K, or a --grid of some steps, so that soil lines run through nodes'
 
 
 @dataclass
