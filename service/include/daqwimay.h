@@ -44,7 +44,7 @@ enum {
     DAQWIMAY_MANY_MEETINGS = 8,       /* a meeting beyond the limit */
     DAQWIMAY_CROWDED_EDGE = 9,        /* over 256 nodes collected on one edge */
     DAQWIMAY_CROWDED_CELL = 10,       /* over 1,024 slots in a cell's table */
-    DAQWIMAY_OPEN_CELL = 11,          /* a cell whose outline doesn't lead round once cut: a node a hair beside a corner, not on it */
+    DAQWIMAY_OPEN_CELL = 11,          /* a cell whose outline doesn't lead round once cut: a node a hair beside a corner, not on it; never on a grid */
     DAQWIMAY_FULL_OUTPUT = 12,        /* no place in an output list */
     DAQWIMAY_FINE_GRID = 13,          /* a grid finer than 1/2^10 metre; looked at after 1 and before 2 */
     DAQWIMAY_FOLDED_CELL = 19         /* a cell whose outline runs along itself once cut: corners so close that they became one node, a spike */

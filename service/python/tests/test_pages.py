@@ -65,6 +65,20 @@ def test_pictures_of_listings(tmp_path, name, picture, title, options):
     assert alone.count(dot) == both.count(dot) and ring not in alone and (ring in both) == (name == 'points')
 
 
+def test_the_picture_of_a_survey_grid(tmp_path):
+    """As the README draws it; without the other answer no point is known to have moved, and a grid without room isn't drawn."""
+    given, none, out = ROOT / 'examples' / 'grid.in', tmp_path / 'none.out', tmp_path / 'grid.out'
+    text = given.read_text()
+    none.write_text(answer(text.replace('(overlay 5 9 0\n', '(overlay 5 9\n').encode()))
+    out.write_text(answer(text.encode()))
+    titles = f'Without a grid={none}', f'On a grid of 1 m={out}'
+    assert drawn(given, *titles) == (ROOT / 'docs' / 'pictures' / 'grid.svg').read_text()
+    assert [(drawn(*words).count('as computed'), 'grid of 1 m<' in drawn(*words)) for words in ([given, out], [out, none], [given, titles[0]])] == [(0, True), (0, False), (0, True)]
+    fine = tmp_path / 'fine.in'
+    fine.write_text(text.replace('(overlay 5 9 0\n', '(overlay 5 9 10\n'))
+    assert 'grid of' not in drawn(fine)
+
+
 def test_legend_is_whole(tmp_path):
     """A picture is as wide as its legend, however narrow what it shows."""
     given, out = ROOT / 'crates' / 'overlay_cases' / 'data' / 'w2-038-twice1-op2.in', tmp_path / 'answer.out'
