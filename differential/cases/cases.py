@@ -3,10 +3,10 @@
 
 OUT/data/NAME.in are the inputs, OUT/args their names in order, OUT/stdout each name and its answer. No answer comes from the
 program under test. Those of overlays are what LAW lists (`oracle-law`, as differential/oracle-02.sh builds it, by default into
-target/oracle-02: the published Rust with W1's turn back and W14's table), with 0 as the third count, the parents of W2 and W5's second count; how
-many cells the published table doubles must be as stands here. LAW is asked with each cell's number as its family, and what it lists as a piece's
-family is its parent; the second count is of the new points that its pieces name. Refusals 8 and 9, and 19, 10 and 11 cell by cell, are what LAW's
-counts and its stop give; where one stands here it must be that one. Other refusals, and text that can't be read, stand here, from document 01. The
+target/oracle-02: the published Rust with W1's turn back, W14's table and W6's grid), with 0 as the third count, the parents of W2 and W5's
+second count; how many cells the published table doubles must be as stands here. LAW is asked with each cell's number as its family, and what it
+lists as a piece's family is its parent; the second count is of the new points that its pieces name. Refusals 8 and 9, and 19, 10 and 11 cell by cell, are what LAW's
+counts and its stop give; where one stands here it must be that one. Other refusals, and text that can't be read, stand here, from the documents. The
 stored inputs and right answers are taken over from crates/overlay_cases, where LAW must list each accepted one alike, with its parents and counts,
 and give each refusal 8, 9, 10, 11 and 19. The smallest are the oracle's cases/: islands, unmerged neighbours, and the smallest inputs on which the
 Rust and document 01's orders differ. Prints a table of what is made: name, answer, where it comes from.
@@ -453,11 +453,13 @@ def gridded():
     for op in 2, 3, 4:
         yield f'grid-third-k0-op{op}', overlay(op, 9, SQUARE, third, 0), Listed(), BOOKED
     yield 'grid-k1', on_grid(0, K1), Listed(), BOOKED
-    # halfway, to the even multiple, up and down; a step of a float beside
+    # halfway, to the even multiple, up and down; a float beside
     about = box(-4., -4., 4., 4., 7, 8)
-    for name, k, x in [('down', 0, 2.5), ('up', 0, 1.5), ('down-below-0', 0, -2.5), ('up-below-0', 0, -1.5), ('more', 0, math.nextafter(2.5, 3.)),
-                       ('less', 0, math.nextafter(1.5, 1.)), ('down-k10', 10, 1 + 2. ** -11), ('up-k10', 10, 1 + 3 * 2. ** -11)]:
+    for name, k, x in [('down', 0, 2.5), ('up', 0, 1.5), ('down-below-0', 0, -2.5), ('up-below-0', 0, -1.5),
+                       ('down-k10', 10, 1 + 2. ** -11), ('up-k10', 10, 1 + 3 * 2. ** -11)]:
         yield f'grid-halfway-{name}', overlay(0, 9, about, box(x, -5., 5., 5.), k), Listed(), BOOKED
+    for name, x in ('less', math.nextafter(1.5, 1.)), ('more', math.nextafter(2.5, 3.)):
+        yield f'grid-halfway-{name}', overlay(5, 9, box(0., 0., 4., 4., 7, 8), ditch([(x, -1.), (x, 2.)]), 0), Listed(), BOOKED
     # zero is +0, from below and from halfway
     for name, x in ('below', -.25), ('halfway', -.5):
         yield f'grid-zero-{name}', overlay(0, 9, about, box(x, -5., 5., 5.), 0), Listed(), BOOKED
@@ -568,7 +570,7 @@ TOLD = [refused(n) for n in (8, 9, 10, 11, 19)]
 
 
 def stored(law):
-    """(name, text, answer) of the stored ones, 001-... to 355-..., w2-... and w5-..."""
+    """(name, text, answer) of the stored ones, 001-... to 355-..., w2-..., w5-... and w6-..."""
     names = read(f'{REPLAYED}/args').decode().split()
     answers = re.split('^(' + '|'.join(map(re.escape, names)) + ')\n', read(f'{REPLAYED}/stdout').decode(), flags=re.M)[1:]
     assert answers[::2] == names
