@@ -73,7 +73,8 @@ def test_the_picture_of_a_survey_grid(tmp_path):
     out.write_text(answer(text.encode()))
     titles = f'Without a grid={none}', f'On a grid of 1 m={out}'
     assert drawn(given, *titles) == (ROOT / 'docs' / 'pictures' / 'grid.svg').read_text()
-    assert [(drawn(*words).count('as computed'), 'grid of 1 m<' in drawn(*words)) for words in ([given, out], [out, none], [given, titles[0]])] == [(0, True), (0, False), (0, True)]
+    for words, grid in (([given, out], True), ([out, none], False), ([given, titles[0]], True)):
+        assert 'as computed' not in drawn(*words) and ('grid of 1 m<' in drawn(*words)) == grid
     fine = tmp_path / 'fine.in'
     fine.write_text(text.replace('(overlay 5 9 0\n', '(overlay 5 9 10\n'))
     assert 'grid of' not in drawn(fine)
