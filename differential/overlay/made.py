@@ -47,11 +47,10 @@ def text(op, limit, *meshes, grid=None):
 
 
 class Made:
-    def __init__(self, seed, only='', grids=0.25):
-        """`only`: the families whose names start so. `grids`: the share of overlays that get a grid; the others are the same whatever it is."""
-        self.r = random.Random(seed)
-        self.g = random.Random('grids %d' % seed)
-        self.grids_share = grids
+    def __init__(self, seed, only='', on_grid=False):
+        """`only`: the families whose names start so. `on_grid`: each overlay has a grid."""
+        self.r = random.Random('grids %d' % seed if on_grid else seed)
+        self.on_grid = on_grid
         families = [
             (self.grids, 12), (self.turned_grids, 10), (self.lattice, 14), (self.near_nodes, 14), (self.t_junctions, 8), (self.colinear, 8),
             (self.concave, 7), (self.touching, 6), (self.twice, 6), (self.collapsing, 5), (self.islands, 4), (self.unmerged, 8),
@@ -671,22 +670,12 @@ class Made:
                 m.nodes = [(max(-LARGEST, min(LARGEST, x)), max(-LARGEST, min(LARGEST, y))) for x, y in m.nodes]
         return name
 
-    def on_steps(self, s, c, k):
+    def by_steps(self, s, c, k):
         """The meshes about 0, what is 1 in them so many steps of the grid; their own nodes are mostly on it, or halfway."""
-        dx, dy = (self.g.choice([0.0, 0.0, -1.0, -0.5, -1.5, -2.0, 0.25]) for _ in range(2))
-        side = 2.0 ** (self.g.choice([-2, -1, 0, 0, 1, 1, 2, 3, 4, 6, 9]) - k)
+        dx, dy = (self.r.choice([0.0, 0.0, -1.0, -0.5, -1.5, -2.0, 0.25]) for _ in range(2))
+        side = 2.0 ** (self.r.choice([-2, -1, 0, 0, 1, 1, 2, 3, 4, 6, 9]) - k)
         for m in (s, c):
             m.nodes = [((x + dx) * side, (y + dy) * side) for x, y in m.nodes]
-
-    def scaled_with(self, grid, s, c):
-        """The scale's name; with a grid seven in ten by its steps."""
-        as_made = [list(m.nodes) for m in (s, c)]
-        name = self.scaled(s, c)
-        if grid is None or self.g.random() < 0.3:
-            return name
-        for m, nodes in zip((s, c), as_made):
-            m.nodes = nodes
-        self.on_steps(s, c, grid)
         return 'by steps'
 
     def one(self):
@@ -695,8 +684,8 @@ class Made:
         op, s, c = way()
         if op is None:
             op = self.r.choice([0, 0, 1, 2, 3, 4])
-        grid = self.g.randint(0, 10) if self.g.random() < self.grids_share else None
-        scale = self.scaled_with(grid, s, c)
+        grid = self.r.randint(0, 10) if self.on_grid else None
+        scale = self.by_steps(s, c, grid) if self.on_grid and self.r.random() < 0.7 else self.scaled(s, c)
         for m in (s, c):
             self.finished(m)
         # refusal 8 now and then; otherwise no made pair meets so often

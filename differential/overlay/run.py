@@ -1,7 +1,7 @@
 #!/usr/bin/env python3
 """The whole overlay against the published Rust, bit for bit. No network.
 
-    python3 differential/overlay/run.py [--overlays N] [--seed S] [--only NAME] [--grids SHARE] [--replay DIR]... [--show K] [--built DIR] [--later DIR] [--driver FILE]
+    python3 differential/overlay/run.py [--overlays N] [--seed S] [--only NAME] [--grids N] [--replay DIR]... [--show K] [--built DIR] [--later DIR] [--driver FILE]
 
 Builds the oracle (differential/oracle) into target/oracle, its copy that goes on as document 02 says and counts into target/oracle-02 and
 the driver over the proved library into target/overlays (or takes those given), asks all sides N made overlays (by default 120,000; of the
@@ -10,9 +10,9 @@ because of the state and each answer is held to the copy's, each accepted answer
 table is doubled in the Rust, the answer is also held to the published Rust's, and each difference gets its cause. The Rust answers no parents, so
 answers are compared without them; the parents are held to the copy's families where each cell has its number as its family, and of
 operations 0 and 5 to the list of parents that the copy keeps. The Rust's count of new points is our fourth, and our second must be how many of
-them the copy's pieces name. A share of the overlays, by default 0.25, has a grid (W6): the published Rust has none, so the copy alone is the
-measure there, and the new points must be those of the published Rust without a grid, booked (booked.py). The last line has the counts; the exit
-status is 1 where one is unexplained."""
+them the copy's pieces name. Then come overlays with a grid (W6), by default a quarter as many: the published Rust has none, so the copy alone is
+the measure there, and the new points must be those of the published Rust without a grid, booked (booked.py). The last line has the counts; the
+exit status is 1 where one is unexplained."""
 import argparse
 import collections
 import glob
@@ -314,22 +314,19 @@ def table(counts, verdicts):
     print('%-22s' % 'all' + ''.join('%12d' % sum(counts[n][v] for n in names) for v in verdicts))
 
 
-def made_overlays(a, sides, shown):
-    made = Made(a.seed, a.only, a.grids)
-    counts = collections.defaultdict(collections.Counter)
-    ops = collections.defaultdict(collections.Counter)
-    scales, grids, reached = collections.Counter(), collections.Counter(), collections.Counter()
-    done = 0
-    while done < a.overlays:
-        rows = [made.one() for _ in range(min(BATCH, a.overlays - done))]
+def made_overlays(sides, made, n, show, shown):
+    """So many made overlays, as tables; how many have each verdict."""
+    counts, ops = (collections.defaultdict(collections.Counter) for _ in range(2))
+    scales, grids, reached, all_ = (collections.Counter() for _ in range(4))
+    while all_.total() < n:
+        rows = [made.one() for _ in range(min(BATCH, n - all_.total()))]
         forms = [text(op, limit, *meshes, grid=k) for _, _, op, limit, k, *meshes in rows]
-        done += len(rows)
         for (family, scale, op, _, k, _, _), row in zip(rows, compared(sides, forms)):
             _, ours, _, why, points = row
-            counts[family][why] += 1
+            for c in counts[family], ops['operation %d' % op], all_:
+                c[why] += 1
             scales[scale] += 1
-            grids['no grid' if k is None else 'k %d' % k] += 1
-            ops['operation %d' % op][why] += 1
+            grids[k] += 1
             if ours.startswith('(overlay'):
                 listed, added = count_line(ours)
                 reached['pieces'] += listed
@@ -338,9 +335,18 @@ def made_overlays(a, sides, shown):
                 reached['overlays with a new point'] += added > 0
                 reached['overlays without a piece'] += listed == 0
                 reached['operation %d with a new point that no piece names' % op] += points < added
-            if why == 'unexplained' and len(shown) < a.show:
+            if why == 'unexplained' and len(shown) < show:
                 shown.append((family + ', ' + scale, row))
-    return counts, scales, grids, ops, reached
+    verdicts = sorted(all_, key=lambda v: (v not in ('equal',), v))
+    table(counts, verdicts)
+    table(ops, verdicts)
+    for i, v in enumerate(verdicts):
+        print('%d: %s' % (i + 1, v))
+    print('scales: ' + ', '.join('%s %d' % s for s in scales.most_common()))
+    if made.on_grid:
+        print('k: ' + ', '.join('%d %d' % s for s in sorted(grids.items())))
+    print('reached: ' + ', '.join('%s %d' % s for s in sorted(reached.items())))
+    return all_
 
 
 def known_refusals(sides, shown):
@@ -392,50 +398,52 @@ def build(a):
     return Sides(driver, built, later)
 
 
-def main():
+def options():
     p = argparse.ArgumentParser()
     p.add_argument('--overlays', type=int, default=120000)
     p.add_argument('--seed', type=int, default=1)
     p.add_argument('--only', default='')
-    p.add_argument('--grids', type=float, default=0.25)
+    p.add_argument('--grids', type=int)
     p.add_argument('--replay', action='append', default=[])
     p.add_argument('--show', type=int, default=3)
     p.add_argument('--built')
     p.add_argument('--later')
     p.add_argument('--driver')
     a = p.parse_args()
+    a.grids = a.overlays // 4 if a.grids is None else a.grids
+    return a
+
+
+def main():
+    a = options()
     sides = build(a)
     shown = []
     start = time.time()
-    counts, scales, grids, ops, reached = made_overlays(a, sides, shown)
-    seconds = time.time() - start
-    verdicts = sorted({v for c in counts.values() for v in c}, key=lambda v: (v not in ('equal',), v))
-    table(counts, verdicts)
-    table(ops, verdicts)
-    for i, v in enumerate(verdicts):
-        print('%d: %s' % (i + 1, v))
-    print('scales: ' + ', '.join('%s %d' % s for s in scales.most_common()))
-    print('grids: ' + ', '.join('%s %d' % s for s in sorted(grids.items())))
-    print('reached: ' + ', '.join('%s %d' % s for s in sorted(reached.items())))
+    n = made_overlays(sides, Made(a.seed, a.only), a.overlays, a.show, shown)
     print('counted in the Rust: ' + ', '.join('%s %d' % s for s in sides.without.items()))
-    print('the same with a grid: ' + ', '.join('%s %d' % s for s in sides.on_grid.items()))
-    print('booked: ' + ', '.join('%s %d' % s for s in sides.booked.items()))
+    between = time.time()
+    print('\nwith a grid')
+    m = made_overlays(sides, Made(a.seed, a.only, True), a.grids, a.show, shown)
+    print('counted in the copy: ' + ', '.join('%s %d' % s for s in sides.on_grid.items()))
+    print('booked: ' + ', '.join('%s %d' % s for s in sides.booked.items()) + '\n')
+    end = time.time()
     codes, bad = known_refusals(sides, shown)
     print('known refusals: ' + ', '.join('%d: %d' % c for c in sorted(codes.items())) + '; %d not as known' % bad)
     named = replayed(sides, [os.path.join(ROOT, 'differential', 'oracle', 'cases')] + a.replay, shown)
     print('named inputs: ' + ', '.join('%s %d' % c for c in sorted(named.items())))
     for title, row in shown:
         show(title, row, sides)
-    n = collections.Counter()
-    for c in counts.values():
-        n += c
-    left = n['unexplained'] + bad + named['unexplained']
-    print('%d made overlays in %.0f s, %d equal, %d turn back and close up, %d stop alike (11), %s, ' % (
-        a.overlays, seconds, n['equal'], n[TURNED], n[ALIKE], ', '.join('%d %s' % (n[c], c) for c in CAUSES)), end='')
-    print('%d doubled in the Rust, %d of them 11, %d with a grid as the copy, %s, %d known refusals and limits, %d named inputs, %d unexplained' % (
-        n[DOUBLED] + n[DOUBLED_11], n[DOUBLED_11], n[ON_GRID], ', '.join('%d refused %d' % (n[REFUSED[c]], c) for c in REFUSED), sum(codes.values()),
-        sum(named.values()), left))
+    left = n['unexplained'] + m['unexplained'] + bad + named['unexplained']
+    print('%d made overlays in %.0f s, %d equal, %d turn back and close up, %d stop alike (11), %s, %d doubled in the Rust, %d of them 11, %s; ' % (
+        a.overlays, between - start, n['equal'], n[TURNED], n[ALIKE], ', '.join('%d %s' % (n[c], c) for c in CAUSES), n[DOUBLED] + n[DOUBLED_11],
+        n[DOUBLED_11], refusals(n)), end='')
+    print('%d with a grid in %.0f s, %d booked and close up, %s; %d known refusals and limits, %d named inputs, %d unexplained' % (
+        a.grids, end - between, m[ON_GRID], refusals(m), sum(codes.values()), sum(named.values()), left))
     return 1 if left else 0
+
+
+def refusals(n):
+    return ', '.join('%d refused %d' % (n[REFUSED[c]], c) for c in REFUSED)
 
 
 if __name__ == '__main__':
