@@ -1,4 +1,4 @@
-// The entry of an overlay: the refusals because of the input, 1 to 7.
+// The entry of an overlay: the refusals because of the input, 1 to 7 and 13.
 #![tactic(auto)]
 
 mod coords;

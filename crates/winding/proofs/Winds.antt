@@ -17,7 +17,7 @@ use Rattle.rules.specs.Overlay.{Lists}
 use Rattle.rules.specs.Demand3.{Accepted}
 use Rattle.rules.proofs.Closing.{accepted_closes, outline_once}
 
--- For every operation, meeting limit, pair of meshes and lists: if the overlay is accepted, then in every cell of a mesh that the operation cuts and about
+-- For all settings, meshes and lists: if the overlay is accepted, then in every cell of a mesh that the operation cuts and about
 -- every point with exact coordinates,
 module _ (o : Settings) (s c : Mesh) (l : Lists) (h : Accepted o s c l) (w : Side) (e : cuts o.op w ≡ true) (i : ℕ) (k : i < length (lent_mesh s c w).ends) where
   abbrev sc : Scene
