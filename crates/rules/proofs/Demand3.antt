@@ -39,7 +39,7 @@ use Rattle.rules.proofs.ReadBack.{answered_pieces, read_back}
 use Rattle.rules.proofs.Rows.{row_of, row_mesh, row_cell, row_nodes, stands_at, same_piece, apart, of_intersection, of_difference}
 use Rattle.rules.proofs.Closing.{cells_lent, accepted_closes, table_single}
 
--- (a) For every operation, meeting limit, pair of meshes and lists: if the overlay is accepted, then in every cell of a mesh that the operation cuts,
+-- (a) For all settings, meshes and lists: if the overlay is accepted, then in every cell of a mesh that the operation cuts,
 -- with no condition on its table, the pieces before any are dropped close up to the outline as cut, edges and exact areas.
 pub closes_up_lem : (o : Settings) (s c : Mesh) (l : Lists) → Accepted o s c l
     → (w : Side) → cuts o.op w ≡ true → (i : ℕ) → i < length (lent_mesh s c w).ends

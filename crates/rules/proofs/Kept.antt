@@ -242,7 +242,7 @@ module _ (once grids : Bool) (settings : Settings) (s c : Mesh) (l : Lists) wher
           go (inl f) made = absurd (subst Made f made)
           go (inr f) made = f
 
-  -- For every operation, meeting limit, meshes and lists: unless the overlay without turning back is refused 11, the one with it gives the same result, that
+  -- For all settings, meshes and lists: unless the overlay without turning back is refused 11, the one with it gives the same result, that
   -- is the same code, counts and lists.
   pub result_turned : ((overlay_with forth settings s c l).code ≡ 11 → ⊥) → overlay_with back settings s c l ≡ overlay_with forth settings s c l
   result_turned h = go (ending forth settings s c l)

@@ -348,7 +348,7 @@ answered_lengths o s c l f =
 same_lengths : (l : Lists) → SameLengths l l
 same_lengths l = record { coords = refl; nodes = refl; ends = refl; kinds = refl; families = refl; meshes = refl; cells = refl; work = refl }
 
--- For every operation, meeting limit, meshes and lists, accepted or refused.
+-- For all settings, meshes and lists, accepted or refused.
 pub lengths_kept : (o : Settings) (s c : Mesh) (l : Lists) → SameLengths (overlay_of o s c l).lists l
 lengths_kept o s c l = go (ending ours o s c l)
   where

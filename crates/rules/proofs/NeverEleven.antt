@@ -105,7 +105,7 @@ entry_low o s c w =
     go true true true true true true true false e = omega (arith, e)
     go true true true true true true true true e = omega (arith, e)
 
--- For every operation, meeting limit, meshes and lists: if in every cell of a mesh that the operation cuts all edges are forward, then the overlay isn't
+-- For all settings, meshes and lists: if in every cell of a mesh that the operation cuts all edges are forward, then the overlay isn't
 -- refused with 11.
 pub never_eleven : (o : Settings) (s c : Mesh) (l : Lists) → Forward o s c → (overlay_of o s c l).code ≡ 11 → ⊥
 unfolding state_with
