@@ -67,7 +67,7 @@ k10 = f0 ∷ f0 ∷ f2 ∷ f0 ∷ f2 ∷ f2 ∷ f0 ∷ f2 ∷ f1 ∷ m1 ∷ f1 �
 abbrev whole : List Laid
 whole = laid 0 1 [] ∷ laid 1 2 [] ∷ laid 2 3 [] ∷ laid 3 0 [] ∷ []
 
--- what a cell comes to by a setting, and whether it is doubled
+-- what a cell comes to by an edition, and whether it is doubled
 unfoldable cut : Edition → List Float → List Laid → List Laid → Outcome × Bool
 unfolding outline_darts own_darts darts_along joined hops is_new new_to first seek near_darts inner_with edge_slots table stands cell_table_with insert sort_onto angles
     coord mag sign ordered between point_at sub of_bits tally doubled slot next_open begin rest onward arrive follow step walk_steps starts walk_from walk_with all
