@@ -52,7 +52,9 @@ def test_strips_thinner_than_a_step_are_told():
     with pytest.raises(NotClean, match='no simple polygon') as e:
         cut(made, soils, survey_grid=0)
     assert 'a larger K' in str(e.value) and all(0 <= p.cell < 300 for p in e.value.problems)
-    assert cut(made, soils, survey_grid=5).pieces.new_points > cut(made, soils, survey_grid=0, grid=4.0).pieces.new_points > 100
+    assert cut(made, soils, survey_grid=5).pieces.new_points > 100
+    with pytest.raises(NotClean):               # the model's nodes stay where they are, since it isn't for them
+        cut(made, soils, survey_grid=0, grid=1.0)
     with pytest.raises(Refused, match='refused 13'):
         cut(made, soils, survey_grid=11)
 

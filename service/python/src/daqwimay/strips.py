@@ -17,7 +17,7 @@ from .soils import Box, SoilMap, soil_mesh
 Progress = Callable[[str, int, int], None]
 BACKGROUND = '(no soil)'
 _CURE = 'clean the map first: --grid 0.001 (docs/PRACTICE.md says what a clean map is)'
-_FINER = 'where strips are about as thin as a step of the survey grid: a larger K, or a --grid of some steps, so that soil lines run through nodes'
+_FINER = 'where strips are about as thin as a step of the survey grid: take a larger K'
 
 
 @dataclass
@@ -77,7 +77,7 @@ def cut(model: Model, soils: SoilMap, *, grid: Optional[float] = None, survey_gr
     try:
         return _cut(model, given)
     except (NotClean, Refused) as e:
-        if grid is None or getattr(e, 'number', 11) != 11:
+        if grid is None or getattr(e, 'number', 11) != 11 or _right_without(model, given):
             raise
     moved, change = _on_grid(model, grid)
     strips = _cut(moved, given)
@@ -93,6 +93,14 @@ def _on_grid(model: Model, grid: float) -> tuple[Model, str]:
     moved = Mesh(xy, mesh.nodes, mesh.ends, mesh.kinds, mesh.families)
     change = f'soils run along the model\'s sides: its nodes are put on the grid of {step_said(step)} too, moved by at most {far:.3g}'
     return replace(model, mesh=moved), change
+
+
+def _right_without(model: Model, given: _Given) -> bool:
+    """Whether it is the survey grid that spoils the strips."""
+    try:
+        return given.survey_grid is not None and bool(_cut(model, given._replace(survey_grid=None)))
+    except (NotClean, Refused):
+        return False
 
 
 class _Given(NamedTuple):
