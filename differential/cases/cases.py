@@ -495,6 +495,10 @@ def gridded():
     yield 'grid-shared-side', overlay(1, 20, off, box(2.625, .5, 4., 2.25), 0), Listed(), BOOKED
     # a line three times
     yield 'grid-traced', overlay(5, 20, off, ([(1.3, 0.), (1.3, 4.)], [(1, 0, (0, 1)), (1, 0, (0, 1)), (1, 0, (1, 0))]), 2), Listed(1), BOOKED
+    # two lines from one node on a side, and a third that crosses the side beside it: its point projects as the node does and stands between that node's two entries
+    between = [(2., 0.), (1., 3.), (2.25, 1.), (2.25, -1.), (3., 3.)], [(1, 0, (0, 1)), (1, 0, (2, 3)), (1, 0, (0, 4))]
+    yield 'grid-between-none', overlay(5, 50, box(0., 0., 4., 4., 7, 8), between), Listed(), 'the published Rust'
+    yield 'grid-between', overlay(5, 50, box(0., 0., 4., 4., 7, 8), between, 0), refused(19), W6
     # the limits of the state are those without a grid: ends count
     yield 'grid-limit-256-on-an-edge', on_grid(5, along(4)), Listed(1), BOOKED
     yield 'grid-limit-257-on-an-edge', on_grid(5, along(5)), refused(9), W6

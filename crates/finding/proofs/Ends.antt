@@ -32,9 +32,9 @@ use Rattle.regions.specs.declared.Regions.{Regions}
 use Rattle.regions.specs.Runs.{run_in}
 use Rattle.meetings.specs.declared.Found.{Found as MeetFound}
 use Rattle.regions.proofs.Parts.{run_long}
-use Rattle.meetings.specs.Booked.{booked, net_on, meetings_of}
+use Rattle.meetings.specs.InNumbers.{in_numbers, net_on, meetings_of}
 use Rattle.meetings.proofs.Early.{early_met}
-use Rattle.meetings.proofs.Reading.{length_booked, booked_at, meetings_fit, by_edges}
+use Rattle.meetings.proofs.Reading.{length_in_numbers, in_numbers_at, meetings_fit, by_edges}
 use Rattle.edge_nodes.specs.Links.{links_of, Linked}
 use Rattle.edge_nodes.specs.Lent.{crowded_at}
 use Rattle.edge_nodes.specs.Stored.{no_met, Stored}
@@ -132,20 +132,20 @@ module _ (o : Settings) (sc cc : List Float) (sn se cn ce : List ℕ) (w₀ : Li
 
   -- ---- 9, by the numbers
 
-  stored : Stored scene.met (booked scene.met)
+  stored : Stored scene.met (in_numbers scene.met)
   unfolding scene_of
   stored =
-      numbers_stored scene.met (booked scene.met) (length_booked scene.met) (λ q i h l. booked_at scene.met q i no_met h l)
+      numbers_stored scene.met (in_numbers scene.met) (length_in_numbers scene.met) (λ q i h l. in_numbers_at scene.met q i no_met h l)
       (λ q h. (meetings_fit o.grid (sc ++ cc) (subject_net s) (cutter_net lines s c) q no_met h).3)
 
-  full_is : (es : List Edge) → has (crowded_at (pairs (flat_edges es)) (pairs (flat_edges subjects)) (pairs (flat_edges cutters)) (booked scene.met))
+  full_is : (es : List Edge) → has (crowded_at (pairs (flat_edges es)) (pairs (flat_edges subjects)) (pairs (flat_edges cutters)) (in_numbers scene.met))
       (length (flat_edges es) / 2) ≡ overfull scene es
   unfolding scene_of
   full_is es =
-      ap₂ (λ (a b : List Edge). has (crowded_at (pairs (flat_edges es)) a b (booked scene.met)) (length (flat_edges es) / 2)) (pairs_ends subjects) (pairs_ends cutters)
-      ∙ overfull_is scene (booked scene.met) stored (flat_edges es) ∙ ap (overfull scene) (pairs_ends es)
+      ap₂ (λ (a b : List Edge). has (crowded_at (pairs (flat_edges es)) a b (in_numbers scene.met)) (length (flat_edges es) / 2)) (pairs_ends subjects) (pairs_ends cutters)
+      ∙ overfull_is scene (in_numbers scene.met) stored (flat_edges es) ∙ ap (overfull scene) (pairs_ends es)
 
-  crowded_is : both_full (flat_edges subjects) (flat_edges cutters) (booked scene.met) ≡ crowded scene
+  crowded_is : both_full (flat_edges subjects) (flat_edges cutters) (in_numbers scene.met) ≡ crowded scene
   unfolding crowded scene_of both_full
   crowded_is = ap₂ (λ (a b : Bool). a || b) (full_is subjects) (full_is cutters)
 
@@ -339,26 +339,26 @@ module _ (o : Settings) (sc cc : List Float) (sn se cn ce : List ℕ) (w₀ : Li
         work_then : w₂ ≡ with o sc cc sn se cn ce fs fc w₀ room₀ []
         unfolding nets_of
         work_then =
-            all.work ∙ ap₂ (λ (w : List ℕ) (ms : List Met). put w r.behind (booked ms)) we met_are
-            ∙ ap (λ (x : NetPlaces). put (netted lines s c w₀) x.behind (booked scene.met)) re
-            ∙ ap (put (netted lines s c w₀) (met_at s c)) (sym (append-nil (booked scene.met)))
+            all.work ∙ ap₂ (λ (w : List ℕ) (ms : List Met). put w r.behind (in_numbers ms)) we met_are
+            ∙ ap (λ (x : NetPlaces). put (netted lines s c w₀) x.behind (in_numbers scene.met)) re
+            ∙ ap (put (netted lines s c w₀) (met_at s c)) (sym (append-nil (in_numbers scene.met)))
 
         linked_is : linked_by (nets_of lines s c) (length scene.met) (chains s c) (with o sc cc sn se cn ce fs fc w₀ room₀ []) ≡ worked o s c w₀
         unfolding linked_by nets_of worked scene_of
         linked_is =
             let w = with o sc cc sn se cn ce fs fc w₀ room₀ [] in
             let base : met_at s c ≤ length (netted lines s c w₀) = omega (arith, ok.room, length_held lines sc cc sn se cn ce fs fc w₀ room₀) in
-            let end : met_at s c + 5 * length scene.met ≡ met_at s c + length (booked scene.met) = omega (arith, length_booked scene.met) in
-            let fit : met_at s c + length (booked scene.met) ≤ length (netted lines s c w₀) = omega
-            (arith, length_booked scene.met, few, ok.room, length_held lines sc cc sn se cn ce fs fc w₀ room₀) in
+            let end : met_at s c + 5 * length scene.met ≡ met_at s c + length (in_numbers scene.met) = omega (arith, length_in_numbers scene.met) in
+            let fit : met_at s c + length (in_numbers scene.met) ≤ length (netted lines s c w₀) = omega
+            (arith, length_in_numbers scene.met, few, ok.room, length_held lines sc cc sn se cn ce fs fc w₀ room₀) in
             ap₂ (λ (es fs : List ℕ). put w (met_at s c + 5 * length scene.met) (links_of (chains s c) (pairs es) (pairs fs) (run w (met_at s c) (5 * length scene.met))))
             (run_long w (subject_at s c) (2 * length subjects) ∙ subjects_found o sc cc sn se cn ce fs fc w₀ room₀ [])
             (run_long w (cond lines (length cc / 2) (cutter_at s c)) (2 * length cutters) ∙ cutters_found o sc cc sn se cn ce fs fc w₀ room₀ [])
             ∙ ap₂ (λ (es fs : List Edge). put w (met_at s c + 5 * length scene.met) (links_of (chains s c) es fs (run w (met_at s c) (5 * length scene.met))))
             (pairs_ends subjects) (pairs_ends cutters)
             ∙ ap₂ (λ (i : ℕ) (ms : List ℕ). put w i (links_of (chains s c) subjects cutters ms)) end (met_found o sc cc sn se cn ce fs fc w₀ room₀ [])
-            ∙ ap (λ (v : List ℕ). put (put (netted lines s c w₀) (met_at s c) v) (met_at s c + length (booked scene.met)) (links_in o s c)) (append-nil (booked scene.met))
-            ∙ put_append (netted lines s c w₀) (met_at s c) base (booked scene.met) (links_in o s c) fit
+            ∙ ap (λ (v : List ℕ). put (put (netted lines s c w₀) (met_at s c) v) (met_at s c + length (in_numbers scene.met)) (links_in o s c)) (append-nil (in_numbers scene.met))
+            ∙ put_append (netted lines s c w₀) (met_at s c) base (in_numbers scene.met) (links_in o s c) fit
 
         -- ---- with the links
 

@@ -20,8 +20,8 @@ use Rattle.rules.specs.Operations.{scene_for}
 use Rattle.regions.specs.declared.Regions.{Regions}
 use Rattle.regions.specs.Runs.{run_in, Lies}
 use Rattle.edge_nodes.proofs.Linked.{linked, length_links}
-use Rattle.meetings.specs.Booked.{booked}
-use Rattle.meetings.proofs.Reading.{length_booked}
+use Rattle.meetings.specs.InNumbers.{in_numbers}
+use Rattle.meetings.proofs.Reading.{length_in_numbers}
 use Rattle.finding.specs.Nets.{Fit, NetRoom, cutter_entries, copied_at, subject_at, cutter_at, met_at, nets_of, netted}
 use Rattle.regions.proofs.Parts.{run_long}
 use Rattle.finding.specs.Found.{chains, regions_by, found_as, links_in, worked, LinkedIn}
@@ -54,7 +54,7 @@ pub record Holds (o : Settings) (s c : Mesh) (g : Regions) (w : List ℕ) : Type
   pub subject_entries_lem : run_in w g.subject.entries ≡ s.nodes
   pub cutter_edges_lem : run_in w g.cutter.edges ≡ flat_edges (scene_for o s c).cutter.edges
   pub cutter_entries_lem : run_in w g.cutter.entries ≡ cutter_entries s c
-  pub met : run_in w g.met ≡ booked (scene_for o s c).met
+  pub met : run_in w g.met ≡ in_numbers (scene_for o s c).met
   pub links : run_in w g.links ≡ links_in o s c
   pub few : length (scene_for o s c).met ≤ 65536
 
@@ -66,7 +66,7 @@ holds_linked o s c g w h =
     let ms = (scene_for o s c).met in
     record {
       lies = h.lies;
-      linked = rw (h.subject_edges_lem, h.cutter_edges_lem, h.met, h.links, pairs_ends es, pairs_ends fs) (linked (chains s c) es fs (booked ms) (omega arith));
+      linked = rw (h.subject_edges_lem, h.cutter_edges_lem, h.met, h.links, pairs_ends es, pairs_ends fs) (linked (chains s c) es fs (in_numbers ms) (omega arith));
     }
 
 -- the regions stand before the end of the links, which isn't far, and no mesh has more edges than entries
@@ -96,11 +96,11 @@ module _ (o : Settings) (sc cc : List Float) (sn se cn ce : List ℕ) (fs : Fit 
   base = omega (arith, room, length_held lines sc cc sn se cn ce fs fc w₀ room)
 
   abbrev pub with : List ℕ → List ℕ
-  with zs = put (netted lines s c w₀) (met_at s c) (booked met ++ zs)
+  with zs = put (netted lines s c w₀) (met_at s c) (in_numbers met ++ zs)
 
   module _ (zs : List ℕ) where
     before : (a n : ℕ) → a + n ≤ met_at s c → run (with zs) a n ≡ run (netted lines s c w₀) a n
-    before a n h = run_before (netted lines s c w₀) (met_at s c) base (booked met ++ zs) a n h
+    before a n h = run_before (netted lines s c w₀) (met_at s c) base (in_numbers met ++ zs) a n h
 
     pub entries_found : run (with zs) (node_count c) (length cn) ≡ cutter_entries s c
     entries_found = before (node_count c) (length cn) (omega arith) ∙ entries_held lines sc cc sn se cn ce fs fc w₀ room
@@ -117,23 +117,23 @@ module _ (o : Settings) (sc cc : List Float) (sn se cn ce : List ℕ) (fs : Fit 
         before (cond lines (node_count c) (cutter_at s c)) (2 * length (cutter_net lines s c).edges) (omega (arith, (cutters_before lines sc cc sn se cn ce fs fc w₀ room).0))
         ∙ cutters_held lines sc cc sn se cn ce fs fc w₀ room
 
-    pub met_found : run (with zs) (met_at s c) (5 * length met) ≡ booked met
-    met_found = run_first (netted lines s c w₀) (met_at s c) base (booked met) zs (5 * length met) (length_booked met)
+    pub met_found : run (with zs) (met_at s c) (5 * length met) ≡ in_numbers met
+    met_found = run_first (netted lines s c w₀) (met_at s c) base (in_numbers met) zs (5 * length met) (length_in_numbers met)
 
     pub behind_found : run (with zs) (met_at s c + 5 * length met) (length zs) ≡ zs
-    behind_found = run_second (netted lines s c w₀) (met_at s c) base (booked met) zs (5 * length met) (length zs) (length_booked met) refl
+    behind_found = run_second (netted lines s c w₀) (met_at s c) base (in_numbers met) zs (5 * length met) (length zs) (length_in_numbers met) refl
 
   links_long : length (links_in o s c) ≡ 2 * (chains s c + length met)
   links_long =
-      omega (arith, length_links (chains s c) (scene_for o s c).subject.edges (scene_for o s c).cutter.edges (booked met), length_booked met)
+      omega (arith, length_links (chains s c) (scene_for o s c).subject.edges (scene_for o s c).cutter.edges (in_numbers met), length_in_numbers met)
 
   module _ (more : NetRoom o.m s c (length w₀)) (few : length met ≤ o.m) where
     pub length_worked : length (worked o s c w₀) ≡ length w₀
     unfolding worked
     length_worked =
         let same = length_held lines sc cc sn se cn ce fs fc w₀ room in
-        length_put (netted lines s c w₀) (met_at s c) base (booked met ++ links_in o s c)
-        (omega (arith, more, few, same, length-append (booked met) (links_in o s c), length_booked met, links_long)) ∙ same
+        length_put (netted lines s c w₀) (met_at s c) base (in_numbers met ++ links_in o s c)
+        (omega (arith, more, few, same, length-append (in_numbers met) (links_in o s c), length_in_numbers met, links_long)) ∙ same
 
     -- the regions that are found have their places
     pub regions_lie : Lies (found_as o s c).regions (length w₀)

@@ -16,9 +16,9 @@ use Rattle.rules.specs.Meetings.{Met, added_by}
 use Rattle.rules.specs.Refusals.{of_meeting, first_refusal}
 use Rattle.strips.specs.Index.{Indexed}
 use Rattle.meetings.specs.declared.Found.{Found}
-use Rattle.meetings.specs.Booked.{booked, meetings_of}
+use Rattle.meetings.specs.InNumbers.{in_numbers, meetings_of}
 use Rattle.meetings.specs.MeetingsFound.{MeetingsFound, meetings_found}
-use Rattle.meetings.proofs.Reading.{length_booked}
+use Rattle.meetings.proofs.Reading.{length_in_numbers}
 use Rattle.meetings.proofs.Settled.{code_of, found_in, leaves, all_left, code_left}
 use Rattle.finding.specs.declared.numbering.NetPlaces.{NetPlaces}
 use Rattle.finding.specs.Found.{MeetingsRoom, CutterIndexed, met_in, MetWritten}
@@ -105,13 +105,13 @@ module _ (grid : Grid) (n : NetPlaces) (placed m : ℕ) (oc : List Float) (w : L
           let z : refused_with a ≡ 0 = ap refused_with i in
           let all = told_all ∙ all_left ms ps met (sym code_found ∙ z) in
           let few : length ms ≤ m = few_met ms m (length oc / 2 - placed / 2) 0 0 (sym met_code ∙ z) in
-          let numbers : met' ++ behind ≡ front rest (booked ms) =
-          ap₂ (λ (x y : List ℕ). x ++ y) (ap (λ (x : MeetingsFound). x.met) all ∙ ap (λ (l : List ℕ). front l (booked ms)) met-is) behind-is
-          ∙ front_part rest (booked ms) (5 * m) (omega (arith, length_rest, room.met_fits)) (omega (arith, length_booked ms, few)) in
+          let numbers : met' ++ behind ≡ front rest (in_numbers ms) =
+          ap₂ (λ (x y : List ℕ). x ++ y) (ap (λ (x : MeetingsFound). x.met) all ∙ ap (λ (l : List ℕ). front l (in_numbers ms)) met-is) behind-is
+          ∙ front_part rest (in_numbers ms) (5 * m) (omega (arith, length_rest, room.met_fits)) (omega (arith, length_in_numbers ms, few)) in
           record {
             found = ap (found_in f) (sym (ap by_number i) ∙ ap (λ (x : MeetingsFound). x.answer) all);
             coords = ap₂ (λ (x y : List Float). x ++ y) cs-is (ap (λ (x : MeetingsFound). x.points) all ∙ ap (λ (l : List Float). front l (added_by ms)) ps-is);
-            work = ap₂ (λ (x y : List ℕ). x ++ y) nets-is (numbers ∙ ap (λ (l : List ℕ). front l (booked ms)) rest-is);
+            work = ap₂ (λ (x y : List ℕ). x ++ y) nets-is (numbers ∙ ap (λ (l : List ℕ). front l (in_numbers ms)) rest-is);
           }
 
       pub met_written : IfOk a (MetWritten grid n placed oc w (cs ++ ps') (nets ++ (met' ++ behind)))

@@ -23,7 +23,7 @@ use Rattle.rules.specs.Cell.{outcome_of}
 use Rattle.rules.specs.Operations.{scene_for, kept, over_cells}
 use Rattle.rules.specs.Refusals.{Event, point, stop, of_meeting, of_cell, course, course_with, first_refusal}
 use Rattle.regions.specs.declared.Regions.{Regions}
-use Rattle.meetings.specs.Booked.{booked, net_on}
+use Rattle.meetings.specs.InNumbers.{in_numbers, net_on}
 use Rattle.meetings.proofs.Early.{Early, early_append, early_points, early_met, any_room}
 use Rattle.meetings.proofs.Reading.{by_edges}
 use Rattle.edge_nodes.specs.Links.{links_of}
@@ -111,14 +111,14 @@ module _ (o : Settings) (s c : Mesh) where
   links_bare : links_in o (bare s) (bare c) ≡ links_in o s c
   unfolding scene_of
   links_bare =
-      ap₂ (λ (es fs : List Edge). links_of (chains s c) es fs (booked (scene_for o (bare s) (bare c)).met)) (subjects_bare (eqb o.op 5) s c) (cutters_bare (eqb o.op 5) s c)
-      ∙ ap (λ (ms : List Met). links_of (chains s c) (scene_for o s c).subject.edges (scene_for o s c).cutter.edges (booked ms)) met_bare
+      ap₂ (λ (es fs : List Edge). links_of (chains s c) es fs (in_numbers (scene_for o (bare s) (bare c)).met)) (subjects_bare (eqb o.op 5) s c) (cutters_bare (eqb o.op 5) s c)
+      ∙ ap (λ (ms : List Met). links_of (chains s c) (scene_for o s c).subject.edges (scene_for o s c).cutter.edges (in_numbers ms)) met_bare
 
   pub worked_bare : (w : List ℕ) → worked o (bare s) (bare c) w ≡ worked o s c w
   unfolding worked
   worked_bare w =
-      ap₂ (λ (ms : List Met) (ls : List ℕ). put (netted (eqb o.op 5) (bare s) (bare c) w) (met_at s c) (booked ms ++ ls)) met_bare links_bare
-      ∙ ap (λ (v : List ℕ). put v (met_at s c) (booked (scene_for o s c).met ++ links_in o s c)) (netted_bare (eqb o.op 5) s c w)
+      ap₂ (λ (ms : List Met) (ls : List ℕ). put (netted (eqb o.op 5) (bare s) (bare c) w) (met_at s c) (in_numbers ms ++ ls)) met_bare links_bare
+      ∙ ap (λ (v : List ℕ). put v (met_at s c) (in_numbers (scene_for o s c).met ++ links_in o s c)) (netted_bare (eqb o.op 5) s c w)
 
   pub holds_bare : (g : Regions) (w : List ℕ) → Holds o (bare s) (bare c) g w → Holds o s c g w
   unfolding scene_of
@@ -129,7 +129,7 @@ module _ (o : Settings) (s c : Mesh) where
         subject_entries_lem = h.subject_entries_lem;
         cutter_edges_lem = h.cutter_edges_lem ∙ ap flat_edges (cutters_bare (eqb o.op 5) s c);
         cutter_entries_lem = h.cutter_entries_lem ∙ ap (λ (ws : List ℕ). map (λ n. get_or ws n 0) c.nodes) (weld_bare (eqb o.op 5) s c);
-        met = h.met ∙ ap booked met_bare;
+        met = h.met ∙ ap in_numbers met_bare;
         links = h.links ∙ links_bare;
         few = rw met_bare at h.few;
       }

@@ -17,7 +17,7 @@ use Rattle.strips.specs.Index.{Indexed}
 use Rattle.refusals.specs.declared.Refusal.{Refusal}
 use Rattle.refusals.specs.Numbers.{number}
 use Rattle.meetings.specs.declared.Found.{Found as MeetFound}
-use Rattle.meetings.specs.Booked.{booked, meetings_of}
+use Rattle.meetings.specs.InNumbers.{in_numbers, meetings_of}
 use Rattle.edge_nodes.specs.Links.{links_of, Linked}
 use Rattle.edge_nodes.specs.Lent.{crowded_at}
 use Rattle.finding.specs.declared.numbering.NetPlaces.{NetPlaces}
@@ -53,11 +53,11 @@ found_as o s c =
 
 -- the meetings' links, along these chains
 abbrev pub links_in : Settings → Mesh → Mesh → List ℕ
-links_in o s c = let sc = scene_for o s c in links_of (chains s c) sc.subject.edges sc.cutter.edges (booked sc.met)
+links_in o s c = let sc = scene_for o s c in links_of (chains s c) sc.subject.edges sc.cutter.edges (in_numbers sc.met)
 
 -- the working list w with both nets, the meetings and their links
 unfoldable pub worked : Settings → Mesh → Mesh → List ℕ → List ℕ
-worked o s c w = put (netted (eqb o.op 5) s c w) (met_at s c) (booked (scene_for o s c).met ++ links_in o s c)
+worked o s c w = put (netted (eqb o.op 5) s c w) (met_at s c) (in_numbers (scene_for o s c).met ++ links_in o s c)
 
 -- ---- what finding leaves: the answer or the refusal's number, the coordinates and the working list
 
@@ -111,7 +111,7 @@ met_in grid n placed oc w = meetings_of grid (take placed oc) (run_in w n.subjec
 pub record MetWritten (grid : Grid) (n : NetPlaces) (placed : ℕ) (oc : List Float) (w : List ℕ) (oc' : List Float) (w' : List ℕ) (f : MeetFound) : Type 0 where
   pub found : f ≡ record { met = length (met_in grid n placed oc w); points = length (added_by (met_in grid n placed oc w)) / 2 }
   pub coords : oc' ≡ put oc placed (added_by (met_in grid n placed oc w))
-  pub work : w' ≡ put w n.behind (booked (met_in grid n placed oc w))
+  pub work : w' ≡ put w n.behind (in_numbers (met_in grid n placed oc w))
 
 -- room for the links in a working list of `work` numbers
 pub record LinkRoom (n : NetPlaces) (met h work : ℕ) : Type 0 where

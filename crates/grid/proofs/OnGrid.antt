@@ -1,5 +1,5 @@
 -- What `on_grid` gives for every finite f64, k from 0 to 10: a whole multiple of 2 ^ -k, none of them nearer, of two that are equally near the even one, and zero as +0;
--- a number that is such a multiple stays. Exact coordinates are whole numbers of 2 ^ -1074, of which a step has `step k`. Assumes nothing.
+-- a number that is such a multiple stays. Exact coordinates are whole numbers of 2 ^ -1074, of which a step has `grid_step k`. Assumes nothing.
 use mathlib.Core.Path.{◌≡◌, refl, sym, ap, ap₂, ◌∙◌, subst}
 use mathlib.Core.Bool.{Bool, true, false, not, ◌&&◌, ◌||◌, true≢false}
 use mathlib.Core.Logic.{inl, inr}

@@ -25,10 +25,10 @@ use Rattle.rules.specs.Meetings.{Met, node_of, segment_of, recorded, added_by, m
 use Rattle.rules.specs.Refusals.{Event, of_meeting, first_refusal}
 use Rattle.rules.proofs.Course.{refused_first}
 use Rattle.meetings.specs.declared.Found.{Found}
-use Rattle.meetings.specs.Booked.{book_of, booked}
+use Rattle.meetings.specs.InNumbers.{five_numbers, in_numbers}
 use Rattle.meetings.specs.declared.MetLists.{MetLists}
 use Rattle.meetings.specs.Steps.{met_of, SameLists, refusal_in, Grown, Answered}
-use Rattle.meetings.proofs.Reading.{length_booked}
+use Rattle.meetings.proofs.Reading.{length_in_numbers}
 
 -- ---- lengths
 
@@ -42,7 +42,11 @@ same_none l = record { grid = refl; points = record { name = refl; long = refl }
 
 same_both : {l m n : MetLists} → SameLists n m → SameLists m l → SameLists n l
 same_both s t =
-    record { grid = s.grid ∙ t.grid; points = record { name = s.points.name ∙ t.points.name; long = s.points.long ∙ t.points.long }; met = record { name = s.met.name ∙ t.met.name; long = s.met.long ∙ t.met.long } }
+    record {
+      grid = s.grid ∙ t.grid;
+      points = record { name = s.points.name ∙ t.points.name; long = s.points.long ∙ t.points.long };
+      met = record { name = s.met.name ∙ t.met.name; long = s.met.long ∙ t.met.long };
+    }
 
 module _ (l : MetLists) where
   abbrev m : ℕ
@@ -75,7 +79,7 @@ module _ (l : MetLists) where
     known = record { subject_edge = i; cutter_edge = j; nodes = ns; point = [] }
 
     pub answered_known : (l' : MetLists) (r : Result (Unit {0}) Refusal) → SameLists l' l → (m ≤ met → IsErrAnd r (λ e. e ≡ TooManyMeetings))
-        → (met < m → IsOk r × (l'.found ≡ record { met = met + 1; points = next }) × (l'.points.now ≡ l.points.now) × (l'.met.now ≡ put l.met.now (5 * met) (book_of known)))
+        → (met < m → IsOk r × (l'.found ≡ record { met = met + 1; points = next }) × (l'.points.now ≡ l.points.now) × (l'.met.now ≡ put l.met.now (5 * met) (five_numbers known)))
         → Answered (known ∷ []) l l' r
     unfolding joined first_refusal
     answered_known l' (Ok u) same over added = go (dec_le m met)
@@ -112,7 +116,7 @@ module _ (l : MetLists) where
     pub answered_new : (l' : MetLists) (r : Result (Unit {0}) Refusal) → SameLists l' l → (m ≤ met → IsErrAnd r (λ e. e ≡ TooManyMeetings))
         → (met < m → length l.points.now < 2 * next + 2 → IsErrAnd r (λ e. e ≡ NoPlace))
         → (met < m → 2 * next + 2 ≤ length l.points.now → IsOk r × (l'.found ≡ record { met = met + 1; points = next + 1 })
-        × (l'.points.now ≡ put l.points.now (2 * next) (x ∷ y ∷ [])) × (l'.met.now ≡ put l.met.now (5 * met) (book_of new)))
+        × (l'.points.now ≡ put l.points.now (2 * next) (x ∷ y ∷ [])) × (l'.met.now ≡ put l.met.now (5 * met) (five_numbers new)))
         → Answered (new ∷ []) l l' r
     unfolding joined first_refusal
     answered_new l' (Ok u) same over none added = go (dec_le m met) (dec_le (2 * next + 2) (length l.points.now))
@@ -153,7 +157,7 @@ module _ (ms : List Met) (l l₁ : MetLists) (one : Grown ms l l₁) (more : Lis
   grown_then l₂ then =
       let len = length-append ms more in
       let added = length_added ms more in
-      let at : 5 * l₁.found.met ≡ 5 * l.found.met + length (booked ms) = omega (arith, length_booked ms, one.met) in
+      let at : 5 * l₁.found.met ≡ 5 * l.found.met + length (in_numbers ms) = omega (arith, length_in_numbers ms, one.met) in
       let s : SameLists l₁ l = one.same in
       record {
         met = omega (arith, len, one.met, then.met);
@@ -161,9 +165,9 @@ module _ (ms : List Met) (l l₁ : MetLists) (one : Grown ms l l₁) (more : Lis
         points = then.points ∙ ap₂ (λ (xs : List Float) (k : ℕ). put xs k (added_by more)) one.points one.new
             ∙ put_append l.points.now (2 * l.found.points) l.placed (added_by ms) (added_by more) (omega (arith, one.new, l₁.placed, s.points.long))
             ∙ ap (put l.points.now (2 * l.found.points)) (sym (joined_append (λ m. m.point) ms more));
-        numbers = then.numbers ∙ ap₂ (λ (xs : List ℕ) (k : ℕ). put xs k (booked more)) one.numbers at
-            ∙ put_append l.met.now (5 * l.found.met) (omega (arith, l.within)) (booked ms) (booked more) (omega (arith, at, l₁.within, s.met.long))
-            ∙ ap (put l.met.now (5 * l.found.met)) (sym (joined_append book_of ms more));
+        numbers = then.numbers ∙ ap₂ (λ (xs : List ℕ) (k : ℕ). put xs k (in_numbers more)) one.numbers at
+            ∙ put_append l.met.now (5 * l.found.met) (omega (arith, l.within)) (in_numbers ms) (in_numbers more) (omega (arith, at, l₁.within, s.met.long))
+            ∙ ap (put l.met.now (5 * l.found.met)) (sym (joined_append five_numbers ms more));
         goes = λ q n es. ap (λ (xs : List Event). refusal_in l q n (xs ++ es)) (joined_append of_meeting ms more)
             ∙ ap (refusal_in l q n) (append_assoc (joined of_meeting ms) (joined of_meeting more) es) ∙ one.goes q n (joined of_meeting more ++ es) ∙ then.goes q n es;
         same = same_both then.same s;

@@ -23,7 +23,7 @@ use Rattle.rules.specs.Neighbours.{Net}
 use Rattle.rules.specs.Meetings.{Met, segment_of, recorded, added_by, met_pair, met_all, meetings_to, meetings, meeting_on}
 use Rattle.rules.specs.Refusals.{of_meeting, first_refusal}
 use Rattle.rules.proofs.Course.{edges_behind}
-use Rattle.meetings.specs.Booked.{booked, net_on}
+use Rattle.meetings.specs.InNumbers.{in_numbers, net_on}
 use Rattle.meetings.specs.MeetingsFound.{meetings_found}
 use Rattle.meetings.specs.declared.MetLists.{MetLists}
 use Rattle.meetings.specs.Steps.{met_of, met_with, refusal_in, Grown, Answered}
@@ -204,7 +204,7 @@ module _ (ms : List Met) (l₀ l : MetLists) (no_met : l₀.found.met ≡ 0) (no
       let at_points : 2 * l₀.found.points ≡ 0 = omega (arith, no_points) in
       let at_met : 5 * l₀.found.met ≡ 0 = omega (arith, no_met) in
       let points : l.points.now ≡ front l₀.points.now (added_by ms) = g.points ∙ ap (λ (k : ℕ). put l₀.points.now k (added_by ms)) at_points in
-      let numbers : l.met.now ≡ front l₀.met.now (booked ms) = g.numbers ∙ ap (λ (k : ℕ). put l₀.met.now k (booked ms)) at_met in
+      let numbers : l.met.now ≡ front l₀.met.now (in_numbers ms) = g.numbers ∙ ap (λ (k : ℕ). put l₀.met.now k (in_numbers ms)) at_met in
       ap₂ (leaves (Ok l.found)) ep ew ∙ ap₂ (λ (a b : ℕ). leaves (Ok (record { met = a; points = b })) l.points.now l.met.now) count half
       ∙ ap₂ (leaves (Ok (record { met = length ms; points = length (added_by ms) / 2 }))) points numbers ∙ sym (all_left ms l₀.points.now l₀.met.now (sym none))
 

@@ -16,25 +16,25 @@ use Rattle.rules.specs.SpatialIndex.{edge_box, candidates}
 use Rattle.rules.specs.Neighbours.{Net}
 use Rattle.rules.specs.Meetings.{Met, segment_of, recorded, added_by, met_pair, met_all, meetings_to, meetings, meeting_on}
 use Rattle.spatial_index.specs.Candidates.{meets}
-use Rattle.meetings.specs.Booked.{book_of, booked, net_on}
+use Rattle.meetings.specs.InNumbers.{five_numbers, in_numbers, net_on}
 
 -- ---- five numbers a meeting
 
-pub length_booked : (ms : List Met) → length (booked ms) ≡ 5 * length ms
+pub length_in_numbers : (ms : List Met) → length (in_numbers ms) ≡ 5 * length ms
 unfolding joined
-length_booked [] = refl
-length_booked (x ∷ ms) = omega (arith, length_booked ms)
+length_in_numbers [] = refl
+length_in_numbers (x ∷ ms) = omega (arith, length_in_numbers ms)
 
 -- number k of meeting q
-pub booked_at : (ms : List Met) (q k : ℕ) (d : Met) → q < length ms → k < 5 → get_or (booked ms) (5 * q + k) 0 ≡ get_or (book_of (get_or ms q d)) k 0
+pub in_numbers_at : (ms : List Met) (q k : ℕ) (d : Met) → q < length ms → k < 5 → get_or (in_numbers ms) (5 * q + k) 0 ≡ get_or (five_numbers (get_or ms q d)) k 0
 unfolding joined
-booked_at [] q k d h l = absurd (omega arith)
-booked_at (x ∷ ms) zero k d h l =
+in_numbers_at [] q k d h l = absurd (omega arith)
+in_numbers_at (x ∷ ms) zero k d h l =
     let at : 5 * zero + k ≡ k = omega arith in
-    ap (λ (i : ℕ). get_or (book_of x ++ booked ms) i 0) at ∙ get_or-append (book_of x) (booked ms) 0 k l
-booked_at (x ∷ ms) (suc q) k d h l =
+    ap (λ (i : ℕ). get_or (five_numbers x ++ in_numbers ms) i 0) at ∙ get_or-append (five_numbers x) (in_numbers ms) 0 k l
+in_numbers_at (x ∷ ms) (suc q) k d h l =
     let at : 5 * suc q + k ≡ 5 + (5 * q + k) = omega arith in
-    ap (λ (i : ℕ). get_or (book_of x ++ booked ms) i 0) at ∙ get_or-append-add (book_of x) (booked ms) (5 * q + k) 0 ∙ booked_at ms q k d (omega arith) l
+    ap (λ (i : ℕ). get_or (five_numbers x ++ in_numbers ms) i 0) at ∙ get_or-append-add (five_numbers x) (in_numbers ms) (5 * q + k) 0 ∙ in_numbers_at ms q k d (omega arith) l
 
 -- ---- a meeting's edges are edges of the nets, and it has one or two nodes
 

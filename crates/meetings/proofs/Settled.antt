@@ -13,7 +13,7 @@ use Rattle.lists.specs.Regions.{front, zeros, fzeros}
 use Rattle.rules.specs.Meetings.{Met, added_by}
 use Rattle.rules.specs.Refusals.{of_meeting, first_refusal}
 use Rattle.meetings.specs.declared.Found.{Found}
-use Rattle.meetings.specs.Booked.{booked}
+use Rattle.meetings.specs.InNumbers.{in_numbers}
 use Rattle.meetings.specs.MeetingsFound.{MeetingsFound, meetings_found}
 
 abbrev pub leaves : Result Found ℕ → List Float → List ℕ → MeetingsFound
@@ -34,7 +34,7 @@ module _ (met : List Met) (ps : List Float) (w : List ℕ) where
   code = first_refusal (length w / 5) (length ps / 2) 0 0 (joined of_meeting met)
 
   abbrev all : MeetingsFound
-  all = leaves (Ok (record { met = length met; points = length (added_by met) / 2 })) (front ps (added_by met)) (front w (booked met))
+  all = leaves (Ok (record { met = length met; points = length (added_by met) / 2 })) (front ps (added_by met)) (front w (in_numbers met))
 
   abbrev cleared : MeetingsFound
   cleared = leaves (Err code) (fzeros (length ps)) (zeros (length w))

@@ -1,4 +1,4 @@
-pub mod Booked
+pub mod InNumbers
 pub mod Steps
 pub mod MeetingsFound
 pub mod Front

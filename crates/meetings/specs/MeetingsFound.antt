@@ -5,7 +5,7 @@ use Rattle.lists.specs.Regions.{front, zeros, fzeros}
 use Rattle.rules.specs.Meetings.{Met, added_by}
 use Rattle.rules.specs.Refusals.{of_meeting, first_refusal}
 use Rattle.meetings.specs.declared.Found.{Found}
-use Rattle.meetings.specs.Booked.{booked}
+use Rattle.meetings.specs.InNumbers.{in_numbers}
 
 -- what finding the meetings leaves: the answer or the refusal's number, the new points and the meetings
 pub record MeetingsFound : Type 0 where
@@ -21,6 +21,6 @@ meetings_found ms ps w =
     (record {
       answer = Ok (record { met = length ms; points = length (added_by ms) / 2 });
       points = front ps (added_by ms);
-      met = front w (booked ms);
+      met = front w (in_numbers ms);
     })
     (record { answer = Err code; points = fzeros (length ps); met = zeros (length w) })

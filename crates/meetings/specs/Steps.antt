@@ -10,7 +10,7 @@ use Rattle.lists.specs.Same.{SameList}
 use Rattle.rules.specs.Meetings.{Met, segment_of, meeting_on, recorded, added_by}
 use Rattle.rules.specs.Refusals.{Event, of_meeting, first_refusal}
 use Rattle.meetings.specs.declared.MetLists.{MetLists}
-use Rattle.meetings.specs.Booked.{booked}
+use Rattle.meetings.specs.InNumbers.{in_numbers}
 
 -- the meeting of the edge e, number i, with the edge f, number j; none where they are apart
 abbrev pub met_of : Grid → List Float → ℕ → ℕ → ℕ → Edge → Edge → List Met
@@ -37,7 +37,7 @@ pub record Grown (ms : List Met) (l l' : MetLists) : Type 0 where
   pub met : l'.found.met ≡ l.found.met + length ms
   pub new : 2 * l'.found.points ≡ 2 * l.found.points + length (added_by ms)
   pub points : l'.points.now ≡ put l.points.now (2 * l.found.points) (added_by ms)
-  pub numbers : l'.met.now ≡ put l.met.now (5 * l.found.met) (booked ms)
+  pub numbers : l'.met.now ≡ put l.met.now (5 * l.found.met) (in_numbers ms)
   pub goes : (q n : ℕ) (es : List Event) → refusal_in l q n (joined of_meeting ms ++ es) ≡ refusal_in l' q n es
   pub same : SameLists l' l
 

@@ -10,7 +10,7 @@ ghost use Rattle.refusals.specs.Numbers.{by_number};
 ghost use Rattle.grid.specs.Grid.{OnGrid};
 ghost use Rattle.rules.specs.SpatialIndex.{edge_box, candidates};
 ghost use Rattle.rules.specs.Meetings.{node_of, segment_of, moved_to, meeting_on, NewOnGrid};
-ghost use Rattle.meetings.specs.Booked.{meetings_of};
+ghost use Rattle.meetings.specs.InNumbers.{meetings_of};
 ghost use Rattle.meetings.specs.MeetingsFound.{meetings_found};
 ghost use Rattle.meetings.specs.Front.{AllOnGrid};
 

@@ -21,7 +21,7 @@ use Rattle.rules.specs.Mesh.{the_subject}
 use Rattle.rules.specs.Meetings.{Scene}
 use Rattle.rules.specs.Operations.{keeps, scene_for, pieces_of, piece_at, piece_with, lies_inside, listing}
 use Rattle.rules.specs.Overlay.{Lists, Result, named_points, answered, answered_with, overlay_of}
-use Rattle.rules.specs.Demand3.{Accepted, on}
+use Rattle.rules.specs.Demand3.{Accepted, set_on}
 use Rattle.rules.proofs.Endings.{Ending, input, state_met, success, ending, input_refused, state_refused, succeeds, no_refusal}
 use Rattle.rules.proofs.Accepts.{Taken, accepted}
 use Rattle.rules.proofs.Parts.{among, listed, listed_kept, kept_listed}
@@ -163,27 +163,27 @@ never_above o s c l = go (ending ours o s c l)
     go (success e f) = below_fourth o s c l (ap (λ (x : Result). x.code) (succeeds ours o s c l e f) ∙ no_refusal ours o s c l)
 
 -- Imprint, Union and lines list every piece of the subject, so they count every added point.
-pub imprint_counts_all : (g : Grid) (m : ℕ) (s c : Mesh) (l : Lists) → Accepted (on g 0 m) s c l → (overlay_of (on g 0 m) s c l).points ≡ (overlay_of (on g 0 m) s c l).added
-imprint_counts_all g m s c l h = all_counted (on g 0 m) s c l h (λ inside. refl)
+pub imprint_counts_all : (g : Grid) (m : ℕ) (s c : Mesh) (l : Lists) → Accepted (set_on g 0 m) s c l → (overlay_of (set_on g 0 m) s c l).points ≡ (overlay_of (set_on g 0 m) s c l).added
+imprint_counts_all g m s c l h = all_counted (set_on g 0 m) s c l h (λ inside. refl)
 
-pub union_counts_all : (g : Grid) (m : ℕ) (s c : Mesh) (l : Lists) → Accepted (on g 1 m) s c l → (overlay_of (on g 1 m) s c l).points ≡ (overlay_of (on g 1 m) s c l).added
-union_counts_all g m s c l h = all_counted (on g 1 m) s c l h (λ inside. refl)
+pub union_counts_all : (g : Grid) (m : ℕ) (s c : Mesh) (l : Lists) → Accepted (set_on g 1 m) s c l → (overlay_of (set_on g 1 m) s c l).points ≡ (overlay_of (set_on g 1 m) s c l).added
+union_counts_all g m s c l h = all_counted (set_on g 1 m) s c l h (λ inside. refl)
 
-pub lines_count_all : (g : Grid) (m : ℕ) (s c : Mesh) (l : Lists) → Accepted (on g 5 m) s c l → (overlay_of (on g 5 m) s c l).points ≡ (overlay_of (on g 5 m) s c l).added
-lines_count_all g m s c l h = all_counted (on g 5 m) s c l h (λ inside. refl)
+pub lines_count_all : (g : Grid) (m : ℕ) (s c : Mesh) (l : Lists) → Accepted (set_on g 5 m) s c l → (overlay_of (set_on g 5 m) s c l).points ≡ (overlay_of (set_on g 5 m) s c l).added
+lines_count_all g m s c l h = all_counted (set_on g 5 m) s c l h (λ inside. refl)
 
 -- Intersection and Difference may each count fewer, but together they miss none: of the same meshes, on one grid or on none, each added point is named by a piece of one or of the other.
-pub either_counts : (g : Grid) (m₂ m₃ : ℕ) (s c : Mesh) (l₂ l₃ : Lists) → Accepted (on g 2 m₂) s c l₂ → Accepted (on g 3 m₃) s c l₃
-    → (n : ℕ) → node_count s + node_count c ≤ n → n < node_count s + node_count c + (overlay_of (on g 2 m₂) s c l₂).added
-    → Entered (overlay_of (on g 2 m₂) s c l₂) n ⊎ Entered (overlay_of (on g 3 m₃) s c l₃) n
+pub either_counts : (g : Grid) (m₂ m₃ : ℕ) (s c : Mesh) (l₂ l₃ : Lists) → Accepted (set_on g 2 m₂) s c l₂ → Accepted (set_on g 3 m₃) s c l₃
+    → (n : ℕ) → node_count s + node_count c ≤ n → n < node_count s + node_count c + (overlay_of (set_on g 2 m₂) s c l₂).added
+    → Entered (overlay_of (set_on g 2 m₂) s c l₂) n ⊎ Entered (overlay_of (set_on g 3 m₃) s c l₃) n
 either_counts g m₂ m₃ s c l₂ l₃ h₂ h₃ n low high =
-    let (i, j, x, y, corner) = corner_of (on g 2 m₂) s c l₂ h₂ n low (omega (arith, high, all_are (on g 2 m₂) s c l₂ h₂)) in
-    go i j x y corner (lies_inside (sc (on g 2 m₂) s c) the_subject (piece_at (sc (on g 2 m₂) s c) the_subject i j)) refl
+    let (i, j, x, y, corner) = corner_of (set_on g 2 m₂) s c l₂ h₂ n low (omega (arith, high, all_are (set_on g 2 m₂) s c l₂ h₂)) in
+    go i j x y corner (lies_inside (sc (set_on g 2 m₂) s c) the_subject (piece_at (sc (set_on g 2 m₂) s c) the_subject i j)) refl
   where
-    go : (i j : ℕ) → i < length s.ends → j < length (pieces_of (sc (on g 2 m₂) s c) the_subject i) → Memᴰ n (get_or (pieces_of (sc (on g 2 m₂) s c) the_subject i) j [])
-        → (t : Bool) → lies_inside (sc (on g 2 m₂) s c) the_subject (piece_at (sc (on g 2 m₂) s c) the_subject i j) ≡ t
-        → Entered (overlay_of (on g 2 m₂) s c l₂) n ⊎ Entered (overlay_of (on g 3 m₃) s c l₃) n
+    go : (i j : ℕ) → i < length s.ends → j < length (pieces_of (sc (set_on g 2 m₂) s c) the_subject i) → Memᴰ n (get_or (pieces_of (sc (set_on g 2 m₂) s c) the_subject i) j [])
+        → (t : Bool) → lies_inside (sc (set_on g 2 m₂) s c) the_subject (piece_at (sc (set_on g 2 m₂) s c) the_subject i j) ≡ t
+        → Entered (overlay_of (set_on g 2 m₂) s c l₂) n ⊎ Entered (overlay_of (set_on g 3 m₃) s c l₃) n
     go i j x y corner true e =
-        inl (subst (λ (z : Result). Entered z n) (sym (answer_is (on g 2 m₂) s c l₂ h₂)) (in_entered (on g 2 m₂) s c l₂ n (kept_entry (on g 2 m₂) s c i j x y e n corner)))
+        inl (subst (λ (z : Result). Entered z n) (sym (answer_is (set_on g 2 m₂) s c l₂ h₂)) (in_entered (set_on g 2 m₂) s c l₂ n (kept_entry (set_on g 2 m₂) s c i j x y e n corner)))
     go i j x y corner false e =
-        inr (subst (λ (z : Result). Entered z n) (sym (answer_is (on g 3 m₃) s c l₃ h₃)) (in_entered (on g 3 m₃) s c l₃ n (kept_entry (on g 3 m₃) s c i j x y (ap not e) n corner)))
+        inr (subst (λ (z : Result). Entered z n) (sym (answer_is (set_on g 3 m₃) s c l₃ h₃)) (in_entered (set_on g 3 m₃) s c l₃ n (kept_entry (set_on g 3 m₃) s c i j x y (ap not e) n corner)))

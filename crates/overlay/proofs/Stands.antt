@@ -27,8 +27,8 @@ use Rattle.indexing.specs.Indexes.{MeshIndexed}
 use Rattle.edge_nodes.specs.Lent.{collected_in, sorted_in, collected_on, nodes_on}
 use Rattle.edge_nodes.specs.Stored.{no_met, Stored}
 use Rattle.edge_nodes.proofs.Scene.{numbers_stored, collected_is, sorted_is}
-use Rattle.meetings.specs.Booked.{booked}
-use Rattle.meetings.proofs.Reading.{length_booked, booked_at, meetings_fit}
+use Rattle.meetings.specs.InNumbers.{in_numbers}
+use Rattle.meetings.proofs.Reading.{length_in_numbers, in_numbers_at, meetings_fit}
 use Rattle.cells.specs.Cells.{AllFew}
 use Rattle.pieces.specs.Pieces.{runs_of}
 use Rattle.finding.proofs.Cells.{cells_lists, cells_renumbered}
@@ -63,7 +63,7 @@ module _ (o : Settings) (s c : Mesh) (g : Regions) (w : List ℕ) (h : Holds o s
   unfolding scene_of
   stored =
       subst (λ (l : List ℕ). Stored sc.met l) (sym h.met)
-      (numbers_stored sc.met (booked sc.met) (length_booked sc.met) (λ k i b l. booked_at sc.met k i no_met b l)
+      (numbers_stored sc.met (in_numbers sc.met) (length_in_numbers sc.met) (λ k i b l. in_numbers_at sc.met k i no_met b l)
       (λ k b. (meetings_fit o.grid (s.coords ++ c.coords) (subject_net s) (cutter_net (eqb o.op 5) s c) k no_met b).3))
 
   collected_are : (e : Edge) → collected_on w g e ≡ collected sc e

@@ -1,4 +1,4 @@
--- What refusal 3 allows, and the parameter that a new point is booked by. Assumes nothing.
+-- What refusal 3 allows, and the parameter that a new point is computed by. Assumes nothing.
 use Rattle.std.specs.Prelude.{◌≡◌, true, Float}
 use Rattle.std.specs.Float.{binary64}
 use Rattle.std.specs.Float.Ieee.{fits}

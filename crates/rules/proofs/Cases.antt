@@ -33,7 +33,7 @@ use Rattle.rules.specs.Cell.{outline_of}
 use Rattle.rules.specs.Operations.{pieces_of}
 use Rattle.rules.specs.Overlay.{Lists, Result, result_of, overlay_with, overlay_of}
 use Rattle.rules.specs.Forward.{forward_on, forward_cell}
-use Rattle.rules.specs.Demand3.{on}
+use Rattle.rules.specs.Demand3.{set_on}
 use Rattle.rules.proofs.Tables.{Case, asked, case, lent, on_lists, floats, both, same, right_by}
 use Rattle.plane.specs.declared.Point.{Point}
 use Rattle.segments.specs.declared.Segment.{Segment}
@@ -225,22 +225,24 @@ rows =
     ∷ set_to base (case 5 9 square line (fives 15 8 2 2 2 2 2 500) (refused 11 (noughts 15 8 2 2 2 2 2 500)))
     -- W6: on a grid of 1/2 both are halfway and go to the even multiple, 1; on whole metres 1/2 goes to 0, a corner's place, and stays a node of its own;
     -- -1/4 goes to +0
-    ∷ overlay (asked (on (Some 1) 5 9) square steep (fives 16 8 2 2 2 2 2 500) (result_of 0 2 2 0 2 (on_lists
+    ∷ overlay (asked (set_on (Some 1) 5 9) square steep (fives 16 8 2 2 2 2 2 500) (result_of 0 2 2 0 2 (on_lists
     (square_coords ++ half ∷ -i ∷ i_half ∷ iii ∷ i ∷ o ∷ i ∷ ii ∷ []) (3 ∷ 0 ∷ 6 ∷ 7 ∷ 7 ∷ 6 ∷ 1 ∷ 2 ∷ []) (4 ∷ 8 ∷ []) (11 ∷ 11 ∷ []) (7 ∷ 7 ∷ [])
     (0 ∷ 0 ∷ []) (0 ∷ 0 ∷ []) (replicate 500 0))))
-    ∷ overlay (asked (on (Some 0) 5 9) square flat_line (fives 16 8 2 2 2 2 2 500) (result_of 0 2 2 0 2 (on_lists
+    ∷ overlay (asked (set_on (Some 0) 5 9) square flat_line (fives 16 8 2 2 2 2 2 500) (result_of 0 2 2 0 2 (on_lists
     (square_coords ++ -i ∷ quarter ∷ iii ∷ 0x3ff4_0000_0000_0000 ∷ ii ∷ i ∷ o ∷ o ∷ []) (3 ∷ 7 ∷ 6 ∷ 2 ∷ 6 ∷ 7 ∷ 0 ∷ 1 ∷ []) (4 ∷ 8 ∷ []) (11 ∷ 11 ∷ []) (7 ∷ 7 ∷ [])
     (0 ∷ 0 ∷ []) (0 ∷ 0 ∷ []) (replicate 500 0))))
-    ∷ overlay (asked (on (Some 0) 5 9) strip low_line (fives 16 8 2 2 2 2 2 500) (result_of 0 2 2 0 2 (on_lists
+    ∷ overlay (asked (set_on (Some 0) 5 9) strip low_line (fives 16 8 2 2 2 2 2 500) (result_of 0 2 2 0 2 (on_lists
     (i ∷ -i ∷ iii ∷ -i ∷ iii ∷ iii ∷ i ∷ iii ∷ o ∷ 0xbfd0_0000_0000_0000 ∷ iv ∷ 0xbfd0_0000_0000_0000 ∷ iii ∷ o ∷ i ∷ o ∷ [])
     (3 ∷ 7 ∷ 6 ∷ 2 ∷ 6 ∷ 7 ∷ 0 ∷ 1 ∷ []) (4 ∷ 8 ∷ []) (11 ∷ 11 ∷ []) (0 ∷ 0 ∷ []) (0 ∷ 0 ∷ []) (0 ∷ 0 ∷ []) (replicate 500 0))))
     -- a grid finer than 1/1,024 is refused; before W6 no overlay had one
-    ∷ overlay (asked (on (Some 11) 0 2) square strip (fives 20 8 2 2 2 2 2 352) (refused 13 (fives 20 8 2 2 2 2 2 352)))
-    ∷ set_to (record { turning = true; once = true; grids = false }) (asked (on (Some 11) 0 2) square strip (fives 20 8 2 2 2 2 2 352) (result_of 0 2 2 0 2
+    ∷ overlay (asked (set_on (Some 11) 0 2) square strip (fives 20 8 2 2 2 2 2 352) (refused 13 (fives 20 8 2 2 2 2 2 352)))
+    ∷ set_to (record { turning = true; once = true; grids = false }) (asked (set_on (Some 11) 0 2) square strip (fives 20 8 2 2 2 2 2 352) (result_of 0 2 2 0 2
     (on_lists cut_coords (3 ∷ 0 ∷ 8 ∷ 9 ∷ 9 ∷ 8 ∷ 1 ∷ 2 ∷ []) (4 ∷ 8 ∷ []) (11 ∷ 11 ∷ []) (7 ∷ 7 ∷ []) (0 ∷ 0 ∷ []) (0 ∷ 0 ∷ []) (replicate 352 0))))
     -- with a grid a key's first node is put first and its other entries are dropped, as its second node's are
     ∷ nodes_along None (o ∷ o ∷ ii ∷ o ∷ -i ∷ o ∷ i ∷ o ∷ []) (0, 1) (1 ∷ 2 ∷ 0 ∷ 3 ∷ []) (2 ∷ 0 ∷ 3 ∷ 1 ∷ [])
     ∷ nodes_along (Some 0) (o ∷ o ∷ ii ∷ o ∷ -i ∷ o ∷ i ∷ o ∷ iii ∷ o ∷ []) (0, 1) (1 ∷ 2 ∷ 0 ∷ 3 ∷ 4 ∷ []) (0 ∷ 2 ∷ 3 ∷ 4 ∷ 1 ∷ [])
+    -- there too equal projections stay as collected, and only adjacent equals go
+    ∷ nodes_along (Some 0) (o ∷ o ∷ ii ∷ o ∷ i ∷ i ∷ i ∷ -i ∷ []) (0, 1) (3 ∷ 2 ∷ 3 ∷ []) (0 ∷ 3 ∷ 2 ∷ 3 ∷ 1 ∷ [])
     -- tempting: a piece closes when its first node returns, not its first dart
     ∷ pieces_of_lem (o ∷ o ∷ i ∷ -i ∷ i ∷ i ∷ -i ∷ i ∷ -i ∷ -i ∷ []) ((1, 2) ∷ (2, 0) ∷ (0, 3) ∷ (3, 4) ∷ (4, 0) ∷ (0, 1) ∷ []) (0 ∷ 1 ∷ 2 ∷ 4 ∷ 0 ∷ 3 ∷ []) (3 ∷ 6 ∷ [])
     -- the key's second node isn't sorted with the others

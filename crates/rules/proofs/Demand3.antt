@@ -29,7 +29,7 @@ use Rattle.rules.specs.Demand3.{
   SameRow,
   Holds,
   OneHolds,
-  on,
+  set_on,
 }
 use Rattle.rules.proofs.Endings.{Ending, input, state_met, success, ending, input_refused, state_refused, succeeds}
 use Rattle.rules.proofs.Accepts.{accepted}
@@ -87,22 +87,22 @@ listed_in o s c l h p k = record { at = k.0; listed = k.1; written = (as_listed 
 -- (b) Whenever Imprint, Intersection and Difference accept the same meshes on one grid, or on none, whatever meeting limit and lists each was lent, each piece that Imprint's
 -- answer lists is in exactly one of the other two answers.
 pub in_exactly_one : (g : Grid) (s c : Mesh) (m₀ m₂ m₃ : ℕ) (l₀ l₂ l₃ : Lists)
-    → Accepted (on g 0 m₀) s c l₀ → Accepted (on g 2 m₂) s c l₂ → Accepted (on g 3 m₃) s c l₃
-    → (p : Piece) → ListedIn (overlay_of (on g 0 m₀) s c l₀) (on g 0 m₀) s c p
-    → InExactlyOne p s c (on g 2 m₂) (overlay_of (on g 2 m₂) s c l₂) (on g 3 m₃) (overlay_of (on g 3 m₃) s c l₃)
+    → Accepted (set_on g 0 m₀) s c l₀ → Accepted (set_on g 2 m₂) s c l₂ → Accepted (set_on g 3 m₃) s c l₃
+    → (p : Piece) → ListedIn (overlay_of (set_on g 0 m₀) s c l₀) (set_on g 0 m₀) s c p
+    → InExactlyOne p s c (set_on g 2 m₂) (overlay_of (set_on g 2 m₂) s c l₂) (set_on g 3 m₃) (overlay_of (set_on g 3 m₃) s c l₃)
 in_exactly_one g s c m₀ m₂ m₃ l₀ l₂ l₃ h₀ h₂ h₃ p h = go (parts g m₀ m₂ m₃ s c p (h.at, h.listed))
   where
-    go : (Listed p (on g 2 m₂) s c × Unlisted p (on g 3 m₃) s c) ⊎ (Listed p (on g 3 m₃) s c × Unlisted p (on g 2 m₂) s c)
-        → InExactlyOne p s c (on g 2 m₂) (overlay_of (on g 2 m₂) s c l₂) (on g 3 m₃) (overlay_of (on g 3 m₃) s c l₃)
-    go (inl k) = inl (listed_in (on g 2 m₂) s c l₂ h₂ p k.0, k.1)
-    go (inr k) = inr (listed_in (on g 3 m₃) s c l₃ h₃ p k.0, k.1)
+    go : (Listed p (set_on g 2 m₂) s c × Unlisted p (set_on g 3 m₃) s c) ⊎ (Listed p (set_on g 3 m₃) s c × Unlisted p (set_on g 2 m₂) s c)
+        → InExactlyOne p s c (set_on g 2 m₂) (overlay_of (set_on g 2 m₂) s c l₂) (set_on g 3 m₃) (overlay_of (set_on g 3 m₃) s c l₃)
+    go (inl k) = inl (listed_in (set_on g 2 m₂) s c l₂ h₂ p k.0, k.1)
+    go (inr k) = inr (listed_in (set_on g 3 m₃) s c l₃ h₃ p k.0, k.1)
 
 -- The pieces of Imprint are those of all the subject's cells, by cell and place.
-pub imprint_lists_all : (g : Grid) (s c : Mesh) (m : ℕ) (l : Lists) → Accepted (on g 0 m) s c l
-    → (i : ℕ) → i < length s.ends → (j : ℕ) → j < length (pieces_of (scene_for (on g 0 m) s c) the_subject i)
-    → ListedIn (overlay_of (on g 0 m) s c l) (on g 0 m) s c (piece_at (scene_for (on g 0 m) s c) the_subject i j)
+pub imprint_lists_all : (g : Grid) (s c : Mesh) (m : ℕ) (l : Lists) → Accepted (set_on g 0 m) s c l
+    → (i : ℕ) → i < length s.ends → (j : ℕ) → j < length (pieces_of (scene_for (set_on g 0 m) s c) the_subject i)
+    → ListedIn (overlay_of (set_on g 0 m) s c l) (set_on g 0 m) s c (piece_at (scene_for (set_on g 0 m) s c) the_subject i j)
 imprint_lists_all g s c m l h i b j k =
-    listed_in (on g 0 m) s c l h (piece_at (scene_for (on g 0 m) s c) the_subject i j) (drops_none g m m m s c i (omega (arith, b, cells_lent g false s c the_subject)) j k)
+    listed_in (set_on g 0 m) s c l h (piece_at (scene_for (set_on g 0 m) s c) the_subject i j) (drops_none g m m m s c i (omega (arith, b, cells_lent g false s c the_subject)) j k)
 
 -- ---- W2: the lists hold each piece's parent
 
@@ -139,54 +139,54 @@ holds o o' s c l l' h h' k p e j =
 
 -- (b) by the lists alone: piece k of Imprint's answer, as its lists hold it, is held by exactly one of Intersection's and Difference's,
 pub one_holds : (g : Grid) (s c : Mesh) (m₀ m₂ m₃ : ℕ) (l₀ l₂ l₃ : Lists)
-    → Accepted (on g 0 m₀) s c l₀ → Accepted (on g 2 m₂) s c l₂ → Accepted (on g 3 m₃) s c l₃
-    → (k : ℕ) → k < (overlay_of (on g 0 m₀) s c l₀).pieces
-    → OneHolds (overlay_of (on g 2 m₂) s c l₂) (overlay_of (on g 3 m₃) s c l₃) (overlay_of (on g 0 m₀) s c l₀) k
+    → Accepted (set_on g 0 m₀) s c l₀ → Accepted (set_on g 2 m₂) s c l₂ → Accepted (set_on g 3 m₃) s c l₃
+    → (k : ℕ) → k < (overlay_of (set_on g 0 m₀) s c l₀).pieces
+    → OneHolds (overlay_of (set_on g 2 m₂) s c l₂) (overlay_of (set_on g 3 m₃) s c l₃) (overlay_of (set_on g 0 m₀) s c l₀) k
 one_holds g s c m₀ m₂ m₃ l₀ l₂ l₃ h₀ h₂ h₃ k b = go (parts g m₀ m₂ m₃ s c p (k, at))
   where
     r₀ : Result
-    r₀ = overlay_of (on g 0 m₀) s c l₀
+    r₀ = overlay_of (set_on g 0 m₀) s c l₀
 
     r₂ : Result
-    r₂ = overlay_of (on g 2 m₂) s c l₂
+    r₂ = overlay_of (set_on g 2 m₂) s c l₂
 
     r₃ : Result
-    r₃ = overlay_of (on g 3 m₃) s c l₃
+    r₃ = overlay_of (set_on g 3 m₃) s c l₃
 
     p : Piece
-    p = (from_lists (on g 0 m₀) s c l₀ h₀ k b).0
+    p = (from_lists (set_on g 0 m₀) s c l₀ h₀ k b).0
 
-    at : ListedAt p k (on g 0 m₀) s c
-    at = (from_lists (on g 0 m₀) s c l₀ h₀ k b).1
+    at : ListedAt p k (set_on g 0 m₀) s c
+    at = (from_lists (set_on g 0 m₀) s c l₀ h₀ k b).1
 
     written : WrittenAt r₀ k p
-    written = (as_listed (on g 0 m₀) s c l₀ h₀).1 k p at
+    written = (as_listed (set_on g 0 m₀) s c l₀ h₀).1 k p at
 
-    not_in_3 : Listed p (on g 2 m₂) s c → Holds r₃ r₀ k → ⊥
+    not_in_3 : Listed p (set_on g 2 m₂) s c → Holds r₃ r₀ k → ⊥
     not_in_3 i (j, e) =
-        let q = from_lists (on g 3 m₃) s c l₃ h₃ j e.below in
-        let w = (as_listed (on g 3 m₃) s c l₃ h₃).1 j q.0 q.1 in
+        let q = from_lists (set_on g 3 m₃) s c l₃ h₃ j e.below in
+        let w = (as_listed (set_on g 3 m₃) s c l₃ h₃).1 j q.0 q.1 in
         apart g m₂ m₃ s c p q.0 i (j, q.1) (row_mesh r₀ r₃ k j p q.0 written w e) (row_nodes r₀ r₃ k j p q.0 written w e)
 
-    not_in_2 : Listed p (on g 3 m₃) s c → Holds r₂ r₀ k → ⊥
+    not_in_2 : Listed p (set_on g 3 m₃) s c → Holds r₂ r₀ k → ⊥
     not_in_2 i (j, e) =
-        let q = from_lists (on g 2 m₂) s c l₂ h₂ j e.below in
-        let w = (as_listed (on g 2 m₂) s c l₂ h₂).1 j q.0 q.1 in
+        let q = from_lists (set_on g 2 m₂) s c l₂ h₂ j e.below in
+        let w = (as_listed (set_on g 2 m₂) s c l₂ h₂).1 j q.0 q.1 in
         apart g m₂ m₃ s c q.0 p (j, q.1) i (sym (row_mesh r₀ r₂ k j p q.0 written w e)) (sym (row_nodes r₀ r₂ k j p q.0 written w e))
 
-    go : (Listed p (on g 2 m₂) s c × Unlisted p (on g 3 m₃) s c) ⊎ (Listed p (on g 3 m₃) s c × Unlisted p (on g 2 m₂) s c) → OneHolds r₂ r₃ r₀ k
-    go (inl i) = inl (holds (on g 0 m₀) (on g 2 m₂) s c l₀ l₂ h₀ h₂ k p at i.0, not_in_3 i.0)
-    go (inr i) = inr (holds (on g 0 m₀) (on g 3 m₃) s c l₀ l₃ h₀ h₃ k p at i.0, not_in_2 i.0)
+    go : (Listed p (set_on g 2 m₂) s c × Unlisted p (set_on g 3 m₃) s c) ⊎ (Listed p (set_on g 3 m₃) s c × Unlisted p (set_on g 2 m₂) s c) → OneHolds r₂ r₃ r₀ k
+    go (inl i) = inl (holds (set_on g 0 m₀) (set_on g 2 m₂) s c l₀ l₂ h₀ h₂ k p at i.0, not_in_3 i.0)
+    go (inr i) = inr (holds (set_on g 0 m₀) (set_on g 3 m₃) s c l₀ l₃ h₀ h₃ k p at i.0, not_in_2 i.0)
 
 -- and each piece of these two is held by Imprint's.
-pub imprint_holds_intersection : (g : Grid) (s c : Mesh) (m₀ m₂ : ℕ) (l₀ l₂ : Lists) → Accepted (on g 0 m₀) s c l₀ → Accepted (on g 2 m₂) s c l₂
-    → (k : ℕ) → k < (overlay_of (on g 2 m₂) s c l₂).pieces → Holds (overlay_of (on g 0 m₀) s c l₀) (overlay_of (on g 2 m₂) s c l₂) k
+pub imprint_holds_intersection : (g : Grid) (s c : Mesh) (m₀ m₂ : ℕ) (l₀ l₂ : Lists) → Accepted (set_on g 0 m₀) s c l₀ → Accepted (set_on g 2 m₂) s c l₂
+    → (k : ℕ) → k < (overlay_of (set_on g 2 m₂) s c l₂).pieces → Holds (overlay_of (set_on g 0 m₀) s c l₀) (overlay_of (set_on g 2 m₂) s c l₂) k
 imprint_holds_intersection g s c m₀ m₂ l₀ l₂ h₀ h₂ k b =
-    let p = from_lists (on g 2 m₂) s c l₂ h₂ k b in
-    holds (on g 2 m₂) (on g 0 m₀) s c l₂ l₀ h₂ h₀ k p.0 p.1 (of_intersection g m₀ m₂ s c p.0 (k, p.1))
+    let p = from_lists (set_on g 2 m₂) s c l₂ h₂ k b in
+    holds (set_on g 2 m₂) (set_on g 0 m₀) s c l₂ l₀ h₂ h₀ k p.0 p.1 (of_intersection g m₀ m₂ s c p.0 (k, p.1))
 
-pub imprint_holds_difference : (g : Grid) (s c : Mesh) (m₀ m₃ : ℕ) (l₀ l₃ : Lists) → Accepted (on g 0 m₀) s c l₀ → Accepted (on g 3 m₃) s c l₃
-    → (k : ℕ) → k < (overlay_of (on g 3 m₃) s c l₃).pieces → Holds (overlay_of (on g 0 m₀) s c l₀) (overlay_of (on g 3 m₃) s c l₃) k
+pub imprint_holds_difference : (g : Grid) (s c : Mesh) (m₀ m₃ : ℕ) (l₀ l₃ : Lists) → Accepted (set_on g 0 m₀) s c l₀ → Accepted (set_on g 3 m₃) s c l₃
+    → (k : ℕ) → k < (overlay_of (set_on g 3 m₃) s c l₃).pieces → Holds (overlay_of (set_on g 0 m₀) s c l₀) (overlay_of (set_on g 3 m₃) s c l₃) k
 imprint_holds_difference g s c m₀ m₃ l₀ l₃ h₀ h₃ k b =
-    let p = from_lists (on g 3 m₃) s c l₃ h₃ k b in
-    holds (on g 3 m₃) (on g 0 m₀) s c l₃ l₀ h₃ h₀ k p.0 p.1 (of_difference g m₀ m₃ s c p.0 (k, p.1))
+    let p = from_lists (set_on g 3 m₃) s c l₃ h₃ k b in
+    holds (set_on g 3 m₃) (set_on g 0 m₀) s c l₃ l₀ h₃ h₀ k p.0 p.1 (of_difference g m₀ m₃ s c p.0 (k, p.1))

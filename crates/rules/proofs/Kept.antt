@@ -181,16 +181,16 @@ cell_turned once grids sc w i = go (near_of sc w i)
     go (j ∷ js) = outcome_turned (treated_by sc w i (j ∷ js)).outline ((treated_by sc w i (j ∷ js)).table once) once grids
 
 module _ (once grids : Bool) (settings : Settings) (s c : Mesh) (l : Lists) where
-  -- as both editions see them
-  abbrev o : Settings
-  o = cond grids settings (record { op = settings.op; m = settings.m; grid = None })
-
   -- with and without turning back
   abbrev forth : Edition
   forth = record { turning = false; once = once; grids = grids }
 
   abbrev back : Edition
   back = record { turning = true; once = once; grids = grids }
+
+  -- as both see them
+  abbrev o : Settings
+  o = seen_by forth settings
 
   abbrev scene : Scene
   scene = scene_for o s c
@@ -330,6 +330,10 @@ module _ (o : Settings) (s c : Mesh) (l : Lists) (none : length (doubled_cells o
 
 -- ---- W6: new points are booked on a grid, or not
 
+-- an edition that sees no grid sees what is set without one
+seen_whole : (o : Settings) → o.grid ≡ None → record { op = o.op; m = o.m; grid = None } ≡ o
+seen_whole o none = ap (λ (g : Grid). record { op = o.op; m = o.m; grid = g }) (sym none)
+
 module _ (turning once : Bool) (o : Settings) (s c : Mesh) (l : Lists) where
   cell_as : (w : Side) (i : ℕ) → let by : Bool → Outcome = λ grids. outcome_with (record { turning = turning; once = once; grids = grids }) (scene_for o s c) w i in
       by true ≡ by false
@@ -348,7 +352,7 @@ module _ (turning once : Bool) (o : Settings) (s c : Mesh) (l : Lists) where
       o.grid ≡ None → overlay_with (by true) o s c l ≡ overlay_with (by false) o s c l
   result_without_grid none =
       overlay_as (record { turning = turning; once = once; grids = true }) (record { turning = turning; once = once; grids = false }) o s c l
-      (λ w e i k. cell_as w i) o refl (ap (λ (g : Grid). record { op = o.op; m = o.m; grid = g }) (sym none)) refl
+      (λ w e i k. cell_as w i) o refl (seen_whole o none) refl
 
 -- ---- all of them
 
@@ -363,7 +367,7 @@ module _ (o : Settings) (s c : Mesh) (l : Lists) where
   pub result_kept : o.grid ≡ None → length (doubled_cells o s c) ≡ 0 → ((overlay_with base o s c l).code ≡ 11 → ⊥) → overlay_of o s c l ≡ overlay_with base o s c l
   result_kept none single h =
       result_without_grid true true o s c l none
-      ∙ result_undoubled o s c l single true false o (ap (λ (g : Grid). record { op = o.op; m = o.m; grid = g }) (sym none))
+      ∙ result_undoubled o s c l single true false o (seen_whole o none)
       ∙ result_turned false false o s c l h
 
   -- So an overlay without a grid that document 01 by itself accepts with the third count 0 keeps its answer, whole; the second count is W5's on both sides.
@@ -371,5 +375,5 @@ module _ (o : Settings) (s c : Mesh) (l : Lists) where
   unfolding answered_with
   accepted_kept none h d =
       result_kept none
-      (ap (λ (g : Grid). length (doubled_cells (record { op = o.op; m = o.m; grid = g }) s c)) none
+      (ap (λ (x : Settings). length (doubled_cells x s c)) (sym (seen_whole o none))
       ∙ sym (ap (λ (r : Result). r.doubled) (accepted base o s c l h).answer) ∙ d) (λ e. omega (arith, h, e))

@@ -13,7 +13,7 @@ use Rattle.entry.specs.Mesh.{Mesh}
 use Rattle.rules.specs.Mesh.{Side, the_subject, the_cutter}
 use Rattle.rules.specs.Meetings.{Scene, net_of, scene_of}
 use Rattle.rules.specs.Operations.{cuts, keeps, scene_for, Piece, pieces_of, piece_at, piece_with, lies_inside, kept, kept_with, over_cells, listing, listing_with}
-use Rattle.rules.specs.Demand3.{Kept, Listed, SamePiece, Unlisted, on}
+use Rattle.rules.specs.Demand3.{Kept, Listed, SamePiece, Unlisted, set_on}
 use Rattle.lists.proofs.Gather.{gathered_at, in_gathered, each_at, in_each, passing_at, in_passing, mem_at}
 use Rattle.lists.proofs.Gather.{in_list}
 
@@ -100,13 +100,13 @@ same_cut the_cutter e = absurd (false≢true e)
 
 module _ (g : Grid) (m₀ m₂ m₃ : ℕ) (s c : Mesh) where
   abbrev imprint : Settings
-  imprint = on g 0 m₀
+  imprint = set_on g 0 m₀
 
   abbrev intersection : Settings
-  intersection = on g 2 m₂
+  intersection = set_on g 2 m₂
 
   abbrev difference : Settings
-  difference = on g 3 m₃
+  difference = set_on g 3 m₃
 
   pub parts : (p : Piece) → Listed p imprint s c → (Listed p intersection s c × Unlisted p difference s c) ⊎ (Listed p difference s c × Unlisted p intersection s c)
   parts p h = go (lies_inside one p.mesh p) refl

@@ -15,7 +15,7 @@ use Rattle.rules.specs.Meetings.{Scene, net_of, scene_of}
 use Rattle.rules.specs.Inside.{point_inside}
 use Rattle.rules.specs.Operations.{cuts, Piece, pieces_of, piece_at, piece_with, lies_inside, scene_for, listing}
 use Rattle.rules.specs.Overlay.{Result}
-use Rattle.rules.specs.Demand3.{CellCloses, Kept, ListedAt, Listed, WrittenAt, SamePiece, SameRow, on}
+use Rattle.rules.specs.Demand3.{CellCloses, Kept, ListedAt, Listed, WrittenAt, SamePiece, SameRow, set_on}
 use Rattle.rules.proofs.Parts.{listed_kept, kept_listed, not_both}
 use Rattle.rules.proofs.Distinct.{one_place_in}
 
@@ -65,11 +65,11 @@ unfolding lies_inside
 inside_by_nodes sc p q m n = ap₂ (λ (w : Side) (ns : List ℕ). point_inside sc.coords (net_of sc (other w)).cells ns) m n
 
 -- no piece of Intersection has the mesh and the node numbers of one of Difference
-pub apart : (g : Grid) (m₂ m₃ : ℕ) (s c : Mesh) (p q : Piece) → Listed p (on g 2 m₂) s c → Listed q (on g 3 m₃) s c → q.mesh ≡ p.mesh → q.nodes ≡ p.nodes → ⊥
+pub apart : (g : Grid) (m₂ m₃ : ℕ) (s c : Mesh) (p q : Piece) → Listed p (set_on g 2 m₂) s c → Listed q (set_on g 3 m₃) s c → q.mesh ≡ p.mesh → q.nodes ≡ p.nodes → ⊥
 apart g m₂ m₃ s c p q a b m n =
     let one = scene_of g false s c in
-    not_both (lies_inside one p.mesh p) (listed_kept (on g 2 m₂) s c p a).passes
-    (ap not (sym (inside_by_nodes one p q m n)) ∙ (listed_kept (on g 3 m₃) s c q b).passes)
+    not_both (lies_inside one p.mesh p) (listed_kept (set_on g 2 m₂) s c p a).passes
+    (ap not (sym (inside_by_nodes one p q m n)) ∙ (listed_kept (set_on g 3 m₃) s c q b).passes)
 
 -- both list pieces of Imprint
 imprint_cuts : (w : Side) → cuts 2 w ≡ true → cuts 0 w ≡ true
@@ -77,15 +77,15 @@ imprint_cuts the_subject e = refl
 imprint_cuts the_cutter e = e
 
 module _ (g : Grid) (m₀ m : ℕ) (s c : Mesh) (p : Piece) where
-  as_imprint : cuts 2 p.mesh ≡ true → (op : ℕ) → Kept (scene_of g false s c) op p → Listed p (on g 0 m₀) s c
+  as_imprint : cuts 2 p.mesh ≡ true → (op : ℕ) → Kept (scene_of g false s c) op p → Listed p (set_on g 0 m₀) s c
   as_imprint e op k =
-      kept_listed (on g 0 m₀) s c p (record { cut = imprint_cuts p.mesh e; cell = k.cell; place = k.place; same = k.same; passes = refl })
+      kept_listed (set_on g 0 m₀) s c p (record { cut = imprint_cuts p.mesh e; cell = k.cell; place = k.place; same = k.same; passes = refl })
 
-  pub of_intersection : Listed p (on g 2 m) s c → Listed p (on g 0 m₀) s c
-  of_intersection h = let k = listed_kept (on g 2 m) s c p h in as_imprint k.cut 2 k
+  pub of_intersection : Listed p (set_on g 2 m) s c → Listed p (set_on g 0 m₀) s c
+  of_intersection h = let k = listed_kept (set_on g 2 m) s c p h in as_imprint k.cut 2 k
 
-  pub of_difference : Listed p (on g 3 m) s c → Listed p (on g 0 m₀) s c
-  of_difference h = let k = listed_kept (on g 3 m) s c p h in as_imprint (go p.mesh k.cut) 3 k
+  pub of_difference : Listed p (set_on g 3 m) s c → Listed p (set_on g 0 m₀) s c
+  of_difference h = let k = listed_kept (set_on g 3 m) s c p h in as_imprint (go p.mesh k.cut) 3 k
     where
       go : (w : Side) → cuts 3 w ≡ true → cuts 2 w ≡ true
       go the_subject e = refl

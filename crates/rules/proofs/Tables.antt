@@ -53,7 +53,7 @@ use Rattle.rules.specs.Inside.{some_holds, point_inside}
 use Rattle.rules.specs.Operations.{piece_with, lies_inside, kept_with, listing_with, doubled_cells}
 use Rattle.rules.specs.Refusals.{course_with, first_refusal}
 use Rattle.rules.specs.Overlay.{Lists, Result, lent_lists, cleared, written, named_points, answered_with, state_with, overlay_with}
-use Rattle.rules.specs.Demand3.{on}
+use Rattle.rules.specs.Demand3.{set_on}
 
 abbrev pub floats : List ℕ → List Float
 floats bits = map (of_bits binary64) bits
@@ -71,7 +71,7 @@ pub data Case : Type 0 where
 
 -- without a grid: operation and meeting limit
 abbrev pub case : ℕ → ℕ → Mesh → Mesh → Lists → Result → Case
-case op m s c l r = asked (on None op m) s c l r
+case op m s c l r = asked (set_on None op m) s c l r
 
 -- Bool tests that match on their arguments, so that no branch is computed that is not taken
 unfoldable pub both : Bool → Bool → Bool

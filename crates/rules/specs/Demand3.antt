@@ -81,8 +81,8 @@ abbrev pub InExactlyOne : Piece → Mesh → Mesh → (o : Settings) → Result 
 InExactlyOne p s c o r o' r' = (ListedIn r o s c p × Unlisted p o' s c) ⊎ (ListedIn r' o' s c p × Unlisted p o s c)
 
 -- W6: "Imprint is compared with the other two on one grid": the overlay with this operation and meeting limit, on the grid g or none
-abbrev pub on : Grid → (op m : ℕ) → Settings
-on g op m = record { op = op; m = m; grid = g }
+abbrev pub set_on : Grid → (op m : ℕ) → Settings
+set_on g op m = record { op = op; m = m; grid = g }
 
 -- ---- (b) by the lists alone, since they hold each piece's parent (W2)
 

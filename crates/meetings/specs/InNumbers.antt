@@ -8,11 +8,11 @@ use Rattle.rules.specs.Neighbours.{Net}
 use Rattle.rules.specs.Meetings.{Met, meetings}
 
 -- five numbers: the subject edge, the cutter edge, how many nodes, the first of them, and the second or 0
-abbrev pub book_of : Met → List ℕ
-book_of x = x.subject_edge ∷ x.cutter_edge ∷ length x.nodes ∷ get_or x.nodes 0 0 ∷ get_or x.nodes 1 0 ∷ []
+abbrev pub five_numbers : Met → List ℕ
+five_numbers x = x.subject_edge ∷ x.cutter_edge ∷ length x.nodes ∷ get_or x.nodes 0 0 ∷ get_or x.nodes 1 0 ∷ []
 
-abbrev pub booked : List Met → List ℕ
-booked ms = joined book_of ms
+abbrev pub in_numbers : List Met → List ℕ
+in_numbers ms = joined five_numbers ms
 
 -- the meetings go by the edges of the nets only
 abbrev pub net_on : List Edge → Net
