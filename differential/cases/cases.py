@@ -40,7 +40,8 @@ def mesh(points, cells):
 
 
 def overlay(op, m, subject, cutter, grid=None):
-    return '\n'.join([f'(overlay {op} {m}', *mesh(*subject), *mesh(*cutter), ')']) + '\n' if grid is None else on_grid(grid, overlay(op, m, subject, cutter))
+    text = '\n'.join([f'(overlay {op} {m}', *mesh(*subject), *mesh(*cutter), ')']) + '\n'
+    return text if grid is None else on_grid(grid, text)
 
 
 def on_grid(k, text):
@@ -465,7 +466,7 @@ def gridded():
         yield f'grid-zero-{name}', overlay(0, 9, about, box(x, -5., 5., 5.), 0), Listed(), BOOKED
     tiny, side = 2. ** -20, -2. ** -21
     yield 'grid-zero-tiny', overlay(0, 9, box(-tiny, -tiny, tiny, tiny, 7, 8), box(side, -1., 1., 1.), 10), Listed(), BOOKED
-    # from 2^42 steps on, the largest coordinates: every float is halfway or on the grid, or nearer
+    # the largest coordinates, where a step is eight floats
     far = 2. ** 40 - 8
     yield 'grid-far-k10', overlay(0, 9, box(far, far, far + 4, far + 4, 7, 8), box(far + 1 + 2. ** -11, far - 1, far + 8, far + 8), 10), Listed(), BOOKED
     # two sides that come to one place: a piece of no area, which has no inner point
