@@ -3,13 +3,13 @@
 # (W1: where no other slot is free the walk turns back, if the reverse is unmarked; W14: an edge that the cell's table has, either way
 # round, isn't added again, and none from a node to itself; W6: a third number on a form's first line is k, and new points are booked on the
 # grid of 1/2^k) and that also counts. To standard error it writes for each overlay, where it has a grid, `point` with the coordinates of each
-# new point before it is booked, then `meetings N collected N`, the second the most nodes collected under one edge key, and then for each cell
-# that it comes to `cell SLOTS` of
-# W14's table, with ` doubled` where the table that the published function makes names a neighbour twice at some node, and ` repeats` where
-# the outline as cut passes between the same two nodes twice or from a node to itself (the copy goes on there), and `outline` with the two
-# nodes of each of its outline darts. A cell that is copied has no table in the Rust: its line starts with `copied ` and tells of what the
-# Rust's `build_cell_dart_map` makes of the cell's own edges. Of operations 0 and 5 it writes at last `parents` with the number of each listed
-# piece's cell: the list that the published `cut_cells_all` fills where it is asked to, which the published overlay doesn't.
+# new point before it is booked, then `meetings N collected N`, the second the most nodes collected under one edge key, and then for each
+# cell that it comes to `cell SLOTS` of W14's table, with ` doubled` where the table that the published function makes names a neighbour
+# twice at some node, and ` repeats` where the outline as cut passes between the same two nodes twice or from a node to itself (the copy goes
+# on there), and `outline` with the two nodes of each of its outline darts. A cell that is copied has no table in the Rust: its line starts
+# with `copied ` and tells of what the Rust's `build_cell_dart_map` makes of the cell's own edges. Of operations 0 and 5 it writes at last
+# `parents` with the number of each listed piece's cell: the list that the published `cut_cells_all` fills where it is asked to, which the
+# published overlay doesn't.
 set -eu
 mkdir -p "$1/copy"
 out=$(cd "$1" && pwd)
