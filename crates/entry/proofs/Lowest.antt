@@ -1,4 +1,4 @@
--- The lowest refusal, mesh by mesh: the entry's number is the lower of the two meshes', or that of the working list. Assumes nothing.
+-- The entry's number: that of the settings, else the lower of the two meshes', mesh by mesh, else that of the working list. Assumes nothing.
 use mathlib.Core.Path.{◌≡◌, refl, sym, ap, ◌∙◌}
 use mathlib.Core.Logic.{◌⊎◌, inl, inr}
 use mathlib.Core.Bool.{Bool, true, false, ◌&&◌, not, cond}

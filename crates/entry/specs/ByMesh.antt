@@ -1,4 +1,4 @@
--- Refusals 1 to 7 and 13 by the settings and mesh by mesh, as the code goes. `entry_of` is the lowest of them (proofs/Lowest.antt). Assumes nothing.
+-- Refusals 1 to 7 and 13 by the settings and mesh by mesh, as the code goes. `entry_of` is that of the settings, or the lowest of the others (proofs/Lowest.antt). Assumes nothing.
 use Rattle.std.specs.Prelude.{ℕ, ◌≤◌, Bool, not, cond, leb, eqb, length}
 use Rattle.settings.specs.declared.Settings.{Settings}
 use Rattle.entry.specs.Mesh.{Mesh, node_count}
