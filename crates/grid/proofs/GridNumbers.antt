@@ -18,7 +18,7 @@ use Rattle.std.proofs.lemmas.Bool.{cases_lt}
 use Rattle.exact.specs.Exact.{mag, minus}
 use Rattle.exact.proofs.Fields.{value_mag}
 use Rattle.grid.specs.Grid.{grid_step, steps, grid_number, on_grid}
-use Rattle.grid.proofs.Whole.{closest_whole, closest_at_most}
+use Rattle.rounding.proofs.Whole.{closest_whole, closest_at_most}
 use Rattle.grid.proofs.Values.{HasUnits, one_float}
 use Rattle.grid.proofs.Digits.{Digits, digits}
 

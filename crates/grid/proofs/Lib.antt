@@ -1,4 +1,3 @@
-pub mod Whole
 pub mod Distances
 pub mod Multiples
 pub mod Values

@@ -14,7 +14,7 @@ use lib.Ieee.Nearest.{closest, closest_same}
 use lib.Ieee.Order.{drop}
 use lib.Ieee.Scale.{grid, round_val, round_same}
 use Rattle.grid.specs.Grid.{grid_step}
-use Rattle.grid.proofs.Whole.{closest_more, closest_at_most}
+use Rattle.rounding.proofs.Whole.{closest_more, closest_at_most}
 use Rattle.grid.proofs.Values.{HasUnits, add_at, sub_at}
 use Rattle.grid.proofs.GridNumbers.{step_pos, few_exact}
 

@@ -20,10 +20,11 @@ use Rattle.exact.proofs.Integers.{abs_signed, times_signed}
 use Rattle.exact.proofs.Fields.{value_mag}
 use Rattle.exact.proofs.ExactUnits.{size_coord}
 use Rattle.grid.specs.Grid.{Grid, grid_step, steps, grid_number, on_grid, booked, is_on_grid, stands_on, OnGrid}
-use Rattle.grid.proofs.Whole.{gap, Nearest, closest_nearest, none_nearer, even_one}
+use Rattle.rounding.proofs.Whole.{gap, Nearest, closest_nearest, none_nearer, even_one}
+use Rattle.rounding.proofs.Sizes.{one_side}
 use Rattle.grid.proofs.Values.{HasUnits, one_float}
 use Rattle.grid.proofs.GridNumbers.{no_grid, no_place, placed, step_pos, whole_steps, steps_at_most, number_fits, number_exact, stays}
-use Rattle.grid.proofs.Distances.{one_side, Multiple, same, other, multiple_of}
+use Rattle.grid.proofs.Distances.{Multiple, same, other, multiple_of}
 
 module _ (k : ℕ) (x : Float) (h : k ≤ 10) (f : fits binary64 x ≡ true) (t : T (finite x)) where
   placed_here : grid_number k (minus x) (steps k x) ≡ on_grid k x

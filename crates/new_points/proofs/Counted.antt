@@ -28,7 +28,7 @@ use Rattle.rules.proofs.Parts.{among, listed, listed_kept, kept_listed}
 use Rattle.rules.proofs.Rows.{at_place}
 use Rattle.rules.proofs.Closing.{cells_lent}
 use Rattle.rules.proofs.Points.{points_counted}
-use Rattle.rounding.proofs.InScene.{scene_length, lent_even, piece_nodes}
+use Rattle.coordinates.proofs.InScene.{scene_length, lent_even, piece_nodes}
 use Rattle.new_points.specs.Counted.{Among, Entered, CountsPoints}
 use Rattle.new_points.proofs.Entries.{entries_of, entry_is_corner, corner_is_entry, entered_in, in_entered}
 use Rattle.new_points.proofs.Named.{new_point_named}

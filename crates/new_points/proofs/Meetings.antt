@@ -19,7 +19,7 @@ use Rattle.rules.specs.Neighbours.{Net}
 use Rattle.rules.specs.SpatialIndex.{edge_box, boxes_meet, candidates}
 use Rattle.rules.specs.Meetings.{Met, segment_of, added_by, recorded, met_pair, met_all, meetings_to, meetings, meeting_on}
 use Rattle.rules.specs.declared.Bounds.{Bounds}
-use Rattle.rounding.proofs.Points.{Each}
+use Rattle.coordinates.proofs.Points.{Each}
 
 -- the candidates of a box are edges whose boxes meet it
 candidate_meets : (coords : List Float) (es : List Edge) (b : Bounds) (j : ℕ) → Memᴰ j (candidates coords es b)

@@ -23,9 +23,9 @@ use Rattle.rules.specs.Meetings.{Met, Scene, added_by, scene_of}
 use Rattle.rules.specs.Cell.{cell_of, outline_of}
 use Rattle.rules.specs.Operations.{scene_for}
 use Rattle.rules.proofs.Closing.{cells_lent}
-use Rattle.rounding.proofs.Projections.{finite_number}
-use Rattle.rounding.proofs.Points.{Both, corners_under, edges_under}
-use Rattle.rounding.proofs.InScene.{scene_length, lent_even, cutter_all}
+use Rattle.coordinates.proofs.Projections.{finite_number}
+use Rattle.coordinates.proofs.Points.{Both, corners_under, edges_under}
+use Rattle.coordinates.proofs.InScene.{scene_length, lent_even, cutter_all}
 use Rattle.new_points.proofs.Boxes.{Numbers}
 use Rattle.new_points.proofs.Rings.{descending_in}
 use Rattle.new_points.proofs.Meetings.{Close, Source, From, new_points_met}

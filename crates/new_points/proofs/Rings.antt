@@ -18,7 +18,7 @@ use Rattle.lists.specs.Search.{bit}
 use Rattle.cutting.specs.Edges.{Edge, ring, rings, hit, times}
 use Rattle.cutting.proofs.EdgeLaws.{both, hit_self}
 use Rattle.rules.specs.Neighbours.{compute_descending}
-use Rattle.rounding.proofs.Points.{ring_each, descending_each}
+use Rattle.coordinates.proofs.Points.{ring_each, descending_each}
 
 -- ---- corners
 

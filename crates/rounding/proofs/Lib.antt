@@ -1,12 +1,4 @@
+pub mod Whole
 pub mod Nearest
 pub mod Sizes
 pub mod Operations
-pub mod Along
-pub mod Booked
-pub mod Points
-pub mod Nodes
-pub mod Pieces
-pub mod InScene
-pub mod Projections
-pub mod Finite
-pub mod Gridded

@@ -1,14 +1,26 @@
--- The size of a whole number: of a sum, a difference, a negative. Assumes nothing.
-use mathlib.Core.Path.{◌≡◌, ap}
-use mathlib.Core.Bool.{Bool}
+-- The size of a whole number: of a sum, a difference, a negative; how far apart two are. Assumes nothing.
+use mathlib.Core.Path.{◌≡◌, ap, ◌∙◌}
+use mathlib.Core.Bool.{Bool, true, false, not, cond}
 use Prim.Native.Nat.{ℕ, ◌+◌, ◌*◌, ◌^◌, ◌≤◌}
 use native.Mathlib.Nat.{le_trans, le_of_eq}
 use native.Mathlib.Omega.{arith}
 use lib.IntN.{ℤ, neg_ℤ, nat_abs, ◌+ℤ◌, ◌-ℤ◌}
 use Rattle.exact.specs.Exact.{signed}
-use Rattle.exact.proofs.Integers.{diff, diff_neg, diff_add, every, abs_diff}
-use Rattle.grid.proofs.Distances.{one_side}
+use Rattle.exact.proofs.Integers.{diff, diff_neg, diff_add, every, minus_signed, abs_diff}
+use Rattle.rounding.proofs.Whole.{gap}
 use Rattle.rounding.proofs.Nearest.{Close}
+
+-- ±a and ±b
+apart : (s t : Bool) (a b : ℕ) → nat_abs (signed s a -ℤ signed t b) ≡ gap (cond s 0 a + cond t b 0) (cond s a 0 + cond t 0 b)
+apart s t a b = ap nat_abs (minus_signed s t a b) ∙ abs_diff (cond s 0 a + cond t b 0) (cond s a 0 + cond t 0 b)
+
+pub one_side : (s : Bool) (a b : ℕ) → nat_abs (signed s a -ℤ signed s b) ≡ gap a b
+one_side true a b = apart true true a b ∙ omega arith
+one_side false a b = apart false false a b ∙ omega arith
+
+pub two_sides : (s : Bool) (a b : ℕ) → nat_abs (signed s a -ℤ signed (not s) b) ≡ a + b
+two_sides true a b = apart true false a b ∙ omega arith
+two_sides false a b = apart false true a b ∙ omega arith
 
 -- numbers of one sign are as far apart as their sizes
 pub apart_signed : (s : Bool) (a b c : ℕ) → Close (2 ^ 53 * a) (2 ^ 53 * b) c → 2 ^ 53 * nat_abs (signed s a -ℤ signed s b) ≤ c

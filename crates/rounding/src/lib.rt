@@ -1,2 +1,2 @@
-// How large the coordinates of an overlay become: definitions stand in specs/, theorems in proofs/. There is no code here.
+// What rounding does to numbers: laws of the f64 and of their operations stand in proofs/. There is no code here.
 #![tactic(auto)]

@@ -12,7 +12,7 @@ use Rattle.exact.specs.Exact.{coord, mag, sign, ordered}
 use Rattle.exact.specs.Angle.{angles, orientation}
 use Rattle.plane.specs.Plane.{magnitude, larger, scale, between, along, tolerance, point_at}
 use Rattle.segments.specs.Colinear.{parameters, in_order, first_then_second, of_order, colinear}
-use Rattle.segments.specs.Meet.{near, settled, crossing, meeting}
+use Rattle.segments.specs.Meet.{near, settled, crossing, meeting_or}
 use Rattle.corners.specs.Corners as Corners
 use Rattle.insides.specs.Inside as Polygon
 use Rattle.polygons.specs.Interior.{heights, passed, climb, widest, widest_in, crossed, crossings, lowest, strict_interior_point}
@@ -100,7 +100,7 @@ same_result r r' =
 unfoldable pub right_by : (Settings → Mesh → Mesh → Lists → Result) → List Case → Bool
 unfolding both same same_lists same_result add sub mul div neg lt le eq of_bits to_bits seek first gathered all passing tally slim_after slim joined insert sort_onto
     Regions.run Regions.front coord mag sign ordered angles orientation magnitude larger scale between along tolerance point_at parameters in_order first_then_second of_order
-    colinear near settled crossing meeting Corners.corner_at Corners.corner_after Corners.corner_before Corners.oriented Corners.area_term Corners.doubled_to Corners.doubled_sum
+    colinear near settled crossing meeting_or Corners.corner_at Corners.corner_after Corners.corner_before Corners.oriented Corners.area_term Corners.doubled_to Corners.doubled_sum
     Corners.signed_area2 Corners.turned Corners.into_ccw2 Polygon.orient2d2 Polygon.clamped Polygon.ortho_dist2 Polygon.settle Polygon.nearer_edge Polygon.nearest_among
     Polygon.nearest Polygon.left_of Polygon.reflex Polygon.at_corner Polygon.contains_stable Polygon.inside heights passed climb widest widest_in crossed crossings
     lowest strict_interior_point hops ring rings times darts_along own_darts outline_darts near_darts among repeats is_new new_to inner_with edge_slots table stands

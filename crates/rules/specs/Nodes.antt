@@ -12,7 +12,7 @@ use Rattle.rules.specs.Meetings.{Scene}
 
 -- ---- the order along an edge
 
--- "total order (−0 before +0)", of floats that are numbers; projections are (`projections_ordered`, rounding/proofs/Finite.antt)
+-- "total order (−0 before +0)", of floats that are numbers; projections are (`projections_ordered`, coordinates/proofs/Finite.antt)
 abbrev pub sign_bit : Float → Bool
 sign_bit nan = false
 sign_bit (inf s) = s

@@ -7,7 +7,7 @@ use lib.Ieee.{binary64, add, sub, mul, div, neg, lt, le, eq, of_bits, to_bits}
 use Rattle.lists.specs.Sort.{insert, sort_onto}
 use Rattle.plane.specs.Plane.{magnitude, larger, scale, between, along, tolerance}
 use Rattle.segments.specs.Colinear.{parameters, in_order, first_then_second, of_order, colinear}
-use Rattle.segments.specs.Meet.{near, settled, crossing, meeting}
+use Rattle.segments.specs.Meet.{near, settled, crossing, meeting_or, meeting}
 use Rattle.segments.specs.Code.{meeting_code}
 use Rattle.plane.specs.declared.Point.{Point}
 use Rattle.segments.specs.declared.Segment.{Segment}
@@ -100,7 +100,7 @@ same (x ∷ xs) [] = false
 same (x ∷ xs) (y ∷ ys) = both (eqb x y) (same xs ys)
 
 right : List Case → Bool
-unfolding both same meeting colinear crossing settled near of_order first_then_second in_order parameters scale larger magnitude between along tolerance insert
+unfolding both same meeting_or colinear crossing settled near of_order first_then_second in_order parameters scale larger magnitude between along tolerance insert
     sort_onto meeting_code to_bits of_bits add sub mul div neg lt le eq
 right [] = true
 right (meet s t m ∷ rs) = both (same (meeting_code (meeting s t)) m) (right rs)

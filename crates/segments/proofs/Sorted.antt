@@ -18,6 +18,7 @@ use Rattle.segments.specs.Code.{id_code}
 use Rattle.segments.specs.Scans.{exchanged, exchanged_ids, sweep, swept}
 use Rattle.segments.specs.declared.Segment.{Segment}
 use Rattle.segments.specs.declared.Meeting.{Meeting}
+use Rattle.segments.specs.declared.Meeting.TheVariants.{Apart}
 use Rattle.segments.specs.declared.PointId.{PointId}
 use Rattle.segments.specs.declared.PointId.TheVariants.{P1, P2, P3, P4}
 use Rattle.plane.proofs.FloatOrder.{lt_asym, not_lt_trans, and_left, and_right}
@@ -282,9 +283,9 @@ swept_parameters s o h = go (lt (magnitude (between s.a s.b).y) (magnitude (betw
     go false k = swept_four _ _ _ _ k
 
 pub colinear_is : (s o : Segment) (ts : List Float) (ids : List PointId) (m : Meeting)
-    → ts ≡ parameters s o → orderable ts ≡ true → ids ≡ swept ts → m ≡ of_order ids → m ≡ colinear s o
+    → ts ≡ parameters s o → orderable ts ≡ true → ids ≡ swept ts → m ≡ of_order Apart ids → m ≡ colinear Apart s o
 unfolding colinear
 colinear_is s o ts ids m e h f g =
     let k : orderable (parameters s o) ≡ true = subst (λ (l : List Float). orderable l ≡ true) e h in
     let i : ids ≡ in_order (parameters s o) = f ∙ ap swept e ∙ swept_parameters s o k in
-    rw k (g ∙ ap of_order i)
+    rw k (g ∙ ap (of_order Apart) i)

@@ -63,17 +63,17 @@ unfoldable pub first_then_second : PointId → PointId → Bool
 first_then_second p q = is_first p && is_second q
 
 -- P1 P2 first or last: none. In each of the other four arms the answer is the two in the middle.
--- Where P1 does not stand before P2, at which the Rust panics, there is none.
-unfoldable pub of_order : List PointId → Meeting
-of_order ids =
+-- Where P1 does not stand before P2 the Rust panics. What the answer is there is `stop`: `meeting` (Meet.antt) says none.
+unfoldable pub of_order : Meeting → List PointId → Meeting
+of_order stop ids =
     let p = get_or ids 0 P1 in
     let q = get_or ids 1 P1 in
     let r = get_or ids 2 P1 in
     let s = get_or ids 3 P1 in
-    cond (first_then_second p q || first_then_second r s) Apart (cond (first_then_second p r || first_then_second p s || first_then_second q s || first_then_second q r) (Overlap q r) Apart)
+    cond (first_then_second p q || first_then_second r s) Apart (cond (first_then_second p r || first_then_second p s || first_then_second q s || first_then_second q r) (Overlap q r) stop)
 
--- Where a parameter is no number, at which the Rust panics, there is none.
-unfoldable pub colinear : Segment → Segment → Meeting
-colinear s o =
+-- Where a parameter is no number, at which the Rust panics too, it is `stop` as well.
+unfoldable pub colinear : Meeting → Segment → Segment → Meeting
+colinear stop s o =
     let ts = parameters s o in
-    cond (orderable ts) (of_order (in_order ts)) Apart
+    cond (orderable ts) (of_order stop (in_order ts)) stop

@@ -32,13 +32,18 @@ crossing s o v1 v2 v3 eps =
     cond (in_unit t && in_unit u) (settled s o (along s.a t v1) eps) Apart
 
 -- A squared length below eps: none. |cross12| < eps: none if |cross31| > eps, else colinear, also at equality.
-unfoldable pub meeting : Segment → Segment → Meeting
-meeting s o =
+-- `stop` is the answer where the Rust panics.
+unfoldable pub meeting_or : Meeting → Segment → Segment → Meeting
+meeting_or stop s o =
     let v1 = between s.a s.b in
     let v2 = between o.a o.b in
     let v3 = between s.a o.a in
     let eps = tolerance v1 v2 in
     cond (lt (dot v2 v2) eps || lt (dot v1 v1) eps) Apart
     (cond (lt (magnitude (cross v1 v2)) eps)
-    (cond (lt eps (magnitude (cross v3 v1))) Apart (colinear s o))
+    (cond (lt eps (magnitude (cross v3 v1))) Apart (colinear stop s o))
     (crossing s o v1 v2 v3 eps))
+
+-- Here there is none. For coordinates that the entry allows a stop is never reached: any other answer in its place gives the same (coordinates/proofs/Stops.antt).
+abbrev pub meeting : Segment → Segment → Meeting
+meeting s o = meeting_or Apart s o

@@ -6,6 +6,7 @@ ghost use Rattle.plane.specs.Plane.{is_number, scale, tolerance, in_unit};
 ghost use Rattle.segments.specs.Code.{id_code, meeting_number};
 ghost use Rattle.segments.specs.Colinear.{spread, parameters, orderable, of_order, colinear};
 ghost use Rattle.segments.specs.Meet.{near, settled, crossing, meeting};
+ghost use Rattle.segments.specs.declared.Meeting.TheVariants.{Apart};
 ghost use Rattle.segments.specs.Scans.{exchanged, exchanged_ids, swept};
 
 use plane::{Point, larger, magnitude};
@@ -167,7 +168,7 @@ fn in_order(ts: [f64; 4]) -> [PointId; 4]
 
 #[tactic(auto, unfolding(crate::specs::Colinear::of_order, crate::specs::Colinear::first_then_second))]
 fn of_order(ids: [PointId; 4]) -> Meeting
-    ensures { result ≡ of_order ids }
+    ensures { result ≡ of_order Apart ids }
 {
     use PointId::{P1, P2};
     match ids {
@@ -182,7 +183,7 @@ fn of_order(ids: [PointId; 4]) -> Meeting
 
 #[tactic(auto, unfolding(crate::specs::Colinear::colinear), using(crate::proofs::Sorted::colinear_is))]
 fn colinear(s: Segment, o: Segment) -> Meeting
-    ensures { result ≡ colinear s o }
+    ensures { result ≡ colinear Apart s o }
 {
     let ts = parameters(s, o);
     if orderable(ts) {
@@ -235,7 +236,7 @@ fn crossing(s: Segment, o: Segment, v1: Point, v2: Point, v3: Point, eps: f64) -
 }
 
 impl Segment {
-    #[tactic(auto, unfolding(crate::specs::Meet::meeting))]
+    #[tactic(auto, unfolding(crate::specs::Meet::meeting_or))]
     pub fn intersect(self, other: Segment) -> Meeting
         ensures { result ≡ meeting self other }
     {

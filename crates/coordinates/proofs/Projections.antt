@@ -18,10 +18,10 @@ use Rattle.plane.specs.Plane.{◌⊕◌, ◌⊖◌, ◌⊗◌, between, dot}
 use Rattle.plane.specs.declared.Point.{Point}
 use Rattle.plane.proofs.FloatOrder.{number_left, eq_sym, trichotomy}
 use Rattle.rules.specs.Nodes.{sign_bit}
-use Rattle.rounding.specs.Finite.{Bounded, Ordered}
+use Rattle.coordinates.specs.Finite.{Bounded, Ordered}
 use Rattle.rounding.proofs.Sizes.{abs_add, abs_sub}
 use Rattle.rounding.proofs.Operations.{Number, Near, NearProduct, add_rounds, sub_rounds, rounds_near, mul_near}
-use Rattle.rounding.proofs.Along.{abs_back}
+use Rattle.coordinates.proofs.Along.{abs_back}
 use Rattle.exact.proofs.ExactUnits.{size_coord}
 
 -- ---- sizes

@@ -33,7 +33,7 @@ use Rattle.rules.specs.Meetings.{Met, Scene, segment_of, node_of, added_by, reco
 use Rattle.rules.specs.Nodes.{Projected, projected, by_projection, by_projections, inner_of, before_last, along_edge, collected, unless_none, sorted_nodes}
 use Rattle.rules.specs.Cell.{laid, darts_of, treated_by, treated, cell_of, near_of, outline_of}
 use Rattle.snap.proofs.Welds.{length_weld, weld_below}
-use Rattle.rounding.proofs.Points.{Each, each_join, each_none, each_cons, hops_each, ring_each, Under, Both, descending_under, corners_under}
+use Rattle.coordinates.proofs.Points.{Each, each_join, each_none, each_cons, hops_each, ring_each, Under, Both, descending_under, corners_under}
 
 pub each_joined : {A B : Type 0} (P : B → Type 0) (f : A → List B) (xs : List A) → ((x : A) → Memᴰ x xs → Each P (f x)) → Each P (joined f xs)
 unfolding joined

@@ -19,10 +19,10 @@ use Rattle.rules.specs.Neighbours.{subject_net, cutter_net}
 use Rattle.rules.specs.Meetings.{Met, net_of, added_by, meetings, scene_of}
 use Rattle.rules.specs.Operations.{scene_for, pieces_of}
 use Rattle.rules.specs.Cell.{cell_of, outline_of}
-use Rattle.rounding.specs.Finite.{NodeOf}
-use Rattle.rounding.proofs.Nodes.{many_cells, cells_under, cutter_under, meetings_stand, outline_under}
-use Rattle.rounding.proofs.Pieces.{pieces_under}
-use Rattle.rounding.proofs.Points.{Each, Both, corners_under, edges_under}
+use Rattle.coordinates.specs.Finite.{NodeOf}
+use Rattle.coordinates.proofs.Nodes.{many_cells, cells_under, cutter_under, meetings_stand, outline_under}
+use Rattle.coordinates.proofs.Pieces.{pieces_under}
+use Rattle.coordinates.proofs.Points.{Each, Both, corners_under, edges_under}
 
 pub scene_length : (o : Settings) (s c : Mesh) → length (scene_for o s c).coords ≡ length s.coords + length c.coords + length (added_by (scene_for o s c).met)
 unfolding scene_of

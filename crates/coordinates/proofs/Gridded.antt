@@ -29,12 +29,12 @@ use Rattle.rules.specs.Operations.{scene_for}
 use Rattle.rules.specs.Overlay.{Lists, Result, written, answered, answered_with, overlay_of}
 use Rattle.rules.specs.Demand3.{Accepted}
 use Rattle.rules.proofs.Accepts.{accepted}
-use Rattle.rounding.specs.Points.{Doubles}
-use Rattle.rounding.specs.Finite.{Bounded, Gridded}
-use Rattle.rounding.proofs.Booked.{new_point_lem}
-use Rattle.rounding.proofs.Nodes.{each_joined}
-use Rattle.rounding.proofs.InScene.{scene_length}
-use Rattle.rounding.proofs.Points.{Each, each_none, each_cons, Both, edges_under, allowed_ends, Origin, meetings_origin, before_moved}
+use Rattle.coordinates.specs.Points.{Doubles}
+use Rattle.coordinates.specs.Finite.{Bounded, Gridded}
+use Rattle.coordinates.proofs.Booked.{new_point_lem}
+use Rattle.coordinates.proofs.Nodes.{each_joined}
+use Rattle.coordinates.proofs.InScene.{scene_length}
+use Rattle.coordinates.proofs.Points.{Each, each_none, each_cons, Both, edges_under, allowed_ends, Origin, meetings_origin, before_moved}
 
 -- a coordinate that is put there
 put_gridded : (k : ℕ) (x : Float) → k ≤ 10 → Bounded x → Gridded k (on_grid k x)

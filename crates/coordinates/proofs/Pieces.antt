@@ -22,8 +22,8 @@ use Rattle.rules.specs.Meetings.{Met, Scene, net_of}
 use Rattle.rules.specs.Nodes.{sorted_nodes}
 use Rattle.rules.specs.Cell.{laid, treated_by, treated, cell_of, near_of}
 use Rattle.rules.specs.Operations.{outcome_pieces, pieces_of}
-use Rattle.rounding.proofs.Points.{Each, each_join, each_none, each_cons, hops_each, Under, Both}
-use Rattle.rounding.proofs.Nodes.{each_joined, each_map, each_sorted, edge_any, key_under, sorted_under, darts_under}
+use Rattle.coordinates.proofs.Points.{Each, each_join, each_none, each_cons, hops_each, Under, Both}
+use Rattle.coordinates.proofs.Nodes.{each_joined, each_map, each_sorted, edge_any, key_under, sorted_under, darts_under}
 
 -- ---- a walk only names nodes of its table
 

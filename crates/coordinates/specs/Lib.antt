@@ -1,3 +1,4 @@
 pub mod Booked
 pub mod Points
 pub mod Finite
+pub mod Stakes

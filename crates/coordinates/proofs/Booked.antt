@@ -16,17 +16,17 @@ use Rattle.exact.proofs.ExactUnits.{exact_units, size_coord}
 use Rattle.entry.specs.Refused.{coord_ok}
 use Rattle.plane.specs.Plane.{◌⊕◌, ◌⊖◌, ◌⊗◌, ◌⊘◌, zero_f, one_f, in_unit, between, dot, cross, along, magnitude, tolerance}
 use Rattle.segments.specs.Colinear.{parameters, orderable, in_order, first_then_second, of_order, colinear}
-use Rattle.segments.specs.Meet.{near, settled, crossing, meeting}
+use Rattle.segments.specs.Meet.{near, settled, crossing, meeting_or, meeting}
 use Rattle.plane.specs.declared.Point.{Point}
 use Rattle.segments.specs.declared.Segment.{Segment}
 use Rattle.segments.specs.declared.PointId.{PointId}
 use Rattle.segments.specs.declared.PointId.TheVariants.{P1, P2, P3, P4}
 use Rattle.segments.specs.declared.Meeting.TheVariants.{Apart, Existing, New, Overlap}
 use Rattle.plane.proofs.FloatOrder.{and_left, and_right}
-use Rattle.rounding.specs.Booked.{Allowed, AllowedEnds, parameter}
-use Rattle.rounding.specs.Finite.{Bounded}
+use Rattle.coordinates.specs.Booked.{Allowed, AllowedEnds, parameter}
+use Rattle.coordinates.specs.Finite.{Bounded}
 use Rattle.rounding.proofs.Operations.{Number}
-use Rattle.rounding.proofs.Along.{along_number, along_size}
+use Rattle.coordinates.proofs.Along.{along_number, along_size}
 
 -- ---- sizes in units
 
@@ -102,7 +102,7 @@ settled_new s o p eps x y = go (near s.a p eps) (near s.b p eps) (near o.a p eps
     go false false false true e = absurd (existing_not_new e)
     go false false false false e = (cc, cc)
 
-of_order_not_new : (ids : List PointId) (x y : Float) → of_order ids ≡ New x y → ⊥
+of_order_not_new : (ids : List PointId) (x y : Float) → of_order Apart ids ≡ New x y → ⊥
 unfolding of_order
 of_order_not_new ids x y =
     let p = get_or ids 0 P1 in
@@ -116,11 +116,11 @@ of_order_not_new ids x y =
     go false true e = overlap_not_new e
     go false false e = apart_not_new e
 
-colinear_not_new : (s o : Segment) (x y : Float) → colinear s o ≡ New x y → ⊥
+colinear_not_new : (s o : Segment) (x y : Float) → colinear Apart s o ≡ New x y → ⊥
 unfolding colinear
 colinear_not_new s o x y = go (orderable (parameters s o))
   where
-    go : (a : Bool) → cond a (of_order (in_order (parameters s o))) Apart ≡ New x y → ⊥
+    go : (a : Bool) → cond a (of_order Apart (in_order (parameters s o))) Apart ≡ New x y → ⊥
     go true e = of_order_not_new (in_order (parameters s o)) x y e
     go false e = apart_not_new e
 
@@ -146,7 +146,7 @@ crossing_new s o eps x y = go (in_unit (parameter s o)) refl (in_unit u)
     go false i b e = absurd (apart_not_new e)
 
 meeting_new : (s o : Segment) (x y : Float) → meeting s o ≡ New x y → Crossed s o x y
-unfolding meeting
+unfolding meeting_or
 meeting_new s o x y = go (lt (dot v2 v2) eps || lt (dot v1 v1) eps) (lt (magnitude (cross v1 v2)) eps) (lt eps (magnitude (cross v3 v1)))
   where
     v1 : Point
@@ -161,7 +161,7 @@ meeting_new s o x y = go (lt (dot v2 v2) eps || lt (dot v1 v1) eps) (lt (magnitu
     eps : Float
     eps = tolerance v1 v2
 
-    go : (a b c : Bool) → cond a Apart (cond b (cond c Apart (colinear s o)) (crossing s o v1 v2 v3 eps)) ≡ New x y → Crossed s o x y
+    go : (a b c : Bool) → cond a Apart (cond b (cond c Apart (colinear Apart s o)) (crossing s o v1 v2 v3 eps)) ≡ New x y → Crossed s o x y
     go true b c e = absurd (apart_not_new e)
     go false true true e = absurd (apart_not_new e)
     go false true false e = absurd (colinear_not_new s o x y e)

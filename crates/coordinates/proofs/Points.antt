@@ -30,8 +30,8 @@ use Rattle.rules.specs.Mesh.{cell_at, cells_of}
 use Rattle.rules.specs.Neighbours.{Net, added, added_all, descending_to, subject_net}
 use Rattle.rules.specs.SpatialIndex.{edge_box, candidates}
 use Rattle.rules.specs.Meetings.{Met, segment_of, added_by, recorded, met_pair, met_all, meetings_to, meeting_on, moved_to}
-use Rattle.rounding.specs.Booked.{Allowed, AllowedEnds}
-use Rattle.rounding.specs.Points.{Doubles}
+use Rattle.coordinates.specs.Booked.{Allowed, AllowedEnds}
+use Rattle.coordinates.specs.Points.{Doubles}
 
 -- what holds of each element
 abbrev pub Each : {A : Type 0} → (A → Type 0) → List A → Type 0

@@ -33,13 +33,13 @@ use Rattle.rules.specs.Nodes.{projected, collected}
 use Rattle.rules.specs.Overlay.{Lists, Result, written, answered, answered_with, overlay_of}
 use Rattle.rules.specs.Demand3.{Accepted}
 use Rattle.rules.proofs.Accepts.{accepted}
-use Rattle.rounding.specs.Points.{Doubles}
-use Rattle.rounding.specs.Finite.{Bounded, NodeOf, Ordered}
-use Rattle.rounding.proofs.Booked.{allowed_bounded, new_point_lem}
-use Rattle.rounding.proofs.Nodes.{each_joined, collected_under, key_under}
-use Rattle.rounding.proofs.InScene.{scene_length, met_nodes_lem, edge_nodes}
-use Rattle.rounding.proofs.Projections.{BoundedPoint, projection_finite, finite_number, numbers_ordered}
-use Rattle.rounding.proofs.Points.{Each, each_join, each_none, each_cons, Both, edges_under, mesh_allowed, allowed_ends, Origin, meetings_origin, before_moved}
+use Rattle.coordinates.specs.Points.{Doubles}
+use Rattle.coordinates.specs.Finite.{Bounded, NodeOf, Ordered}
+use Rattle.coordinates.proofs.Booked.{allowed_bounded, new_point_lem}
+use Rattle.coordinates.proofs.Nodes.{each_joined, collected_under, key_under}
+use Rattle.coordinates.proofs.InScene.{scene_length, met_nodes_lem, edge_nodes}
+use Rattle.coordinates.proofs.Projections.{BoundedPoint, projection_finite, finite_number, numbers_ordered}
+use Rattle.coordinates.proofs.Points.{Each, each_join, each_none, each_cons, Both, edges_under, mesh_allowed, allowed_ends, Origin, meetings_origin, before_moved}
 
 -- where a coordinate is put on a grid, it is still finite and at most 2^42 in size
 booked_bounded : (g : Grid) (x : Float) → Bounded x → Bounded (booked g x)

@@ -1,0 +1,9 @@
+pub mod Along
+pub mod Booked
+pub mod Points
+pub mod Nodes
+pub mod Pieces
+pub mod InScene
+pub mod Projections
+pub mod Finite
+pub mod Gridded
