@@ -20,7 +20,7 @@ module _ (o : Settings) (s c : Mesh) where
   abbrev pub cutter_segment : Met → Segment
   cutter_segment m = segment_of (s.coords ++ c.coords) (edge_at (scene_for o s c).cutter.edges m.cutter_edge)
 
-  -- The answer's node i is the one node of a meeting, and as far from that meeting's subject edge as W11 says.
+  -- The answer's node i is the one node of a meeting, and no farther off that meeting's subject edge than W11 says.
   pub record Stake (l : Lists) (i : ℕ) : Type 0 where
     pub met : Met
     pub found : Memᴰ met (scene_for o s c).met
