@@ -11,13 +11,14 @@ from .chunks import overlay_in_chunks
 from .errors import InputError, NotClean, Problem
 from .mesh import Kind, Mesh, mesh_of_rings
 from .models import Model, read_model
-from .overlaying import FINEST_GRID, MOST_MEETINGS, Operation, Overlay, overlay
+from .overlaying import MOST_MEETINGS, Operation, Overlay, overlay
 from .refusals import REFUSALS, Refusal, Refused
 from .soils import SoilMap, read_soils
 from .strips import Strips, cut
-from .writing import write_mesh, write_strips, write_table
+from .survey import FINEST_GRID, tolerance
+from .writing import write_mesh, write_stakes, write_strips, write_table
 
 __version__ = '0.1.0'
 __all__ = ['FINEST_GRID', 'InputError', 'Kind', 'MOST_MEETINGS', 'Mesh', 'Model', 'NotClean', 'Operation', 'Overlay', 'Problem', 'REFUSALS',
            'Refusal', 'Refused', 'SoilMap', 'Strips', 'cut', 'mesh_of_rings', 'overlay', 'overlay_in_chunks', 'read_model', 'read_soils',
-           'write_mesh', 'write_strips', 'write_table']
+           'tolerance', 'write_mesh', 'write_stakes', 'write_strips', 'write_table']

@@ -14,10 +14,11 @@ from . import __version__, models, picture, program, soils, strips as made, writ
 from .errors import InputError, NotClean, Problem
 from .mesh import Kind, Mesh
 from .models import Model
-from .overlaying import FINEST_GRID, survey_grid_said
+from .overlaying import Overlay
 from .refusals import Refused, markdown
 from .soils import SoilMap
 from .strips import Strips
+from .survey import FINEST_GRID, survey_grid_said, tolerance_said
 
 FAILED, UNREAD = 1, 2
 _SOILS = 40             # in the table on standard error
@@ -96,6 +97,7 @@ def _cut_options(p: argparse.ArgumentParser) -> None:
     _map_options(p)
     p.add_argument('-o', '--output', metavar='STRIPS', help='the strips: .vtu, .vtk, .gpkg, .geojson, .shp, .nc, .disv')
     p.add_argument('--table', metavar='CSV', help='cell, soil, area, share; - for standard output')
+    p.add_argument('--stakes', metavar='CSV', help='the new points: x, y, and how far each may be off its cell\'s side in x and in y, in metres')
     p.add_argument('--picture', metavar='PNG', help='the model and the strips, drawn: .png, .svg, .pdf')
     p.add_argument('--by', choices=('soil', 'cell'), default='soil', help='colour the picture by soil, or each strip as the cell that it was cut from')
 
@@ -154,6 +156,7 @@ def _cut(options: argparse.Namespace) -> int:
     seconds = time.monotonic() - start
     booked = '' if options.survey_grid is None else f' on {survey_grid_said(options.survey_grid)}'
     say(f'{len(strips.pieces):,} pieces, {strips.pieces.new_points:,} new points{booked} ({seconds:.1f} s); every piece is simple and in one soil')
+    _say_tolerance(strips.pieces)
     _say_areas(strips)
     _write(options, strips, made.same_crs(model, found))
     return 0
@@ -170,9 +173,11 @@ def _strips(options: argparse.Namespace, model: Model, found: SoilMap) -> Strips
 
 def _check_outputs(options: argparse.Namespace) -> None:
     """Before long work: something is to be written, in formats that there are, in folders that are there, over no input."""
-    files = [f for f in (options.output, options.table, options.picture) if f]
+    files = [f for f in (options.output, options.table, options.stakes, options.picture) if f]
     if not files:
-        raise InputError('nothing to write: give -o, --table or --picture (or use `daqwimay check`)')
+        raise InputError('nothing to write: give -o, --table, --stakes or --picture (or use `daqwimay check`)')
+    if options.table == options.stakes == '-':
+        raise InputError('--table and --stakes: one of them can go to standard output')
     for file in files:
         if file != '-' and not Path(file).resolve().parent.is_dir():
             raise InputError(f'{file}: no such folder')
@@ -182,6 +187,12 @@ def _check_outputs(options: argparse.Namespace) -> None:
         writing.check_ending(options.output)
     if options.picture:
         picture.check_ending(options.picture)
+
+
+def _say_tolerance(pieces: Overlay) -> None:
+    if pieces.new_points:
+        parts = ' or their triangles\'' if pieces.parted is not None and len(pieces.parted) else ''
+        say(f'  new points are within {tolerance_said(pieces.tolerance)} of their cells\'{parts} sides, in x and in y')
 
 
 def _say_areas(strips: Strips) -> None:
@@ -202,12 +213,13 @@ def _write(options: argparse.Namespace, strips: Strips, crs: Any) -> None:
     written = []
     if options.output:
         written += writing.write_strips(options.output, strips, crs)
-    if options.table == '-':
-        writing.write_table(sys.stdout, strips)
-    elif options.table:
-        with open(options.table, 'w', newline='') as f:
-            writing.write_table(f, strips)
-        written.append(options.table)
+    for path, table in ((options.table, lambda f: writing.write_table(f, strips)), (options.stakes, lambda f: writing.write_stakes(f, strips.pieces))):
+        if path == '-':
+            table(sys.stdout)
+        elif path:
+            with open(path, 'w', newline='') as f:
+                table(f)
+            written.append(path)
     if options.picture:
         picture.draw_strips(options.picture, strips, options.by)
         written.append(options.picture)

@@ -10,6 +10,7 @@ from .mesh import MOST_CELLS, MOST_CORNERS_OF_MESH, MOST_NODES, Mesh, entries, f
 from .overlaying import Operation, Overlay, overlay, settings_of
 from .parts import triangles
 from .refusals import Refused
+from .survey import tolerance
 
 CHUNK = 4_096               # cells: a call's time grows faster than its cells
 Progress = Callable[[int, int], None]
@@ -28,8 +29,8 @@ def overlay_in_chunks(subject: Mesh, cutter: Mesh, operation: Union[Operation, s
     Added points that no piece names are left out, whichever chunk found them: `added_points` is `new_points`.
 
     With `parts` a cell that is cut by too many edges (refusals 9 and 10) is cut in triangles first: its pieces end at their sides too, and
-    nodes on its own sides are not those of its neighbours. The triangles' corners that pieces name count as new points too. `Overlay.parted`
-    has the families of such cells.
+    nodes on its own sides are not those of its neighbours. The triangles' corners that pieces name count as new points too, and `tolerance` is of
+    the triangles' sides. `Overlay.parted` has the families of such cells.
     """
     settings = settings_of(operation, survey_grid=survey_grid)
     if settings.operation not in _SUBJECT_ONLY:
@@ -150,6 +151,7 @@ class _Whole:
         found = Overlay(np.concatenate([self.subject.xy, self.cutter.xy, used]), corners, np.cumsum(counts[order]), kinds[order],
                         self.subject.families[cells[order]], np.zeros(len(cells), np.uint32), cells[order])
         found.new_points = found.added_points = len(used)
+        found.tolerance = max([tolerance(self.subject, self.settings.survey_grid), *(answer.tolerance for answer, _, _ in self.done)])
         found.parted = self.subject.families[np.array(self.parted, np.int64)]
         return found
 

@@ -1,6 +1,7 @@
 """The overlay of two meshes."""
 from __future__ import annotations
 
+import math
 from enum import IntEnum
 from operator import index
 from typing import Optional, Union
@@ -11,9 +12,9 @@ from numpy.typing import ArrayLike
 from ._library import OUTPUT_LISTS, Settings, call, lendable
 from .mesh import Mesh
 from .refusals import Refused
+from .survey import survey_k, tolerance
 
 MOST_MEETINGS = 65_536
-FINEST_GRID = 10            # the survey grid of 1/1024 metre
 _SLOTS = 1_024              # the most in a cell's table: no cell has more corners in its pieces
 
 
@@ -38,6 +39,7 @@ class Overlay(Mesh):
     parent_cells: np.ndarray    #: uint32: the index of the cell there, from 0
     new_points: int = 0         #: the added points that at least one piece names, each once: the stakes to order
     added_points: int = 0       #: all added points, with which `xy` ends: more where the operation drops all pieces that name one
+    tolerance: float = math.nan     #: how far a new point may be off its subject edge in x, and in y, in metres: see `tolerance`
     doubled_cells: int = 0      #: always 0, since an edge is in a cell's table once; kept for readers of old listings
     parted: Optional[np.ndarray] = None     #: overlay_in_chunks: the families of cells that were cut in triangles first
 
@@ -52,7 +54,12 @@ class Overlay(Mesh):
         part, nodes = super().take(cells)
         found = Overlay(*part.lists(), self.parent_meshes[cells], self.parent_cells[cells])
         found.new_points = found.added_points = int(np.count_nonzero(nodes >= len(self.xy) - self.added_points))
+        found.tolerance = self.tolerance
         return found, nodes
+
+    def stakes(self) -> np.ndarray:
+        """The numbers of the new points, rising: rows of `xy`."""
+        return np.unique(self.nodes[self.nodes >= len(self.xy) - self.added_points])
 
 
 def overlay(subject: Mesh, cutter: Mesh, operation: Union[Operation, str, int] = Operation.IMPRINT, *,
@@ -74,7 +81,9 @@ def overlay(subject: Mesh, cutter: Mesh, operation: Union[Operation, str, int] =
         lists = output_lists(points, room, room)
         code, counts = call(settings, subject.lists(), cutter.lists(), lists, work)
         if code == 0:
-            return answer_of(lists, points - settings.limit, counts)
+            found = answer_of(lists, points - settings.limit, counts)
+            found.tolerance = tolerance(subject, settings.survey_grid)
+            return found
         if code != 12 or room == most:
             raise Refused(code)
         room = min(4 * room, most)
@@ -84,14 +93,7 @@ def settings_of(operation: Union[Operation, str, int], limit: int = MOST_MEETING
     """The settings of a call; refused where there are none such."""
     if not 1 <= index(limit) <= MOST_MEETINGS:
         raise Refused(1, f'the meeting limit is {limit}')
-    number = operation_number(operation)
-    if survey_grid is not None and not 0 <= index(survey_grid) <= FINEST_GRID:
-        raise Refused(13, f'K is {survey_grid}')
-    return Settings(number, index(limit), None if survey_grid is None else index(survey_grid))
-
-
-def survey_grid_said(k: int) -> str:
-    return f'the survey grid of {f"1/{2 ** k:,}" if k else 1} metre'
+    return Settings(operation_number(operation), index(limit), survey_k(survey_grid))
 
 
 def operation_number(operation: Union[Operation, str, int]) -> int:

@@ -9,8 +9,9 @@ import numpy as np
 
 from ._library import Settings, call
 from .mesh import Mesh
-from .overlaying import Overlay, answer_of, output_lists, survey_grid_said
+from .overlaying import Overlay, answer_of, output_lists
 from .refusals import described, refusal
+from .survey import survey_grid_said
 
 MOST_BYTES = 65_536
 MOST_NODES = MOST_CELLS = 512

@@ -10,6 +10,7 @@ import numpy as np
 from .errors import InputError, extra
 from .mesh import Mesh
 from .models import MAPS
+from .overlaying import Overlay
 from .strips import Strips
 
 _DRIVERS = {'.gpkg': 'GPKG', '.shp': 'ESRI Shapefile', '.geojson': 'GeoJSON', '.json': 'GeoJSON', '.fgb': 'FlatGeobuf', '.gml': 'GML'}
@@ -137,4 +138,11 @@ def write_table(file: TextIO, strips: Strips) -> int:
     table = strips.table()
     rows = list(zip(table['cell'].tolist(), table['soil'].tolist(), table['area'].tolist(), table['share'].tolist()))
     csv.writer(file, lineterminator='\n').writerows([tuple(table), *rows])
+    return len(rows)
+
+
+def write_stakes(file: TextIO, pieces: Overlay) -> int:
+    """x, y and tolerance of each new point as CSV, in metres; answers the count of rows."""
+    rows = [(x, y, pieces.tolerance) for x, y in pieces.xy[pieces.stakes()].tolist()]
+    csv.writer(file, lineterminator='\n').writerows([('x', 'y', 'tolerance'), *rows])
     return len(rows)
