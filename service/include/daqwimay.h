@@ -56,7 +56,9 @@ enum {
 /*
  * Cuts the subject (s..) by the cutter (c..) into the output (o..). `limit` is the most meetings of edges. `grid` is k, from 0 to 10, of the
  * survey grid of 1/2^k metre: each coordinate of a new point goes to the nearest multiple of 1/2^k, halfway to the even one; no other node
- * moves. With DAQWIMAY_NO_GRID none does. Each list is an address and a count of numbers:
+ * moves. With DAQWIMAY_NO_GRID none does. In x and in y a new point is within M x 2^-50 + 2^-1074 of its subject edge, M being the largest size
+ * among the coordinates of the edge's ends, and on a grid within 2^-(k+1), half a step, more: docs/TOLERANCE.md. Each list is an address and a
+ * count of numbers:
  *   coords    x and y of each node
  *   nodes     the cells' node numbers, one cell after the other
  *   ends      where each cell's node numbers end

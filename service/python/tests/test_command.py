@@ -8,10 +8,10 @@ import geopandas
 import matplotlib.image
 import meshio
 import pytest
-from shapely.geometry import Polygon, box
+from shapely.geometry import Point, Polygon, box
 
 import maps
-from daqwimay import read_model, write_mesh
+from daqwimay import read_model, tolerance, write_mesh
 
 ROOT = Path(__file__).resolve().parents[3]
 EXAMPLES = Path(__file__).resolve().parents[1] / 'examples'
@@ -59,7 +59,29 @@ def test_new_points_on_a_survey_grid(example):
     new = [v for p in meshio.read(example / 'booked.vtu').points[:, :2].tolist() if tuple(p) not in given for v in p]
     assert len(new) > 300 and all(v * 1024 == round(v * 1024) for v in new)
     assert abs(sum(float(r['area']) for r in csv.DictReader(open(example / 'booked.csv'))) - 874_800) < 1
+    assert '\n  new points are within 0.489 mm of their cells\' sides, in x and in y\n' in done.stderr
     assert run('check', 'model.disv', 'soils.gpkg', '--grid', 0.001, '--survey-grid', 10, cwd=example).returncode == 0
+
+
+def test_stakes_with_their_tolerance(example):
+    model = read_model(example / 'model.disv').mesh
+    for words, k, said in (((), None, '4.13e-10 m'), (('--survey-grid', 7), 7, '3.91 mm')):
+        done = run('cut', 'model.disv', 'soils.gpkg', '--grid', 0.001, '--stakes', 'stakes.csv', *words, cwd=example)
+        assert done.returncode == 0 and f' within {said} of ' in done.stderr and 'wrote stakes.csv' in done.stderr
+        rows = list(csv.DictReader(open(example / 'stakes.csv')))
+        assert f' {len(rows)} new points' in done.stderr and {float(r['tolerance']) for r in rows} == {tolerance(model, k)}
+        beside = [min(Polygon(model.xy[c]).exterior.distance(Point(float(r['x']), float(r['y']))) for c in model.cells()) for r in rows[::40]]
+        assert max(beside) < 1.42 * tolerance(model, k) + 1e-9
+    done = run('cut', 'model.disv', 'soils.gpkg', '--grid', 0.001, '--stakes', '-', cwd=example)
+    assert done.stdout.startswith('x,y,tolerance\n') and len(done.stdout.splitlines()) == 313
+
+
+def test_no_word_on_tolerance_without_a_stake(tmp_path):
+    write_mesh(tmp_path / 'model.vtu', maps.model(2, 2, 50.0, 0.0).mesh)
+    soils_file(tmp_path / 'soils.gpkg', [maps.moved(box(-100, -100, 300, 300))])
+    done = run('cut', 'model.vtu', 'soils.gpkg', '--stakes', 'stakes.csv', cwd=tmp_path)
+    assert done.returncode == 0 and ' 0 new points' in done.stderr and 'within' not in done.stderr
+    assert (tmp_path / 'stakes.csv').read_text() == 'x,y,tolerance\n'
 
 
 @pytest.mark.parametrize('k', ['11', '-1', '0.5', 'fine', ''])
@@ -107,6 +129,7 @@ def test_a_table_on_standard_output(tmp_path):
 
 
 @pytest.mark.parametrize('words, why', [
+    (('cut', 'model.vtu', 'soils.gpkg', '--table', '-', '--stakes', '-'), 'one of them can go'),
     (('cut', 'model.vtu', 'soils.gpkg'), 'nothing to write'), (('cut', 'model.vtu', 'soils.gpkg', '-o', 'no/strips.vtu'), 'no such folder'),
     (('cut', 'model.vtu', 'soils.gpkg', '-o', 'model.vtu'), 'one of the files that are read'), (('cut', 'none.vtu', 'soils.gpkg', '--table', '-'), 'no such file'),
     (('cut', 'model.vtu', 'none.gpkg', '--table', '-'), 'no such file'), (('cut', 'model.vtu', 'soils.gpkg', '--soil', 'x', '--table', '-'), 'no attribute "x"'),

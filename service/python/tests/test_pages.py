@@ -8,6 +8,7 @@ from pathlib import Path
 
 import pytest
 
+from daqwimay import tolerance
 from daqwimay.program import answer
 from daqwimay.refusals import markdown
 
@@ -15,6 +16,7 @@ HERE = Path(__file__).resolve().parents[1]
 ROOT = HERE.parents[1]
 PAGE = (ROOT / 'docs' / 'PRACTICE.md').read_text()
 README = (HERE / 'README.md').read_text()
+TOLERANCE = (ROOT / 'docs' / 'TOLERANCE.md').read_text()
 
 
 @pytest.fixture(scope='module')
@@ -35,8 +37,8 @@ def test_the_pages_commands(example):
         command, _, status = line.partition('# exit status ')
         done = subprocess.run([sys.executable, '-m', 'daqwimay', *shlex.split(command)], cwd=example, capture_output=True, text=True)
         assert done.returncode == int(status or 0), (line, done.stderr)
-    said = re.findall(r'^      (cleaned: .+?)(?: \.\.)?$', PAGE, re.M) + re.findall(r'^    (\d+ pieces, \d+ new points)', PAGE, re.M)
-    assert len(said) >= 6 and [s for s in said if s not in done.stderr] == []
+    said = re.findall(r'^      ((?:cleaned: |new points are within ).+?)(?: \.\.)?$', PAGE, re.M) + re.findall(r'^    (\d+ pieces, \d+ new points)', PAGE, re.M)
+    assert len(said) >= 7 and [s for s in said if s not in done.stderr] == []
     rows = re.findall(r'^    (\d+),([a-z ]+),([0-9.]+),[0-9.]+$', PAGE, re.M)
     areas = {(r['cell'], r['soil']): float(r['area']) for r in csv.DictReader(open(example / 'recharge.csv'))}
     assert rows and [r for r in rows if areas[r[:2]] != pytest.approx(float(r[2]), abs=0.01)] == []
@@ -47,6 +49,29 @@ def test_the_pages_python(example, page):
     for code in re.findall(r'```python\n(.+?)```', page, re.S):
         done = subprocess.run([sys.executable, '-W', 'ignore', '-c', code], cwd=example, capture_output=True, text=True)
         assert done.returncode == 0 and done.stdout, done.stderr
+
+
+def test_the_page_on_tolerance():
+    """Its tables and picture are those of tools/tolerance.py, its numbers the package's, rounded up, and what it says is said."""
+    def tool(*words):
+        return subprocess.run([sys.executable, ROOT / 'tools' / 'tolerance.py', *words], capture_output=True, text=True, check=True).stdout
+    tables = tool('--tables').strip().split('\n\n')
+    assert len(tables) == 3 and [t for t in tables if f'\n\n{t}\n\n' not in TOLERANCE] == []
+    assert tool() == (ROOT / 'docs' / 'pictures' / 'tolerance.svg').read_text()
+    sizes = re.findall(r'^\| .+ \| ([0-9,]+) \| ([0-9.e-]+) m \| ([0-9.e-]+) m \|$', TOLERANCE, re.M)
+    steps = re.findall(r'^\| (\d+) \| .+ \| ([0-9.]+) m \| ([0-9.]+) m \+ ([0-9.e-]+) m \|$', TOLERANCE, re.M)
+    shown = [(float(m.replace(',', '')), k, float(n)) for m, bare, fine in sizes for k, n in ((None, bare), (10, fine))]
+    shown += [(5.8e6, int(k), float(half) + float(rest)) for k, half, again, rest in steps if float(half) == float(again) == 0.5 ** (int(k) + 1)]
+    assert len(sizes) == 6 and len(steps) == 11 == len(shown) - 12
+    assert [row for row in shown if not tolerance(*row[:2]) <= row[2] < 1.01 * tolerance(*row[:2])] == []
+
+
+def test_stakes_as_the_page_has_them(example):
+    words, said = re.search(r'^    \$ python (service/python/examples/stakes.py.*)\n((?:    .+\n)+)', TOLERANCE, re.M).groups()
+    done = subprocess.run([sys.executable, *shlex.split(words)], cwd=ROOT, capture_output=True, text=True, check=True)
+    assert done.stdout == re.sub(r'^    ', '', said, flags=re.M)
+    for line in re.findall(r'^(?:    daqwimay cut|      new points) .+$', TOLERANCE, re.M):
+        assert f'{line}\n' in PAGE
 
 
 def drawn(*words):
@@ -92,6 +117,6 @@ def test_legend_is_whole(tmp_path):
 
 
 def test_links_lead_somewhere():
-    for page, folder in ((PAGE, ROOT / 'docs'), (README, HERE)):
+    for page, folder in ((PAGE, ROOT / 'docs'), (README, HERE), (TOLERANCE, ROOT / 'docs')):
         for link in re.findall(r'\]\(([^)#:]+)\)', page):
             assert (folder / link).exists(), link

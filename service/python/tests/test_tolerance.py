@@ -8,8 +8,7 @@ from fractions import Fraction
 import numpy as np
 import pytest
 
-from daqwimay import Kind, Mesh, Refused, overlay, overlay_in_chunks, tolerance, write_stakes
-from daqwimay.survey import tolerance_said
+from daqwimay import Kind, Mesh, Refused, overlay, overlay_in_chunks, tolerance, tolerance_said, write_stakes
 
 GRIDS = (None, *range(11))
 

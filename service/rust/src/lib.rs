@@ -27,6 +27,8 @@
 //! let booked = overlay_with(Settings { grid: Some(1), ..Settings::of(Operation::Lines) }, &cell, &ditch).unwrap();
 //! assert_eq!((booked.mesh.node(6), booked.mesh.node(7)), (Some([1.5, 0.0]), Some([1.5, 2.0])));
 //! ```
+//!
+//! How far a new point may be off its subject edge is proved: `Settings::tolerance` says it, here a quarter of a metre and some 1e-15.
 
 #[rustfmt::skip]
 unsafe extern "C" {
@@ -79,6 +81,16 @@ impl Settings {
     /// The largest limit of meetings, and no grid.
     pub const fn of(operation: Operation) -> Settings {
         Settings { operation, limit: MOST_MEETINGS, grid: None }
+    }
+
+    /// How far each new point may be off its subject edge in x, and in y, in metres: M × 2^-50 + 2^-1074, M being the largest size among the
+    /// coordinates of the subject's corners, and on a grid half a step more. Rounded up: never below what is proved (docs/TOLERANCE.md).
+    pub fn tolerance(&self, subject: &Mesh) -> f64 {
+        let corners = subject.nodes.iter().filter_map(|n| subject.node(*n));
+        let largest = corners.flatten().fold(0.0, |m: f64, c| m.max(c.abs()));
+        let half_a_step = self.grid.map_or(0.0, |k| 0.5 / 2f64.powi(k.min(FINEST_GRID) as i32));
+        // two steps up: one for the sum's rounding, one for 2^-1074 and the product's
+        (largest * 2f64.powi(-50) + half_a_step).next_up().next_up()
     }
 }
 

@@ -214,6 +214,35 @@ fn without_a_grid_points_stay_as_computed() {
     assert_eq!(overlay_with(Settings::of(Operation::Union), &s, &c), overlay(Operation::Union, &s, &c));
 }
 
+/// In units of 2^-112 each number is whole.
+#[test]
+fn a_tolerance_is_above_the_bound_and_next_to_it() {
+    let units = |x: f64| (x * 2f64.powi(112)) as u128;
+    for m in [0, 1, 3, 5_800_000, 5_800_001, (1 << 40) - 1, 1u64 << 40] {
+        let cell = of_points(Kind::Tri3, [[0.0, 0.0], [-(m as f64), 0.0], [0.0, 0.5f64.min(m as f64)]]);
+        for grid in std::iter::once(None).chain((0..=FINEST_GRID).map(Some)) {
+            let tolerance = Settings { grid, ..Settings::of(Operation::Imprint) }.tolerance(&cell);
+            let bound = ((m as u128) << 62) + grid.map_or(0, |k| 1 << (111 - k));
+            assert!(tolerance > 0.0 && (m == 0 && grid.is_none() || units(tolerance) > bound), "{m} {grid:?}");
+            assert!(units(tolerance) - bound <= bound >> 50, "{m} {grid:?}");
+        }
+    }
+    assert_eq!(Settings::of(Operation::Imprint).tolerance(&Mesh::default()), 2.0 * f64::from_bits(1));
+}
+
+#[test]
+fn half_a_step_is_within_the_tolerance() {
+    let square = one(Kind::Quad4, 7, [-4.0, -4.25], [4.0, 4.0]);
+    for k in 0..=FINEST_GRID {
+        let (step, settings) = (0.5f64.powi(k as i32), on(k, Operation::Lines));
+        let off = booked(settings, 1.5 * step).map(|x| (x - 1.5 * step).abs());
+        let tolerance = settings.tolerance(&square);
+        assert!(off == [step / 2.0; 2] && step / 2.0 < tolerance && tolerance < 0.50000001 * step, "{k}");
+    }
+    let named = Mesh { coords: [square.coords.clone(), vec![1e9, 1e9]].concat(), ..square.clone() };
+    assert_eq!(Settings::of(Operation::Union).tolerance(&named), Settings::of(Operation::Union).tolerance(&square));
+}
+
 #[test]
 fn a_grid_that_is_too_fine() {
     let (s, c) = k1();

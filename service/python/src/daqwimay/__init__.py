@@ -15,10 +15,10 @@ from .overlaying import MOST_MEETINGS, Operation, Overlay, overlay
 from .refusals import REFUSALS, Refusal, Refused
 from .soils import SoilMap, read_soils
 from .strips import Strips, cut
-from .survey import FINEST_GRID, tolerance
+from .survey import FINEST_GRID, tolerance, tolerance_said
 from .writing import write_mesh, write_stakes, write_strips, write_table
 
 __version__ = '0.1.0'
 __all__ = ['FINEST_GRID', 'InputError', 'Kind', 'MOST_MEETINGS', 'Mesh', 'Model', 'NotClean', 'Operation', 'Overlay', 'Problem', 'REFUSALS',
            'Refusal', 'Refused', 'SoilMap', 'Strips', 'cut', 'mesh_of_rings', 'overlay', 'overlay_in_chunks', 'read_model', 'read_soils',
-           'tolerance', 'write_mesh', 'write_stakes', 'write_strips', 'write_table']
+           'tolerance', 'tolerance_said', 'write_mesh', 'write_stakes', 'write_strips', 'write_table']

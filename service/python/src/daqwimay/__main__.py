@@ -6,7 +6,7 @@ import sys
 import time
 import warnings
 from pathlib import Path
-from typing import Any, Callable, Optional, Sequence
+from typing import Any, Callable, Optional, Sequence, TextIO
 
 import numpy as np
 
@@ -97,7 +97,7 @@ def _cut_options(p: argparse.ArgumentParser) -> None:
     _map_options(p)
     p.add_argument('-o', '--output', metavar='STRIPS', help='the strips: .vtu, .vtk, .gpkg, .geojson, .shp, .nc, .disv')
     p.add_argument('--table', metavar='CSV', help='cell, soil, area, share; - for standard output')
-    p.add_argument('--stakes', metavar='CSV', help='the new points: x, y, and how far each may be off its cell\'s side in x and in y, in metres')
+    p.add_argument('--stakes', metavar='CSV', help='x and y of each new point, and how far it may be off its cell\'s side in x and in y')
     p.add_argument('--picture', metavar='PNG', help='the model and the strips, drawn: .png, .svg, .pdf')
     p.add_argument('--by', choices=('soil', 'cell'), default='soil', help='colour the picture by soil, or each strip as the cell that it was cut from')
 
@@ -213,18 +213,24 @@ def _write(options: argparse.Namespace, strips: Strips, crs: Any) -> None:
     written = []
     if options.output:
         written += writing.write_strips(options.output, strips, crs)
-    for path, table in ((options.table, lambda f: writing.write_table(f, strips)), (options.stakes, lambda f: writing.write_stakes(f, strips.pieces))):
-        if path == '-':
-            table(sys.stdout)
-        elif path:
-            with open(path, 'w', newline='') as f:
-                table(f)
-            written.append(path)
+    written += _written(options.table, lambda f: writing.write_table(f, strips))
+    written += _written(options.stakes, lambda f: writing.write_stakes(f, strips.pieces))
     if options.picture:
         picture.draw_strips(options.picture, strips, options.by)
         written.append(options.picture)
     if written:
         say('wrote ' + ', '.join(written))
+
+
+def _written(path: Optional[str], table: Callable[[TextIO], int]) -> list[str]:
+    """A table in a file or on standard output, if it is asked for; answers the files written."""
+    if path == '-':
+        table(sys.stdout)
+    if not path or path == '-':
+        return []
+    with open(path, 'w', newline='') as f:
+        table(f)
+    return [path]
 
 
 def _check(options: argparse.Namespace) -> int:
