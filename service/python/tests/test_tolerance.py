@@ -154,7 +154,12 @@ def test_stakes_are_the_new_points_with_their_tolerance():
 
 
 def test_of_a_cell_cut_in_triangles_it_goes_by_their_sides():
-    """Corners of 0.1 whose mean in floats is larger: the triangles' sides have a larger M than the cell's."""
-    from daqwimay.parts import triangles
-    ring = np.array([[0.1, 0.0], [0.1, 0.1], [0.0, 0.1]])
-    assert all(tolerance(mesh) >= tolerance(Mesh.from_cells(ring, [range(3)])) for mesh in triangles(ring))
+    """The middle of a side at 10.6 is booked at 11: the triangles' M is larger than the cell's."""
+    model = Mesh.from_cells([[0, 0], [10.6, 0], [10.6, 10.6], [0, 10.6]], [range(4)])
+    turns = np.linspace(0, 2 * np.pi, 2000, endpoint=False)
+    disc = np.vstack([np.column_stack([5.2 + 4 * np.cos(turns), 5.1 + 4 * np.sin(turns)]), [[5.25, 5.2]]])
+    wedges = Mesh.from_cells(disc, [[2000, *((125 * i + np.arange(126)) % 2000)] for i in range(16)], kinds=Kind.PGON)
+    for k, largest in ((None, 10.6), (0, 11.0)):
+        pieces = overlay_in_chunks(model, wedges, parts=True, survey_grid=k)
+        assert pieces.parted.tolist() == [0] and pieces.tolerance == tolerance(largest, k)
+    assert tolerance(11.0, 0) > tolerance(10.6, 0)
