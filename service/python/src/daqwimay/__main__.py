@@ -28,6 +28,7 @@ examples:
   daqwimay cut model.disv soils.gpkg --soil code -o strips.vtu --table recharge.csv --picture strips.png
   daqwimay cut model.vtu soils.geojson --grid 0.001 --table -        clean the map on a grid of 1 mm first
   daqwimay cut model.vtu soils.geojson --survey-grid 3 -o strips.vtu book new points on multiples of 1/8 metre
+  daqwimay cut model.vtu soils.geojson --survey-grid 10 --stakes -   the new points, and how far each may be off
   daqwimay check model.disv soils.shp                                what is not clean, and where
   daqwimay info model.disv soils.gpkg                                what is in the files
   daqwimay explain input.in                                          what `(unread)` or `(refused N)` of the program mean
