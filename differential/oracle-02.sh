@@ -2,9 +2,9 @@
 # oracle-02.sh OUT: builds OUT/release/oracle-law as oracle.sh does, from a copy of the published Rust that goes on as document 02 says
 # (W1: where no other slot is free the walk turns back, if the reverse is unmarked; W14: an edge that the cell's table has, either way
 # round, isn't added again, and none from a node to itself; W6: a third number on a form's first line is k, and new points are booked on the
-# grid of 1/2^k) and that also counts. To standard error it writes for each overlay, where it has a grid, `point` with the coordinates of each
-# new point before it is booked, then `meetings N collected N`, the second the most nodes collected under one edge key, and then for each
-# cell that it comes to `cell SLOTS` of W14's table, with ` doubled` where the table that the published function makes names a neighbour
+# grid of 1/2^k) and that also counts. To standard error it writes for each overlay `point` with the coordinates of each new point before it is
+# booked, `of` and those of P1 to P4 of its meeting, then `meetings N collected N`, the second the most nodes collected under one edge key, and
+# then for each cell that it comes to `cell SLOTS` of W14's table, with ` doubled` where the table that the published function makes names a neighbour
 # twice at some node, and ` repeats` where the outline as cut passes between the same two nodes twice or from a node to itself (the copy goes
 # on there), and `outline` with the two nodes of each of its outline darts. A cell that is copied has no table in the Rust: its line starts
 # with `copied ` and tells of what the Rust's `build_cell_dart_map` makes of the cell's own edges. Of operations 0 and 5 it writes at last
@@ -89,9 +89,12 @@ pub mod grid {
     pub fn is_set() -> bool {
         K.get().is_some()
     }
-    pub fn booked(p: [f64; 2]) -> [f64; 2] {
+    fn bits(p: [f64; 2]) -> String {
+        format!(" {:016x} {:016x}", p[0].to_bits(), p[1].to_bits())
+    }
+    pub fn booked(p: [f64; 2], ends: [[f64; 2]; 4]) -> [f64; 2] {
+        eprintln!("point{} of{}", bits(p), ends.map(bits).concat());
         let Some(k) = K.get() else { return p };
-        eprintln!("point {:016x} {:016x}", p[0].to_bits(), p[1].to_bits());
         p.map(|x| nearest(k, x))
     }
 }
@@ -101,7 +104,9 @@ READ_K = '''        let k = if *self.it.peek()? == "(" { None } else { Some(self
         mefikit::grid::K.set(k);
 '''
 POINT = '                    Intersection::New(coord) => {\n'
-BOOKED = '                        let coord = crate::grid::booked(coord);\n'
+BOOKED = '''                        let ends = [edge.coord2(0), edge.coord2(1), edge2.coord2(0), edge2.coord2(1)];
+                        let coord = crate::grid::booked(coord, ends.map(|p| p.into()));
+'''
 INNER = '        sorted_ints.extend(v.iter().map(|&n| (projection(n), n)));\n'
 NEW_INNER = '''        if crate::grid::is_set() {
             sorted_ints.clear();

@@ -10,7 +10,6 @@ from fractions import Fraction
 from closing import NODE
 
 FIRST = re.compile(r'^\(overlay (\d+) (\d+)(?: (\d+))?\n')
-POINT = re.compile(r'^point (\w+) (\w+)$', re.M)
 ZERO = '0' * 16
 
 

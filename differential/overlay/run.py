@@ -1,7 +1,7 @@
 #!/usr/bin/env python3
 """The whole overlay against the published Rust, bit for bit. No network.
 
-    python3 differential/overlay/run.py [--overlays N] [--seed S] [--only NAME] [--grids N] [--replay DIR]... [--show K] [--built DIR] [--later DIR] [--driver FILE]
+    python3 differential/overlay/run.py [--overlays N] [--seed S] [--only NAME] [--grids N] [--replay DIR]... [--show K] [--eighths E] [--built DIR] [--later DIR] [--driver FILE]
 
 Builds the oracle (differential/oracle) into target/oracle, its copy that goes on as document 02 says and counts into target/oracle-02 and
 the driver over the proved library into target/overlays (or takes those given), asks all sides N made overlays (by default 120,000; of the
@@ -11,8 +11,9 @@ table is doubled in the Rust, the answer is also held to the published Rust's, a
 answers are compared without them; the parents are held to the copy's families where each cell has its number as its family, and of
 operations 0 and 5 to the list of parents that the copy keeps. The Rust's count of new points is our fourth, and our second must be how many of
 them the copy's pieces name. Then come overlays with a grid (W6), by default a quarter as many: the published Rust has none, so the copy alone is
-the measure there, and the new points must be those of the published Rust without a grid, booked (booked.py). The last line has the counts; the
-exit status is 1 where one is unexplained."""
+the measure there, and the new points must be those of the published Rust without a grid, booked (booked.py). Each new point of an accepted
+overlay is held to the bound of W11 by its meeting's subject edge (near_edge.py); --eighths makes it smaller. The last line has the counts; the exit
+status is 1 where one is unexplained."""
 import argparse
 import collections
 import glob
@@ -29,6 +30,7 @@ sys.path.insert(0, HERE)
 sys.dont_write_bytecode = True
 
 import booked
+import near_edge
 from booked import grid, without_grid
 from closing import (BOTH_CUT, Told, bare, faults, in_the_family, looked_at, named_points, numbered, operation, parents, parents_of_rust,
                      pieces, pieces_of_rust, with_all_pieces)
@@ -50,24 +52,25 @@ MOST = 65536
 # The operations that drop no piece of the subject, on whose edges all new points are.
 ALL_NAMED = '015'
 # What the copy of the Rust writes of an overlay, and of each of its cells.
-OVERLAY = re.compile(r'((?:point \w+ \w+\n)*)meetings (\d+) collected (\d+)\n((?:(?:copied )?cell \d+(?: doubled)?(?: repeats)?\noutline[\d ]*\n)*)(?:parents([\d ]*)\n)?')
+OVERLAY = re.compile(r'((?:point [\w ]+\n)*)meetings (\d+) collected (\d+)\n((?:(?:copied )?cell \d+(?: doubled)?(?: repeats)?\noutline[\d ]*\n)*)(?:parents([\d ]*)\n)?')
 CELL = re.compile(r'(copied )?cell (\d+)( doubled)?( repeats)?\noutline([\d ]*)\n')
 REFUSED = {8: "refused 8: more meetings in the Rust's count, explained at a higher limit", 9: "refused 9: over 256 nodes under a key of the Rust's",
            10: "refused 10: over 1,024 slots in the copy's table", 19: 'refused 19: the outline as cut repeats in the copy'}
-# An overlay as the copy tells of it: its answer, where it has a grid the new points before they are booked, the meetings, the most nodes
-# collected under one key, its cells in order, and the cell of each piece, where it keeps a list of parents.
-Later = collections.namedtuple('Later', 'answer points meetings collected cells parents')
+# An overlay as the copy tells of it: its answer, the new points before they are booked, the ends of the meeting of each, the count of meetings, the
+# most nodes collected under one key, its cells in order, and the cell of each piece, where it keeps a list of parents.
+Later = collections.namedtuple('Later', 'answer points ends meetings collected cells parents')
 
 
 class Sides:
     """The programs, each started once for a batch of forms."""
 
-    def __init__(self, driver, built, later):
+    def __init__(self, driver, built, later, eighths):
         self.commands = {'ours': [driver]}
         for n in ('oracle', 'oracle-law', 'oracle-seq', 'oracle-angle'):
             self.commands[n] = [os.path.join(built, 'release', n), 'count']
         self.commands['later'] = [os.path.join(later, 'release', 'oracle-law'), 'count']
         self.without, self.on_grid, self.booked = (collections.Counter() for _ in range(3))
+        self.eighths, self.furthest = eighths, {}
 
     def tally(self, form):
         """What is counted of overlays with a grid, or of those without."""
@@ -102,8 +105,14 @@ class Sides:
         told = OVERLAY.findall(told)
         if len(told) != len(forms):
             sys.exit('counts of %d overlays for %d forms' % (len(told), len(forms)))
-        return [Later(a, booked.POINT.findall(points), int(m), int(n), [cell(*c) for c in CELL.findall(cells)], list(map(int, of.split())))
-                for a, (points, m, n, cells, of) in zip(answers, told)]
+        return [later_of(*row) for row in zip(answers, told)]
+
+
+def later_of(answer, told):
+    points, meetings, collected, cells, parents = told
+    points = near_edge.POINT.findall(points)
+    return Later(answer, [p[:2] for p in points], [p[2].split() for p in points], int(meetings), int(collected), [cell(*c) for c in CELL.findall(cells)],
+                 list(map(int, parents.split())))
 
 
 def cell(copied, slots, doubled, repeats, outline):
@@ -207,6 +216,18 @@ def on_their_grids(sides, forms, answers, rust, told):
     return good
 
 
+def near_their_edges(sides, forms, answers, told):
+    """Of each form, its answer and what the copy tells of it, whether every new point is within W11's bound of its meeting's subject edge."""
+    good = []
+    for form, answer, later in zip(forms, answers, told):
+        faults, sizes = near_edge.measured(form, answer, later.points, later.ends, sides.eighths)
+        sides.tally(form)['new points held to the bound'] += len(sizes)
+        most = sides.furthest.setdefault(grid(form), [0.0, 0.0])
+        most[:] = map(max, zip(most, *sizes))
+        good.append(not faults)
+    return good
+
+
 def code(answer):
     """The number of a refusal; 0 where there is none."""
     return int(answer[9:-2]) if answer.startswith('(refused') else 0
@@ -291,7 +312,8 @@ def compared(sides, forms):
         verdict[i] = why
     accepted = [i for i, v in enumerate(verdict) if v != 'unexplained' and not code(ours[i])]
     form, answer, alone, told = ([r[i] for i in accepted] for r in (forms, listed, rust, later))
-    held = closed(sides, form, answer, told), descended(sides, form, answer, told), on_their_grids(sides, form, answer, alone, told)
+    held = (closed(sides, form, answer, told), descended(sides, form, answer, told), on_their_grids(sides, form, answer, alone, told),
+            near_their_edges(sides, form, answer, told))
     for i, *good in zip(accepted, *held):
         verdict[i] = verdict[i] if all(good) else 'unexplained'
     return list(zip(forms, listed, rust, verdict, [points for points, _ in beside]))
@@ -395,7 +417,7 @@ def build(a):
         out = os.path.join(ROOT, 'target', 'overlays')
         subprocess.run(['cargo', 'build', '--release', '--offline', '--quiet', '--target-dir', out], cwd=os.path.join(HERE, 'driver'), check=True)
         driver = os.path.join(out, 'release', 'overlays')
-    return Sides(driver, built, later)
+    return Sides(driver, built, later, a.eighths)
 
 
 def options():
@@ -406,6 +428,7 @@ def options():
     p.add_argument('--grids', type=int)
     p.add_argument('--replay', action='append', default=[])
     p.add_argument('--show', type=int, default=3)
+    p.add_argument('--eighths', type=int, default=near_edge.off.EIGHTHS)
     p.add_argument('--built')
     p.add_argument('--later')
     p.add_argument('--driver')
@@ -431,6 +454,8 @@ def main():
     print('known refusals: ' + ', '.join('%d: %d' % c for c in sorted(codes.items())) + '; %d not as known' % bad)
     named = replayed(sides, [os.path.join(ROOT, 'differential', 'oracle', 'cases')] + a.replay, shown)
     print('named inputs: ' + ', '.join('%s %d' % c for c in sorted(named.items())))
+    print('furthest off, in M × 2^-53, with a grid beyond half a step, and of the bound: ' + ', '.join(
+        '%s %.4f %.4f' % ('no grid' if k is None else 'k %d' % k, *most) for k, most in sorted(sides.furthest.items(), key=lambda row: (row[0] is not None, row[0]))))
     for title, row in shown:
         show(title, row, sides)
     left = n['unexplained'] + m['unexplained'] + bad + named['unexplained']
