@@ -94,13 +94,13 @@ class Meetings:
         return self.across(a, b)
 
     def tiny(self):
-        """As small as meetings are, about 2^-530, or one coordinate subnormal and the other of any size."""
-        a, b = self.pair(self.power(-538, -500))
+        """About as small as segments that meet are, or one coordinate subnormal and the other of any size."""
         if self.r.random() < 0.5:
-            size = self.power(-500, 38)
-            a, b = [(self.r.randint(-9, 9) * 2.0 ** -1074, self.r.uniform(-size, size)) for _ in range(2)]
-            a, b = (a, b) if self.r.random() < 0.5 else (a[::-1], b[::-1])
-        return self.across(a, b)
+            size = self.power(-540, -514)
+            return self.through(*self.pair(self.power(-564, -514)), self.r.random(), self.direction(), size * self.r.random(), size * self.r.random())
+        size = self.power(-500, 38)
+        a, b = [(self.r.randint(-9, 9) * 2.0 ** -1074, self.r.uniform(-size, size)) for _ in range(2)]
+        return self.across(*((a, b) if self.r.random() < 0.5 else (a[::-1], b[::-1])))
 
     def thin(self):
         """One of both up to 2^23 times as long as the other."""
@@ -181,7 +181,7 @@ class Told:
     """What is told of a kind's meetings, or of a grid's points."""
 
     def __init__(self):
-        self.lines, self.sizes, self.most, self.part, self.worst = 0, [], 0.0, 0.0, None
+        self.lines, self.sizes, self.most, self.part, self.worst, self.least = 0, [], 0.0, 0.0, None, math.inf
 
 
 class Measure:
@@ -202,6 +202,7 @@ class Measure:
         if size >= told.most:
             told.most, told.worst = size, v
         told.part = max(told.part, far / off.allowance(None, m))
+        told.least = min(told.least, max(map(abs, v[:4])))
         self.hold(v, None, point, far, m)
         if point != off.computed(v):
             self.fail(v, 'not the point computed')
@@ -259,12 +260,13 @@ def search(made, program, measure, n):
 
 
 def report(measure):
-    print('%-10s%10s%12s%16s%16s%16s' % ('kind', 'lines', 'new points', 'half are below', 'the furthest', 'of the bound'))
-    print('%-10s%10s%12s%16s%16s' % ('', '', '', 'M × 2^-53', 'M × 2^-53'))
+    print('%-10s%10s%12s%12s%16s%16s%16s' % ('kind', 'lines', 'new points', 'the least M', 'half are below', 'the furthest', 'of the bound'))
+    print('%-10s%10s%12s%12s%16s%16s' % ('', '', '', '', 'M × 2^-53', 'M × 2^-53'))
     rows = list(measure.kinds.items())
     for kind, told in rows + [('all', total([t for _, t in rows]))]:
         half = sorted(told.sizes)[len(told.sizes) // 2] if told.sizes else 0.0
-        print('%-10s%10d%12d%16.4f%16.7f%16.7f' % (kind, told.lines, len(told.sizes), half, told.most, told.part))
+        least = '2^%.1f' % math.log2(told.least) if 0 < told.least < math.inf else ''
+        print('%-10s%10d%12d%12s%16.4f%16.7f%16.7f' % (kind, told.lines, len(told.sizes), least, half, told.most, told.part))
     print('the furthest: ' + line(max((t for _, t in rows), key=lambda t: t.most).worst))
     print('%-10s%10s%32s%32s' % ('grid', 'points', 'beyond half a step, M × 2^-53', 'of the bound with half a step'))
     for k in sorted(measure.grids):
@@ -275,7 +277,8 @@ def report(measure):
 def total(rows):
     out = Told()
     for t in rows:
-        out.lines, out.sizes, out.most, out.part = out.lines + t.lines, out.sizes + t.sizes, max(out.most, t.most), max(out.part, t.part)
+        out.lines, out.sizes, out.least = out.lines + t.lines, out.sizes + t.sizes, min(out.least, t.least)
+        out.most, out.part = max(out.most, t.most), max(out.part, t.part)
     return out
 
 
