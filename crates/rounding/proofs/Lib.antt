@@ -2,3 +2,4 @@ pub mod Whole
 pub mod Nearest
 pub mod Sizes
 pub mod Operations
+pub mod Order
