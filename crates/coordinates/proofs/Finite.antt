@@ -19,6 +19,7 @@ use Rattle.exact.proofs.ExactUnits.{exact_units}
 use Rattle.cutting.specs.Edges.{Edge, edge_at, key}
 use Rattle.cutting.specs.Edition.{ours}
 use Rattle.plane.specs.Plane.{is_number, point_at}
+use Rattle.plane.proofs.FloatOrder.{finite_number}
 use Rattle.grid.specs.Grid.{Grid, on_grid, booked}
 use Rattle.grid.proofs.OnGrid.{still_fits, still_finite, bounded_42, by_grid}
 use Rattle.settings.specs.declared.Settings.{Settings}
@@ -38,7 +39,7 @@ use Rattle.coordinates.specs.Finite.{Bounded, NodeOf, Ordered}
 use Rattle.coordinates.proofs.Booked.{allowed_bounded, new_point_lem}
 use Rattle.coordinates.proofs.Nodes.{each_joined, collected_under, key_under}
 use Rattle.coordinates.proofs.InScene.{scene_length, met_nodes_lem, edge_nodes}
-use Rattle.coordinates.proofs.Projections.{BoundedPoint, projection_finite, finite_number, numbers_ordered}
+use Rattle.coordinates.proofs.Projections.{BoundedPoint, projection_finite, numbers_ordered}
 use Rattle.coordinates.proofs.Points.{Each, each_join, each_none, each_cons, Both, edges_under, mesh_allowed, allowed_ends, Origin, meetings_origin, before_moved}
 
 -- where a coordinate is put on a grid, it is still finite and at most 2^42 in size

@@ -92,12 +92,6 @@ projection_finite p q n P Q N =
 
 -- ---- the total order
 
-pub finite_number : (x : Float) → T (finite x) → eq x x ≡ true
-unfolding lt
-finite_number nan h = absurd h
-finite_number (inf s) h = absurd h
-finite_number (fin s m e) h = number_left (fin s m e) (inf false) refl
-
 pub numbers_ordered : (x y : Float) → eq x x ≡ true → eq y y ≡ true → Ordered x y
 numbers_ordered x y n k = go (lt x y) (lt y x) (eq x y) refl refl refl
   where

@@ -1,12 +1,13 @@
 -- An overlay that the entry lets pass has what `specs/Passed.antt` says. Assumes nothing.
-use mathlib.Core.Path.{◌≡◌, refl, sym, ap, ◌∙◌}
+use mathlib.Core.Path.{◌≡◌, refl, sym, ap, ◌∙◌, subst}
 use mathlib.Core.Logic.{◌⊎◌, inl, inr}
 use mathlib.Core.Bool.{Bool, true, false, ◌&&◌, ◌||◌, not, cond, true≢false, and-false}
 use Prim.Native.Nat.{ℕ, suc, ◌+◌, ◌*◌, ◌%◌, ◌^◌, ◌≤◌, ◌<◌}
 use native.Mathlib.Nat.{suc-ne-zero}
 use native.Mathlib.Omega.{arith}
-use lib.Dec.{eqb, leb, ltb}
+use lib.Dec.{T, eqb, leb, ltb}
 use lib.Ieee.{Float, nan, inf, fin, up, down}
+use lib.Ieee.Scale.{finite}
 use lib.ListN.{length, get_or, take}
 use borrow.Author.Tests.{eqb-true, leb-true, ltb-true, eq-eqb, le-leb, lt-leb}
 use mathlib.Core.List.{List}
@@ -67,6 +68,9 @@ shape_parts m h =
         (u.0, u.1, t.1, s.1, r.1, q.1, p.1)
 
 -- ---- 3
+
+pub placed_finite : (x : Float) → Placed x → T (finite x)
+placed_finite x p = subst (λ (y : Float). T (finite y)) (sym p.finite) tt
 
 pub placed_of : (x : Float) → coord_ok x ≡ true → Placed x
 unfolding coord_ok

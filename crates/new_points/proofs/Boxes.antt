@@ -15,7 +15,7 @@ use Rattle.plane.proofs.FloatOrder.{lt_asym, lt_irrefl, number_left}
 use Rattle.cutting.specs.Edges.{Edge}
 use Rattle.rules.specs.declared.Bounds.{Bounds}
 use Rattle.rules.specs.SpatialIndex.{smaller, stretched, box_to, box_of, edge_box, boxes_meet}
-use Rattle.spatial_index.proofs.FloatLe.{not_lt_le, le_trans}
+use Rattle.plane.proofs.FloatLe.{not_lt_le, le_trans}
 
 -- ---- the smaller and the larger of two numbers
 

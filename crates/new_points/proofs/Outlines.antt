@@ -15,7 +15,7 @@ use Rattle.settings.specs.declared.Settings.{Settings}
 use Rattle.entry.specs.Mesh.{Mesh, node_count}
 use Rattle.entry.specs.Passed.{Sound}
 use Rattle.entry.specs.Refused.{entry_of}
-use Rattle.entry.proofs.Passed.{passed, node_within}
+use Rattle.entry.proofs.Passed.{placed_finite, passed, node_within}
 use Rattle.rules.specs.Mesh.{the_subject, cell_at, cells_of}
 use Rattle.rules.specs.Neighbours.{Net, subject_net, cutter_net}
 use Rattle.rules.specs.SpatialIndex.{edge_box, boxes_meet}
@@ -23,7 +23,7 @@ use Rattle.rules.specs.Meetings.{Met, Scene, added_by, scene_of}
 use Rattle.rules.specs.Cell.{cell_of, outline_of}
 use Rattle.rules.specs.Operations.{scene_for}
 use Rattle.rules.proofs.Closing.{cells_lent}
-use Rattle.coordinates.proofs.Projections.{finite_number}
+use Rattle.plane.proofs.FloatOrder.{finite_number}
 use Rattle.coordinates.proofs.Points.{Both, corners_under, edges_under}
 use Rattle.coordinates.proofs.InScene.{scene_length, lent_even, cutter_all}
 use Rattle.new_points.proofs.Boxes.{Numbers}
@@ -35,7 +35,7 @@ use Rattle.new_points.proofs.Near.{same_point, same_box, near_cut}
 
 -- the coordinates of a mesh are numbers
 coord_number : (m : Mesh) → Sound false m → (i : ℕ) → i < length m.coords → is_number (get_or m.coords i nan) ≡ true
-coord_number m ok i h = finite_number (get_or m.coords i nan) (subst (λ (x : Float). T (finite x)) (sym (ok.placed i h).finite) tt)
+coord_number m ok i h = finite_number (get_or m.coords i nan) (placed_finite (get_or m.coords i nan) (ok.placed i h))
 
 node_numbers : (m : Mesh) → Sound false m → (n : ℕ) → n < node_count m → Numbers (point_at m.coords n)
 unfolding point_at

@@ -5,7 +5,8 @@ use mathlib.Core.Path.{◌≡◌, refl, sym, subst, ◌∙◌}
 use mathlib.Core.Logic.{inl, inr}
 use mathlib.Core.Bool.{Bool, true, false, cond, not, ◌&&◌, ◌||◌, true≢false}
 use lib.Dec.{T}
-use lib.Ieee.{Float, is_nan, lt, le, eq}
+use lib.Ieee.{Float, nan, inf, fin, is_nan, lt, le, eq}
+use lib.Ieee.Scale.{finite}
 use Rattle.std.specs.Float.{NotNan}
 use Rattle.std.specs.declared.option.Option.TheVariants.{Some, None}
 use Rattle.std.specs.declared.cmp.Ordering.TheVariants.{Less, Equal, Greater}
@@ -55,6 +56,12 @@ number_left x y h = itself x (law.le_left x y (law.le_of_lt x y (law.T_from_true
 
 pub number_right : (x y : Float) → lt x y ≡ true → eq y y ≡ true
 number_right x y h = itself y (law.le_right x y (law.le_of_lt x y (law.T_from_true (lt x y) h)))
+
+pub finite_number : (x : Float) → T (finite x) → eq x x ≡ true
+unfolding lt
+finite_number nan h = absurd h
+finite_number (inf s) h = absurd h
+finite_number (fin s m e) h = number_left (fin s m e) (inf false) refl
 
 pub lt_irrefl : (x : Float) → lt x x ≡ false
 lt_irrefl x = fails (lt x x) (λ h. law.lt_irrefl x (law.T_from_true (lt x x) h))

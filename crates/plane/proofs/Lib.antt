@@ -1,1 +1,2 @@
 pub mod FloatOrder
+pub mod FloatLe

@@ -1,5 +1,9 @@
 pub mod Whole
 pub mod Nearest
 pub mod Sizes
-pub mod Operations
+pub mod Signs
 pub mod Order
+pub mod Sums
+pub mod Operations
+pub mod Differences
+pub mod Quotients

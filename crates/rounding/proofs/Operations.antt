@@ -1,26 +1,27 @@
 -- What the operations on f64 round, in units of 2^-1074, and by how much they err. Assumes nothing.
 use mathlib.Core.Path.{◌≡◌, refl, sym, ap, ap₂, ◌∙◌, subst}
-use mathlib.Core.Bool.{Bool, true, false, not, cond, ◌&&◌, beq, true≢false, false≢true}
+use mathlib.Core.Bool.{Bool, true, false, not}
 use Prim.Native.Nat.{ℕ, zero, suc, ◌+◌, ◌-◌, ◌*◌, ◌^◌, ◌≤◌, ◌<◌}
-use native.Mathlib.Nat.{le_trans, le_of_eq, le_antisymm, le_of_lt, lt_of_le_of_lt, mul-le-mul_right, le_of_mul-le-mul_right}
-use native.Mathlib.Nat.{mul_comm, mul_assoc, mul_right_comm, mul-mul-mul_comm, mul-pos, mul-sub}
+use native.Mathlib.Nat.{le_trans, le_of_eq, lt_of_le_of_lt, le_of_mul-le-mul_right}
+use native.Mathlib.Nat.{add-mul, mul_comm, mul_assoc, mul_right_comm, mul-mul-mul_comm, mul-pos}
 use native.Mathlib.Omega.{arith}
-use lib.Dec.{T, ltb, lit<}
+use lib.Dec.{T, lit<}
 use lib.Pow.{pow_pos}
 use lib.IntN.{ℤ, pos, neg_ℤ, nat_abs, ◌+ℤ◌, ◌-ℤ◌, ◌*ℤ◌}
-use lib.Ieee.{Float, nan, inf, fin, binary64, unlike, up, down, round, sum, add, sub, neg, mul, fits}
+use lib.Ieee.{Float, nan, inf, fin, binary64, unlike, up, down, round, add, sub, neg, mul, fits}
 use lib.Ieee.Fits.{round_is, down_pos, neg-fits}
 use lib.Ieee.Exact.{HasValue, units_val}
 use lib.Ieee.Order.{drop, kept}
 use lib.Ieee.Scale.{round_same, finite}
 use lib.Ieee.Bits.{is_true}
-use borrow.Author.Tests.{ltb-true, ltb-false}
 use Rattle.exact.specs.Exact.{mag, signed, coord}
-use Rattle.exact.proofs.Integers.{diff_same, diff_add, signed_diff, signed_mul, times_signed, abs_signed}
+use Rattle.exact.proofs.Integers.{diff, diff_same, diff_add, signed_diff, signed_mul, times_signed, abs_signed}
 use Rattle.exact.proofs.Fields.{value_mag}
 use Rattle.exact.proofs.ExactUnits.{exact_units}
 use Rattle.rounding.proofs.Nearest.{Close, rounded, rounded_near, rounded_whole, unscale}
 use Rattle.rounding.proofs.Sizes.{apart_signed}
+use Rattle.rounding.proofs.Order.{above, under}
+use Rattle.rounding.proofs.Sums.{Fraction, add_fraction}
 
 -- ---- what an operation rounds
 
@@ -31,71 +32,33 @@ pub record Rounds (x : Float) (z : ℤ) : Type 0 where
   pub same : x ≡ round binary64 sign size (2 ^ 1074)
   pub value : signed sign size ≡ z
 
-plus_is : (r s t : Bool) (k m n : ℕ) → cond r 0 k + (cond s m 0 + cond t n 0) ≡ cond s 0 m + cond t 0 n + cond r k 0 → signed r k ≡ signed s m +ℤ signed t n
-plus_is r s t k m n e =
-    signed_diff r k
-    ∙ diff_same (cond r 0 k) (cond r k 0) (cond s 0 m + cond t 0 n) (cond s m 0 + cond t n 0) e
-    ∙ sym (ap₂ ◌+ℤ◌ (signed_diff s m) (signed_diff t n) ∙ diff_add (cond s 0 m) (cond s m 0) (cond t 0 n) (cond t n 0))
+-- u - v and U - V, of which l and c times as much are the same
+rescaled : (k u v U V c l : ℕ) → 0 < c → k + v ≡ u → u * l ≡ U * c → v * l ≡ V * c → (V ≤ U) × (k * l ≡ (U - V) * c)
+rescaled k u v U V c l h e f g =
+    let some : k * l + V * c ≡ U * c = omega (arith, ap (λ (n : ℕ). n * l) e) in
+    let less : V ≤ U = le_of_mul-le-mul_right {m = V} {n = U} {k = c} (omega arith) h in
+    let part : (U - V) * c + V * c ≡ U * c = sym (add-mul (U - V) V c) ∙ ap (λ (n : ℕ). n * c) (let w : U - V + V ≡ U = omega arith in w) in
+    (less, omega arith)
 
-unscaled : (a b A B c l : ℕ) → 0 < c → a ≤ b → a * l ≡ A * c → b * l ≡ B * c → A ≤ B
-unscaled a b A B c l h k e f = le_of_mul-le-mul_right (le_trans (le_of_eq (sym e)) (le_trans (mul-le-mul_right l k) (le_of_eq f))) h
-
-together : (a b A B c l : ℕ) → a * l ≡ A * c → b * l ≡ B * c → (a + b) * l ≡ (A + B) * c
-together a b A B c l e f = omega arith
-
-less : (a b A B c l : ℕ) → a ≤ b → A ≤ B → a * l ≡ A * c → b * l ≡ B * c → (b - a) * l ≡ (B - A) * c
-less a b A B c l h k e f =
-    let u : (b - a) * l ≡ l * b - l * a = mul_comm (b - a) l ∙ mul-sub l b a in
-    let v : (B - A) * c ≡ c * B - c * A = mul_comm (B - A) c ∙ mul-sub c B A in
-    omega arith
-
--- ±a / c ± b / c, which are ±A and ±B units
-sum_rounds : (s t : Bool) (a b c A B : ℕ) → 0 < c → a * 2 ^ 1074 ≡ A * c → b * 2 ^ 1074 ≡ B * c → Rounds (sum binary64 s a t b c) (signed s A +ℤ signed t B)
-unfolding sum
-sum_rounds s t a b c A B h e f = go (beq s t) refl (ltb a b) refl (ltb b a) refl
+in_units : {x : Float} {u v c : ℕ} (U V : ℕ) → 0 < c → u * 2 ^ 1074 ≡ U * c → v * 2 ^ 1074 ≡ V * c → Fraction x u v c → Rounds x (diff U V)
+in_units {x} {u} {v} {c} U V h f g r = go r.sign r.size r.same r.value
   where
-    alike : (s t : Bool) → beq s t ≡ true → signed s (A + B) ≡ signed s A +ℤ signed t B
-    alike true true e = plus_is true true true (A + B) A B (omega arith)
-    alike false false e = plus_is false false false (A + B) A B (omega arith)
-    alike true false e = absurd (false≢true e)
-    alike false true e = absurd (false≢true e)
-
-    second : (s t : Bool) → beq s t ≡ false → A ≤ B → signed t (B - A) ≡ signed s A +ℤ signed t B
-    second true false e k = plus_is false true false (B - A) A B (omega arith)
-    second false true e k = plus_is true false true (B - A) A B (omega arith)
-    second true true e k = absurd (true≢false e)
-    second false false e k = absurd (true≢false e)
-
-    first : (s t u : Bool) → beq s t ≡ false → B ≤ A → (u ≡ false → A ≡ B) → signed (s && u) (A - B) ≡ signed s A +ℤ signed t B
-    first true false true e k z = plus_is true true false (A - B) A B (omega arith)
-    first true false false e k z = let y = z refl in plus_is false true false (A - B) A B (omega arith)
-    first false true u e k z = plus_is false false true (A - B) A B (omega arith)
-    first true true u e k z = absurd (true≢false e)
-    first false false u e k z = absurd (true≢false e)
-
-    go : (x : Bool) → beq s t ≡ x → (y : Bool) → ltb a b ≡ y → (u : Bool) → ltb b a ≡ u
-        → Rounds (cond x (round binary64 s (a + b) c) (cond y (round binary64 t (b - a) c) (round binary64 (s && u) (a - b) c))) (signed s A +ℤ signed t B)
-    go true x y p u q = record {
-      sign = s;
-      size = A + B;
-      same = round_same binary64 s (a + b) c (A + B) (2 ^ 1074) h (pow_pos 1074) (together a b A B c (2 ^ 1074) e f);
-      value = alike s t x;
-    }
-    go false x true p u q =
-        let k : A ≤ B = unscaled a b A B c (2 ^ 1074) h (le_of_lt (ltb-true a b p)) e f in
+    go : (s : Bool) (k : ℕ) → x ≡ round binary64 s k c → above s k + v ≡ u + under s k → Rounds x (diff U V)
+    go false k e w =
+        let q = rescaled k u v U V c (2 ^ 1074) h (omega arith) f g in
         record {
-          sign = t;
-          size = B - A;
-          same = round_same binary64 t (b - a) c (B - A) (2 ^ 1074) h (pow_pos 1074) (less a b A B c (2 ^ 1074) (le_of_lt (ltb-true a b p)) k e f);
-          value = second s t x k;
+          sign = false;
+          size = U - V;
+          same = e ∙ round_same binary64 false k c (U - V) (2 ^ 1074) h (pow_pos 1074) q.1;
+          value = signed_diff false (U - V) ∙ diff_same (U - V) 0 U V (let l = q.0 in omega arith);
         }
-    go false x false p u q =
-        let k : B ≤ A = unscaled b a B A c (2 ^ 1074) h (ltb-false a b p) f e in
+    go true k e w =
+        let q = rescaled k v u V U c (2 ^ 1074) h (omega arith) g f in
         record {
-          sign = s && u;
-          size = A - B;
-          same = round_same binary64 (s && u) (a - b) c (A - B) (2 ^ 1074) h (pow_pos 1074) (less b a B A c (2 ^ 1074) (ltb-false a b p) k f e);
-          value = first s t u x k (λ z. le_antisymm (unscaled a b A B c (2 ^ 1074) h (ltb-false b a (q ∙ z)) e f) k);
+          sign = true;
+          size = V - U;
+          same = e ∙ round_same binary64 true k c (V - U) (2 ^ 1074) h (pow_pos 1074) q.1;
+          value = signed_diff true (V - U) ∙ diff_same 0 (V - U) U V (let l = q.0 in omega arith);
         }
 
 -- a finite f64
@@ -106,18 +69,29 @@ pub record Number (x : Float) : Type 0 where
 over_both_lem : (a A de dd l : ℕ) → a * l ≡ A * de → a * dd * l ≡ A * (de * dd)
 over_both_lem a A de dd l e = mul_right_comm a dd l ∙ ap (λ (n : ℕ). n * dd) e ∙ mul_assoc A de dd
 
+-- ±a + ±b, of which l and c times as much are the same
+both_scaled : (s t : Bool) (a b A B c l : ℕ) → a * l ≡ A * c → b * l ≡ B * c
+    → ((above s a + above t b) * l ≡ (above s A + above t B) * c) × ((under s a + under t b) * l ≡ (under s A + under t B) * c)
+both_scaled false false a b A B c l e f = (omega arith, omega arith)
+both_scaled false true a b A B c l e f = (omega arith, omega arith)
+both_scaled true false a b A B c l e f = (omega arith, omega arith)
+both_scaled true true a b A B c l e f = (omega arith, omega arith)
+
 pub add_rounds : (x y : Float) → Number x → Number y → Rounds (add binary64 x y) (coord x +ℤ coord y)
-unfolding add coord
+unfolding coord
 add_rounds nan y p q = absurd p.end
 add_rounds (inf s) y p q = absurd p.end
 add_rounds (fin s m e) nan p q = absurd q.end
 add_rounds (fin s m e) (inf t) p q = absurd q.end
 add_rounds (fin s m e) (fin t n d) p q =
-    let u = exact_units (fin s m e) p.fit p.end in
-    let v = exact_units (fin t n d) q.fit q.end in
-    sum_rounds s t (m * up e * down d) (n * up d * down e) (down e * down d) (mag (fin s m e)) (mag (fin t n d)) (mul-pos (down_pos e) (down_pos d))
-    (over_both_lem (m * up e) (mag (fin s m e)) (down e) (down d) (2 ^ 1074) u.1)
-    (over_both_lem (n * up d) (mag (fin t n d)) (down d) (down e) (2 ^ 1074) v.1 ∙ ap (λ (c : ℕ). mag (fin t n d) * c) (mul_comm (down d) (down e)))
+    let A = mag (fin s m e) in
+    let B = mag (fin t n d) in
+    let u = over_both_lem (m * up e) A (down e) (down d) (2 ^ 1074) (exact_units (fin s m e) p.fit p.end).1 in
+    let v = over_both_lem (n * up d) B (down d) (down e) (2 ^ 1074) (exact_units (fin t n d) q.fit q.end).1 ∙ ap (λ (c : ℕ). B * c) (mul_comm (down d) (down e)) in
+    let w = both_scaled s t (m * up e * down d) (n * up d * down e) A B (down e * down d) (2 ^ 1074) u v in
+    subst (λ (z : ℤ). Rounds (add binary64 (fin s m e) (fin t n d)) z)
+    (sym (ap₂ ◌+ℤ◌ (signed_diff s A) (signed_diff t B) ∙ diff_add (above s A) (under s A) (above t B) (under t B)))
+    (in_units (above s A + above t B) (under s A + under t B) (mul-pos (down_pos e) (down_pos d)) w.0 w.1 (add_fraction s t m n e d))
 
 neg_number : (x : Float) → Number x → Number (neg x)
 unfolding neg

@@ -1,4 +1,3 @@
-pub mod Differences
 pub mod Squares
 pub mod Precedence
 pub mod Moves

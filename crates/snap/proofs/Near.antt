@@ -8,19 +8,22 @@ use native.Mathlib.Nat.{le_antisymm, le_of_eq, add-zero}
 use native.Mathlib.Decide.{dec_le, ℕ_discrete}
 use native.Mathlib.Omega.{arith}
 use native.Mathlib.Numerals.{add-one}
+use lib.Dec.{T}
 use lib.ListN.{length, get_or, take, drop, length-drop}
 use lib.Seq.{get_or-drop, take_all}
 use lib.Ieee.{Float, neg, lt, le}
+use lib.Ieee.Scale.{finite}
 use Rattle.lists.proofs.Search.{first_none}
 use Rattle.lists.proofs.Halving.{Turns}
-use Rattle.plane.specs.Plane.{◌⊖◌, ◌⊗◌, point_at}
+use Rattle.plane.specs.Plane.{◌⊖◌, ◌⊗◌, x_of, point_at}
 use Rattle.plane.specs.declared.Point.{Point}
+use Rattle.plane.proofs.FloatLe.{le_not_lt}
 use Rattle.plane.proofs.FloatOrder.{lt_asym, lt_irrefl, not_lt_trans, number_right}
-use Rattle.entry.specs.Passed.{Placed}
+use Rattle.entry.proofs.Passed.{placed_finite}
 use Rattle.rules.specs.Snap.{weld_eps, distance2, nearest_to, nearer, closest_within}
 use Rattle.rules.specs.declared.Nearest.{Nearest}
 use Rattle.snap.specs.Steps.{InOrder, ahead, window_start}
-use Rattle.snap.proofs.Differences.{stays_above, stays_below, le_not_lt}
+use Rattle.rounding.proofs.Differences.{stays_above, stays_below}
 use Rattle.snap.proofs.Squares.{square_number, far_left, far_right}
 use Rattle.snap.proofs.Precedence.{precedes_left}
 
@@ -80,9 +83,9 @@ module _ (coords : List Float) (order : List ℕ) (p : Point) where
     not_left : (i j : ℕ) → i < j → j < length order → lt (point_at coords (get_or order j 0)).x (point_at coords (get_or order i 0)).x ≡ false
     not_left i j h l = precedes_left (point_at coords (get_or order j 0)) (point_at coords (get_or order i 0)) (o.rises i j h l)
 
-    placed_x : (i : ℕ) → i < length order → Placed (point_at coords (get_or order i 0)).x
+    finite_x : (i : ℕ) → i < length order → T (finite (point_at coords (get_or order i 0)).x)
     unfolding point_at
-    placed_x i h = (o.placed i h).0
+    finite_x i h = placed_finite (x_of coords (get_or order i 0)) (o.placed i h).0
 
     pub window_turns : Turns near_at (length order)
     window_turns i j h l e = go (near_at j) refl
@@ -90,7 +93,7 @@ module _ (coords : List Float) (order : List ℕ) (p : Point) where
         go : (t : Bool) → near_at j ≡ t → near_at j ≡ true
         go true f = f
         go false f = absurd (true≢false (sym e ∙ stays_above p.x weld_eps (point_at coords (get_or order i 0)).x (point_at coords (get_or order j 0)).x
-            (placed_x i (omega arith)) (placed_x j l) (not_left i j h l) f))
+            (finite_x i (omega arith)) (finite_x j l) (not_left i j h l) f))
 
     -- from a node on that lies 1e-12 or more to the right of p all are too far
     far_behind : (i : ℕ) → i < length order → lt (neg weld_eps) (ahead coords p (get_or order i 0)) ≡ false → (j : ℕ) → i ≤ j → j < length order → FarAt coords p order j
@@ -99,7 +102,7 @@ module _ (coords : List Float) (order : List ℕ) (p : Point) where
         go : Dec (i ≡ j) → lt (neg weld_eps) (ahead coords p (get_or order j 0)) ≡ false
         go (yes q) = ap (λ (k : ℕ). lt (neg weld_eps) (ahead coords p (get_or order k 0))) (sym q) ∙ e
         go (no q) = stays_below p.x (neg weld_eps) (point_at coords (get_or order i 0)).x (point_at coords (get_or order j 0)).x
-            (placed_x i h) (placed_x j m) (not_left i j (omega arith) m) e
+            (finite_x i h) (finite_x j m) (not_left i j (omega arith) m) e
 
 -- ---- the loop
 

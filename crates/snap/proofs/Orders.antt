@@ -6,8 +6,7 @@ use Prim.Native.Nat.{ℕ, ◌+◌, ◌*◌, ◌/◌, ◌≤◌}
 use native.Mathlib.Nat.{le_antisymm}
 use native.Mathlib.Omega.{arith}
 use lib.ListN.{length, get_or}
-use lib.Ieee.{Float, up, down, level, eq}
-use borrow.Author.Tests.{eq-eqb}
+use lib.Ieee.{Float}
 use Rattle.lists.specs.Gather.{places}
 use Rattle.lists.specs.Sort.{sorted}
 use Rattle.lists.specs.Regions.{front}
@@ -16,7 +15,9 @@ use Rattle.lists.proofs.Sort.{length_sorted}
 use Rattle.lists.proofs.Halving.{Turns}
 use Rattle.lists.proofs.Rising.{All, all_at, all_of, rising_at, sorted_all, sorted_rising}
 use Rattle.plane.specs.Plane.{is_number, x_of, y_of, point_at}
+use Rattle.plane.proofs.FloatOrder.{finite_number}
 use Rattle.entry.specs.Passed.{Placed}
+use Rattle.entry.proofs.Passed.{placed_finite}
 use Rattle.snap.specs.Steps.{AllPlaced, NodePlaced, InOrder, marked, before, indices_in_order}
 use Rattle.snap.proofs.Precedence.{precedes_asym, precedes_through}
 
@@ -27,12 +28,7 @@ abbrev pub behind_at : List Float → List ℕ → ℕ → ℕ → Bool
 behind_at coords order v i = before coords v (get_or order i 0)
 
 placed_number : (x : Float) → Placed x → is_number x ≡ true
-unfolding eq
-placed_number x p = rw p.finite (go p.sign (p.size * up p.power * down p.power))
-  where
-    go : (s : Bool) (a : ℕ) → level s a s a ≡ true
-    go true a = rw (eq-eqb a a refl) refl
-    go false a = rw (eq-eqb a a refl) refl
+placed_number x p = finite_number x (placed_finite x p)
 
 pub before_asym : (coords : List Float) (u v : ℕ) → before coords u v ≡ true → before coords v u ≡ false
 before_asym coords u v = precedes_asym (point_at coords u) (point_at coords v)

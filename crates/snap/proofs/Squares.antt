@@ -6,36 +6,29 @@ use native.Mathlib.Nat.{le_trans, le_of_eq, mul-mul-mul_comm, mul-le-mul, mul-le
 use native.Mathlib.Omega.{arith}
 use lib.IntN.{ℤ, negsuc}
 use lib.Ieee.{Float, nan, inf, fin, binary64, up, down, of_bits, round, sum, add, mul, neg, lt, eq}
-use lib.Ieee.Bits.{is_true}
 use lib.Ieee.Fits.{up_pos, down_pos}
-use lib.Ieee.Order.{round_mono}
-use borrow.Author.Tests.{ltb-false}
+use borrow.Author.Tests.{ltb-false, le-ltb}
 use Rattle.plane.specs.Plane.{◌⊕◌, ◌⊖◌, ◌⊗◌, between}
 use Rattle.plane.specs.declared.Point.{Point}
 use Rattle.rules.specs.Snap.{weld_eps, distance2}
-use Rattle.snap.proofs.Differences.{minus, round_minus, le_not_lt}
-
-inf_not_below : (z : Float) → lt (inf false) z ≡ false
-unfolding lt
-inf_not_below nan = refl
-inf_not_below (inf t) = refl
-inf_not_below (fin t n d) = refl
+use Rattle.rounding.proofs.Signs.{side, round_side, top_not_below}
+use Rattle.rounding.proofs.Order.{round_order}
 
 -- ---- a square
 
-square_minus : (x : Float) → minus (x ⊗ x) ≡ false
+square_side : (x : Float) → side (x ⊗ x) ≡ false
 unfolding mul
-square_minus nan = refl
-square_minus (inf true) = refl
-square_minus (inf false) = refl
-square_minus (fin true m e) = round_minus (m * up e * (m * up e)) (down e * down e)
-square_minus (fin false m e) = round_minus (m * up e * (m * up e)) (down e * down e)
+square_side nan = refl
+square_side (inf true) = refl
+square_side (inf false) = refl
+square_side (fin true m e) = round_side false (m * up e * (m * up e)) (down e * down e)
+square_side (fin false m e) = round_side false (m * up e * (m * up e)) (down e * down e)
 
 -- K / G ≤ M / D, squared
 squares : (K G M D : ℕ) → 0 < G → 0 < D → K * D ≤ M * G → lt (round binary64 false (M * M) (D * D)) (round binary64 false (K * K) (G * G)) ≡ false
 squares K G M D hG hD h =
-    le_not_lt _ _ (is_true _ (round_mono binary64 (K * K) (G * G) (M * M) (D * D) (mul-pos hG hG) (mul-pos hD hD)
-    (le_trans (le_of_eq (mul-mul-mul_comm K K D D)) (le_trans (mul-le-mul h h) (le_of_eq (mul-mul-mul_comm M G M G))))))
+    round_order false false (M * M) (D * D) (K * K) (G * G) (mul-pos hD hD) (mul-pos hG hG)
+    (le-ltb (M * M * (G * G)) (K * K * (D * D)) (le_trans (le_of_eq (mul-mul-mul_comm K K D D)) (le_trans (mul-le-mul h h) (le_of_eq (mul-mul-mul_comm M G M G)))))
 
 module _ (k : ℕ) (g : ℤ) (some : 0 < k) where
   abbrev ε : Float
@@ -45,7 +38,7 @@ module _ (k : ℕ) (g : ℤ) (some : 0 < k) where
   unfolding mul lt
   square_right nan h = refl
   square_right (inf true) h = absurd (true≢false h)
-  square_right (inf false) h = inf_not_below (ε ⊗ ε)
+  square_right (inf false) h = top_not_below (ε ⊗ ε)
   square_right (fin true m e) h = absurd (let l : m * up e * down g + k * up g * down e ≤ 0 = ltb-false 0 (m * up e * down g + k * up g * down e) h in
       let p : 0 < k * up g * down e = mul-pos (mul-pos some (up_pos g)) (down_pos e) in omega arith)
   square_right (fin false m e) h = squares (k * up g) (down g) (m * up e) (down e) (down_pos g) (down_pos e) (ltb-false (m * up e * down g) (k * up g * down e) h)
@@ -53,7 +46,7 @@ module _ (k : ℕ) (g : ℤ) (some : 0 < k) where
   square_left : (x : Float) → lt (neg ε) x ≡ false → lt (x ⊗ x) (ε ⊗ ε) ≡ false
   unfolding mul lt neg
   square_left nan h = refl
-  square_left (inf true) h = inf_not_below (ε ⊗ ε)
+  square_left (inf true) h = top_not_below (ε ⊗ ε)
   square_left (inf false) h = absurd (true≢false h)
   square_left (fin false m e) h = absurd (let l : k * up g * down e + m * up e * down g ≤ 0 = ltb-false 0 (k * up g * down e + m * up e * down g) h in
       let p : 0 < k * up g * down e = mul-pos (mul-pos some (up_pos g)) (down_pos e) in omega arith)
@@ -63,7 +56,7 @@ module _ (k : ℕ) (g : ℤ) (some : 0 < k) where
 
 module _ (k : ℕ) (g : ℤ) (exact : round binary64 false (k * up g) (down g) ≡ fin false k g) where
   -- a sum of two that aren't negative is no lower than the first, where that is compared with a number that needs no rounding
-  sum_over : (x y : Float) → minus x ≡ false → minus y ≡ false → lt x (fin false k g) ≡ false → lt (x ⊕ y) (fin false k g) ≡ false
+  sum_over : (x y : Float) → side x ≡ false → side y ≡ false → lt x (fin false k g) ≡ false → lt (x ⊕ y) (fin false k g) ≡ false
   unfolding add sum lt
   sum_over nan y p q h = refl
   sum_over (inf true) y p q h = absurd (true≢false p)
@@ -82,7 +75,8 @@ module _ (k : ℕ) (g : ℤ) (exact : round binary64 false (k * up g) (down g) �
       let l : k * up g * down e ≤ X * down g = ltb-false (X * down g) (k * up g * down e) h in
       let wide : k * up g * (down e * down d) ≤ (X * down d + Y * down e) * down g = let w = mul-le-mul_right (down d) l in omega arith in
       ap (lt (round binary64 false (X * down d + Y * down e) (down e * down d))) (sym exact)
-      ∙ le_not_lt _ _ (is_true _ (round_mono binary64 (k * up g) (down g) (X * down d + Y * down e) (down e * down d) (down_pos g) (mul-pos (down_pos e) (down_pos d)) wide))
+      ∙ round_order false false (X * down d + Y * down e) (down e * down d) (k * up g) (down g) (mul-pos (down_pos e) (down_pos d)) (down_pos g)
+      (le-ltb ((X * down d + Y * down e) * down g) (k * up g * (down e * down d)) wide)
 
 -- ---- 1e-12 and its square
 
@@ -107,7 +101,7 @@ unfolding between
 distance_over p q h =
     let x = p.x ⊖ q.x in
     let y = p.y ⊖ q.y in
-    rw square_is (sum_over 5444517870735015 (negsuc 131) square_exact (x ⊗ x) (y ⊗ y) (square_minus x) (square_minus y) (rw square_is at h))
+    rw square_is (sum_over 5444517870735015 (negsuc 131) square_exact (x ⊗ x) (y ⊗ y) (square_side x) (square_side y) (rw square_is at h))
 
 -- q is 1e-12 or more to the left of p
 pub far_left : (p q : Point) → lt (p.x ⊖ q.x) weld_eps ≡ false → lt (distance2 p q) (weld_eps ⊗ weld_eps) ≡ false

@@ -1,3 +1,2 @@
 pub mod Candidates
 pub mod Turns
-pub mod FloatLe

@@ -6,7 +6,7 @@ use Prim.Native.Nat.{ℕ, zero, suc, ◌+◌, ◌-◌, ◌/◌, ◌≤◌, ◌<�
 use native.Mathlib.Omega.{arith}
 use lib.ListN.{length, get_or}
 use lib.Ieee.{Float, le}
-use Rattle.spatial_index.proofs.FloatLe.{le_trans}
+use Rattle.plane.proofs.FloatLe.{le_trans}
 use Rattle.strips.specs.declared.squares.Axis.{Axis}
 use Rattle.strips.specs.Squares.{coordinate_of, strip, strip_of}
 

@@ -10,15 +10,15 @@ one_of : {P : Type 0} (a b : Bool) → (a ≡ true → P) → (b ≡ true → P)
 one_of true b f g h = f refl
 one_of false b f g h = g h
 
-le_left : (x y : Float) → le x y ≡ true → eq x x ≡ true
+pub le_left : (x y : Float) → le x y ≡ true → eq x x ≡ true
 unfolding le
 le_left x y h = one_of (lt x y) (eq x y) (number_left x y) (eq_number x y) h
 
-le_right : (x y : Float) → le x y ≡ true → eq y y ≡ true
+pub le_right : (x y : Float) → le x y ≡ true → eq y y ≡ true
 unfolding le
 le_right x y h = one_of (lt x y) (eq x y) (number_right x y) (λ e. eq_number y x (eq_sym x y e)) h
 
-le_not_lt : (x y : Float) → le x y ≡ true → lt y x ≡ false
+pub le_not_lt : (x y : Float) → le x y ≡ true → lt y x ≡ false
 unfolding le
 le_not_lt x y h = one_of (lt x y) (eq x y) (lt_asym x y) (λ e. eq_not_lt y x (eq_sym x y e)) h
 
