@@ -8,7 +8,7 @@ use native.Mathlib.Omega.{arith}
 use lib.Dec.{T, lit≤}
 use lib.Pow.{pow_pos}
 use lib.IntN.{pos, nat_abs, ◌+ℤ◌, ◌-ℤ◌, ◌*ℤ◌}
-use lib.Ieee.{Float, nan, inf, fin, binary64, lt, eq}
+use lib.Ieee.{Float, binary64, lt, eq}
 use lib.Ieee.Bits.{is_true}
 use lib.Ieee.Fits.{sub-fits, mul-fits}
 use lib.Ieee.Scale.{finite}
@@ -16,7 +16,7 @@ use Rattle.std.proofs.lemmas.Int.{unsigned_abs-mul}
 use Rattle.exact.specs.Exact.{coord}
 use Rattle.plane.specs.Plane.{◌⊕◌, ◌⊖◌, ◌⊗◌, between, dot}
 use Rattle.plane.specs.declared.Point.{Point}
-use Rattle.plane.proofs.FloatOrder.{number_left, eq_sym, trichotomy}
+use Rattle.plane.proofs.FloatOrder.{eq_sym, trichotomy}
 use Rattle.rules.specs.Nodes.{sign_bit}
 use Rattle.coordinates.specs.Finite.{Bounded, Ordered}
 use Rattle.rounding.proofs.Sizes.{abs_add, abs_sub}
