@@ -1,5 +1,6 @@
 pub mod Whole
 pub mod Nearest
+pub mod Exact
 pub mod Sizes
 pub mod Signs
 pub mod Order

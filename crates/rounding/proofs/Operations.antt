@@ -1,8 +1,8 @@
 -- What the operations on f64 round, in units of 2^-1074, and by how much they err. Assumes nothing.
 use mathlib.Core.Path.{◌≡◌, refl, sym, ap, ap₂, ◌∙◌, subst}
 use mathlib.Core.Bool.{Bool, true, false, not}
-use Prim.Native.Nat.{ℕ, zero, suc, ◌+◌, ◌-◌, ◌*◌, ◌^◌, ◌≤◌, ◌<◌}
-use native.Mathlib.Nat.{le_trans, le_of_eq, lt_of_le_of_lt, le_of_mul-le-mul_right}
+use Prim.Native.Nat.{ℕ, zero, suc, ◌+◌, ◌-◌, ◌*◌, ◌/◌, ◌^◌, ◌≤◌, ◌<◌}
+use native.Mathlib.Nat.{mul-div_cancel, le_trans, le_of_eq, lt_of_le_of_lt, le_of_mul-le-mul_right}
 use native.Mathlib.Nat.{add-mul, mul_comm, mul_assoc, mul_right_comm, mul-mul-mul_comm, mul-pos}
 use native.Mathlib.Omega.{arith}
 use lib.Dec.{T, lit<}
@@ -12,14 +12,17 @@ use lib.Ieee.{Float, nan, inf, fin, binary64, unlike, up, down, round, add, sub,
 use lib.Ieee.Fits.{round_is, down_pos, neg-fits}
 use lib.Ieee.Exact.{HasValue, units_val}
 use lib.Ieee.Order.{drop, kept}
-use lib.Ieee.Scale.{round_same, finite}
+use lib.Ieee.Scale.{round_same, round_under, finite}
 use lib.Ieee.Bits.{is_true}
 use Rattle.exact.specs.Exact.{mag, signed, coord}
 use Rattle.exact.proofs.Integers.{diff, diff_same, diff_add, signed_diff, signed_mul, times_signed, abs_signed}
 use Rattle.exact.proofs.Fields.{value_mag}
 use Rattle.exact.proofs.ExactUnits.{exact_units}
-use Rattle.rounding.proofs.Nearest.{Close, rounded, rounded_near, rounded_whole, unscale}
-use Rattle.rounding.proofs.Sizes.{apart_signed}
+use Rattle.rounding.proofs.Whole.{gap}
+use Rattle.rounding.proofs.Nearest.{Close, ulp, half_ulp, rounded, rounded_near, rounded_whole, unscale}
+use Rattle.rounding.proofs.Exact.{HasUnits, Fits, exact_where_it_fits}
+use Rattle.rounding.proofs.Signs.{round_neg}
+use Rattle.rounding.proofs.Sizes.{apart_signed, one_side}
 use Rattle.rounding.proofs.Order.{above, under}
 use Rattle.rounding.proofs.Sums.{Fraction, add_fraction}
 
@@ -128,6 +131,17 @@ round_coord s a c h =
     (subst (λ (x : Float). HasValue x s (rounded (a * 2 ^ 1074) c) (2 ^ 1074)) (sym (round_is binary64 s a c))
     (units_val binary64 s (kept 53 (a * 2 ^ 1074) c) (drop 53 (a * 2 ^ 1074) c) h))
 
+neg_finite : (x : Float) → T (finite (neg x)) → T (finite x)
+unfolding neg
+neg_finite nan t = t
+neg_finite (inf s) t = t
+neg_finite (fin s m e) t = t
+
+-- and is there where it is finite
+below_top : (s : Bool) (q : ℕ) → T (finite (round binary64 s q (2 ^ 1074))) → rounded (q * 2 ^ 1074) (2 ^ 1074) < 2 ^ 2098
+below_top false q t = round_under binary64 q (2 ^ 1074) t
+below_top true q t = round_under binary64 q (2 ^ 1074) (neg_finite (round binary64 false q (2 ^ 1074)) (subst (λ (y : Float). T (finite y)) (round_neg q (2 ^ 1074)) t))
+
 -- a whole number of units is off by 2^-53 of its size at most
 pub record Near (x : Float) (z : ℤ) : Type 0 where
   pub end : T (finite x)
@@ -149,6 +163,30 @@ rounds_near {x} {z} r h =
           (subst (λ (y : ℤ). 2 ^ 53 * nat_abs (signed r.sign g -ℤ y) ≤ nat_abs y) r.value
           (le_trans (apart_signed r.sign g q q w) (le_of_eq (sym (abs_signed r.sign q)))));
     }
+
+-- half a unit in the last place, at most
+pub rounds_half_ulp : {x : Float} {z : ℤ} → Rounds x z → T (finite x) → 2 * nat_abs (coord x -ℤ z) ≤ ulp (nat_abs z)
+rounds_half_ulp {x} {z} r t =
+    let q = r.size in
+    let g = rounded (q * 2 ^ 1074) (2 ^ 1074) in
+    let c : coord x ≡ signed r.sign g = ap coord r.same ∙ (round_coord r.sign q (2 ^ 1074) (below_top r.sign q (subst (λ (y : Float). T (finite y)) r.same t))).1 in
+    let k : nat_abs z ≡ q = ap nat_abs (sym r.value) ∙ abs_signed r.sign q in
+    let d : nat_abs (coord x -ℤ z) ≡ gap g q = ap₂ (λ (a b : ℤ). nat_abs (a -ℤ b)) c (sym r.value) ∙ one_side r.sign g q in
+    let u : q * 2 ^ 1074 / 2 ^ 1074 ≡ nat_abs z = mul-div_cancel q (pow_pos 1074) ∙ sym k in
+    subst (λ (n : ℕ). 2 * n ≤ ulp (nat_abs z)) (sym d)
+    (subst (λ (n : ℕ). 2 * gap g q ≤ ulp n) u (apart_twice g q (ulp (q * 2 ^ 1074 / 2 ^ 1074)) (2 ^ 1074) (pow_pos 1074) (half_ulp (q * 2 ^ 1074) (2 ^ 1074) (pow_pos 1074))))
+  where
+    apart_twice : (g q u l : ℕ) → 0 < l → Close (g * l * 2) (q * l * 2) (u * l) → 2 * gap g q ≤ u
+    apart_twice g q u l h k =
+        let c = unscale (g * 2) (q * 2) u l h (record { over = omega (arith, k.over); under = omega (arith, k.under) }) in
+        omega (arith, c.over, c.under)
+
+-- exact where it fits
+pub rounds_exact : {x : Float} {z : ℤ} → Rounds x z → Fits (nat_abs z) → T (finite x) × (coord x ≡ z)
+rounds_exact {x} {z} r f =
+    let k : nat_abs z ≡ r.size = ap nat_abs (sym r.value) ∙ abs_signed r.sign r.size in
+    let v = value_coord x r.sign r.size (subst (λ (y : Float). HasUnits y r.sign r.size) (sym r.same) (exact_where_it_fits r.sign r.size (subst Fits k f))) in
+    (v.0, v.1 ∙ r.value)
 
 -- ---- the product, a whole number of 2^-2148
 
