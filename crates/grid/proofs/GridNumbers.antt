@@ -6,10 +6,9 @@ use Prim.Native.Nat.{ℕ, suc, ◌+◌, ◌-◌, ◌*◌, ◌^◌, ◌≤◌, �
 use native.Mathlib.Nat.{le_trans, le_of_eq, le_of_lt, lt_of_lt_of_le, lt_of_le_of_lt, not-le_of_lt, mul_comm, mul_assoc, mul-pos, mul-lt-mul_of_pos_right, zero-mul}
 use native.Mathlib.Omega.{arith}
 use lib.Dec.{T, leb, eqb}
-use lib.Pow.{pow-add, pow_pos, pow_mono, shl_lt}
+use lib.Pow.{pow-add, pow_pos, pow_mono}
 use lib.Ieee.{Float, binary64, round, fits}
 use lib.Ieee.Bits.{is_true}
-use lib.Ieee.Exact.{round_exact}
 use lib.Ieee.Fits.{round-fits}
 use lib.Ieee.Nearest.{closest}
 use lib.Ieee.Scale.{finite, round_same}
@@ -19,8 +18,8 @@ use Rattle.exact.specs.Exact.{mag, minus}
 use Rattle.exact.proofs.Fields.{value_mag}
 use Rattle.grid.specs.Grid.{grid_step, steps, grid_number, on_grid}
 use Rattle.rounding.proofs.Whole.{closest_whole, closest_at_most}
-use Rattle.grid.proofs.Values.{HasUnits, one_float}
-use Rattle.grid.proofs.Digits.{Digits, digits}
+use Rattle.rounding.proofs.Exact.{HasUnits, Fits, shifted_fits, size_fits, exact_where_it_fits}
+use Rattle.rounding.proofs.Values.{one_float}
 
 -- ---- where there is a grid, and where not
 
@@ -56,13 +55,7 @@ in_units k n s h =
 
 -- few steps are an f64
 pub few_exact : (k n : ℕ) (s : Bool) → n < 2 ^ 53 → HasUnits (round binary64 s (n * grid_step k) (2 ^ 1074)) s (n * grid_step k)
-few_exact k n s l =
-    round_exact binary64 s (n * grid_step k) (2 ^ 1074) n (1074 - k) (pow_pos 1074) l
-    (lt_of_lt_of_le (shl_lt 53 (1074 - k) l) (pow_mono {i = 53 + (1074 - k)} {j = 2098} (omega arith))) refl
-
--- and so is what was one, of either sign
-size_exact : (x : Float) (s : Bool) → Digits x → HasUnits (round binary64 s (mag x) (2 ^ 1074)) s (mag x)
-size_exact x s d = round_exact binary64 s (mag x) (2 ^ 1074) d.m d.e (pow_pos 1074) d.short d.under (ap (λ (n : ℕ). n * 2 ^ 1074) d.same)
+few_exact k n s l = exact_where_it_fits s (n * grid_step k) (shifted_fits n (1074 - k) l (omega arith))
 
 -- ---- where x stands: on the grid, or below 2 ^ 52 steps
 
@@ -75,7 +68,7 @@ short_below m e g h l =
     let p : m * 2 ^ e < 2 ^ 53 * 2 ^ e = mul-lt-mul_of_pos_right h (pow_pos e) in
     lt_of_lt_of_le p (le_trans (le_of_eq (sym (pow-add 2 53 e))) (le_trans (pow_mono {i = 53 + e} {j = 52 + g} (omega arith)) (le_of_eq (pow-add 2 52 g))))
 
-place : (k : ℕ) (x : Float) → Digits x → Place k x
+place : (k : ℕ) (x : Float) → Fits (mag x) → Place k x
 place k x d = elim (cases_lt d.e (1074 - k)) [
   | inl l ↦ below (lt_of_le_of_lt (le_of_eq d.same) (short_below d.m d.e (1074 - k) d.short l))
   | inr l ↦
@@ -104,11 +97,12 @@ module _ (k : ℕ) (x : Float) (h : k ≤ 10) (f : fits binary64 x ≡ true) (t 
 
   pub number_exact : HasUnits (grid_number k (minus x) (steps k x)) sign (steps k x * grid_step k)
   unfolding grid_number
-  number_exact = subst (λ (v : Float). HasUnits v sign (steps k x * grid_step k)) (sym (in_units k (steps k x) sign h)) (go (place k x (digits x f t)))
+  number_exact = subst (λ (v : Float). HasUnits v sign (steps k x * grid_step k)) (sym (in_units k (steps k x) sign h)) (go (place k x (size_fits x f t)))
     where
       go : Place k x → HasUnits (round binary64 sign (steps k x * grid_step k) (2 ^ 1074)) sign (steps k x * grid_step k)
       go (there q e) =
-          subst (λ (n : ℕ). HasUnits (round binary64 sign n (2 ^ 1074)) sign n) (e ∙ ap (λ (n : ℕ). n * grid_step k) (sym (steps_on k q x e))) (size_exact x sign (digits x f t))
+          subst (λ (n : ℕ). HasUnits (round binary64 sign n (2 ^ 1074)) sign n) (e ∙ ap (λ (n : ℕ). n * grid_step k) (sym (steps_on k q x e)))
+          (exact_where_it_fits sign (mag x) (size_fits x f t))
       go (below l) = few_exact k (steps k x) sign (lt_of_le_of_lt (steps_at_most k (2 ^ 52) x (le_of_lt l)) (omega arith))
 
   -- ---- a number on the grid stays, unless it is -0
@@ -127,7 +121,7 @@ module _ (k : ℕ) (x : Float) (h : k ≤ 10) (f : fits binary64 x ≡ true) (t 
 
   -- from 2 ^ 52 steps on all are
   pub far : 2 ^ 52 * grid_step k ≤ mag x → grid_number k (minus x) (steps k x) ≡ x
-  far l = go (place k x (digits x f t))
+  far l = go (place k x (size_fits x f t))
     where
       some : (q : ℕ) → mag x ≡ q * grid_step k → q ≡ 0 → ⊥
       some q e z =

@@ -1,7 +1,5 @@
 pub mod Distances
 pub mod Multiples
-pub mod Values
-pub mod Digits
 pub mod GridNumbers
 pub mod Lifted
 pub mod Ways

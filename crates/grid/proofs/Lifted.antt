@@ -15,7 +15,8 @@ use lib.Ieee.Order.{drop}
 use lib.Ieee.Scale.{grid, round_val, round_same}
 use Rattle.grid.specs.Grid.{grid_step}
 use Rattle.rounding.proofs.Whole.{closest_more, closest_at_most}
-use Rattle.grid.proofs.Values.{HasUnits, add_at, sub_at}
+use Rattle.rounding.proofs.Exact.{HasUnits}
+use Rattle.rounding.proofs.Values.{add_at, sub_at}
 use Rattle.grid.proofs.GridNumbers.{step_pos, few_exact}
 
 -- ---- the number 2 ^ (52 - k), made of a word

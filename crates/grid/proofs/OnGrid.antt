@@ -22,7 +22,8 @@ use Rattle.exact.proofs.ExactUnits.{size_coord}
 use Rattle.grid.specs.Grid.{Grid, grid_step, steps, grid_number, on_grid, booked, is_on_grid, stands_on, OnGrid}
 use Rattle.rounding.proofs.Whole.{gap, Nearest, closest_nearest, none_nearer, even_one}
 use Rattle.rounding.proofs.Sizes.{one_side}
-use Rattle.grid.proofs.Values.{HasUnits, one_float}
+use Rattle.rounding.proofs.Exact.{HasUnits}
+use Rattle.rounding.proofs.Values.{one_float}
 use Rattle.grid.proofs.GridNumbers.{no_grid, no_place, placed, step_pos, whole_steps, steps_at_most, number_fits, number_exact, stays}
 use Rattle.grid.proofs.Distances.{Multiple, same, other, multiple_of}
 

@@ -12,7 +12,8 @@ use Rattle.exact.proofs.ExactUnits.{exact_units}
 use Rattle.std.specs.Float.{is_sign_negative, float_with_sign}
 use Rattle.exact.proofs.Fields.{value_mag}
 use Rattle.grid.specs.Grid.{grid_step, steps, grid_number, on_grid}
-use Rattle.grid.proofs.Values.{HasUnits, lt_at, add_zero_at}
+use Rattle.rounding.proofs.Exact.{HasUnits}
+use Rattle.rounding.proofs.Values.{lt_at, add_zero_at}
 use Rattle.grid.proofs.GridNumbers.{no_place, placed, step_pos, in_units, far}
 use Rattle.grid.proofs.Lifted.{lift, lift_units, lowered}
 use Rattle.grid.proofs.Multiples.{steps_none}

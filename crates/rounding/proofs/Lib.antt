@@ -1,6 +1,7 @@
 pub mod Whole
 pub mod Nearest
 pub mod Exact
+pub mod Values
 pub mod Sizes
 pub mod Signs
 pub mod Order

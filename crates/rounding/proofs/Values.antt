@@ -17,11 +17,7 @@ use borrow.Author.Tests.{lt-ltb, le-ltb}
 use Rattle.std.proofs.lemmas.Bool.{cases_lt}
 use Rattle.exact.specs.Exact.{mag, minus}
 
--- ---- units of 2 ^ -1074
-
--- x is a units, or -a where s is true
-abbrev pub HasUnits : Float → Bool → ℕ → Type 0
-HasUnits x s a = HasValue x s a (2 ^ 1074)
+-- ---- one sign and one size
 
 -- the bit pattern of a finite f64, by its sign and its size
 pattern : Bool → ℕ → ℕ
