@@ -1,5 +1,5 @@
--- p + t (q - p) as computed is finite, and at most 4 M in size where p and q are M and t is 1. Assumes nothing.
-use mathlib.Core.Path.{sym, ap}
+-- p + t (q - p) as computed is finite, and off by M × 2^-50 + 2^-1074 at most, where p and q are M in size and t is 1. Assumes nothing.
+use mathlib.Core.Path.{◌≡◌, refl, sym, ap, ◌∙◌}
 use Prim.Native.Nat.{ℕ, ◌+◌, ◌*◌, ◌^◌, ◌≤◌, ◌<◌}
 use native.Mathlib.Nat.{le_trans, le_of_eq, mul_comm, mul-le-mul_right, le_of_mul-le-mul_right}
 use native.Mathlib.Omega.{arith}
@@ -12,16 +12,36 @@ use lib.Ieee.Fits.{add-fits, sub-fits, mul-fits}
 use Rattle.std.proofs.lemmas.Int.{unsigned_abs-mul}
 use Rattle.exact.specs.Exact.{coord}
 use Rattle.plane.specs.Plane.{◌⊕◌, ◌⊖◌, ◌⊗◌}
+use Rattle.std.specs.Prelude.{None}
+use Rattle.coordinates.specs.Booked.{off_by, allowance}
+use Rattle.coordinates.proofs.Errors.{errors_add}
 use Rattle.rounding.proofs.Sizes.{abs_add, abs_sub}
 use Rattle.rounding.proofs.Operations.{Number, Near, NearProduct, add_rounds, sub_rounds, rounds_near, mul_near}
 
--- ---- the numbers, for a unit l. d, v, w: the sizes of the difference and of the rounded difference and product; e1, e2: the errors
+-- ---- the numbers, for a unit l. d, v, w: the sizes of the difference and of the rounded difference and product; e1, e2, e3: their errors and the sum's
 
 v_size : (m d e1 v : ℕ) → d ≤ 2 * m → 2 ^ 53 * e1 ≤ d → v ≤ e1 + d → 4 * v ≤ 9 * m
 v_size m d e1 v h k l = omega arith
 
 w_size : (l v e2 tv w : ℕ) → 0 < l → tv ≤ v * l → 2 ^ 53 * e2 ≤ tv + 2 ^ 52 * l → w * l ≤ e2 + tv → 8 * w ≤ 9 * v + 4
 w_size l v e2 tv w h i j k = le_of_mul-le-mul_right {m = 8 * w} {n = 9 * v + 4} {k = l} (omega arith) h
+
+error_sum : (l m d e1 e2 e3 v w tv te : ℕ) → d ≤ 2 * m → 2 ^ 53 * e1 ≤ d → te ≤ e1 * l → tv ≤ v * l → 2 ^ 53 * e2 ≤ tv + 2 ^ 52 * l → 2 ^ 53 * e3 ≤ m + w
+    → 2 ^ 53 * (e3 * l + (e2 + te)) ≤ (m + w + v + 2 ^ 52 + 2 * m) * l
+error_sum l m d e1 e2 e3 v w tv te h i j k a b =
+    let x : 2 ^ 53 * e3 * l ≤ (m + w) * l = mul-le-mul_right l b in
+    let y : 2 ^ 53 * e1 * l ≤ 2 * m * l = mul-le-mul_right l (le_trans i h) in
+    omega arith
+
+all_sizes : (m v w : ℕ) → 4 * v ≤ 9 * m → 8 * w ≤ 9 * v + 4 → m + w + v + 2 ^ 52 + 2 * m ≤ 8 * m + 2 ^ 53
+all_sizes m v w h k = omega arith
+
+-- eight times m, and 2^53 times less
+in_allowance : (l k m e : ℕ) → l ≡ 2 ^ 50 * k → 2 ^ 53 * e ≤ (8 * m + 2 ^ 53) * l → e ≤ m * k + l + 0
+in_allowance l k m e h i =
+    let g : 8 * m * l ≡ 2 ^ 53 * (m * k) = ap (λ (n : ℕ). 8 * m * n) h ∙ omega arith in
+    let j : 2 ^ 53 * e ≤ 2 ^ 53 * (m * k + l) = omega arith in
+    omega arith
 
 -- ---- the floats
 
@@ -89,6 +109,22 @@ module _ (p q t : Float) (m : ℕ) (P : Number p) (Q : Number q) (U : Number t)
 
   pub along_number : Number x
   along_number = record { fit = is_true _ (add-fits binary64 p w); end = near_x.end }
+
+  -- how far it is off
+  pub along_near : off_by x p q t ≤ allowance None m
+  along_near =
+      let e1 = nat_abs (coord v -ℤ (coord q -ℤ coord p)) in
+      let e2 = nat_abs (coord w *ℤ pos (2 ^ 1074) -ℤ coord t *ℤ coord v) in
+      let e3 = nat_abs (coord x -ℤ (coord p +ℤ coord w)) in
+      let sum : 2 ^ 53 * e3 ≤ m + nat_abs (coord w) = le_trans near_x.off (le_trans (abs_add (coord p) (coord w)) (add_left (nat_abs (coord p)) m (nat_abs (coord w)) hp)) in
+      le_trans (errors_add (coord x) (coord p) (coord w) (pos (2 ^ 1074)) (coord t) (coord v) (coord q -ℤ coord p))
+      (in_allowance (2 ^ 1074) (2 ^ 1024) m (e3 * 2 ^ 1074 + (e2 + nat_abs (coord t) * e1)) refl
+      (le_trans (error_sum (2 ^ 1074) m (nat_abs (coord q -ℤ coord p)) e1 e2 e3 (nat_abs (coord v)) (nat_abs (coord w)) (nat_abs (coord t *ℤ coord v)) (nat_abs (coord t) * e1)
+      difference near_v.off (at_most (nat_abs (coord t)) e1 (2 ^ 1074) ht) product near_w.off sum)
+      (mul-le-mul_right (2 ^ 1074) (all_sizes m (nat_abs (coord v)) (nat_abs (coord w)) size_v size_w))))
+    where
+      add_left : (a b c : ℕ) → a ≤ b → a + c ≤ b + c
+      add_left a b c h = omega arith
 
   -- it is not far beyond its ends
   pub along_size : nat_abs (coord x) ≤ 4 * m

@@ -1,8 +1,8 @@
--- Where a new point comes from, and that it is finite and at most 2^42 in size. Assumes nothing.
+-- Where a new point comes from: how far it is off, and that it is finite and at most 2^42 in size. Assumes nothing.
 use mathlib.Core.Path.{◌≡◌, refl, sym}
 use mathlib.Core.Bool.{Bool, true, false, cond, not, ◌&&◌, ◌||◌, false≢true}
 use mathlib.Core.List.{List}
-use Prim.Native.Nat.{ℕ, ◌*◌, ◌^◌, ◌≤◌, ◌<◌}
+use Prim.Native.Nat.{ℕ, ◌*◌, ◌^◌, ◌≤◌, ◌<◌, max}
 use native.Mathlib.Nat.{le_trans, le_of_eq, mul_right_comm, mul-le-mul_right, le_of_mul-le-mul_right}
 use native.Mathlib.Omega.{arith}
 use lib.Dec.{leb, ltb, eqb, lit≤}
@@ -23,10 +23,11 @@ use Rattle.segments.specs.declared.PointId.{PointId}
 use Rattle.segments.specs.declared.PointId.TheVariants.{P1, P2, P3, P4}
 use Rattle.segments.specs.declared.Meeting.TheVariants.{Apart, Existing, New, Overlap}
 use Rattle.plane.proofs.FloatOrder.{and_left, and_right}
-use Rattle.coordinates.specs.Booked.{Allowed, AllowedEnds, parameter}
+use Rattle.coordinates.specs.Booked.{Allowed, AllowedEnds, parameter, largest, off_by, allowance}
+use Rattle.std.specs.Prelude.{None}
 use Rattle.coordinates.specs.Finite.{Bounded}
 use Rattle.rounding.proofs.Operations.{Number}
-use Rattle.coordinates.proofs.Along.{along_number, along_size}
+use Rattle.coordinates.proofs.Along.{along_number, along_near, along_size}
 
 -- ---- sizes in units
 
@@ -172,7 +173,20 @@ meeting_new s o x y = go (lt (dot v2 v2) eps || lt (dot v1 v1) eps) (lt (magnitu
 pub allowed_bounded : (x : Float) → Allowed x → Bounded x
 allowed_bounded x h = record { fit = h.fit; end = (allowed_number x h).end; size = le_trans (allowed_size x h) (lit≤ tt) }
 
-module _ (s o : Segment) (inside : in_unit (parameter s o) ≡ true) where
+largest_least : (a b c d m : ℕ) → a ≤ m → b ≤ m → c ≤ m → d ≤ m → max (max a b) (max c d) ≤ m
+largest_least a b c d m h i j k = omega arith
+
+-- M is 2^40 at most
+largest_size : (s : Segment) → AllowedEnds s → largest s ≤ 2 ^ 1114
+largest_size s h =
+    largest_least (mag s.a.x) (mag s.a.y) (mag s.b.x) (mag s.b.y) (2 ^ 1114) (allowed_size s.a.x h.ax) (allowed_size s.a.y h.ay) (allowed_size s.b.x h.bx) (allowed_size s.b.y h.by)
+
+-- a coordinate x of a new point, from p to q: how far it is off, and that it is finite and at most 2^42 in size
+pub record Coordinate (m : ℕ) (x p q t : Float) : Type 0 where
+  pub off : off_by x p q t ≤ allowance None m
+  pub bounded : Bounded x
+
+module _ (s o : Segment) (h : AllowedEnds s) (inside : in_unit (parameter s o) ≡ true) where
   abbrev t : Float
   t = parameter s o
 
@@ -185,26 +199,33 @@ module _ (s o : Segment) (inside : in_unit (parameter s o) ≡ true) where
   hi : le t one_f ≡ true
   hi = and_right (le zero_f t) (le t one_f) inside
 
-  coordinate : (p q : Float) → Allowed p → Allowed q → Bounded (p ⊕ t ⊗ (q ⊖ p))
-  coordinate p q i j =
+  coordinate : (p q : Float) → Allowed p → Allowed q → mag p ≤ largest s → mag q ≤ largest s → Coordinate (largest s) (p ⊕ t ⊗ (q ⊖ p)) p q t
+  coordinate p q i j k l =
       let P = allowed_number p i in
       let Q = allowed_number q j in
       let U = unit_number t fit lo hi in
-      let kp = le_trans (le_of_eq (size_coord p)) (allowed_size p i) in
-      let kq = le_trans (le_of_eq (size_coord q)) (allowed_size q j) in
+      let kp = le_trans (le_of_eq (size_coord p)) k in
+      let kq = le_trans (le_of_eq (size_coord q)) l in
       let kt = le_trans (le_of_eq (size_coord t)) (unit_size t fit lo hi) in
-      let n = along_number p q t (2 ^ 1114) P Q U kp kq kt (lit≤ tt) in
-      record {
-        fit = n.fit;
-        end = n.end;
-        size = le_trans (le_of_eq (sym (size_coord (p ⊕ t ⊗ (q ⊖ p))))) (le_trans (along_size p q t (2 ^ 1114) P Q U kp kq kt (lit≤ tt)) (lit≤ tt));
-      }
+      let small = largest_size s h in
+      let n = along_number p q t (largest s) P Q U kp kq kt small in
+      let size : mag (p ⊕ t ⊗ (q ⊖ p)) ≤ 4 * largest s = le_trans (le_of_eq (sym (size_coord (p ⊕ t ⊗ (q ⊖ p))))) (along_size p q t (largest s) P Q U kp kq kt small) in
+      record { off = along_near p q t (largest s) P Q U kp kq kt small; bounded = record { fit = n.fit; end = n.end; size = le_trans size (le_trans (four (largest s) small) (lit≤ tt)) } }
+    where
+      four : (m : ℕ) → m ≤ 2 ^ 1114 → 4 * m ≤ 4 * 2 ^ 1114
+      four m h = omega arith
 
--- The coordinates of a new point are finite and at most 2^42 in size, whatever P3 and P4 are.
-pub new_point_lem : (s o : Segment) → AllowedEnds s → (x y : Float) → meeting s o ≡ New x y → Bounded x × Bounded y
+-- the largest of four is none less than each
+in_largest : (a b c d : ℕ) → (a ≤ max (max a b) (max c d)) × (b ≤ max (max a b) (max c d)) × (c ≤ max (max a b) (max c d)) × (d ≤ max (max a b) (max c d))
+in_largest a b c d = (omega arith, omega arith, omega arith, omega arith)
+
+-- Both coordinates of a new point are such, whatever P3 and P4 are.
+pub new_point_lem : (s o : Segment) → AllowedEnds s → (x y : Float) → meeting s o ≡ New x y
+    → Coordinate (largest s) x s.a.x s.b.x (parameter s o) × Coordinate (largest s) y s.a.y s.b.y (parameter s o)
 unfolding along between
 new_point_lem s o h x y e =
-    let f = meeting_new s o x y e in (
-      rw f.at_x (coordinate s o f.inside s.a.x s.b.x h.ax h.bx),
-      rw f.at_y (coordinate s o f.inside s.a.y s.b.y h.ay h.by),
+    let f = meeting_new s o x y e in
+    let n = in_largest (mag s.a.x) (mag s.a.y) (mag s.b.x) (mag s.b.y) in (
+      rw f.at_x (coordinate s o h f.inside s.a.x s.b.x h.ax h.bx n.0 n.2),
+      rw f.at_y (coordinate s o h f.inside s.a.y s.b.y h.ay h.by n.1 n.3),
     )

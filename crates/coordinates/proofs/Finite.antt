@@ -79,7 +79,7 @@ module _ (o : Settings) (s c : Mesh) (w : ℕ) (pass : entry_of o s c w ≡ 0) (
           let p = before_moved o.grid (segment_of lent e) (segment_of lent f) q.0 q.1 (from.new q.0 q.1 q.2) in
           let b = new_point_lem (segment_of lent e) (segment_of lent f) (allowed_ends s c ok subject e u) p.0 p.1 p.2 in
           let at : (x z : Float) → booked o.grid x ≡ z → Bounded x → Bounded z = λ x z e h. subst Bounded e (booked_bounded o.grid x h) in
-          subst (Each Bounded) (sym q.2) (each_cons q.0 (q.1 ∷ []) (at p.0 q.0 p.3 b.0) (each_cons q.1 [] (at p.1 q.1 p.4 b.1) (each_none Bounded)))
+          subst (Each Bounded) (sym q.2) (each_cons q.0 (q.1 ∷ []) (at p.0 q.0 p.3 b.0.bounded) (each_cons q.1 [] (at p.1 q.1 p.4 b.1.bounded) (each_none Bounded)))
 
   scene_each : Each Bounded scene
   unfolding scene_of meetings

@@ -64,7 +64,7 @@ module _ (o : Settings) (s c : Mesh) (w : ℕ) (pass : entry_of o s c w ≡ 0) (
           let u : Both (node_count s) e = edges_under false s ok.subject e (in_list n mt.subject_edge from.edge (0, 0)) in
           let p = before_moved o.grid (segment_of lent e) (segment_of lent f) q.0 q.1 (from.new q.0 q.1 q.2) in
           let b = new_point_lem (segment_of lent e) (segment_of lent f) (allowed_ends s c ok.subject subject e u) p.0 p.1 p.2 in
-          subst (Each (Gridded k)) (sym q.2) (each_cons q.0 (q.1 ∷ []) (gridded p.0 q.0 p.3 b.0) (each_cons q.1 [] (gridded p.1 q.1 p.4 b.1) (each_none (Gridded k))))
+          subst (Each (Gridded k)) (sym q.2) (each_cons q.0 (q.1 ∷ []) (gridded p.0 q.0 p.3 b.0.bounded) (each_cons q.1 [] (gridded p.1 q.1 p.4 b.1.bounded) (each_none (Gridded k))))
 
   new_gridded : Each (Gridded k) new
   unfolding scene_of meetings

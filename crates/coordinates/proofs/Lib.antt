@@ -1,5 +1,7 @@
+pub mod Errors
 pub mod Along
 pub mod Booked
+pub mod Within
 pub mod Points
 pub mod Nodes
 pub mod Pieces
