@@ -1,11 +1,9 @@
 -- Once the entry passes, every coordinate of the scene, lent or new, is finite and at most 2^42 in size. So each is its exact coordinate, areas are exact,
 -- the order along an edge is total, and no answer holds a NaN. Assumes nothing.
 use mathlib.Core.Path.{◌≡◌, sym, subst}
-use mathlib.Core.Logic.{◌⊎◌, inl, inr}
 use mathlib.Core.Bool.{true, false}
-use mathlib.Core.List.{List, [], ◌∷◌, ◌++◌, Memᴰ}
+use mathlib.Core.List.{List, ◌∷◌, ◌++◌, Memᴰ}
 use Prim.Native.Nat.{ℕ, ◌+◌, ◌*◌, ◌/◌, ◌^◌, ◌<◌}
-use native.Mathlib.Nat.{le_refl}
 use native.Mathlib.Omega.{arith}
 use lib.Dec.{eqb}
 use lib.ListN.{length, get_or}
@@ -16,19 +14,18 @@ use Rattle.lists.proofs.Gather.{in_list}
 use Rattle.lists.proofs.Regions.{front_in}
 use Rattle.exact.specs.Exact.{mag, minus}
 use Rattle.exact.proofs.ExactUnits.{exact_units}
-use Rattle.cutting.specs.Edges.{Edge, edge_at, key}
+use Rattle.cutting.specs.Edges.{Edge, key}
 use Rattle.cutting.specs.Edition.{ours}
 use Rattle.plane.specs.Plane.{is_number, point_at}
 use Rattle.plane.proofs.FloatOrder.{finite_number}
 use Rattle.grid.specs.Grid.{Grid, on_grid, booked}
 use Rattle.grid.proofs.OnGrid.{still_fits, still_finite, bounded_42, by_grid}
 use Rattle.settings.specs.declared.Settings.{Settings}
-use Rattle.entry.specs.Mesh.{Mesh, node_count}
+use Rattle.entry.specs.Mesh.{Mesh}
 use Rattle.entry.specs.Refused.{entry_of}
 use Rattle.entry.proofs.Passed.{passed}
 use Rattle.rules.specs.Mesh.{Side}
-use Rattle.rules.specs.Neighbours.{subject_net, cutter_net}
-use Rattle.rules.specs.Meetings.{Met, net_of, segment_of, added_by, meetings, scene_of}
+use Rattle.rules.specs.Meetings.{net_of, added_by, scene_of}
 use Rattle.rules.specs.Operations.{scene_for}
 use Rattle.rules.specs.Nodes.{projected, collected}
 use Rattle.rules.specs.Overlay.{Lists, Result, written, answered, answered_with, overlay_of}
@@ -36,11 +33,12 @@ use Rattle.rules.specs.Demand3.{Accepted}
 use Rattle.rules.proofs.Accepts.{accepted}
 use Rattle.coordinates.specs.Points.{Doubles}
 use Rattle.coordinates.specs.Finite.{Bounded, NodeOf, Ordered}
-use Rattle.coordinates.proofs.Booked.{allowed_bounded, new_point_lem}
-use Rattle.coordinates.proofs.Nodes.{each_joined, collected_under, key_under}
+use Rattle.coordinates.proofs.Booked.{allowed_bounded}
+use Rattle.coordinates.proofs.Added.{each_added}
+use Rattle.coordinates.proofs.Nodes.{collected_under, key_under}
 use Rattle.coordinates.proofs.InScene.{scene_length, met_nodes_lem, edge_nodes}
 use Rattle.coordinates.proofs.Projections.{BoundedPoint, projection_finite, numbers_ordered}
-use Rattle.coordinates.proofs.Points.{Each, each_join, each_none, each_cons, Both, edges_under, mesh_allowed, allowed_ends, Origin, meetings_origin, before_moved}
+use Rattle.coordinates.proofs.Points.{Each, each_join, each_cons, Both, mesh_allowed}
 
 -- where a coordinate is put on a grid, it is still finite and at most 2^42 in size
 booked_bounded : (g : Grid) (x : Float) → Bounded x → Bounded (booked g x)
@@ -65,30 +63,9 @@ module _ (o : Settings) (s c : Mesh) (w : ℕ) (pass : entry_of o s c w ≡ 0) (
       each_join s.coords c.coords (λ x h. allowed_bounded x (mesh_allowed false s p.subject subject x h))
       (λ x h. allowed_bounded x (mesh_allowed (eqb o.op 5) c p.cutter cutter x h))
 
-  point_bounded : (mt : Met) → Origin o.grid lent (subject_net s) (cutter_net (eqb o.op 5) s c) mt → Each Bounded mt.point
-  point_bounded mt from = go from.shape
-    where
-      go : (mt.point ≡ []) ⊎ ((x : Float) × (y : Float) × (mt.point ≡ x ∷ y ∷ [])) → Each Bounded mt.point
-      go (inl e) = subst (Each Bounded) (sym e) (each_none Bounded)
-      go (inr q) =
-          let ok = (passed o s c w pass).subject in
-          let n = (subject_net s).edges in
-          let e = edge_at n mt.subject_edge in
-          let f = edge_at (cutter_net (eqb o.op 5) s c).edges mt.cutter_edge in
-          let u : Both (node_count s) e = edges_under false s ok e (in_list n mt.subject_edge from.edge (0, 0)) in
-          let p = before_moved o.grid (segment_of lent e) (segment_of lent f) q.0 q.1 (from.new q.0 q.1 q.2) in
-          let b = new_point_lem (segment_of lent e) (segment_of lent f) (allowed_ends s c ok subject e u) p.0 p.1 p.2 in
-          let at : (x z : Float) → booked o.grid x ≡ z → Bounded x → Bounded z = λ x z e h. subst Bounded e (booked_bounded o.grid x h) in
-          subst (Each Bounded) (sym q.2) (each_cons q.0 (q.1 ∷ []) (at p.0 q.0 p.3 b.0.bounded) (each_cons q.1 [] (at p.1 q.1 p.4 b.1.bounded) (each_none Bounded)))
-
   scene_each : Each Bounded scene
-  unfolding scene_of meetings
-  scene_each =
-      let n = subject_net s in
-      let k = cutter_net (eqb o.op 5) s c in
-      each_join lent (added_by (scene_for o s c).met) lent_bounded
-      (each_joined Bounded (λ (mt : Met). mt.point) (scene_for o s c).met
-      (λ mt h. point_bounded mt (meetings_origin o.grid lent n k (length n.edges) (le_refl (length n.edges)) mt h)))
+  unfolding scene_of
+  scene_each = each_join lent (added_by (scene_for o s c).met) lent_bounded (each_added o s c w pass subject Bounded (booked_bounded o.grid))
 
   -- Every coordinate of the scene, lent or new, is finite and at most 2^42 in size.
   pub scene_finite : (i : ℕ) → i < length (scene_for o s c).coords → Bounded (get_or (scene_for o s c).coords i nan)

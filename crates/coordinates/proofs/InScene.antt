@@ -3,7 +3,7 @@ use mathlib.Core.Path.{◌≡◌, sym, subst}
 use mathlib.Core.Bool.{false}
 use mathlib.Core.List.{List, [], ◌++◌, Memᴰ}
 use Prim.Native.Nat.{ℕ, ◌+◌, ◌*◌, ◌/◌, ◌<◌}
-use native.Mathlib.Nat.{le_refl, le_of_eq}
+use native.Mathlib.Nat.{le_of_eq}
 use native.Mathlib.Omega.{arith}
 use lib.Dec.{eqb}
 use lib.ListN.{length, length-append}
@@ -16,7 +16,7 @@ use Rattle.entry.specs.Refused.{entry_of}
 use Rattle.entry.proofs.Passed.{passed, cell_some, corner_below}
 use Rattle.rules.specs.Mesh.{Side, the_subject, the_cutter, other, cell_at, cells_of}
 use Rattle.rules.specs.Neighbours.{subject_net, cutter_net}
-use Rattle.rules.specs.Meetings.{Met, net_of, added_by, meetings, scene_of}
+use Rattle.rules.specs.Meetings.{Met, net_of, added_by, scene_of}
 use Rattle.rules.specs.Operations.{scene_for, pieces_of}
 use Rattle.rules.specs.Cell.{cell_of, outline_of}
 use Rattle.coordinates.specs.Finite.{NodeOf}
@@ -47,11 +47,10 @@ module _ (o : Settings) (s c : Mesh) (w : ℕ) (pass : entry_of o s c w ≡ 0) w
 
   -- those that meetings name are nodes of the scene
   pub met_nodes_lem : (mt : Met) → Memᴰ mt (scene_for o s c).met → Each (NodeOf (scene_for o s c)) mt.nodes
-  unfolding scene_of meetings
+  unfolding scene_of
   met_nodes_lem mt h n k =
       let a : 2 * n + 1 < length lent + length (added_by (scene_for o s c).met) =
-      meetings_stand o.grid lent (subject_net s) (cutter_net (eqb o.op 5) s c) (node_count s + node_count c) (le_of_eq (sym lent_even)) subject_all cutter_all
-      (length (subject_net s).edges) (le_refl (length (subject_net s).edges)) mt h n k in
+      meetings_stand o.grid lent (subject_net s) (cutter_net (eqb o.op 5) s c) (node_count s + node_count c) (le_of_eq (sym lent_even)) subject_all cutter_all mt h n k in
       omega (arith, a, scene_length o s c, length-append s.coords c.coords)
 
   -- so are the ends of edges

@@ -3,9 +3,12 @@ pub mod Along
 pub mod Booked
 pub mod Within
 pub mod Points
+pub mod Meetings
 pub mod Nodes
 pub mod Pieces
 pub mod InScene
+pub mod Added
 pub mod Projections
 pub mod Finite
 pub mod Gridded
+pub mod Stakes

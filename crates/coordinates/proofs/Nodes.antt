@@ -2,7 +2,7 @@
 use mathlib.Core.Path.{◌≡◌, refl, sym, ap, ◌∙◌, subst}
 use mathlib.Core.Bool.{Bool, true, false, cond}
 use mathlib.Core.List.{List, [], ◌∷◌, ◌++◌, map, Memᴰ}
-use Prim.Native.Nat.{ℕ, zero, suc, ◌+◌, ◌*◌, ◌/◌, ◌≤◌, ◌<◌}
+use Prim.Native.Nat.{ℕ, ◌+◌, ◌*◌, ◌/◌, ◌≤◌, ◌<◌}
 use native.Mathlib.Nat.{le_refl}
 use native.Mathlib.Omega.{arith}
 use lib.Dec.{ltb, eqb}
@@ -28,10 +28,10 @@ use Rattle.grid.specs.Grid.{Grid}
 use Rattle.rules.specs.Mesh.{Side, cell_at, cells_of}
 use Rattle.rules.specs.Snap.{weld}
 use Rattle.rules.specs.Neighbours.{Net, compute_descending, line_edges, renumbered, cutter_net}
-use Rattle.rules.specs.SpatialIndex.{edge_box, candidates}
-use Rattle.rules.specs.Meetings.{Met, Scene, segment_of, node_of, added_by, recorded, met_pair, met_all, meetings_to, meeting_on}
+use Rattle.rules.specs.Meetings.{Met, Scene, node_of, added_by, recorded, meetings}
 use Rattle.rules.specs.Nodes.{Projected, projected, by_projection, by_projections, inner_of, before_last, along_edge, collected, unless_none, sorted_nodes}
 use Rattle.rules.specs.Cell.{laid, darts_of, treated_by, treated, cell_of, near_of, outline_of}
+use Rattle.rules.proofs.Walk.{Kept, meetings_keep}
 use Rattle.snap.proofs.Welds.{length_weld, weld_below}
 use Rattle.coordinates.proofs.Points.{Each, each_join, each_none, each_cons, hops_each, ring_each, Under, Both, descending_under, corners_under}
 
@@ -135,35 +135,25 @@ recorded_stand n i j k e f (Overlap p q) h a b =
 -- where the ends of edges are below n
 module _ (g : Grid) (coords : List Float) (s c : Net) (n : ℕ) (room : 2 * n ≤ length coords) (sub : Each (Both n) s.edges) (cut : Each (Both n) c.edges) where
   -- with what meetings add
-  abbrev long : List Met → ℕ
-  long ms = length coords + length (added_by ms)
+  abbrev many : List Met → ℕ
+  many ms = length coords + length (added_by ms)
 
-  pair_stand : (i j : ℕ) (ms : List Met) → i < length s.edges → Each (StandAll (long ms)) ms → Each (StandAll (long (met_pair g coords s c i j ms))) (met_pair g coords s c i j ms)
-  unfolding met_pair
-  pair_stand i j ms h a =
-      let e = edge_at s.edges i in
-      let f = edge_at c.edges j in
-      let r = meeting_on g (segment_of coords e) (segment_of coords f) in
-      let new = recorded i j (long ms / 2) e f r in
-      let u : Both n e = sub e (in_list s.edges i h (0, 0)) in
-      let v : Both n f = edge_any n c.edges cut (let w = u.0 in omega arith) j in
+  abbrev AllStand : List Met → Type 0
+  AllStand ms = Each (StandAll (many ms)) ms
+
+  stand_kept : Kept g coords s c AllStand
+  stand_kept i j ms r k e a =
+      let new = recorded i j (many ms / 2) (edge_at s.edges i) (edge_at c.edges j) r in
+      let u : Both n (edge_at s.edges i) = sub (edge_at s.edges i) (in_list s.edges i k.subject (0, 0)) in
+      let v : Both n (edge_at c.edges j) = cut (edge_at c.edges j) (in_list c.edges j k.cutter (0, 0)) in
       let more : length (added_by (ms ++ new)) ≡ length (added_by ms) + length (added_by new) =
       ap length (joined_append (λ (m : Met). m.point) ms new) ∙ length-append (added_by ms) (added_by new) in
-      each_join ms new (stand_more (long ms) (long (ms ++ new)) ms (omega (arith, more)) a)
-      (stand_more (long ms + length (added_by new)) (long (ms ++ new)) new (omega (arith, more)) (recorded_stand n i j (long ms) e f r (omega arith) u v))
+      each_join ms new (stand_more (many ms) (many (ms ++ new)) ms (omega (arith, more)) a)
+      (stand_more (many ms + length (added_by new)) (many (ms ++ new)) new (omega (arith, more))
+      (recorded_stand n i j (many ms) (edge_at s.edges i) (edge_at c.edges j) r (omega (arith, room)) u v))
 
-  all_stand : (i : ℕ) (js : List ℕ) (ms : List Met) → i < length s.edges → Each (StandAll (long ms)) ms
-      → Each (StandAll (long (met_all g coords s c i js ms))) (met_all g coords s c i js ms)
-  unfolding met_all
-  all_stand i [] ms h a = a
-  all_stand i (j ∷ js) ms h a = all_stand i js (met_pair g coords s c i j ms) h (pair_stand i j ms h a)
-
-  pub meetings_stand : (i : ℕ) → i ≤ length s.edges
-      → Each (StandAll (length coords + length (added_by (meetings_to g coords s c i)))) (meetings_to g coords s c i)
-  unfolding meetings_to
-  meetings_stand zero h = each_none (StandAll (long []))
-  meetings_stand (suc i) h =
-      all_stand i (candidates coords c.edges (edge_box coords (edge_at s.edges i))) (meetings_to g coords s c i) (omega arith) (meetings_stand i (omega arith))
+  pub meetings_stand : Each (StandAll (length coords + length (added_by (meetings g coords s c)))) (meetings g coords s c)
+  meetings_stand = meetings_keep g coords s c AllStand (each_none (StandAll (many []))) stand_kept
 
 -- what is collected under a key
 pub collected_under : (sc : Scene) (n : ℕ) → ((m : Met) → Memᴰ m sc.met → Each (Under n) m.nodes) → (e : Edge) → Each (Under n) (collected sc e)

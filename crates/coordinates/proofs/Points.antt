@@ -4,7 +4,7 @@ use mathlib.Core.Logic.{◌⊎◌, inl, inr}
 use mathlib.Core.Bool.{Bool, true, false, cond, not, ◌&&◌, true≢false}
 use mathlib.Core.List.Memᴰ
 use mathlib.Core.List.{List, [], ◌∷◌, ◌++◌, Memᴰ}
-use Prim.Native.Nat.{ℕ, zero, suc, ◌+◌, ◌*◌, ◌/◌, ◌^◌, ◌≤◌, ◌<◌}
+use Prim.Native.Nat.{ℕ, zero, suc, ◌+◌, ◌*◌, ◌^◌, ◌≤◌, ◌<◌}
 use native.Mathlib.Nat.{le_refl}
 use native.Mathlib.Omega.{arith}
 use lib.Dec.{eqb, leb}
@@ -27,9 +27,8 @@ use Rattle.segments.specs.declared.Meeting.TheVariants.{Apart, Existing, New, Ov
 use Rattle.cutting.specs.Edges.{Edge, edge_at, same_key, hops, ring}
 use Rattle.grid.specs.Grid.{Grid, booked}
 use Rattle.rules.specs.Mesh.{cell_at, cells_of}
-use Rattle.rules.specs.Neighbours.{Net, added, added_all, descending_to, subject_net}
-use Rattle.rules.specs.SpatialIndex.{edge_box, candidates}
-use Rattle.rules.specs.Meetings.{Met, segment_of, added_by, recorded, met_pair, met_all, meetings_to, meeting_on, moved_to}
+use Rattle.rules.specs.Neighbours.{added, added_all, descending_to, subject_net}
+use Rattle.rules.specs.Meetings.{segment_of, meeting_on, moved_to}
 use Rattle.coordinates.specs.Booked.{Allowed, AllowedEnds}
 use Rattle.coordinates.specs.Points.{Doubles}
 
@@ -150,40 +149,7 @@ module _ (s c : Mesh) (ok : Sound false s) (f64 : Doubles s.coords) where
       let b = node_within false s ok e.1 h.1 in
       record { ax = allowed_at (2 * e.0) (omega arith); ay = allowed_at (2 * e.0 + 1) a; bx = allowed_at (2 * e.1) (omega arith); by = allowed_at (2 * e.1 + 1) b }
 
--- ---- where the points of meetings come from
-
-module _ (g : Grid) (coords : List Float) (s c : Net) where
-  -- a point that a meeting brings is the new one of its edges, the first of which is one of s
-  pub record Origin (m : Met) : Type 0 where
-    pub edge : m.subject_edge < length s.edges
-    pub shape : (m.point ≡ []) ⊎ ((x : Float) × (y : Float) × (m.point ≡ x ∷ y ∷ []))
-    pub new : (x y : Float) → m.point ≡ x ∷ y ∷ []
-        → meeting_on g (segment_of coords (edge_at s.edges m.subject_edge)) (segment_of coords (edge_at c.edges m.cutter_edge)) ≡ New x y
-
-  pair_origin : (i j : ℕ) (ms : List Met) → i < length s.edges → Each Origin ms → Each Origin (met_pair g coords s c i j ms)
-  unfolding met_pair
-  pair_origin i j ms h k =
-      each_join ms _ k (go (meeting_on g (segment_of coords (edge_at s.edges i)) (segment_of coords (edge_at c.edges j))) refl)
-    where
-      bare : (x y : Float) → ◌≡◌ {A = List Float} [] (x ∷ y ∷ []) → ⊥
-      bare x y e = let z : ◌≡◌ {A = ℕ} 0 1 = cc in omega arith
-
-      go : (r : Meeting) → meeting_on g (segment_of coords (edge_at s.edges i)) (segment_of coords (edge_at c.edges j)) ≡ r
-          → Each Origin (recorded i j ((length coords + length (added_by ms)) / 2) (edge_at s.edges i) (edge_at c.edges j) r)
-      go Apart e = each_none Origin
-      go (Existing p) e = each_cons _ [] (record { edge = h; shape = inl refl; new = λ x y q. absurd (bare x y q) }) (each_none Origin)
-      go (New u v) e = each_cons _ [] (record { edge = h; shape = inr (u, v, refl); new = λ x y q. cc }) (each_none Origin)
-      go (Overlap p q) e = each_cons _ [] (record { edge = h; shape = inl refl; new = λ x y q. absurd (bare x y q) }) (each_none Origin)
-
-  all_origin : (i : ℕ) (js : List ℕ) (ms : List Met) → i < length s.edges → Each Origin ms → Each Origin (met_all g coords s c i js ms)
-  unfolding met_all
-  all_origin i [] ms h k = k
-  all_origin i (j ∷ js) ms h k = all_origin i js (met_pair g coords s c i j ms) h (pair_origin i j ms h k)
-
-  pub meetings_origin : (i : ℕ) → i ≤ length s.edges → Each Origin (meetings_to g coords s c i)
-  unfolding meetings_to
-  meetings_origin zero h = each_none Origin
-  meetings_origin (suc i) h = all_origin i (candidates coords c.edges (edge_box coords (edge_at s.edges i))) (meetings_to g coords s c i) (omega arith) (meetings_origin i (omega arith))
+-- ---- the meeting rule on a grid
 
 -- a new point on the grid is one before it was put there
 pub before_moved : (g : Grid) (s o : Segment) (x y : Float) → meeting_on g s o ≡ New x y

@@ -1,6 +1,5 @@
 pub mod Boxes
 pub mod Rings
-pub mod Meetings
 pub mod Sorted
 pub mod Darts
 pub mod Near

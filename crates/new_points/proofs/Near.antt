@@ -4,9 +4,8 @@ use mathlib.Core.Bool.{true, false, cond}
 use mathlib.Core.List.Memᴰ
 use mathlib.Core.List.{List, [], ◌∷◌, ◌++◌, Memᴰ}
 use Prim.Native.Nat.{ℕ, ◌+◌, ◌*◌, ◌<◌}
-use native.Mathlib.Omega.{arith}
-use lib.ListN.{length, get_or-append}
-use lib.Ieee.{Float, nan, inf}
+use lib.ListN.{length}
+use lib.Ieee.{Float, inf}
 use Rattle.lists.proofs.Gather.{in_gathered}
 use Rattle.plane.specs.Plane.{point_at}
 use Rattle.plane.specs.declared.Point.{Point}
@@ -15,15 +14,11 @@ use Rattle.rules.specs.Mesh.{Side, other}
 use Rattle.rules.specs.SpatialIndex.{stretched, box_to, box_of, edge_box, boxes_meet, candidates}
 use Rattle.rules.specs.Meetings.{Scene, net_of}
 use Rattle.rules.specs.Cell.{darts_of, cell_of, near_of, treated_by, treated, outline_of}
+use Rattle.coordinates.proofs.Meetings.{same_point}
 use Rattle.new_points.proofs.Boxes.{Numbers, box_covers_edge, meets_covering}
 use Rattle.new_points.proofs.Rings.{ring_ends}
 
--- ---- coordinates behind those lent change no point and no box
-
-pub same_point : (coords more : List Float) (n : ℕ) → 2 * n + 1 < length coords → point_at (coords ++ more) n ≡ point_at coords n
-unfolding point_at
-same_point coords more n h =
-    ap₂ {C = Point} (λ (x y : Float). record { x = x; y = y }) (get_or-append coords more nan (2 * n) (omega arith)) (get_or-append coords more nan (2 * n + 1) h)
+-- ---- coordinates behind those lent change no box
 
 pub same_box : (coords more : List Float) (e : Edge) → 2 * e.0 + 1 < length coords → 2 * e.1 + 1 < length coords → edge_box (coords ++ more) e ≡ edge_box coords e
 unfolding box_to

@@ -5,7 +5,7 @@ use mathlib.Core.List.{List, [], ◌++◌, Memᴰ}
 use Prim.Native.Nat.{ℕ, ◌+◌, ◌*◌, ◌/◌, ◌≤◌, ◌<◌}
 use native.Mathlib.Omega.{arith}
 use lib.Dec.{T, eqb}
-use lib.ListN.{length, get_or, length-append}
+use lib.ListN.{length, get_or}
 use lib.Ieee.{Float, nan}
 use lib.Ieee.Scale.{finite}
 use Rattle.lists.proofs.Gather.{get_or_each, in_list}
@@ -22,16 +22,17 @@ use Rattle.rules.specs.SpatialIndex.{edge_box, boxes_meet}
 use Rattle.rules.specs.Meetings.{Met, Scene, added_by, scene_of}
 use Rattle.rules.specs.Cell.{cell_of, outline_of}
 use Rattle.rules.specs.Operations.{scene_for}
+use Rattle.rules.proofs.Walk.{Close}
 use Rattle.rules.proofs.Closing.{cells_lent}
 use Rattle.plane.proofs.FloatOrder.{finite_number}
 use Rattle.coordinates.proofs.Points.{Both, corners_under, edges_under}
-use Rattle.coordinates.proofs.InScene.{scene_length, lent_even, cutter_all}
+use Rattle.coordinates.proofs.InScene.{lent_even, cutter_all}
+use Rattle.coordinates.proofs.Meetings.{Source, same_point, origin_close, meetings_origin, new_points_met}
 use Rattle.new_points.proofs.Boxes.{Numbers}
 use Rattle.new_points.proofs.Rings.{descending_in}
-use Rattle.new_points.proofs.Meetings.{Close, Source, From, new_points_met}
 use Rattle.new_points.proofs.Sorted.{met_sorted}
 use Rattle.new_points.proofs.Darts.{Touched, outline_touches}
-use Rattle.new_points.proofs.Near.{same_point, same_box, near_cut}
+use Rattle.new_points.proofs.Near.{same_box, near_cut}
 
 -- the coordinates of a mesh are numbers
 coord_number : (m : Mesh) → Sound false m → (i : ℕ) → i < length m.coords → is_number (get_or m.coords i nan) ≡ true
@@ -52,11 +53,14 @@ module _ (o : Settings) (s c : Mesh) (w : ℕ) (pass : entry_of o s c w ≡ 0) w
   cutting = cutter_net (eqb o.op 5) s c
 
   -- the number of a new point comes from a meeting
-  point_met : (n : ℕ) → node_count s + node_count c ≤ n → n < length sc.coords / 2 → From o.grid lent (subject_net s) cutting sc.met n
+  point_met : (n : ℕ) → node_count s + node_count c ≤ n → n < length sc.coords / 2 → Source o.grid lent (subject_net s) cutting sc.met n
   unfolding scene_of
-  point_met n low high =
-      new_points_met o.grid lent (subject_net s) cutting n (omega (arith, low, lent_even o s c w pass))
-      (omega (arith, high, scene_length o s c, length-append s.coords c.coords))
+  point_met = new_points_met o.grid lent (subject_net s) cutting (node_count s + node_count c) (lent_even o s c w pass)
+
+  -- which is of two edges whose boxes meet
+  edges_met : (mt : Met) → Memᴰ mt sc.met → Close o.grid lent (subject_net s) cutting mt.subject_edge mt.cutter_edge
+  unfolding scene_of
+  edges_met mt k = origin_close o.grid lent (subject_net s) cutting mt (meetings_origin o.grid lent (subject_net s) cutting mt k)
 
   -- a lent node is where it was
   lent_point : (n : ℕ) → n < node_count s + node_count c → point_at sc.coords n ≡ point_at lent n
@@ -102,26 +106,20 @@ module _ (o : Settings) (s c : Mesh) (w : ℕ) (pass : entry_of o s c w ≡ 0) w
       let b = cutter_all o s c w pass f (in_list cutting.edges j k.cutter (0, 0)) in
       ap₂ boxes_meet (lent_box f b) (lent_box e (omega (arith, a.0), omega (arith, a.1))) ∙ k.boxes
 
-  -- n is an end of a dart in the outline as cut of a subject cell
-  abbrev OnOutline : ℕ → Type 0
-  OnOutline n = (i : ℕ) × (i < length s.ends) × Touched n (outline_of sc the_subject i)
-
-  met_outline : (n : ℕ) → node_count s + node_count c ≤ n → (mt : Met) → Memᴰ mt sc.met → Source o.grid lent (subject_net s) cutting n mt → OnOutline n
-  unfolding scene_of
-  met_outline n low mt k src =
-      let es = (subject_net s).edges in
-      let e = edge_at es mt.subject_edge in
-      let at : Memᴰ e es = in_list es mt.subject_edge src.edges.subject (0, 0) in
-      let cell = own_cell e at in
-      let ends = subject_ends e at in
-      let apart : n ≡ (key e).1 → ⊥ = λ q. omega (arith, q, low, ends.0, ends.1) in
-      let sorted = met_sorted sc mt k n (subst (Memᴰ n) (sym src.nodes) (Memᴰ.head refl)) in
-      let darts = outline_touches sc (cell_of sc the_subject cell.0) e n (key e).1 cell.2 apart sorted.0 sorted.1 in
-      let cut = near_cut sc the_subject cell.0 (corner_numbers cell.0 cell.1) e cell.2 mt.cutter_edge src.edges.cutter
-      (close_boxes mt.subject_edge mt.cutter_edge src.edges) in
-      (cell.0, cell.1, subst (Touched n) (sym cut) darts)
-
   -- Every new point is an end of an outline dart of some subject cell.
   pub point_on_outline : (n : ℕ) → node_count s + node_count c ≤ n → n < length (scene_for o s c).coords / 2
       → (i : ℕ) × (i < length s.ends) × Touched n (outline_of (scene_for o s c) the_subject i)
-  point_on_outline n low high = let f = point_met n low high in met_outline n low f.0 f.1 f.2
+  unfolding scene_of
+  point_on_outline n low high =
+      let f = point_met n low high in
+      let close = edges_met f.met f.found in
+      let es = (subject_net s).edges in
+      let e = edge_at es f.met.subject_edge in
+      let at : Memᴰ e es = in_list es f.met.subject_edge close.subject (0, 0) in
+      let cell = own_cell e at in
+      let ends = subject_ends e at in
+      let apart : n ≡ (key e).1 → ⊥ = λ q. omega (arith, q, low, ends.0, ends.1) in
+      let sorted = met_sorted sc f.met f.found n (subst (Memᴰ n) (sym f.node) (Memᴰ.head refl)) in
+      let darts = outline_touches sc (cell_of sc the_subject cell.0) e n (key e).1 cell.2 apart sorted.0 sorted.1 in
+      let cut = near_cut sc the_subject cell.0 (corner_numbers cell.0 cell.1) e cell.2 f.met.cutter_edge close.cutter (close_boxes f.met.subject_edge f.met.cutter_edge close) in
+      (cell.0, cell.1, subst (Touched n) (sym cut) darts)
