@@ -12,3 +12,4 @@ pub mod Projections
 pub mod Finite
 pub mod Gridded
 pub mod Stakes
+pub mod Samples

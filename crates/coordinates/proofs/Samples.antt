@@ -1,0 +1,183 @@
+-- What specs/Booked.antt says, by computation. Numbers are given by their bits, distances as parts of 1, which is 2^2148 units of 2^-2148. Assumes nothing.
+use mathlib.Core.Path.{◌≡◌, refl}
+use mathlib.Core.Bool.{Bool, true, false, false≢true}
+use mathlib.Core.List.{[], ◌∷◌, map}
+use Prim.Native.Nat.{ℕ, ◌+◌, ◌*◌, ◌/◌, ◌^◌}
+use lib.Dec.{T, ltb}
+use lib.IntN.{pos}
+use lib.Ieee.{Float, fin, binary64, add, sub, mul, div, neg, lt, le, eq, of_bits, fits, round}
+use Rattle.std.specs.Prelude.{None, Some}
+use Rattle.exact.specs.Exact.{mag, coord}
+use Rattle.grid.specs.Grid.{Grid, steps, grid_number, on_grid, booked}
+use Rattle.plane.specs.Plane.{zero_f, one_f, two_f, four_f, magnitude, larger, between, along, scale, tolerance}
+use Rattle.segments.specs.Meet.{near, settled, crossing, meeting_or}
+use Rattle.segments.specs.declared.Segment.{Segment}
+use Rattle.segments.specs.declared.Meeting.{Meeting}
+use Rattle.segments.specs.declared.Meeting.TheVariants.{Apart, Existing, New, Overlap}
+use Rattle.entry.specs.Refused.{coord_ok}
+use Rattle.rules.specs.Meetings.{meeting_on}
+use Rattle.coordinates.specs.Booked.{Allowed, AllowedEnds, parameter, largest, off_by, allowance, is_within, PointWithin}
+
+abbrev f64 : ℕ → Float
+f64 n = of_bits binary64 n
+
+-- 1/4, 1/2, 3/2, 3, -1, -1/2 and -4
+abbrev quarter : Float
+quarter = f64 0x3fd0_0000_0000_0000
+
+abbrev half : Float
+half = f64 0x3fe0_0000_0000_0000
+
+abbrev one_and_a_half : Float
+one_and_a_half = f64 0x3ff8_0000_0000_0000
+
+abbrev three : Float
+three = f64 0x4008_0000_0000_0000
+
+abbrev minus_one : Float
+minus_one = f64 0xbff0_0000_0000_0000
+
+abbrev minus_half : Float
+minus_half = f64 0xbfe0_0000_0000_0000
+
+abbrev minus_four : Float
+minus_four = f64 0xc010_0000_0000_0000
+
+-- from (ax, ay) to (bx, by)
+abbrev from_to : (ax ay bx by : Float) → Segment
+from_to ax ay bx by = record { a = record { x = ax; y = ay }; b = record { x = bx; y = by } }
+
+abbrev one : ℕ
+one = 2 ^ 2148
+
+-- ---- M × 2^-50 + 2^-1074, and half a step
+
+-- for M = 1, without a grid and with k of 0, 3 and 10
+allowances :
+    map (λ g. allowance g (2 ^ 1074)) (None ∷ Some 0 ∷ Some 3 ∷ Some 10 ∷ [])
+    ≡ (one / 2 ^ 50 + one / 2 ^ 1074) ∷ (one / 2 ^ 50 + one / 2 ^ 1074 + one / 2) ∷ (one / 2 ^ 50 + one / 2 ^ 1074 + one / 16) ∷ (one / 2 ^ 50 + one / 2 ^ 1074 + one / 2048) ∷ []
+allowances = refl
+
+-- each of the four coordinates as the largest in size, among them numbers below 0
+largest_ones :
+    map largest (from_to minus_four one_f two_f three ∷ from_to one_f four_f minus_one zero_f ∷ from_to one_f minus_half three minus_one ∷ from_to zero_f zero_f zero_f half ∷ [])
+    ≡ 4 * 2 ^ 1074 ∷ 4 * 2 ^ 1074 ∷ 3 * 2 ^ 1074 ∷ 2 ^ 1074 / 2 ∷ []
+unfolding mag of_bits
+largest_ones = refl
+
+-- ---- how far x is from p + t (q - p)
+
+-- 2, 3/2 and 3 of 1, 3 and 1/2; the same of 1, 3 and 1/4; -1/2 and 1/2 of -1, 1 and 1/4; the least of all
+distances :
+    off_by two_f one_f three half ∷ off_by one_and_a_half one_f three half ∷ off_by three one_f three half
+    ∷ off_by two_f one_f three quarter ∷ off_by one_and_a_half one_f three quarter ∷ off_by three one_f three quarter
+    ∷ off_by minus_half minus_one one_f quarter ∷ off_by half minus_one one_f quarter
+    ∷ off_by zero_f zero_f (f64 1) (f64 1) ∷ off_by (f64 1) zero_f (f64 1) half ∷ []
+    ≡ 0 ∷ one / 2 ∷ one
+    ∷ one / 2 ∷ 0 ∷ (one + one / 2)
+    ∷ 0 ∷ one
+    ∷ 1 ∷ one / 2 ^ 1075 ∷ []
+unfolding coord mag of_bits
+distances = refl
+
+-- from (0, 0) to (4, 0), and across it from (1, -1) to (1, 1): t and not the other's parameter, which is 1/2
+parameter_is : parameter (from_to zero_f zero_f four_f zero_f) (from_to one_f minus_one one_f one_f) ≡ quarter
+unfolding between add sub mul div neg of_bits
+parameter_is = refl
+
+-- x itself for p + t (q - p), where p and q are 0: the border is within
+abbrev near_zero : Grid → ℕ → ℕ → Bool
+near_zero g m x = is_within g m (f64 x) zero_f zero_f zero_f
+
+-- M = 0: 0, 2^-1074, twice that, and below 0; M = 1: 2^-50 and the next above; M = 0 and a step of 1: 1/2 and the next above, and below 0
+borders :
+    near_zero None 0 0 ∷ near_zero None 0 1 ∷ near_zero None 0 2 ∷ near_zero None 0 0x8000_0000_0000_0001 ∷ near_zero None 0 0x8000_0000_0000_0002
+    ∷ near_zero None (2 ^ 1074) 0x3cd0_0000_0000_0000 ∷ near_zero None (2 ^ 1074) 0x3cd0_0000_0000_0001
+    ∷ near_zero (Some 0) 0 0x3fe0_0000_0000_0000 ∷ near_zero (Some 0) 0 0x3fe0_0000_0000_0001 ∷ near_zero (Some 0) 0 0xbfe0_0000_0000_0000 ∷ near_zero (Some 1) 0 0xbfe0_0000_0000_0000 ∷ []
+    ≡ true ∷ true ∷ false ∷ true ∷ false
+    ∷ true ∷ false
+    ∷ true ∷ false ∷ true ∷ false ∷ []
+unfolding is_within coord mag of_bits
+borders = refl
+
+-- ---- meetings
+
+-- how far the first coordinate of a new point of s and o is off
+unfoldable x_off : Segment → Segment → Meeting → ℕ
+x_off s o Apart = 0
+x_off s o (Existing p) = 0
+x_off s o (New x y) = off_by x s.a.x s.b.x (parameter s o)
+x_off s o (Overlap p q) = 0
+
+abbrev far_subject : Segment
+far_subject = from_to (f64 0xbff0_00c3_933a_7cad) (f64 0xbfec_e6b3_ab96_4c96) (f64 0x3ff0_0688_9123_3af4) (f64 0x3fd4_ccbc_0254_d154)
+
+abbrev far_cutter : Segment
+far_cutter = from_to (f64 0x3ff2_93b9_ce53_1657) (f64 0x3ff4_bcca_5db0_60a7) (f64 0x3fed_074d_e7ff_8160) (f64 0xbfcf_dcf6_2006_23b8)
+
+abbrev far_x : Float
+far_x = f64 0x3ff0_05f2_8aa8_a78d
+
+abbrev far_y : Float
+far_y = f64 0x3fd4_cb4b_d3db_5cd0
+
+far_point : meeting_or Apart far_subject far_cutter ≡ New far_x far_y
+unfolding meeting_or crossing settled near scale larger magnitude between along tolerance add sub mul div neg lt le eq of_bits
+far_point = refl
+
+-- its first coordinate is off by more than 3.99 M × 2^-53: half the allowance would be too little
+far_off : T (ltb (399 * (largest far_subject * 2 ^ 1021)) (100 * off_by far_x far_subject.a.x far_subject.b.x (parameter far_subject far_cutter)))
+unfolding between mag coord add sub mul div neg of_bits
+far_off = tt
+
+far_allowed : AllowedEnds far_subject
+unfolding coord_ok of_bits fits
+far_allowed = record { ax = record { fit = refl; ok = refl }; ay = record { fit = refl; ok = refl }; bx = record { fit = refl; ok = refl }; by = record { fit = refl; ok = refl } }
+
+far_within : PointWithin None far_subject far_cutter far_x far_y
+unfolding is_within between mag coord add sub mul div neg of_bits
+far_within = record { first = refl; second = refl }
+
+-- each of its coordinates counts
+first_counts : PointWithin None far_subject far_cutter far_y far_y → ⊥
+unfolding is_within between mag coord add sub mul div neg of_bits
+first_counts h = false≢true h.first
+
+second_counts : PointWithin None far_subject far_cutter far_x far_x → ⊥
+unfolding is_within between mag coord add sub mul div neg of_bits
+second_counts h = false≢true h.second
+
+-- from (0, 0) to (1, 0), crossed in the middle: on whole metres the point goes to the even one, and is off by half a step
+abbrev unit_side : Segment
+unit_side = from_to zero_f zero_f one_f zero_f
+
+abbrev across : Segment
+across = from_to half minus_one half one_f
+
+halfway : map (λ g. x_off unit_side across (meeting_on g unit_side across)) (None ∷ Some 0 ∷ Some 1 ∷ []) ≡ 0 ∷ one / 2 ∷ 0 ∷ []
+unfolding x_off meeting_on meeting_or crossing settled near scale larger magnitude between along tolerance booked on_grid grid_number steps round mag coord add sub mul div neg lt le eq of_bits
+halfway = refl
+
+on_whole_metres : meeting_on (Some 0) unit_side across ≡ New zero_f zero_f
+unfolding meeting_on meeting_or crossing settled near scale larger magnitude between along tolerance booked on_grid grid_number steps round mag add sub mul div neg lt le eq of_bits
+on_whole_metres = refl
+
+-- which is within half a step of the line, and not without
+halfway_within : PointWithin (Some 0) unit_side across zero_f zero_f
+unfolding is_within between mag coord add sub mul div neg of_bits
+halfway_within = record { first = refl; second = refl }
+
+halfway_beyond : PointWithin None unit_side across zero_f zero_f → ⊥
+unfolding is_within between mag coord add sub mul div neg of_bits
+halfway_beyond h = false≢true h.first
+
+-- ---- what is not allowed
+
+-- 2^53 + 1 is no f64, and refusal 3 does not let -0 pass
+not_a_double : Allowed (fin false (2 ^ 53 + 1) (pos 0)) → ⊥
+unfolding fits
+not_a_double h = false≢true h.fit
+
+not_minus_zero : Allowed (f64 0x8000_0000_0000_0000) → ⊥
+unfolding coord_ok of_bits
+not_minus_zero h = false≢true h.ok
