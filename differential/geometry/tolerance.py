@@ -215,7 +215,7 @@ class Measure:
         far = off.offs(v, *point)
         told.lines += 1
         told.part = max(told.part, far / off.allowance(k, m))
-        told.most = max(told.most, (far - off.half_a_step(k)) / (m << 1021))
+        told.most = max(told.most, max(0, far - off.half_a_step(k)) / (m << 1021))
         self.hold(v, k, point, far, m)
 
     def hold(self, v, k, point, far, m):

@@ -31,7 +31,7 @@ def wrong(k, point, before, v, eighths):
     """What is wrong with a new point, by that before it is booked and its meeting's ends; how far off it is, in M × 2^-53, and as a part of the bound."""
     m, far = off.largest(v), off.offs(v, *point)
     why = 'not the point computed' if off.computed(v) != before else 'too far off' if far > off.allowance(k, m, eighths) else None
-    return why, (far - off.half_a_step(k)) / (m << 1021), far / off.allowance(k, m)
+    return why, max(0, far - off.half_a_step(k)) / (m << 1021), far / off.allowance(k, m)
 
 
 def measured(form, answer, points, meetings, eighths=off.EIGHTHS):
