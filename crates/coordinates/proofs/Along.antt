@@ -5,7 +5,7 @@ use native.Mathlib.Nat.{le_trans, le_of_eq, mul_comm, mul-le-mul_right, le_of_mu
 use native.Mathlib.Omega.{arith}
 use lib.Dec.{lit≤}
 use lib.Pow.{pow_pos}
-use lib.IntN.{ℤ, pos, nat_abs, ◌+ℤ◌, ◌-ℤ◌, ◌*ℤ◌, -ℤ-+ℤ_cancel}
+use lib.IntN.{pos, nat_abs, ◌+ℤ◌, ◌-ℤ◌, ◌*ℤ◌}
 use lib.Ieee.{Float, binary64}
 use lib.Ieee.Bits.{is_true}
 use lib.Ieee.Fits.{add-fits, sub-fits, mul-fits}
@@ -15,7 +15,7 @@ use Rattle.plane.specs.Plane.{◌⊕◌, ◌⊖◌, ◌⊗◌}
 use Rattle.std.specs.Prelude.{None}
 use Rattle.coordinates.specs.Booked.{off_by, allowance}
 use Rattle.coordinates.proofs.Errors.{errors_add}
-use Rattle.rounding.proofs.Sizes.{abs_add, abs_sub}
+use Rattle.rounding.proofs.Sizes.{abs_add, abs_back, sub_most}
 use Rattle.rounding.proofs.Operations.{Number, Near, NearProduct, add_rounds, sub_rounds, rounds_near, mul_near}
 
 -- ---- the numbers, for a unit l. d, v, w: the sizes of the difference and of the rounded difference and product; e1, e2, e3: their errors and the sum's
@@ -51,15 +51,8 @@ room a m h k = le_trans h (le_trans (grown m (2 ^ 1114) k) (lit≤ tt))
     grown : (m b : ℕ) → m ≤ b → 16 * m + 16 ≤ 16 * b + 16
     grown m b k = omega arith
 
--- x by what it is off from z
-pub abs_back : (x z : ℤ) → nat_abs x ≤ nat_abs (x -ℤ z) + nat_abs z
-abs_back x z = le_trans (le_of_eq (ap nat_abs (sym (-ℤ-+ℤ_cancel x z)))) (abs_add (x -ℤ z) z)
-
 at_most : (a b l : ℕ) → a ≤ l → a * b ≤ b * l
 at_most a b l h = le_trans (mul-le-mul_right b h) (le_of_eq (mul_comm l b))
-
-twice : (a b c m : ℕ) → a ≤ b + c → b ≤ m → c ≤ m → a ≤ 2 * m
-twice a b c m h i j = omega arith
 
 module _ (p q t : Float) (m : ℕ) (P : Number p) (Q : Number q) (U : Number t)
     (hp : nat_abs (coord p) ≤ m) (hq : nat_abs (coord q) ≤ m) (ht : nat_abs (coord t) ≤ 2 ^ 1074) (small : m ≤ 2 ^ 1114) where
@@ -73,7 +66,7 @@ module _ (p q t : Float) (m : ℕ) (P : Number p) (Q : Number q) (U : Number t)
   x = p ⊕ w
 
   difference : nat_abs (coord q -ℤ coord p) ≤ 2 * m
-  difference = twice _ _ _ m (abs_sub (coord q) (coord p)) hq hp
+  difference = sub_most (coord q) (coord p) m hq hp
 
   near_v : Near v (coord q -ℤ coord p)
   near_v = rounds_near (sub_rounds q p Q P) (room _ m (le_trans difference (omega arith)) small)

@@ -14,6 +14,7 @@ use lib.Ieee.Exact.{HasValue, units_val}
 use lib.Ieee.Order.{drop, kept}
 use lib.Ieee.Scale.{round_same, round_under, finite}
 use lib.Ieee.Bits.{is_true}
+use Rattle.std.proofs.lemmas.Int.{unsigned_abs-mul}
 use Rattle.exact.specs.Exact.{mag, signed, coord}
 use Rattle.exact.proofs.Integers.{diff, diff_same, diff_add, signed_diff, signed_mul, times_signed, abs_signed}
 use Rattle.exact.proofs.Fields.{value_mag}
@@ -22,7 +23,7 @@ use Rattle.rounding.proofs.Whole.{gap}
 use Rattle.rounding.proofs.Nearest.{Close, ulp, half_ulp, rounded, rounded_near, rounded_whole, unscale}
 use Rattle.rounding.proofs.Exact.{HasUnits, Fits, exact_where_it_fits}
 use Rattle.rounding.proofs.Signs.{round_neg}
-use Rattle.rounding.proofs.Sizes.{apart_signed, one_side}
+use Rattle.rounding.proofs.Sizes.{apart_signed, one_side, abs_back}
 use Rattle.rounding.proofs.Order.{above, under}
 use Rattle.rounding.proofs.Sums.{Fraction, add_fraction}
 
@@ -164,6 +165,13 @@ rounds_near {x} {z} r h =
           (le_trans (apart_signed r.sign g q q w) (le_of_eq (sym (abs_signed r.sign q)))));
     }
 
+-- so it is at most twice as large
+pub near_most : {x : Float} {z : ℤ} → Near x z → (n : ℕ) → nat_abs z ≤ n → nat_abs (coord x) ≤ 2 * n
+near_most {x} {z} h n l = go (nat_abs (coord x)) (nat_abs (coord x -ℤ z)) (nat_abs z) (abs_back (coord x) z) h.off l
+  where
+    go : (v e z : ℕ) → v ≤ e + z → 2 ^ 53 * e ≤ z → z ≤ n → v ≤ 2 * n
+    go v e z h i j = omega arith
+
 -- half a unit in the last place, at most
 pub rounds_half_ulp : {x : Float} {z : ℤ} → Rounds x z → T (finite x) → 2 * nat_abs (coord x -ℤ z) ≤ ulp (nat_abs z)
 rounds_half_ulp {x} {z} r t =
@@ -212,6 +220,15 @@ product_near s q h =
       off = subst (λ (y : ℤ). 2 ^ 53 * nat_abs (y -ℤ signed s q) ≤ nat_abs (signed s q) + 2 ^ 52 * 2 ^ 1074) (sym (times_signed s g (2 ^ 1074)) ∙ ap (λ (y : ℤ). y *ℤ pos (2 ^ 1074)) (sym v.1))
           (le_trans (apart_signed s (g * 2 ^ 1074) q (q + 2 ^ 52 * 2 ^ 1074) w) (le_of_eq (ap (λ (n : ℕ). n + 2 ^ 52 * 2 ^ 1074) (sym (abs_signed s q)))));
     }
+
+pub product_most : {x : Float} {z : ℤ} → NearProduct x z → (n : ℕ) → nat_abs z ≤ n * 2 ^ 1074 → nat_abs (coord x) ≤ 2 * n + 1
+product_most {x} {z} h n l =
+    let u = pos (2 ^ 1074) in
+    go (nat_abs (coord x)) (nat_abs (coord x *ℤ u -ℤ z)) (nat_abs z) (2 ^ 1074) (pow_pos 1074)
+    (le_trans (le_of_eq (sym (unsigned_abs-mul (coord x) u))) (abs_back (coord x *ℤ u) z)) h.off l
+  where
+    go : (x e z l : ℕ) → 0 < l → x * l ≤ e + z → 2 ^ 53 * e ≤ z + 2 ^ 52 * l → z ≤ n * l → x ≤ 2 * n + 1
+    go x e z l h i j k = le_of_mul-le-mul_right {m = x} {n = 2 * n + 1} {k = l} (omega arith) h
 
 both : (a A de b B dd l : ℕ) → a * l ≡ A * de → b * l ≡ B * dd → a * b * (l * l) ≡ A * B * (de * dd)
 both a A de b B dd l e f = mul-mul-mul_comm a b l l ∙ ap₂ ◌*◌ e f ∙ mul-mul-mul_comm A de B dd

@@ -1,10 +1,11 @@
 -- The size of a whole number: of a sum, a difference, a negative; how far apart two are. Assumes nothing.
-use mathlib.Core.Path.{◌≡◌, ap, ◌∙◌}
+use mathlib.Core.Path.{◌≡◌, sym, ap, ◌∙◌}
 use mathlib.Core.Bool.{Bool, true, false, not, cond}
 use Prim.Native.Nat.{ℕ, ◌+◌, ◌*◌, ◌^◌, ◌≤◌}
-use native.Mathlib.Nat.{le_trans, le_of_eq}
+use native.Mathlib.Nat.{le_trans, le_of_eq, mul-le-mul}
 use native.Mathlib.Omega.{arith}
-use lib.IntN.{ℤ, neg_ℤ, nat_abs, ◌+ℤ◌, ◌-ℤ◌}
+use lib.IntN.{ℤ, neg_ℤ, nat_abs, ◌+ℤ◌, ◌-ℤ◌, ◌*ℤ◌, -ℤ-+ℤ_cancel}
+use Rattle.std.proofs.lemmas.Int.{unsigned_abs-mul}
 use Rattle.exact.specs.Exact.{signed}
 use Rattle.exact.proofs.Integers.{diff, diff_neg, diff_add, every, minus_signed, abs_diff}
 use Rattle.rounding.proofs.Whole.{gap}
@@ -37,3 +38,21 @@ abs_neg x = every (λ (x : ℤ). nat_abs (neg_ℤ x) ≡ nat_abs x) (λ a a'. si
 
 pub abs_sub : (x y : ℤ) → nat_abs (x -ℤ y) ≤ nat_abs x + nat_abs y
 abs_sub x y = le_trans (abs_add x (neg_ℤ y)) (le_of_eq (ap (λ (n : ℕ). nat_abs x + n) (abs_neg y)))
+
+-- x by how far it is from z
+pub abs_back : (x z : ℤ) → nat_abs x ≤ nat_abs (x -ℤ z) + nat_abs z
+abs_back x z = le_trans (le_of_eq (ap nat_abs (sym (-ℤ-+ℤ_cancel x z)))) (abs_add (x -ℤ z) z)
+
+-- ---- at most so much
+
+doubled : (a b c n : ℕ) → a ≤ b + c → b ≤ n → c ≤ n → a ≤ 2 * n
+doubled a b c n h i j = omega arith
+
+pub add_most : (x y : ℤ) (n : ℕ) → nat_abs x ≤ n → nat_abs y ≤ n → nat_abs (x +ℤ y) ≤ 2 * n
+add_most x y n h k = doubled (nat_abs (x +ℤ y)) (nat_abs x) (nat_abs y) n (abs_add x y) h k
+
+pub sub_most : (x y : ℤ) (n : ℕ) → nat_abs x ≤ n → nat_abs y ≤ n → nat_abs (x -ℤ y) ≤ 2 * n
+sub_most x y n h k = doubled (nat_abs (x -ℤ y)) (nat_abs x) (nat_abs y) n (abs_sub x y) h k
+
+pub mul_most : (x y : ℤ) (m n : ℕ) → nat_abs x ≤ m → nat_abs y ≤ n → nat_abs (x *ℤ y) ≤ m * n
+mul_most x y m n h k = le_trans (le_of_eq (unsigned_abs-mul x y)) (mul-le-mul h k)
