@@ -9,3 +9,4 @@ pub mod Sums
 pub mod Operations
 pub mod Differences
 pub mod Quotients
+pub mod Samples

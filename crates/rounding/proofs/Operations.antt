@@ -20,7 +20,7 @@ use Rattle.exact.proofs.Integers.{diff, diff_same, diff_add, signed_diff, signed
 use Rattle.exact.proofs.Fields.{value_mag}
 use Rattle.exact.proofs.ExactUnits.{exact_units}
 use Rattle.rounding.proofs.Whole.{gap}
-use Rattle.rounding.proofs.Nearest.{Close, ulp, half_ulp, rounded, rounded_near, rounded_whole, unscale}
+use Rattle.rounding.proofs.Nearest.{Close, last_place, half_ulp, rounded, rounded_near, rounded_whole, unscale}
 use Rattle.rounding.proofs.Exact.{HasUnits, Fits, exact_where_it_fits}
 use Rattle.rounding.proofs.Signs.{round_neg}
 use Rattle.rounding.proofs.Sizes.{apart_signed, one_side, abs_back}
@@ -173,7 +173,7 @@ near_most {x} {z} h n l = go (nat_abs (coord x)) (nat_abs (coord x -ℤ z)) (nat
     go v e z h i j = omega arith
 
 -- half a unit in the last place, at most
-pub rounds_half_ulp : {x : Float} {z : ℤ} → Rounds x z → T (finite x) → 2 * nat_abs (coord x -ℤ z) ≤ ulp (nat_abs z)
+pub rounds_half_ulp : {x : Float} {z : ℤ} → Rounds x z → T (finite x) → 2 * nat_abs (coord x -ℤ z) ≤ last_place (nat_abs z)
 rounds_half_ulp {x} {z} r t =
     let q = r.size in
     let g = rounded (q * 2 ^ 1074) (2 ^ 1074) in
@@ -181,8 +181,8 @@ rounds_half_ulp {x} {z} r t =
     let k : nat_abs z ≡ q = ap nat_abs (sym r.value) ∙ abs_signed r.sign q in
     let d : nat_abs (coord x -ℤ z) ≡ gap g q = ap₂ (λ (a b : ℤ). nat_abs (a -ℤ b)) c (sym r.value) ∙ one_side r.sign g q in
     let u : q * 2 ^ 1074 / 2 ^ 1074 ≡ nat_abs z = mul-div_cancel q (pow_pos 1074) ∙ sym k in
-    subst (λ (n : ℕ). 2 * n ≤ ulp (nat_abs z)) (sym d)
-    (subst (λ (n : ℕ). 2 * gap g q ≤ ulp n) u (apart_twice g q (ulp (q * 2 ^ 1074 / 2 ^ 1074)) (2 ^ 1074) (pow_pos 1074) (half_ulp (q * 2 ^ 1074) (2 ^ 1074) (pow_pos 1074))))
+    subst (λ (n : ℕ). 2 * n ≤ last_place (nat_abs z)) (sym d)
+    (subst (λ (n : ℕ). 2 * gap g q ≤ last_place n) u (apart_twice g q (last_place (q * 2 ^ 1074 / 2 ^ 1074)) (2 ^ 1074) (pow_pos 1074) (half_ulp (q * 2 ^ 1074) (2 ^ 1074) (pow_pos 1074))))
   where
     apart_twice : (g q u l : ℕ) → 0 < l → Close (g * l * 2) (q * l * 2) (u * l) → 2 * gap g q ≤ u
     apart_twice g q u l h k =
