@@ -9,4 +9,5 @@ pub mod Sums
 pub mod Operations
 pub mod Differences
 pub mod Quotients
+pub mod Numbers
 pub mod Samples

@@ -1,5 +1,5 @@
 pub mod Sorted
 pub mod Cases
-pub mod Numbers
+pub mod Reached
 pub mod Before
 pub mod Stops

@@ -11,7 +11,7 @@ use Rattle.segments.specs.declared.Segment.{Segment}
 use Rattle.segments.specs.declared.PointId.TheVariants.{P1, P2}
 use Rattle.segments.specs.declared.Meeting.{Meeting}
 use Rattle.segments.specs.declared.Meeting.TheVariants.{Apart}
-use Rattle.segments.proofs.Numbers.{reached_orderable}
+use Rattle.segments.proofs.Reached.{reached_orderable}
 use Rattle.segments.proofs.Before.{EachOrder, second_not_below, twelve_ways}
 
 -- in each of the twelve orders one of the arms before the stop is taken
