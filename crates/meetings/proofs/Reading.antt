@@ -1,21 +1,20 @@
 -- What the next stage reads: the numbers of a meeting in the working list, and their bounds. Assumes nothing.
 use mathlib.Core.Path.{◌≡◌, refl, ap, ◌∙◌}
 use mathlib.Core.List.{List, [], ◌∷◌, ◌++◌}
-use Prim.Native.Nat.{ℕ, zero, suc, ◌+◌, ◌*◌, ◌/◌, ◌≤◌, ◌<◌}
+use Prim.Native.Nat.{ℕ, zero, suc, ◌+◌, ◌*◌, ◌≤◌, ◌<◌}
 use native.Mathlib.Omega.{arith}
 use lib.ListN.{length, get_or, take, get_or-append}
 use lib.Seq.{get_or-append-add}
 use lib.Ieee.{Float}
 use Rattle.lists.specs.Gather.{joined}
-use Rattle.lists.proofs.Gather.{places_at}
 use Rattle.segments.specs.declared.Meeting.{Meeting}
 use Rattle.segments.specs.declared.Meeting.TheVariants.{Apart, Existing, New, Overlap}
 use Rattle.cutting.specs.Edges.{Edge, edge_at}
 use Rattle.grid.specs.Grid.{Grid}
 use Rattle.rules.specs.SpatialIndex.{edge_box, candidates}
 use Rattle.rules.specs.Neighbours.{Net}
-use Rattle.rules.specs.Meetings.{Met, segment_of, recorded, added_by, met_pair, met_all, meetings_to, meetings, meeting_on}
-use Rattle.spatial_index.specs.Candidates.{meets}
+use Rattle.rules.specs.Meetings.{Met, recorded, met_pair, met_all, meetings_to, meetings}
+use Rattle.rules.proofs.Walk.{next, meetings_keep}
 use Rattle.meetings.specs.InNumbers.{five_numbers, in_numbers, net_on}
 
 -- ---- five numbers a meeting
@@ -61,29 +60,12 @@ module _ (g : Grid) (coords : List Float) (s c : Net) where
   fit_recorded i j next e f (New x y) hi hj = ((hi, hj, omega arith, omega arith), tt)
   fit_recorded i j next e f (Overlap p q) hi hj = ((hi, hj, omega arith, omega arith), tt)
 
-  fit_pair : (i j : ℕ) (ms : List Met) → i < length s.edges → j < length c.edges → AllFit ms → AllFit (met_pair g coords s c i j ms)
-  unfolding met_pair
-  fit_pair i j ms hi hj a =
-      let e : Edge = edge_at s.edges i in
-      let f : Edge = edge_at c.edges j in
-      fit_append ms _ a (fit_recorded i j ((length coords + length (added_by ms)) / 2) e f (meeting_on g (segment_of coords e) (segment_of coords f)) hi hj)
-
-  fit_all : (i : ℕ) (js : List ℕ) (ms : List Met) → i < length s.edges → ((k : ℕ) → k < length js → get_or js k 0 < length c.edges) → AllFit ms
-      → AllFit (met_all g coords s c i js ms)
-  unfolding met_all
-  fit_all i [] ms hi hj a = a
-  fit_all i (j ∷ js) ms hi hj a = fit_all i js (met_pair g coords s c i j ms) hi (λ k l. hj (suc k) (omega arith)) (fit_pair i j ms hi (hj 0 (omega arith)) a)
-
-  fit_to : (i : ℕ) → i ≤ length s.edges → AllFit (meetings_to g coords s c i)
-  unfolding meetings_to candidates
-  fit_to zero h = tt
-  fit_to (suc i) h =
-      let b = edge_box coords (edge_at s.edges i) in
-      fit_all i _ (meetings_to g coords s c i) (omega arith) (λ k l. (places_at (meets coords c.edges b) (length c.edges) k l).0) (fit_to i (omega arith))
-
   pub meetings_fit : (q : ℕ) (d : Met) → q < length (meetings g coords s c) → Fit (get_or (meetings g coords s c) q d)
-  unfolding meetings
-  meetings_fit q d h = fit_at (meetings_to g coords s c (length s.edges)) q d (fit_to (length s.edges) (omega arith)) h
+  meetings_fit q d h =
+      let all : AllFit (meetings g coords s c) =
+      meetings_keep g coords s c AllFit tt
+      (λ i j ms r k e a. fit_append ms _ a (fit_recorded i j (next g coords s c ms) (edge_at s.edges i) (edge_at c.edges j) r k.subject k.cutter)) in
+      fit_at (meetings g coords s c) q d all h
 
   -- a net gives its edges only
   all_edges : (i : ℕ) (js : List ℕ) (ms : List Met) → met_all g coords s c i js ms ≡ met_all g coords (net_on s.edges) (net_on c.edges) i js ms

@@ -17,7 +17,7 @@ use Rattle.settings.specs.declared.Settings.{Settings}
 use Rattle.entry.specs.Mesh.{Mesh}
 use Rattle.rules.specs.Mesh.{Side, the_subject, the_cutter, side_number}
 use Rattle.rules.specs.Neighbours.{Net, subject_net, cutter_net}
-use Rattle.rules.specs.Meetings.{Met, Scene, net_of, segment_of, added_by, recorded, met_pair, met_all, meetings_to, meetings, scene_of, meeting_on}
+use Rattle.rules.specs.Meetings.{Met, Scene, net_of, added_by, recorded, meetings, scene_of}
 use Rattle.rules.specs.Nodes.{crowded}
 use Rattle.rules.specs.Cell.{outcome_of}
 use Rattle.rules.specs.Operations.{cuts, scene_for, Piece, kept, over_cells, listing, listing_with}
@@ -28,6 +28,7 @@ use Rattle.lists.proofs.Regions.{length_front}
 use Rattle.entry.proofs.Passed.{passed}
 use Rattle.rules.proofs.Endings.{Ending, input, state_met, success, ending, input_refused, state_refused, succeeds, no_refusal}
 use Rattle.rules.proofs.Accepts.{accepted, Calm, calm_left, calm_right, calm_gathered, calm_course}
+use Rattle.rules.proofs.Walk.{next, meetings_keep}
 use Rattle.rules.specs.Refusals as Refusals
 use Rattle.segments.specs.declared.Meeting.{Meeting}
 use Rattle.segments.specs.declared.Meeting.TheVariants.{Apart, Existing, New, Overlap}
@@ -141,27 +142,9 @@ pairs_recorded i j next e f (Existing p) = (refl, tt)
 pairs_recorded i j next e f (New x y) = (refl, tt)
 pairs_recorded i j next e f (Overlap p q) = (refl, tt)
 
-module _ (g : Grid) (coords : List Float) (s c : Net) where
-  pairs_pair : (i j : ℕ) (ms : List Met) → Pairs ms → Pairs (met_pair g coords s c i j ms)
-  unfolding met_pair
-  pairs_pair i j ms h =
-      let e = edge_at s.edges i in
-      let f = edge_at c.edges j in
-      pairs_append ms _ h (pairs_recorded i j ((length coords + length (added_by ms)) / 2) e f (meeting_on g (segment_of coords e) (segment_of coords f)))
-
-  pairs_all : (i : ℕ) (js : List ℕ) (ms : List Met) → Pairs ms → Pairs (met_all g coords s c i js ms)
-  unfolding met_all
-  pairs_all i [] ms h = h
-  pairs_all i (j ∷ js) ms h = pairs_all i js (met_pair g coords s c i j ms) (pairs_pair i j ms h)
-
-  pairs_to : (i : ℕ) → Pairs (meetings_to g coords s c i)
-  unfolding meetings_to
-  pairs_to zero = tt
-  pairs_to (suc i) = pairs_all i _ (meetings_to g coords s c i) (pairs_to i)
-
-  pairs_met : Pairs (meetings g coords s c)
-  unfolding meetings
-  pairs_met = pairs_to (length s.edges)
+pairs_met : (g : Grid) (coords : List Float) (s c : Net) → Pairs (meetings g coords s c)
+pairs_met g coords s c =
+    meetings_keep g coords s c Pairs tt (λ i j ms r k e h. pairs_append ms _ h (pairs_recorded i j (next g coords s c ms) (edge_at s.edges i) (edge_at c.edges j) r))
 
 points_of : (k : ℕ) → total a_point (replicate k point) ≡ k
 unfolding total
