@@ -44,6 +44,6 @@ meeting_or stop s o =
     (cond (lt eps (magnitude (cross v3 v1))) Apart (colinear stop s o))
     (crossing s o v1 v2 v3 eps))
 
--- Here there is none. For coordinates that the entry allows a stop is never reached: any other answer in its place gives the same (coordinates/proofs/Stops.antt).
+-- Here there is none, and a stop is never reached: any other answer in its place gives the same (proofs/Stops.antt).
 abbrev pub meeting : Segment → Segment → Meeting
 meeting s o = meeting_or Apart s o
