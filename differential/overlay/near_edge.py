@@ -28,10 +28,10 @@ def sides(form):
 
 
 def wrong(k, point, before, v, eighths):
-    """What is wrong with a new point, by that before it is booked and its meeting's ends; how far off it is, in M × 2^-53, and as a part of the bound."""
+    """What is wrong with a new point, by that before it is booked and its meeting's ends; and how far off it is, on a grid beyond half a step, in M × 2^-53."""
     m, far = off.largest(v), off.offs(v, *point)
     why = 'not the point computed' if off.computed(v) != before else 'too far off' if far > off.allowance(k, m, eighths) else None
-    return why, max(0, far - off.half_a_step(k)) / (m << 1021), far / off.allowance(k, m)
+    return why, max(0, far - off.half_a_step(k)) / (m << 1021)
 
 
 def measured(form, answer, points, meetings, eighths=off.EIGHTHS):
@@ -41,7 +41,7 @@ def measured(form, answer, points, meetings, eighths=off.EIGHTHS):
         return ['%d new points of %d meetings' % (len(listed), len(meetings))], []
     out, sizes = [], []
     for i, (point, before, ends) in enumerate(zip(listed, points, meetings)):
-        why, *size = wrong(k, numbers(point), numbers(before), numbers(ends), eighths)
+        why, size = wrong(k, numbers(point), numbers(before), numbers(ends), eighths)
         if (tuple(ends[:2]), tuple(ends[2:4])) not in edges:
             why = "not by a subject's edge"
         out += ['new point %d: %s' % (i, why)] if why else []

@@ -222,8 +222,7 @@ def near_their_edges(sides, forms, answers, told):
     for form, answer, later in zip(forms, answers, told):
         faults, sizes = near_edge.measured(form, answer, later.points, later.ends, sides.eighths)
         sides.tally(form)['new points held to the bound'] += len(sizes)
-        most = sides.furthest.setdefault(grid(form), [0.0, 0.0])
-        most[:] = map(max, zip(most, *sizes))
+        sides.furthest[grid(form)] = max(sides.furthest.get(grid(form), 0.0), *sizes, 0.0)
         good.append(not faults)
     return good
 
@@ -448,14 +447,14 @@ def main():
     print('\nwith a grid')
     m = made_overlays(sides, Made(a.seed, a.only, True), a.grids, a.show, shown)
     print('counted in the copy: ' + ', '.join('%s %d' % s for s in sides.on_grid.items()))
-    print('booked: ' + ', '.join('%s %d' % s for s in sides.booked.items()) + '\n')
+    print('booked: ' + ', '.join('%s %d' % s for s in sides.booked.items()))
+    print('furthest off, in M × 2^-53, on a grid beyond half a step: ' + ', '.join(
+        '%s %.4f' % ('no grid' if k is None else 'k %d' % k, most) for k, most in sorted(sides.furthest.items(), key=lambda row: -1 if row[0] is None else row[0])) + '\n')
     end = time.time()
     codes, bad = known_refusals(sides, shown)
     print('known refusals: ' + ', '.join('%d: %d' % c for c in sorted(codes.items())) + '; %d not as known' % bad)
     named = replayed(sides, [os.path.join(ROOT, 'differential', 'oracle', 'cases')] + a.replay, shown)
     print('named inputs: ' + ', '.join('%s %d' % c for c in sorted(named.items())))
-    print('furthest off, in M × 2^-53, with a grid beyond half a step, and of the bound: ' + ', '.join(
-        '%s %.4f %.4f' % ('no grid' if k is None else 'k %d' % k, *most) for k, most in sorted(sides.furthest.items(), key=lambda row: (row[0] is not None, row[0]))))
     for title, row in shown:
         show(title, row, sides)
     left = n['unexplained'] + m['unexplained'] + bad + named['unexplained']
