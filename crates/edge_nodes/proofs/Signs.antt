@@ -1,22 +1,16 @@
 -- Floats compared, and their signs. Assumes nothing.
-use mathlib.Core.Path.{◌≡◌, refl, sym, ap, ap₂, ◌∙◌}
-use mathlib.Core.Bool.{Bool, true, false, true≢false, not, ◌&&◌, ◌||◌}
+use mathlib.Core.Path.{◌≡◌, refl, sym, ap, ap₂, ◌∙◌, subst}
+use mathlib.Core.Bool.{Bool, true, false, not, ◌&&◌, ◌||◌}
+use lib.Dec.{T}
 use lib.Ieee.{Float, nan, inf, fin, lt, eq}
 use Rattle.std.specs.Float.{NotNan}
-use Rattle.std.specs.Float.Ieee.{is_nan}
 use Rattle.std.specs.Float as F
+use Rattle.plane.proofs.FloatOrder.{number_not_nan, eq_sym, eq_number}
 use Rattle.rules.specs.Nodes.{sign_bit, total_before}
 
 -- a number that equals another
 pub numbers : (x y : Float) → eq x y ≡ true → NotNan x × NotNan y
-unfolding eq is_nan
-numbers nan y e = absurd (true≢false (sym e))
-numbers (inf s) nan e = absurd (true≢false (sym e))
-numbers (inf s) (inf t) e = (tt, tt)
-numbers (inf s) (fin t n f) e = (tt, tt)
-numbers (fin s m d) nan e = absurd (true≢false (sym e))
-numbers (fin s m d) (inf t) e = (tt, tt)
-numbers (fin s m d) (fin t n f) e = (tt, tt)
+numbers x y e = (subst T (sym (number_not_nan x ∙ eq_number x y e)) tt, subst T (sym (number_not_nan y ∙ eq_number y x (eq_sym x y e))) tt)
 
 sign_is : (x : Float) → F.is_sign_negative x ≡ sign_bit x
 unfolding F.is_sign_negative

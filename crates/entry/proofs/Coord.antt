@@ -4,13 +4,13 @@ use mathlib.Core.Bool.{Bool, true, false, not, ◌&&◌, ◌||◌}
 use Prim.Native.Nat.{ℕ, zero, suc, ◌*◌, ◌^◌, ◌<◌}
 use native.Mathlib.Nat.{mul-one, zero-mul, mul-pos, suc-ne-zero}
 use native.Mathlib.Omega.{arith}
-use lib.IntN.{ℤ, pos, negsuc}
+use lib.IntN.{ℤ, pos}
 use lib.Dec.{eqb, leb, ltb, leb-zero}
 use Rattle.std.proofs.lemmas.Bool.Decides.{nat_tests}
 use lib.Ieee.{Float, nan, inf, fin, up, down, lt, le, eq, of_bits, binary64}
+use lib.Ieee.Fits.{up_pos}
 use Rattle.std.specs.Float.{is_sign_negative, float_with_sign}
 use borrow.Author.Tests.{eqb-true, ne_eqb}
-use lib.Pow.{pow_pos}
 use Rattle.lists.proofs.Search.{and_true}
 use Rattle.entry.specs.Refused.{coord_ok}
 
@@ -19,10 +19,6 @@ limit = fin false 1 (pos 40)
 
 no : ◌≡◌ {A = Bool} false true → ⊥
 no e = let z : ◌≡◌ {A = ℕ} 0 1 = cc in omega arith
-
-up_pos : (e : ℤ) → 0 < up e
-up_pos (pos k) = pow_pos k
-up_pos (negsuc k) = omega arith
 
 -- a number that is not 0 is not 0 as a fraction
 positive : (m : ℕ) (e : ℤ) (z : ℕ) → z ≡ 0 → eqb (suc m * up e * 1) z ≡ true → ⊥

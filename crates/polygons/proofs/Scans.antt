@@ -2,13 +2,9 @@
 use mathlib.Core.Path.{◌≡◌, refl, sym, ◌∙◌, ap}
 use mathlib.Core.Bool.{Bool, true, false, cond, not, ◌&&◌, true≢false}
 use mathlib.Core.List.{List, [], ◌∷◌, ◌++◌}
-use mathlib.Core.Logic.{inl, inr}
-use lib.Dec.{T}
-use lib.Ieee.{Float, lt, eq, nan, inf, fin, is_nan}
+use lib.Ieee.{Float, lt, is_nan}
 use Rattle.std.specs.Prelude.{Option, None, Some}
 use Rattle.std.specs.Option.{option_and_then}
-use Rattle.std.specs.Float.{NotNan}
-use Rattle.std.proofs.lemmas.Float.{lt-or-eq, le_refl, lt_irrefl}
 use Rattle.lists.specs.Gather.{all}
 use Rattle.lists.specs.Sort.{insert, sorted}
 use Rattle.lists.proofs.Gather.{all_snoc}
@@ -17,26 +13,11 @@ use Rattle.plane.specs.Plane.{is_number}
 use Rattle.polygons.specs.Interior.{first_two, lowest}
 use Rattle.polygons.specs.Scans.{exceeds, first_above, lower, closer, taken_of, taken}
 use Rattle.polygons.specs.declared.Lowest.TheVariants.{Two}
-use Rattle.plane.proofs.FloatOrder.{lt_trans}
-
--- ---- numbers
+use Rattle.plane.proofs.FloatOrder.{number_not_nan, lt_trans}
 
 -- a value is a number where it is no NaN
 pub number_is : (x : Float) → is_number x ≡ not (is_nan x)
-unfolding is_nan eq
-number_is x = go x
-  where
-    of_T : (b : Bool) → T b → b ≡ true
-    of_T true t = refl
-    of_T false t = absurd t
-
-    equal : (y : Float) → NotNan y → eq y y ≡ true
-    equal y h = elim (lt-or-eq y y (le_refl y h)) [ inl l ↦ absurd (lt_irrefl y l) | inr e ↦ of_T (eq y y) e ]
-
-    go : (y : Float) → eq y y ≡ not (is_nan y)
-    go nan = refl
-    go (inf s) = equal (inf s) tt
-    go (fin s m e) = equal (fin s m e) tt
+number_is x = sym (number_not_nan x)
 
 -- ---- the first above h
 
