@@ -4,7 +4,7 @@ use Prim.Native.Nat.{◌+◌, ◌*◌, ◌≤◌}
 use native.Mathlib.Omega.{arith}
 use lib.IntN.{ℤ, nat_abs, ◌+ℤ◌, ◌-ℤ◌, ◌*ℤ◌}
 use Rattle.std.proofs.lemmas.Int.{unsigned_abs-mul}
-use Rattle.exact.proofs.Integers.{diff, diff_same, diff_neg, diff_add, diff_mul, every₂, abs_diff}
+use Rattle.exact.proofs.Integers.{diff, diff_same, diff_neg, diff_add, diff_mul, every₂}
 use Rattle.rounding.proofs.Sizes.{abs_add}
 
 -- how far g times l is from y, by way of x
@@ -44,8 +44,3 @@ errors_add x p w l t v d =
     let e = ap nat_abs (sum_parted x p w l (t *ℤ d)) in
     let f = ap nat_abs (product_parted (w *ℤ l) t v d) in
     omega (arith, unsigned_abs-mul (x -ℤ (p +ℤ w)) l, unsigned_abs-mul t (v -ℤ d))
-
--- ---- two numbers, either way round
-
-pub abs_apart : (x y : ℤ) → nat_abs (x -ℤ y) ≡ nat_abs (y -ℤ x)
-abs_apart x y = every₂ (λ (x y : ℤ). nat_abs (x -ℤ y) ≡ nat_abs (y -ℤ x)) (λ a a' b b'. simp (diff_neg, diff_add, abs_diff) (omega arith)) x y

@@ -3,19 +3,19 @@ use mathlib.Core.Path.{◌≡◌, refl, sym, ap, ap₂, ◌∙◌, subst}
 use mathlib.Core.Bool.{Bool, true, false, not}
 use Prim.Native.Nat.{ℕ, zero, suc, ◌+◌, ◌-◌, ◌*◌, ◌/◌, ◌^◌, ◌≤◌, ◌<◌}
 use native.Mathlib.Nat.{mul-div_cancel, le_trans, le_of_eq, lt_of_le_of_lt, le_of_mul-le-mul_right}
-use native.Mathlib.Nat.{add-mul, mul_comm, mul_assoc, mul_right_comm, mul-mul-mul_comm, mul-pos}
+use native.Mathlib.Nat.{add-mul, mul-mul-mul_comm, mul-pos}
 use native.Mathlib.Omega.{arith}
 use lib.Dec.{T, lit<}
 use lib.Pow.{pow_pos}
 use lib.IntN.{ℤ, pos, neg_ℤ, nat_abs, ◌+ℤ◌, ◌-ℤ◌, ◌*ℤ◌}
-use lib.Ieee.{Float, nan, inf, fin, binary64, unlike, up, down, round, add, sub, neg, mul, fits}
+use lib.Ieee.{Float, nan, inf, fin, binary64, unlike, up, down, round, sum, add, sub, neg, mul, fits}
 use lib.Ieee.Fits.{round_is, down_pos, neg-fits}
 use lib.Ieee.Exact.{HasValue, units_val}
 use lib.Ieee.Order.{drop, kept}
 use lib.Ieee.Scale.{round_same, round_under, finite}
 use lib.Ieee.Bits.{is_true}
 use Rattle.std.proofs.lemmas.Int.{unsigned_abs-mul}
-use Rattle.exact.specs.Exact.{mag, signed, coord}
+use Rattle.exact.specs.Exact.{mag, minus, signed, coord}
 use Rattle.exact.proofs.Integers.{diff, diff_same, diff_add, signed_diff, signed_mul, times_signed, abs_signed}
 use Rattle.exact.proofs.Fields.{value_mag}
 use Rattle.exact.proofs.ExactUnits.{exact_units}
@@ -25,7 +25,8 @@ use Rattle.rounding.proofs.Exact.{HasUnits, Fits, exact_where_it_fits}
 use Rattle.rounding.proofs.Signs.{round_neg}
 use Rattle.rounding.proofs.Sizes.{apart_signed, one_side, abs_back}
 use Rattle.rounding.proofs.Order.{above, under}
-use Rattle.rounding.proofs.Sums.{Fraction, add_fraction}
+use Rattle.rounding.proofs.Sums.{Fraction, sum_fraction}
+use Rattle.rounding.proofs.Values.{terms}
 
 -- ---- what an operation rounds
 
@@ -70,9 +71,6 @@ pub record Number (x : Float) : Type 0 where
   pub fit : fits binary64 x ≡ true
   pub end : T (finite x)
 
-over_both_lem : (a A de dd l : ℕ) → a * l ≡ A * de → a * dd * l ≡ A * (de * dd)
-over_both_lem a A de dd l e = mul_right_comm a dd l ∙ ap (λ (n : ℕ). n * dd) e ∙ mul_assoc A de dd
-
 -- ±a + ±b, of which l and c times as much are the same
 both_scaled : (s t : Bool) (a b A B c l : ℕ) → a * l ≡ A * c → b * l ≡ B * c
     → ((above s a + above t b) * l ≡ (above s A + above t B) * c) × ((under s a + under t b) * l ≡ (under s A + under t B) * c)
@@ -83,19 +81,17 @@ both_scaled true true a b A B c l e f = (omega arith, omega arith)
 
 pub add_rounds : (x y : Float) → Number x → Number y → Rounds (add binary64 x y) (coord x +ℤ coord y)
 unfolding coord
-add_rounds nan y p q = absurd p.end
-add_rounds (inf s) y p q = absurd p.end
-add_rounds (fin s m e) nan p q = absurd q.end
-add_rounds (fin s m e) (inf t) p q = absurd q.end
-add_rounds (fin s m e) (fin t n d) p q =
-    let A = mag (fin s m e) in
-    let B = mag (fin t n d) in
-    let u = over_both_lem (m * up e) A (down e) (down d) (2 ^ 1074) (exact_units (fin s m e) p.fit p.end).1 in
-    let v = over_both_lem (n * up d) B (down d) (down e) (2 ^ 1074) (exact_units (fin t n d) q.fit q.end).1 ∙ ap (λ (c : ℕ). B * c) (mul_comm (down d) (down e)) in
-    let w = both_scaled s t (m * up e * down d) (n * up d * down e) A B (down e * down d) (2 ^ 1074) u v in
-    subst (λ (z : ℤ). Rounds (add binary64 (fin s m e) (fin t n d)) z)
-    (sym (ap₂ ◌+ℤ◌ (signed_diff s A) (signed_diff t B) ∙ diff_add (above s A) (under s A) (above t B) (under t B)))
-    (in_units (above s A + above t B) (under s A + under t B) (mul-pos (down_pos e) (down_pos d)) w.0 w.1 (add_fraction s t m n e d))
+add_rounds x y p q =
+    let s = minus x in
+    let t = minus y in
+    let A = mag x in
+    let B = mag y in
+    let r = terms (2 ^ 1074) (pow_pos 1074) x y s t A B (exact_units x p.fit p.end) (exact_units y q.fit q.end) in
+    let w = both_scaled s t r.m r.n A B r.d (2 ^ 1074) r.first r.second in
+    let z : diff (above s A + above t B) (under s A + under t B) ≡ signed s A +ℤ signed t B =
+    sym (ap₂ ◌+ℤ◌ (signed_diff s A) (signed_diff t B) ∙ diff_add (above s A) (under s A) (above t B) (under t B)) in
+    subst (λ (v : Float). Rounds v (signed s A +ℤ signed t B)) (sym r.same)
+    (subst (Rounds (sum binary64 s r.m t r.n r.d)) z (in_units (above s A + above t B) (under s A + under t B) r.above w.0 w.1 (sum_fraction s t r.m r.n r.d)))
 
 neg_number : (x : Float) → Number x → Number (neg x)
 unfolding neg

@@ -7,7 +7,7 @@ use native.Mathlib.Omega.{arith}
 use lib.IntN.{ℤ, neg_ℤ, nat_abs, ◌+ℤ◌, ◌-ℤ◌, ◌*ℤ◌, -ℤ-+ℤ_cancel}
 use Rattle.std.proofs.lemmas.Int.{unsigned_abs-mul}
 use Rattle.exact.specs.Exact.{signed}
-use Rattle.exact.proofs.Integers.{diff, diff_neg, diff_add, every, minus_signed, abs_diff}
+use Rattle.exact.proofs.Integers.{diff, diff_neg, diff_add, every, every₂, minus_signed, abs_diff}
 use Rattle.rounding.proofs.Whole.{gap}
 use Rattle.rounding.proofs.Nearest.{Close}
 
@@ -38,6 +38,10 @@ abs_neg x = every (λ (x : ℤ). nat_abs (neg_ℤ x) ≡ nat_abs x) (λ a a'. si
 
 pub abs_sub : (x y : ℤ) → nat_abs (x -ℤ y) ≤ nat_abs x + nat_abs y
 abs_sub x y = le_trans (abs_add x (neg_ℤ y)) (le_of_eq (ap (λ (n : ℕ). nat_abs x + n) (abs_neg y)))
+
+-- either way round
+pub abs_apart : (x y : ℤ) → nat_abs (x -ℤ y) ≡ nat_abs (y -ℤ x)
+abs_apart x y = every₂ (λ (x y : ℤ). nat_abs (x -ℤ y) ≡ nat_abs (y -ℤ x)) (λ a a' b b'. simp (diff_neg, diff_add, abs_diff) (omega arith)) x y
 
 -- x by how far it is from z
 pub abs_back : (x z : ℤ) → nat_abs x ≤ nat_abs (x -ℤ z) + nat_abs z

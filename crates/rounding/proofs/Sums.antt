@@ -18,7 +18,7 @@ pub record Fraction (x : Float) (u v c : ℕ) : Type 0 where
   pub value : above sign size + v ≡ u + under sign size
 
 -- ±a / c ± b / c
-sum_fraction : (s t : Bool) (a b c : ℕ) → Fraction (sum binary64 s a t b c) (above s a + above t b) (under s a + under t b) c
+pub sum_fraction : (s t : Bool) (a b c : ℕ) → Fraction (sum binary64 s a t b c) (above s a + above t b) (under s a + under t b) c
 unfolding sum
 sum_fraction false false a b c = record { sign = false; size = a + b; same = refl; value = omega arith }
 sum_fraction true true a b c = record { sign = true; size = a + b; same = refl; value = omega arith }

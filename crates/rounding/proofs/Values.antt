@@ -57,16 +57,16 @@ module _ (c : ℕ) (C : 0 < c) where
       (omega (arith, ap (λ (i : ℕ). i * down d) v.1)) (omega (arith, ap (λ (i : ℕ). i * down e) w.1))
 
   -- the sum of x and y is that of m / d and n / d, which are a / c and b / c
-  record Terms (x y : Float) (s t : Bool) (a b : ℕ) : Type 0 where
-    m : ℕ
-    n : ℕ
-    d : ℕ
-    above : 0 < d
-    first : m * c ≡ a * d
-    second : n * c ≡ b * d
-    same : add binary64 x y ≡ sum binary64 s m t n d
+  pub record Terms (x y : Float) (s t : Bool) (a b : ℕ) : Type 0 where
+    pub m : ℕ
+    pub n : ℕ
+    pub d : ℕ
+    pub above : 0 < d
+    pub first : m * c ≡ a * d
+    pub second : n * c ≡ b * d
+    pub same : add binary64 x y ≡ sum binary64 s m t n d
 
-  terms : (x y : Float) (s t : Bool) (a b : ℕ) → HasValue x s a c → HasValue y t b c → Terms x y s t a b
+  pub terms : (x y : Float) (s t : Bool) (a b : ℕ) → HasValue x s a c → HasValue y t b c → Terms x y s t a b
   unfolding add
   terms nan y s t a b v w = absurd v
   terms (inf r) y s t a b v w = absurd v
