@@ -7,14 +7,15 @@ use native.Mathlib.Nat.{mul-pos, mul-le-mul_right}
 use native.Mathlib.Omega.{arith}
 use lib.Dec.{T}
 use lib.IntN.{ℤ}
-use lib.Ieee.{Float, nan, inf, fin, binary64, up, down, neg, add, sub, below, lt, eq}
+use lib.Ieee.{Float, nan, inf, fin, binary64, up, down, neg, add, sub, below, lt}
 use lib.Ieee.Fits.{down_pos}
 use lib.Ieee.Scale.{finite}
-use Rattle.plane.specs.Plane.{◌⊖◌}
-use Rattle.plane.proofs.FloatOrder.{lt_irrefl, not_lt_trans}
-use Rattle.rounding.proofs.Signs.{lt_neg, lt_nan, top_not_below, none_below_bottom, side, round_sided, round_side, sided_number}
+use Rattle.plane.specs.Plane.{◌⊖◌, is_number}
+use Rattle.plane.proofs.FloatOrder.{finite_number, lt_irrefl, not_lt_trans}
+use Rattle.rounding.proofs.Signs.{lt_neg, lt_nan, top_not_below, none_below_bottom, side, round_side}
 use Rattle.rounding.proofs.Order.{above, under, InOrder, not_below, in_order, round_order}
 use Rattle.rounding.proofs.Sums.{Fraction, add_fraction, add_turned}
+use Rattle.rounding.proofs.Numbers.{sub_number}
 
 -- ---- fractions in order, rounded
 
@@ -139,15 +140,15 @@ difference_side (fin s m e) (fin t n d) =
 -- ---- how it stands to z, where the one that is taken away is q, or r, which is not below q
 
 -- of a finite x it is a number; else it is x
-past : (x q r : Float) → T (finite q) → T (finite r) → (eq (x ⊖ q) (x ⊖ q) ≡ true) ⊎ (x ⊖ q ≡ x ⊖ r)
-past x nan r Q R = absurd Q
-past x (inf s) r Q R = absurd Q
-past x (fin t n d) nan Q R = absurd R
-past x (fin t n d) (inf u) Q R = absurd R
-past nan (fin t n d) (fin u k i) Q R = unfold sub in inr refl
-past (inf s) (fin t n d) (fin u k i) Q R = unfold sub in inr refl
-past (fin s m e) (fin t n d) (fin u k i) Q R =
-    let f = sub_fraction s t m n e d in inl (ap₂ eq f.same f.same ∙ sided_number f.sign _ (round_sided f.sign f.size (down e * down d)))
+past : (x q r : Float) → T (finite q) → T (finite r) → (is_number (x ⊖ q) ≡ true) ⊎ (x ⊖ q ≡ x ⊖ r)
+unfolding sub
+past nan q r Q R = inr refl
+past (fin s m e) q r Q R = inl (sub_number (fin s m e) q tt (finite_number q Q))
+past (inf s) nan r Q R = absurd Q
+past (inf s) (inf t) r Q R = absurd Q
+past (inf s) (fin t n d) nan Q R = absurd R
+past (inf s) (fin t n d) (inf u) Q R = absurd R
+past (inf s) (fin t n d) (fin u k i) Q R = inr refl
 
 module _ (x z q r : Float) (Q : T (finite q)) (R : T (finite r)) (h : lt r q ≡ false) where
   -- above z with the larger one taken away: with the smaller one too

@@ -6,8 +6,8 @@ pub mod Sizes
 pub mod Signs
 pub mod Order
 pub mod Sums
+pub mod Numbers
 pub mod Operations
 pub mod Differences
 pub mod Quotients
-pub mod Numbers
 pub mod Samples
