@@ -10,7 +10,7 @@ use lib.Pow.{pow_pos}
 use lib.IntN.{ℤ, pos, neg_ℤ, nat_abs, ◌+ℤ◌, ◌-ℤ◌, ◌*ℤ◌}
 use lib.Ieee.{Float, nan, inf, fin, binary64, unlike, up, down, round, sum, add, sub, neg, mul, fits}
 use lib.Ieee.Fits.{round_is, down_pos, neg-fits}
-use lib.Ieee.Exact.{HasValue, units_val}
+use lib.Ieee.Exact.{units_val}
 use lib.Ieee.Order.{drop, kept}
 use lib.Ieee.Scale.{round_same, round_under, finite}
 use lib.Ieee.Bits.{is_true}
@@ -116,7 +116,7 @@ sub_rounds x y p q = subst (λ (z : ℤ). Rounds (add binary64 x (neg y)) (coord
 
 -- ---- by how much it errs
 
-pub value_coord : (x : Float) (s : Bool) (a : ℕ) → HasValue x s a (2 ^ 1074) → T (finite x) × (coord x ≡ signed s a)
+pub value_coord : (x : Float) (s : Bool) (a : ℕ) → HasUnits x s a → T (finite x) × (coord x ≡ signed s a)
 unfolding coord
 value_coord x s a h = let r = value_mag x s a h in (r.2, ap₂ signed r.0 r.1)
 
@@ -125,7 +125,7 @@ round_coord : (s : Bool) (a c : ℕ) → rounded (a * 2 ^ 1074) c < 2 ^ 2098
     → T (finite (round binary64 s a c)) × (coord (round binary64 s a c) ≡ signed s (rounded (a * 2 ^ 1074) c))
 round_coord s a c h =
     value_coord (round binary64 s a c) s (rounded (a * 2 ^ 1074) c)
-    (subst (λ (x : Float). HasValue x s (rounded (a * 2 ^ 1074) c) (2 ^ 1074)) (sym (round_is binary64 s a c))
+    (subst (λ (x : Float). HasUnits x s (rounded (a * 2 ^ 1074) c)) (sym (round_is binary64 s a c))
     (units_val binary64 s (kept 53 (a * 2 ^ 1074) c) (drop 53 (a * 2 ^ 1074) c) h))
 
 neg_finite : (x : Float) → T (finite (neg x)) → T (finite x)
