@@ -10,7 +10,8 @@ use Rattle.plane.specs.Plane.{◌⊕◌, ◌⊖◌, ◌⊗◌, ◌⊘◌, zero_f
 use Rattle.plane.specs.declared.Point.{Point}
 use Rattle.plane.proofs.FloatOrder.{finite_number, not_lt_trans}
 use Rattle.rounding.proofs.Signs.{Nil, nils_level}
-use Rattle.rounding.proofs.Numbers.{add_number, sub_number, Divisor, div_number, nil_number, mul_nil, add_nil, nil_zero, size_not_below, size_nil, not_above_zero, size_finite, both_subtracted, both_multiplied}
+use Rattle.rounding.proofs.Numbers.{add_number, sub_number, Divisor, div_number, nil_number, mul_nil, add_nil, nil_zero}
+use Rattle.rounding.proofs.Numbers.{size_not_below, size_nil, not_above_zero, size_finite, both_subtracted, both_multiplied}
 use Rattle.segments.specs.Colinear.{mean, spread, parameters, orderable}
 use Rattle.segments.specs.declared.Segment.{Segment}
 
