@@ -1,4 +1,4 @@
--- What specs/Booked.antt says, by computation. Numbers are given by their bits, distances as parts of 1, which is 2^2148 units of 2^-2148. Assumes nothing.
+-- What specs/Booked.antt and Stakes.antt say, by computation. Numbers are given by their bits, distances as parts of 1, which is 2^2148 units of 2^-2148. Assumes nothing.
 use mathlib.Core.Path.{◌≡◌, refl}
 use mathlib.Core.Bool.{Bool, true, false, false≢true}
 use mathlib.Core.List.{[], ◌∷◌, map}
@@ -9,13 +9,26 @@ use lib.Ieee.{Float, fin, binary64, add, sub, mul, div, neg, lt, le, eq, of_bits
 use Rattle.std.specs.Prelude.{None, Some}
 use Rattle.exact.specs.Exact.{mag, coord}
 use Rattle.grid.specs.Grid.{Grid, steps, grid_number, on_grid, booked}
-use Rattle.plane.specs.Plane.{zero_f, one_f, two_f, four_f, magnitude, larger, between, along, scale, tolerance}
+use Rattle.plane.specs.Plane.{zero_f, one_f, two_f, four_f, magnitude, larger, between, along, scale, tolerance, point_at}
 use Rattle.segments.specs.Meet.{near, settled, crossing, meeting_or}
 use Rattle.segments.specs.declared.Segment.{Segment}
 use Rattle.segments.specs.declared.Meeting.{Meeting}
 use Rattle.segments.specs.declared.Meeting.TheVariants.{Apart, Existing, New, Overlap}
 use Rattle.entry.specs.Refused.{coord_ok}
-use Rattle.rules.specs.Meetings.{meeting_on}
+use Rattle.lists.specs.Search.{seek, first}
+use Rattle.lists.specs.Gather.{gathered, all, passing, joined}
+use Rattle.lists.specs.Sort.{insert, sort_onto}
+use Rattle.lists.specs.Regions as Regions
+use Rattle.cutting.specs.Edges.{hops, ring}
+use Rattle.settings.specs.declared.Settings.{Settings}
+use Rattle.entry.specs.Mesh.{Mesh, mesh, prior}
+use Rattle.rules.specs.Mesh.{cell_at, cells_of}
+use Rattle.rules.specs.Snap.{used_nodes, sorted_indices_for, nearest_to, closest_within, weld}
+use Rattle.rules.specs.Neighbours.{added, added_all, descending_to, subject_net, cutter_net}
+use Rattle.rules.specs.SpatialIndex.{box_to, boxes_meet, box_holds, candidates}
+use Rattle.rules.specs.Operations.{scene_for}
+use Rattle.rules.specs.Meetings.{Met, met_pair, met_all, meetings_to, meetings, scene_of, meeting_on}
+use Rattle.coordinates.specs.Stakes.{subject_segment, cutter_segment}
 use Rattle.coordinates.specs.Booked.{Allowed, AllowedEnds, parameter, largest, off_by, allowance, is_within, PointWithin}
 
 abbrev f64 : ℕ → Float
@@ -181,3 +194,27 @@ not_a_double h = false≢true h.fit
 not_minus_zero : Allowed (f64 0x8000_0000_0000_0000) → ⊥
 unfolding coord_ok of_bits
 not_minus_zero h = false≢true h.ok
+
+-- ---- the edges of a meeting
+
+-- the square from (0, 0) to (4, 4), and as a line what crosses its lower side
+abbrev square : Mesh
+square = mesh (zero_f ∷ zero_f ∷ four_f ∷ zero_f ∷ four_f ∷ four_f ∷ zero_f ∷ four_f ∷ []) (0 ∷ 1 ∷ 2 ∷ 3 ∷ []) (4 ∷ []) (8 ∷ []) (0 ∷ [])
+
+abbrev line : Mesh
+line = mesh (one_f ∷ minus_one ∷ one_f ∷ one_f ∷ []) (0 ∷ 1 ∷ []) (2 ∷ []) (1 ∷ []) (0 ∷ [])
+
+abbrev lines : Settings
+lines = record { op = 5; m = 9; grid = None }
+
+-- the new point (1, 0) is the seventh node
+abbrev crossed : Met
+crossed = record { subject_edge = 0; cutter_edge = 0; nodes = 6 ∷ []; point = one_f ∷ zero_f ∷ [] }
+
+-- its meeting, and the segments of that meeting's edges
+crossed_line : ((scene_for lines square line).met ≡ crossed ∷ []) × (subject_segment lines square line crossed ≡ from_to zero_f zero_f four_f zero_f)
+    × (cutter_segment lines square line crossed ≡ from_to one_f minus_one one_f one_f)
+unfolding meetings meetings_to met_all met_pair meeting_on candidates box_to boxes_meet box_holds scene_of subject_net cutter_net cells_of cell_at prior Regions.run Regions.front
+    descending_to added added_all hops ring weld sorted_indices_for used_nodes nearest_to closest_within gathered all passing joined insert sort_onto seek first point_at booked
+    meeting_or crossing settled near scale larger magnitude between along tolerance mag coord add sub mul div neg lt le eq of_bits
+crossed_line = (refl, refl, refl)

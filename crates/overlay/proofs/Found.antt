@@ -1,7 +1,7 @@
 -- What `find` leaves in the lists is what the cells ask for. Assumes nothing.
 use mathlib.Core.Path.{◌≡◌, refl, sym, ap, ◌∙◌, subst}
-use mathlib.Core.List.{List, [], ◌∷◌, ◌++◌}
-use Prim.Native.Nat.{ℕ, zero, suc, ◌+◌, ◌-◌, ◌*◌, ◌/◌, ◌^◌, ◌≤◌, ◌<◌}
+use mathlib.Core.List.{List, ◌++◌}
+use Prim.Native.Nat.{ℕ, ◌+◌, ◌-◌, ◌*◌, ◌/◌, ◌^◌, ◌≤◌, ◌<◌}
 use native.Mathlib.Omega.{arith}
 use lib.Dec.{eqb}
 use lib.ListN.{length, take, drop, length-append}
@@ -20,9 +20,9 @@ use Rattle.entry.specs.Refused.{entry_of}
 use Rattle.entry.proofs.Passed.{passed}
 use Rattle.grid.specs.Grid.{Grid}
 use Rattle.rules.specs.Neighbours.{Net, subject_net, cutter_net}
-use Rattle.rules.specs.SpatialIndex.{edge_box, candidates}
-use Rattle.rules.specs.Meetings.{Met, Scene, added_by, recorded, segment_of, met_pair, met_all, meetings_to, meetings, scene_of, meeting_on}
+use Rattle.rules.specs.Meetings.{Met, Scene, added_by, recorded, meetings, scene_of}
 use Rattle.rules.specs.Operations.{scene_for}
+use Rattle.rules.proofs.Walk.{next, meetings_keep}
 use Rattle.std.specs.Prelude.{Result, Ok}
 use Rattle.refusals.specs.declared.Refusal.{Refusal}
 use Rattle.refusals.specs.Numbers.{by_number, refused_with}
@@ -61,25 +61,10 @@ even_append ms ns a b = (
   omega (arith, a.2, b.2, length-append ms ns),
 )
 
-module _ (g : Grid) (coords : List Float) (s c : Net) where
-  even_all : (i : ℕ) (js : List ℕ) (ms : List Met) → Even ms → Even (met_all g coords s c i js ms)
-  unfolding met_all met_pair
-  even_all i [] ms a = a
-  even_all i (j ∷ js) ms a =
-      even_all i js (met_pair g coords s c i j ms)
-      (even_append ms (recorded i j ((length coords + length (added_by ms)) / 2) (edge_at s.edges i) (edge_at c.edges j)
-      (meeting_on g (segment_of coords (edge_at s.edges i)) (segment_of coords (edge_at c.edges j)))) a
-      (even_one i j ((length coords + length (added_by ms)) / 2) (edge_at s.edges i) (edge_at c.edges j)
-      (meeting_on g (segment_of coords (edge_at s.edges i)) (segment_of coords (edge_at c.edges j)))))
-
-  even_to : (i : ℕ) → Even (meetings_to g coords s c i)
-  unfolding meetings_to joined
-  even_to zero = (0, refl, omega arith)
-  even_to (suc i) = even_all i (candidates coords c.edges (edge_box coords (edge_at s.edges i))) (meetings_to g coords s c i) (even_to i)
-
-  even_met : Even (meetings g coords s c)
-  unfolding meetings
-  even_met = even_to (length s.edges)
+even_met : (g : Grid) (coords : List Float) (s c : Net) → Even (meetings g coords s c)
+unfolding joined
+even_met g coords s c =
+    meetings_keep g coords s c Even (0, refl, omega arith) (λ i j ms r k e a. even_append ms _ a (even_one i j (next g coords s c ms) (edge_at s.edges i) (edge_at c.edges j) r))
 
 -- ---- the coordinates of a scene
 
