@@ -12,6 +12,7 @@ use borrow.Author.Tests.{le-leb}
 use Rattle.std.specs.Prelude.{None, Some}
 use Rattle.std.proofs.lemmas.Bool.{cases_lt}
 use Rattle.exact.specs.Exact.{coord}
+use Rattle.rounding.proofs.Sizes.{abs_apart}
 use Rattle.grid.specs.Grid.{Grid, grid_step, on_grid, booked}
 use Rattle.grid.proofs.GridNumbers.{no_grid}
 use Rattle.grid.proofs.OnGrid.{half_step}
@@ -22,7 +23,6 @@ use Rattle.rules.specs.Meetings.{meeting_on}
 use Rattle.coordinates.specs.Booked.{AllowedEnds, parameter, largest, off_by, half_a_step, allowance, is_within, PointWithin}
 use Rattle.coordinates.specs.Finite.{Bounded}
 use Rattle.coordinates.proofs.Booked.{Coordinate, new_point_lem}
-use Rattle.rounding.proofs.Sizes.{abs_apart}
 use Rattle.coordinates.proofs.Errors.{moved_adds}
 use Rattle.coordinates.proofs.Points.{before_moved}
 
