@@ -1,7 +1,7 @@
 -- Document 02, W11, of an overlay: each new point that an accepted overlay's answer lists is within the allowance of its meeting's subject edge. Assumes nothing.
-use mathlib.Core.Path.{◌≡◌, sym, ap, ap₂, ◌∙◌, subst}
+use mathlib.Core.Path.{◌≡◌, sym, ap, ap₂, ◌∙◌}
 use mathlib.Core.List.{List, [], ◌∷◌, ◌++◌}
-use Prim.Native.Nat.{ℕ, ◌+◌, ◌*◌, ◌/◌, ◌≤◌, ◌<◌}
+use Prim.Native.Nat.{ℕ, ◌+◌, ◌*◌, ◌≤◌, ◌<◌}
 use native.Mathlib.Omega.{arith}
 use lib.Dec.{eqb}
 use lib.ListN.{length, length-append}
@@ -13,13 +13,12 @@ use Rattle.segments.specs.declared.Meeting.TheVariants.{New}
 use Rattle.cutting.specs.Edition.{ours}
 use Rattle.settings.specs.declared.Settings.{Settings}
 use Rattle.entry.specs.Mesh.{Mesh, node_count}
-use Rattle.entry.specs.Refused.{entry_of}
-use Rattle.rules.specs.Neighbours.{subject_net, cutter_net}
+use Rattle.rules.specs.Neighbours.{Net, subject_net, cutter_net}
 use Rattle.rules.specs.Meetings.{Met, meeting_on, scene_of}
 use Rattle.rules.specs.Operations.{scene_for}
 use Rattle.rules.specs.Overlay.{Lists, Result, written, answered, answered_with, overlay_of}
 use Rattle.rules.specs.Demand3.{Accepted}
-use Rattle.rules.proofs.Accepts.{accepted}
+use Rattle.rules.proofs.Accepts.{Taken, accepted}
 use Rattle.coordinates.specs.Points.{Doubles}
 use Rattle.coordinates.specs.Booked.{PointWithin}
 use Rattle.coordinates.specs.Stakes.{subject_segment, cutter_segment, Stake}
@@ -36,49 +35,43 @@ answer_point o s c l i h =
     ap₂ {C = Point} (λ (x y : Float). record { x = x; y = y }) (front_in l.coords (scene_for o s c).coords (2 * i) nan (omega (arith, h)))
     (front_in l.coords (scene_for o s c).coords (2 * i + 1) nan h)
 
-module _ (o : Settings) (s c : Mesh) (w : ℕ) (pass : entry_of o s c w ≡ 0) (subject : Doubles s.coords) where
+module _ (o : Settings) (s c : Mesh) (l : Lists) (h : Accepted o s c l) (subject : Doubles s.coords) where
   abbrev lent : List Float
   lent = s.coords ++ c.coords
 
-  abbrev here : ℕ → Point
-  here i = point_at (scene_for o s c).coords i
+  abbrev cutting : Net
+  cutting = cutter_net (eqb o.op 5) s c
 
-  point_source : (i : ℕ) → node_count s + node_count c ≤ i → i < length (scene_for o s c).coords / 2
-      → Source o.grid lent (subject_net s) (cutter_net (eqb o.op 5) s c) (scene_for o s c).met i
-  unfolding scene_of
-  point_source i low high =
-      new_points_met o.grid lent (subject_net s) (cutter_net (eqb o.op 5) s c) (node_count s + node_count c) (lent_even o s c w pass) i low high
+  t : Taken ours o s c l
+  t = accepted ours o s c l h
 
-  -- the point of a meeting
-  origin_within : (m : Met) (p : Point) → Origin o.grid lent (subject_net s) (cutter_net (eqb o.op 5) s c) m → m.point ≡ p.x ∷ p.y ∷ []
+  -- the point p of a meeting
+  origin_within : (m : Met) (p : Point) → Origin o.grid lent (subject_net s) cutting m → m.point ≡ p.x ∷ p.y ∷ []
       → PointWithin o.grid (subject_segment o s c m) (cutter_segment o s c m) p.x p.y
   unfolding scene_of
-  origin_within m p (bare k e) h = absurd cc
-  origin_within m p (new k x y e r) h =
+  origin_within m p (bare k e) q = absurd cc
+  origin_within m p (new k x y e r) q =
       let at : meeting_on o.grid (subject_segment o s c m) (cutter_segment o s c m) ≡ New p.x p.y = cc in
-      on_grid_within o.grid (subject_segment o s c m) (cutter_segment o s c m) (edge_allowed o s c w pass subject m.subject_edge k.subject) p.x p.y at
+      on_grid_within o.grid (subject_segment o s c m) (cutter_segment o s c m) (edge_allowed o s c (length l.work) t.entry subject m.subject_edge k.subject) p.x p.y at
 
-  source_within : (i : ℕ) (f : Source o.grid lent (subject_net s) (cutter_net (eqb o.op 5) s c) (scene_for o s c).met i)
-      → PointWithin o.grid (subject_segment o s c f.met) (cutter_segment o s c f.met) (here i).x (here i).y
+  -- a meeting that a node comes from
+  source_stake : (i : ℕ) → point_at (overlay_of o s c l).lists.coords i ≡ point_at (scene_for o s c).coords i
+      → Source o.grid lent (subject_net s) cutting (scene_for o s c).met i → Stake o s c l i
   unfolding scene_of
-  source_within i f =
-      origin_within f.met (here i) (meetings_origin o.grid lent (subject_net s) (cutter_net (eqb o.op 5) s c) f.met f.found) f.point
+  source_stake i same f = record {
+    met = f.met;
+    found = f.found;
+    node = f.node;
+    off = origin_within f.met (point_at (overlay_of o s c l).lists.coords i) (meetings_origin o.grid lent (subject_net s) cutting f.met f.found)
+        (f.point ∙ ap (λ (p : Point). p.x ∷ p.y ∷ []) (sym same));
+  }
 
--- Every new point that an accepted overlay's answer lists.
-pub stakes : (o : Settings) (s c : Mesh) (l : Lists) → Accepted o s c l → Doubles s.coords
-    → (i : ℕ) → node_count s + node_count c ≤ i → i < node_count s + node_count c + (overlay_of o s c l).added → Stake o s c l i
-unfolding answered_with
-stakes o s c l h subject i low high =
-    let t = accepted ours o s c l h in
-    let within : 2 * i + 1 < length (scene_for o s c).coords =
-    omega (arith, high, ap (λ (r : Result). r.added) t.answer, scene_length o s c, length-append s.coords c.coords, lent_even o s c (length l.work) t.entry) in
-    let f = point_source o s c (length l.work) t.entry subject i low (omega (arith, within)) in
-    let same : point_at (overlay_of o s c l).lists.coords i ≡ here o s c (length l.work) t.entry subject i =
-    ap (λ (r : Result). point_at r.lists.coords i) t.answer ∙ answer_point o s c l i within in
-    record {
-      met = f.met;
-      found = f.found;
-      node = f.node;
-      off = subst (λ (p : Point). PointWithin o.grid (subject_segment o s c f.met) (cutter_segment o s c f.met) p.x p.y) (sym same)
-          (source_within o s c (length l.work) t.entry subject i f);
-    }
+  -- Every new point that an accepted overlay's answer lists.
+  pub stakes : (i : ℕ) → node_count s + node_count c ≤ i → i < node_count s + node_count c + (overlay_of o s c l).added → Stake o s c l i
+  unfolding answered_with scene_of
+  stakes i low high =
+      let even = lent_even o s c (length l.work) t.entry in
+      let within : 2 * i + 1 < length (scene_for o s c).coords =
+      omega (arith, high, ap (λ (r : Result). r.added) t.answer, scene_length o s c, length-append s.coords c.coords, even) in
+      source_stake i (ap (λ (r : Result). point_at r.lists.coords i) t.answer ∙ answer_point o s c l i within)
+      (new_points_met o.grid lent (subject_net s) cutting (node_count s + node_count c) even i low (omega (arith, within)))
