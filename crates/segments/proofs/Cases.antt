@@ -57,6 +57,12 @@ eps = 0x3d10_0000_0000_0000
 abbrev eps+ : ℕ
 eps+ = 0x3d10_0000_0000_0001
 
+abbrev 2^-22 : ℕ
+2^-22 = 0x3e90_0000_0000_0000
+
+abbrev 2^-23 : ℕ
+2^-23 = 0x3e80_0000_0000_0000
+
 -- ---- the table
 
 -- K2 to K7, in order
@@ -70,10 +76,15 @@ samples =
     ∷ meet (seg o o ii o) (seg i o i ii) (1 ∷ 3 ∷ [])
     ∷ []
 
--- |cross31| at eps and above it; equal parameters; a component, a length, a parameter that is no number or not finite
+-- |cross12|, a squared length and a squared distance at eps; |cross31| there and above it; equal parameters; a component, a length, a parameter that is no
+-- number or not finite
 meetings : List Case
 meetings =
-    meet (seg o o i o) (seg o eps i eps) (3 ∷ 3 ∷ 2 ∷ [])
+    meet (seg o o i o) (seg o o i eps) (1 ∷ 1 ∷ [])
+    ∷ meet (seg o o i o) (seg o o 2^-23 o) (3 ∷ 3 ∷ 4 ∷ [])
+    ∷ meet (seg o o 2^-23 o) (seg o o i o) (3 ∷ 3 ∷ 2 ∷ [])
+    ∷ meet (seg o o i o) (seg 2^-22 -i 2^-22 i) (2 ∷ 2^-22 ∷ o ∷ [])
+    ∷ meet (seg o o i o) (seg o eps i eps) (3 ∷ 3 ∷ 2 ∷ [])
     ∷ meet (seg o o i o) (seg o eps+ i eps+) (0 ∷ [])
     ∷ meet (seg o o i o) (seg o o i o) (3 ∷ 3 ∷ 2 ∷ [])
     ∷ meet (seg o o i o) (seg i o o o) (3 ∷ 4 ∷ 2 ∷ [])
