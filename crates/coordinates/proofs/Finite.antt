@@ -11,7 +11,6 @@ use lib.Ieee.{Float, nan, binary64, fits}
 use lib.Ieee.Bits.{is_true}
 use lib.Ieee.Exact.{HasValue}
 use Rattle.lists.proofs.Gather.{in_list}
-use Rattle.lists.proofs.Regions.{front_in}
 use Rattle.exact.specs.Exact.{mag, minus}
 use Rattle.exact.proofs.ExactUnits.{exact_units}
 use Rattle.cutting.specs.Edges.{Edge, key}
@@ -28,7 +27,7 @@ use Rattle.rules.specs.Mesh.{Side}
 use Rattle.rules.specs.Meetings.{net_of, added_by, scene_of}
 use Rattle.rules.specs.Operations.{scene_for}
 use Rattle.rules.specs.Nodes.{projected, collected}
-use Rattle.rules.specs.Overlay.{Lists, Result, written, answered, answered_with, overlay_of}
+use Rattle.rules.specs.Overlay.{Lists, Result, answered, answered_with, overlay_of}
 use Rattle.rules.specs.Demand3.{Accepted}
 use Rattle.rules.proofs.Accepts.{accepted}
 use Rattle.coordinates.specs.Points.{Doubles}
@@ -36,7 +35,7 @@ use Rattle.coordinates.specs.Finite.{Bounded, NodeOf, Ordered}
 use Rattle.coordinates.proofs.Booked.{allowed_bounded}
 use Rattle.coordinates.proofs.Added.{each_added}
 use Rattle.coordinates.proofs.Nodes.{collected_under, key_under}
-use Rattle.coordinates.proofs.InScene.{scene_length, met_nodes_lem, edge_nodes}
+use Rattle.coordinates.proofs.InScene.{scene_length, answer_coord, met_nodes_lem, edge_nodes}
 use Rattle.coordinates.proofs.Projections.{BoundedPoint, projection_finite, numbers_ordered}
 use Rattle.coordinates.proofs.Points.{Each, each_join, each_cons, Both, mesh_allowed}
 
@@ -113,10 +112,10 @@ module _ (o : Settings) (s c : Mesh) (w : ℕ) (pass : entry_of o s c w ≡ 0) (
   -- ---- the answer
 
   answer_bounded : (l : Lists) (i : ℕ) → i < length s.coords + length c.coords + 2 * (answered o s c l).added → Bounded (get_or (answered o s c l).lists.coords i nan)
-  unfolding answered_with written
+  unfolding answered_with
   answer_bounded l i h =
       let within : i < length (scene_for o s c).coords = omega (arith, h, scene_length o s c) in
-      subst Bounded (sym (front_in l.coords (scene_for o s c).coords i nan within)) (scene_finite i within)
+      subst Bounded (sym (answer_coord o s c l i within)) (scene_finite i within)
 
 -- No answer holds a NaN: the coordinates of an accepted overlay, lent nodes' and new points', are finite and at most 2^42 in size.
 pub no_nan : (o : Settings) (s c : Mesh) (l : Lists) → Accepted o s c l → Doubles s.coords → Doubles c.coords

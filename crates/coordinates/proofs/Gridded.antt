@@ -9,7 +9,6 @@ use lib.Seq.{get_or-append_right}
 use lib.Ieee.{Float, nan}
 use Rattle.std.specs.Prelude.{Some}
 use Rattle.lists.proofs.Gather.{in_list}
-use Rattle.lists.proofs.Regions.{front_in}
 use Rattle.exact.specs.Exact.{minus}
 use Rattle.grid.specs.Grid.{Grid, on_grid, booked}
 use Rattle.grid.proofs.OnGrid.{put_there, plus_zero}
@@ -20,13 +19,13 @@ use Rattle.entry.specs.Refused.{entry_of}
 use Rattle.entry.proofs.Passed.{passed}
 use Rattle.rules.specs.Meetings.{added_by, scene_of}
 use Rattle.rules.specs.Operations.{scene_for}
-use Rattle.rules.specs.Overlay.{Lists, Result, written, answered, answered_with, overlay_of}
+use Rattle.rules.specs.Overlay.{Lists, Result, answered, answered_with, overlay_of}
 use Rattle.rules.specs.Demand3.{Accepted}
 use Rattle.rules.proofs.Accepts.{accepted}
 use Rattle.coordinates.specs.Points.{Doubles}
 use Rattle.coordinates.specs.Finite.{Bounded, Gridded}
 use Rattle.coordinates.proofs.Added.{each_added}
-use Rattle.coordinates.proofs.InScene.{scene_length}
+use Rattle.coordinates.proofs.InScene.{scene_length, answer_coord}
 use Rattle.coordinates.proofs.Points.{Each}
 
 -- a coordinate that is put there
@@ -56,10 +55,10 @@ module _ (o : Settings) (s c : Mesh) (w : ℕ) (pass : entry_of o s c w ≡ 0) (
 
   answer_gridded : (l : Lists) (i : ℕ) → length s.coords + length c.coords ≤ i → i < length s.coords + length c.coords + 2 * (answered o s c l).added
       → Gridded k (get_or (answered o s c l).lists.coords i nan)
-  unfolding answered_with written
+  unfolding answered_with
   answer_gridded l i b h =
       let within : i < length (scene_for o s c).coords = omega (arith, h, scene_length o s c) in
-      subst (Gridded k) (sym (front_in l.coords (scene_for o s c).coords i nan within)) (from_lent_on i (omega (arith, b, length-append s.coords c.coords)) within)
+      subst (Gridded k) (sym (answer_coord o s c l i within)) (from_lent_on i (omega (arith, b, length-append s.coords c.coords)) within)
 
 -- The coordinates of an accepted overlay's new points.
 pub answers_gridded : (o : Settings) (s c : Mesh) (l : Lists) → Accepted o s c l → Doubles s.coords → (k : ℕ) → o.grid ≡ Some k

@@ -6,8 +6,9 @@ use Prim.Native.Nat.{ℕ, ◌+◌, ◌*◌, ◌/◌, ◌<◌}
 use native.Mathlib.Nat.{le_of_eq}
 use native.Mathlib.Omega.{arith}
 use lib.Dec.{eqb}
-use lib.ListN.{length, length-append}
-use lib.Ieee.{Float}
+use lib.ListN.{length, get_or, length-append}
+use lib.Ieee.{Float, nan}
+use Rattle.lists.proofs.Regions.{front_in}
 use Rattle.lists.proofs.Gather.{length_each, get_or_each}
 use Rattle.cutting.specs.Edges.{Edge}
 use Rattle.settings.specs.declared.Settings.{Settings}
@@ -18,6 +19,7 @@ use Rattle.rules.specs.Mesh.{Side, the_subject, the_cutter, other, cell_at, cell
 use Rattle.rules.specs.Neighbours.{subject_net, cutter_net}
 use Rattle.rules.specs.Meetings.{Met, net_of, added_by, scene_of}
 use Rattle.rules.specs.Operations.{scene_for, pieces_of}
+use Rattle.rules.specs.Overlay.{Lists, written, answered, answered_with}
 use Rattle.rules.specs.Cell.{cell_of, outline_of}
 use Rattle.coordinates.specs.Finite.{NodeOf}
 use Rattle.coordinates.proofs.Nodes.{many_cells, cells_under, cutter_under, meetings_stand, outline_under}
@@ -27,6 +29,12 @@ use Rattle.coordinates.proofs.Points.{Each, Both, corners_under, edges_under}
 pub scene_length : (o : Settings) (s c : Mesh) → length (scene_for o s c).coords ≡ length s.coords + length c.coords + length (added_by (scene_for o s c).met)
 unfolding scene_of
 scene_length o s c = omega (arith, length-append s.coords c.coords, length-append (s.coords ++ c.coords) (added_by (scene_for o s c).met))
+
+-- an answer has the scene's coordinates
+pub answer_coord : (o : Settings) (s c : Mesh) (l : Lists) (i : ℕ) → i < length (scene_for o s c).coords
+    → get_or (answered o s c l).lists.coords i nan ≡ get_or (scene_for o s c).coords i nan
+unfolding answered_with written
+answer_coord o s c l i h = front_in l.coords (scene_for o s c).coords i nan h
 
 -- What every theorem below takes: the entry passes.
 module _ (o : Settings) (s c : Mesh) (w : ℕ) (pass : entry_of o s c w ≡ 0) where

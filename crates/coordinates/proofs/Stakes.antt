@@ -5,8 +5,7 @@ use Prim.Native.Nat.{ℕ, ◌+◌, ◌*◌, ◌≤◌, ◌<◌}
 use native.Mathlib.Omega.{arith}
 use lib.Dec.{eqb}
 use lib.ListN.{length, length-append}
-use lib.Ieee.{Float, nan}
-use Rattle.lists.proofs.Regions.{front_in}
+use lib.Ieee.{Float}
 use Rattle.plane.specs.Plane.{point_at}
 use Rattle.plane.specs.declared.Point.{Point}
 use Rattle.segments.specs.declared.Meeting.TheVariants.{New}
@@ -16,24 +15,23 @@ use Rattle.entry.specs.Mesh.{Mesh, node_count}
 use Rattle.rules.specs.Neighbours.{Net, subject_net, cutter_net}
 use Rattle.rules.specs.Meetings.{Met, meeting_on, scene_of}
 use Rattle.rules.specs.Operations.{scene_for}
-use Rattle.rules.specs.Overlay.{Lists, Result, written, answered, answered_with, overlay_of}
+use Rattle.rules.specs.Overlay.{Lists, Result, answered, answered_with, overlay_of}
 use Rattle.rules.specs.Demand3.{Accepted}
 use Rattle.rules.proofs.Accepts.{Taken, accepted}
 use Rattle.coordinates.specs.Points.{Doubles}
 use Rattle.coordinates.specs.Booked.{PointWithin}
 use Rattle.coordinates.specs.Stakes.{subject_segment, cutter_segment, Stake}
 use Rattle.coordinates.proofs.Within.{on_grid_within}
-use Rattle.coordinates.proofs.InScene.{scene_length, lent_even}
+use Rattle.coordinates.proofs.InScene.{scene_length, answer_coord, lent_even}
 use Rattle.coordinates.proofs.Added.{edge_allowed}
 use Rattle.coordinates.proofs.Meetings.{Origin, bare, new, Source, meetings_origin, new_points_met}
 
 -- a node of an answer stands where it does in the scene
 answer_point : (o : Settings) (s c : Mesh) (l : Lists) (i : ℕ) → 2 * i + 1 < length (scene_for o s c).coords
     → point_at (answered o s c l).lists.coords i ≡ point_at (scene_for o s c).coords i
-unfolding answered_with written point_at
+unfolding point_at
 answer_point o s c l i h =
-    ap₂ {C = Point} (λ (x y : Float). record { x = x; y = y }) (front_in l.coords (scene_for o s c).coords (2 * i) nan (omega (arith, h)))
-    (front_in l.coords (scene_for o s c).coords (2 * i + 1) nan h)
+    ap₂ {C = Point} (λ (x y : Float). record { x = x; y = y }) (answer_coord o s c l (2 * i) (omega (arith, h))) (answer_coord o s c l (2 * i + 1) h)
 
 module _ (o : Settings) (s c : Mesh) (l : Lists) (h : Accepted o s c l) (subject : Doubles s.coords) where
   abbrev lent : List Float
