@@ -138,7 +138,7 @@ far_point : meeting_or Apart far_subject far_cutter ≡ New far_x far_y
 unfolding meeting_or crossing settled near scale larger magnitude between along tolerance add sub mul div neg lt le eq of_bits
 far_point = refl
 
--- its first coordinate is off by more than 3.99 M × 2^-53: half the allowance would be too little
+-- its first coordinate is off by more than 3.99 M × 2^-53, nearly half the allowance: three eighths of it would be too little
 far_off : T (ltb (399 * (largest far_subject * 2 ^ 1021)) (100 * off_by far_x far_subject.a.x far_subject.b.x (parameter far_subject far_cutter)))
 unfolding between mag coord add sub mul div neg of_bits
 far_off = tt
