@@ -14,7 +14,7 @@ use Rattle.exact.specs.Exact.{coord}
 use Rattle.plane.specs.Plane.{◌⊕◌, ◌⊖◌, ◌⊗◌}
 use Rattle.std.specs.Prelude.{None}
 use Rattle.coordinates.specs.Booked.{off_by, allowance}
-use Rattle.coordinates.proofs.Errors.{errors_add}
+use Rattle.rounding.proofs.Errors.{errors_add}
 use Rattle.rounding.proofs.Sizes.{abs_add, abs_back, sub_most}
 use Rattle.rounding.proofs.Operations.{Number, Near, NearProduct, add_rounds, sub_rounds, rounds_near, mul_near}
 

@@ -1,4 +1,3 @@
-pub mod Errors
 pub mod Along
 pub mod Booked
 pub mod Within

@@ -23,7 +23,7 @@ use Rattle.rules.specs.Meetings.{meeting_on}
 use Rattle.coordinates.specs.Booked.{AllowedEnds, parameter, largest, off_by, half_a_step, allowance, is_within, PointWithin}
 use Rattle.coordinates.specs.Finite.{Bounded}
 use Rattle.coordinates.proofs.Booked.{Coordinate, new_point_lem}
-use Rattle.coordinates.proofs.Errors.{moved_adds}
+use Rattle.rounding.proofs.Errors.{moved_adds}
 use Rattle.coordinates.proofs.Points.{before_moved}
 
 -- ---- on a grid

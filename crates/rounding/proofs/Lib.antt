@@ -3,6 +3,7 @@ pub mod Nearest
 pub mod Exact
 pub mod Values
 pub mod Sizes
+pub mod Errors
 pub mod Signs
 pub mod Order
 pub mod Sums
