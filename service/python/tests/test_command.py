@@ -130,6 +130,7 @@ def test_a_table_on_standard_output(tmp_path):
 
 @pytest.mark.parametrize('words, why', [
     (('cut', 'model.vtu', 'soils.gpkg', '--table', '-', '--stakes', '-'), 'one of them can go'),
+    (('cut', 'model.vtu', 'soils.gpkg', '--table', 'out.csv', '--stakes', './out.csv'), 'two of the outputs'),
     (('cut', 'model.vtu', 'soils.gpkg'), 'nothing to write'), (('cut', 'model.vtu', 'soils.gpkg', '-o', 'no/strips.vtu'), 'no such folder'),
     (('cut', 'model.vtu', 'soils.gpkg', '-o', 'model.vtu'), 'one of the files that are read'), (('cut', 'none.vtu', 'soils.gpkg', '--table', '-'), 'no such file'),
     (('cut', 'model.vtu', 'none.gpkg', '--table', '-'), 'no such file'), (('cut', 'model.vtu', 'soils.gpkg', '--soil', 'x', '--table', '-'), 'no attribute "x"'),

@@ -179,6 +179,10 @@ def _check_outputs(options: argparse.Namespace) -> None:
         raise InputError('nothing to write: give -o, --table, --stakes or --picture (or use `daqwimay check`)')
     if options.table == options.stakes == '-':
         raise InputError('--table and --stakes: one of them can go to standard output')
+    paths = [Path(file).resolve() for file in files if file != '-']
+    for path in paths:
+        if paths.count(path) > 1:
+            raise InputError(f'{path.name} is to hold two of the outputs')
     for file in files:
         if file != '-' and not Path(file).resolve().parent.is_dir():
             raise InputError(f'{file}: no such folder')
