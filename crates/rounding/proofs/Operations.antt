@@ -1,7 +1,7 @@
 -- What the operations on f64 round, in units of 2^-1074, and by how much they err. Assumes nothing.
 use mathlib.Core.Path.{◌≡◌, refl, sym, ap, ap₂, ◌∙◌, subst}
-use mathlib.Core.Bool.{Bool, true, false, not}
-use Prim.Native.Nat.{ℕ, zero, suc, ◌+◌, ◌-◌, ◌*◌, ◌/◌, ◌^◌, ◌≤◌, ◌<◌}
+use mathlib.Core.Bool.{Bool, true, false}
+use Prim.Native.Nat.{ℕ, ◌+◌, ◌-◌, ◌*◌, ◌/◌, ◌^◌, ◌≤◌, ◌<◌}
 use native.Mathlib.Nat.{mul-div_cancel, le_trans, le_of_eq, lt_of_le_of_lt, le_of_mul-le-mul_right}
 use native.Mathlib.Nat.{add-mul, mul-mul-mul_comm, mul-pos}
 use native.Mathlib.Omega.{arith}
@@ -16,7 +16,7 @@ use lib.Ieee.Scale.{round_same, round_under, finite}
 use lib.Ieee.Bits.{is_true}
 use Rattle.std.proofs.lemmas.Int.{unsigned_abs-mul}
 use Rattle.exact.specs.Exact.{mag, minus, signed, coord}
-use Rattle.exact.proofs.Integers.{diff, diff_same, diff_add, signed_diff, signed_mul, times_signed, abs_signed}
+use Rattle.exact.proofs.Integers.{diff, diff_same, diff_add, signed_diff, signed_neg, signed_mul, times_signed, abs_signed}
 use Rattle.exact.proofs.Fields.{value_mag}
 use Rattle.exact.proofs.ExactUnits.{exact_units}
 use Rattle.rounding.proofs.Whole.{gap}
@@ -99,16 +99,11 @@ neg_number nan p = absurd p.end
 neg_number (inf s) p = absurd p.end
 neg_number (fin s m e) p = record { fit = is_true _ (neg-fits binary64 (fin s m e) (subst T (sym p.fit) tt)); end = tt }
 
-signed_not : (s : Bool) (n : ℕ) → signed (not s) n ≡ neg_ℤ (signed s n)
-signed_not false n = refl
-signed_not true zero = refl
-signed_not true (suc n) = refl
-
 neg_coord : (x : Float) → coord (neg x) ≡ neg_ℤ (coord x)
 unfolding neg coord mag
 neg_coord nan = refl
 neg_coord (inf s) = refl
-neg_coord (fin s m e) = signed_not s _
+neg_coord (fin s m e) = signed_neg s _
 
 pub sub_rounds : (x y : Float) → Number x → Number y → Rounds (sub binary64 x y) (coord x -ℤ coord y)
 unfolding sub
