@@ -126,8 +126,8 @@ colinear_not_new s o x y = go (orderable (parameters s o))
     go false e = apart_not_new e
 
 -- it is p1 + t v1, for a t in 0..1
-record Crossed (s o : Segment) (x y : Float) : Type 0 where
-  inside : in_unit (parameter s o) ≡ true
+pub record Crossed (s o : Segment) (x y : Float) : Type 0 where
+  pub inside : in_unit (parameter s o) ≡ true
   at_x : x ≡ (along s.a (parameter s o) (between s.a s.b)).x
   at_y : y ≡ (along s.a (parameter s o) (between s.a s.b)).y
 
@@ -146,7 +146,7 @@ crossing_new s o eps x y = go (in_unit (parameter s o)) refl (in_unit u)
     go true i false e = absurd (apart_not_new e)
     go false i b e = absurd (apart_not_new e)
 
-meeting_new : (s o : Segment) (x y : Float) → meeting s o ≡ New x y → Crossed s o x y
+pub meeting_new : (s o : Segment) (x y : Float) → meeting s o ≡ New x y → Crossed s o x y
 unfolding meeting_or
 meeting_new s o x y = go (lt (dot v2 v2) eps || lt (dot v1 v1) eps) (lt (magnitude (cross v1 v2)) eps) (lt eps (magnitude (cross v3 v1)))
   where

@@ -1,12 +1,13 @@
 -- Document 02, W11, of an overlay: each new point that an accepted overlay's answer lists is within the allowance of its meeting's subject edge. Assumes nothing.
 use mathlib.Core.Path.{◌≡◌, sym, ap, ap₂, ◌∙◌}
+use mathlib.Core.Bool.{true}
 use mathlib.Core.List.{List, [], ◌∷◌, ◌++◌}
 use Prim.Native.Nat.{ℕ, ◌+◌, ◌*◌, ◌≤◌, ◌<◌}
 use native.Mathlib.Omega.{arith}
 use lib.Dec.{eqb}
 use lib.ListN.{length, length-append}
 use lib.Ieee.{Float}
-use Rattle.plane.specs.Plane.{point_at}
+use Rattle.plane.specs.Plane.{point_at, in_unit}
 use Rattle.plane.specs.declared.Point.{Point}
 use Rattle.segments.specs.declared.Meeting.TheVariants.{New}
 use Rattle.cutting.specs.Edition.{ours}
@@ -19,9 +20,9 @@ use Rattle.rules.specs.Overlay.{Lists, Result, answered, answered_with, overlay_
 use Rattle.rules.specs.Demand3.{Accepted}
 use Rattle.rules.proofs.Accepts.{Taken, accepted}
 use Rattle.coordinates.specs.Points.{Doubles}
-use Rattle.coordinates.specs.Booked.{PointWithin}
+use Rattle.coordinates.specs.Booked.{parameter, PointWithin}
 use Rattle.coordinates.specs.Stakes.{subject_segment, cutter_segment, Stake}
-use Rattle.coordinates.proofs.Within.{on_grid_within}
+use Rattle.coordinates.proofs.Within.{on_grid_within, on_edge}
 use Rattle.coordinates.proofs.InScene.{scene_length, answer_coord, lent_even}
 use Rattle.coordinates.proofs.Added.{edge_allowed}
 use Rattle.coordinates.proofs.Meetings.{Origin, bare, new, Source, meetings_origin, new_points_met}
@@ -52,6 +53,12 @@ module _ (o : Settings) (s c : Mesh) (l : Lists) (h : Accepted o s c l) (subject
       let at : meeting_on o.grid (subject_segment o s c m) (cutter_segment o s c m) ≡ New p.x p.y = cc in
       on_grid_within o.grid (subject_segment o s c m) (cutter_segment o s c m) (edge_allowed o s c (length l.work) t.entry subject m.subject_edge k.subject) p.x p.y at
 
+  origin_inside : (m : Met) (p : Point) → Origin o.grid lent (subject_net s) cutting m → m.point ≡ p.x ∷ p.y ∷ []
+      → in_unit (parameter (subject_segment o s c m) (cutter_segment o s c m)) ≡ true
+  unfolding scene_of
+  origin_inside m p (bare k e) q = absurd cc
+  origin_inside m p (new k x y e r) q = on_edge o.grid (subject_segment o s c m) (cutter_segment o s c m) x y r
+
   -- a meeting that a node comes from
   source_stake : (i : ℕ) → point_at (overlay_of o s c l).lists.coords i ≡ point_at (scene_for o s c).coords i
       → Source o.grid lent (subject_net s) cutting (scene_for o s c).met i → Stake o s c l i
@@ -60,6 +67,8 @@ module _ (o : Settings) (s c : Mesh) (l : Lists) (h : Accepted o s c l) (subject
     met = f.met;
     found = f.found;
     node = f.node;
+    inside = origin_inside f.met (point_at (overlay_of o s c l).lists.coords i) (meetings_origin o.grid lent (subject_net s) cutting f.met f.found)
+        (f.point ∙ ap (λ (p : Point). p.x ∷ p.y ∷ []) (sym same));
     off = origin_within f.met (point_at (overlay_of o s c l).lists.coords i) (meetings_origin o.grid lent (subject_net s) cutting f.met f.found)
         (f.point ∙ ap (λ (p : Point). p.x ∷ p.y ∷ []) (sym same));
   }

@@ -12,6 +12,7 @@ use borrow.Author.Tests.{le-leb}
 use Rattle.std.specs.Prelude.{None, Some}
 use Rattle.std.proofs.lemmas.Bool.{cases_lt}
 use Rattle.exact.specs.Exact.{coord}
+use Rattle.plane.specs.Plane.{in_unit}
 use Rattle.rounding.proofs.Sizes.{abs_apart}
 use Rattle.grid.specs.Grid.{Grid, grid_step, on_grid, booked}
 use Rattle.grid.proofs.GridNumbers.{no_grid}
@@ -22,7 +23,7 @@ use Rattle.segments.specs.declared.Meeting.TheVariants.{New}
 use Rattle.rules.specs.Meetings.{meeting_on}
 use Rattle.coordinates.specs.Booked.{AllowedEnds, parameter, largest, off_by, half_a_step, allowance, is_within, PointWithin}
 use Rattle.coordinates.specs.Finite.{Bounded}
-use Rattle.coordinates.proofs.Booked.{Coordinate, new_point_lem}
+use Rattle.coordinates.proofs.Booked.{Coordinate, meeting_new, new_point_lem}
 use Rattle.rounding.proofs.Errors.{moved_adds}
 use Rattle.coordinates.proofs.Points.{before_moved}
 
@@ -79,6 +80,10 @@ on_grid_within g s o h x y e =
       first = coordinate_within g (largest s) p.0 x s.a.x s.b.x (parameter s o) p.3 n.0;
       second = coordinate_within g (largest s) p.1 y s.a.y s.b.y (parameter s o) p.4 n.1;
     }
+
+-- And t is in 0..1: the exact point lies between P1 and P2.
+pub on_edge : (g : Grid) (s o : Segment) (x y : Float) → meeting_on g s o ≡ New x y → in_unit (parameter s o) ≡ true
+on_edge g s o x y e = let p = before_moved g s o x y e in (meeting_new s o p.0 p.1 p.2).inside
 
 -- the same without a grid, as the meeting rule stands
 pub booked_within : (s o : Segment) → AllowedEnds s → (x y : Float) → meeting s o ≡ New x y → PointWithin None s o x y
