@@ -62,6 +62,11 @@ def test_what_refusal_3_forbids_has_none(size):
         tolerance(Mesh([[0, 0], [size, 0], [0, 1]], [0, 1, 2], [3], [Kind.TRI3], [7]), 3)
 
 
+def test_a_number_that_is_no_float_is_too_large():
+    with pytest.raises(Refused, match='refused 3 '):
+        tolerance(10 ** 400)
+
+
 def test_a_grid_that_there_is_not_and_a_list_that_is_none():
     for k in (-1, 11):
         with pytest.raises(Refused, match=f'refused 13 .*\n  K is {k}\n'):

@@ -38,11 +38,11 @@ def tolerance(of: Union[Mesh, float], survey_grid: Optional[int] = None) -> floa
     corners, and the answer holds of every new point. Raises `Refused` where an overlay would: 3 above 2^40, 13 for a grid that there is not.
     """
     k = survey_k(survey_grid)
-    size = _largest(of) if isinstance(of, Mesh) else abs(float(of))
+    size = _largest(of) if isinstance(of, Mesh) else abs(of)
     if not size <= LARGEST:
         raise Refused(3, f'the largest size is {size}')
     half_a_step = Fraction(0) if k is None else Fraction(1, 2 ** (k + 1))
-    return _rounded_up(Fraction(size) / 2 ** 50 + Fraction(1, 2 ** 1074) + half_a_step)
+    return _rounded_up(Fraction(float(size)) / 2 ** 50 + Fraction(1, 2 ** 1074) + half_a_step)
 
 
 def _largest(mesh: Mesh) -> float:
