@@ -9,10 +9,10 @@ use lib.IntN.{pos, nat_abs, ◌+ℤ◌, ◌-ℤ◌, ◌*ℤ◌}
 use lib.Ieee.{Float, binary64}
 use lib.Ieee.Bits.{is_true}
 use lib.Ieee.Fits.{add-fits, sub-fits, mul-fits}
+use Rattle.std.specs.Prelude.{None}
 use Rattle.std.proofs.lemmas.Int.{unsigned_abs-mul}
 use Rattle.exact.specs.Exact.{coord}
 use Rattle.plane.specs.Plane.{◌⊕◌, ◌⊖◌, ◌⊗◌}
-use Rattle.std.specs.Prelude.{None}
 use Rattle.coordinates.specs.Booked.{off_by, allowance}
 use Rattle.rounding.proofs.Errors.{errors_add}
 use Rattle.rounding.proofs.Sizes.{abs_add, abs_back, sub_most}

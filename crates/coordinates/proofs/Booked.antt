@@ -11,6 +11,7 @@ use lib.Ieee.{Float, nan, inf, fin, binary64, up, down, le, lt, eq, of_bits, fit
 use lib.Ieee.Bits.{is_true}
 use lib.Ieee.Fits.{down_pos, div-fits}
 use borrow.Author.Tests.{ltb-true, eqb-true, leb-true}
+use Rattle.std.specs.Prelude.{None}
 use Rattle.exact.specs.Exact.{mag}
 use Rattle.exact.proofs.ExactUnits.{exact_units, size_coord}
 use Rattle.entry.specs.Refused.{coord_ok}
@@ -24,7 +25,6 @@ use Rattle.segments.specs.declared.PointId.TheVariants.{P1, P2, P3, P4}
 use Rattle.segments.specs.declared.Meeting.TheVariants.{Apart, Existing, New, Overlap}
 use Rattle.plane.proofs.FloatOrder.{and_left, and_right}
 use Rattle.coordinates.specs.Booked.{Allowed, AllowedEnds, parameter, largest, off_by, allowance}
-use Rattle.std.specs.Prelude.{None}
 use Rattle.coordinates.specs.Finite.{Bounded}
 use Rattle.rounding.proofs.Operations.{Number}
 use Rattle.coordinates.proofs.Along.{along_number, along_near, along_size}

@@ -18,7 +18,7 @@ use Rattle.cutting.specs.Edges.{edge_at}
 use Rattle.grid.specs.Grid.{Grid}
 use Rattle.rules.specs.Neighbours.{Net}
 use Rattle.rules.specs.Meetings.{Met, segment_of, added_by, recorded, meetings, meeting_on}
-use Rattle.rules.proofs.Walk.{Close, next, Kept, meetings_keep}
+use Rattle.rules.proofs.EdgePairs.{Close, next_node, PairKeeps, meetings_keep}
 use Rattle.coordinates.proofs.Points.{Each, each_join, each_none, each_cons}
 
 -- ---- the points of a longer list
@@ -63,7 +63,7 @@ module _ (g : Grid) (coords : List Float) (s c : Net) where
   pub meetings_origin : Each Origin (meetings g coords s c)
   meetings_origin =
       meetings_keep g coords s c (Each Origin) (each_none Origin)
-      (λ i j ms r k e h. each_join ms _ h (recorded_origin i j (next g coords s c ms) r k e))
+      (λ i j ms r k e h. each_join ms _ h (recorded_origin i j (next_node g coords s c ms) r k e))
 
   -- ---- where a new point comes from
 
@@ -110,7 +110,7 @@ module _ (g : Grid) (coords : List Float) (s c : Net) where
     }
 
     -- one point added, with the next number
-    sourced_new : (ms : List Met) (m : Met) (x y : Float) → m.point ≡ x ∷ y ∷ [] → (n : ℕ) → m.nodes ≡ n ∷ [] → n ≡ next g coords s c ms → Sourced ms → Sourced (ms ++ m ∷ [])
+    sourced_new : (ms : List Met) (m : Met) (x y : Float) → m.point ≡ x ∷ y ∷ [] → (n : ℕ) → m.nodes ≡ n ∷ [] → n ≡ next_node g coords s c ms → Sourced ms → Sourced (ms ++ m ∷ [])
     unfolding joined
     sourced_new ms m x y p n one at h = record {
       many = suc h.many;
@@ -132,11 +132,11 @@ module _ (g : Grid) (coords : List Float) (s c : Net) where
               point = p ∙ ap (λ (p : Point). p.x ∷ p.y ∷ []) (sym (ap (λ (l : List Float). point_at l i) longer ∙ last_point (long ms) i x y (omega (arith, l, high, h.count))));
             }
 
-    sourced_kept : Kept g coords s c Sourced
+    sourced_kept : PairKeeps g coords s c Sourced
     unfolding joined
     sourced_kept i j ms Apart k e h = sourced_same ms [] refl h
     sourced_kept i j ms (Existing p) k e h = sourced_same ms _ refl h
-    sourced_kept i j ms (New x y) k e h = sourced_new ms _ x y refl (next g coords s c ms) refl refl h
+    sourced_kept i j ms (New x y) k e h = sourced_new ms _ x y refl (next_node g coords s c ms) refl refl h
     sourced_kept i j ms (Overlap p q) k e h = sourced_same ms _ refl h
 
     -- All new points, numbered behind the nodes lent.

@@ -31,7 +31,7 @@ use Rattle.rules.specs.Neighbours.{Net, compute_descending, line_edges, renumber
 use Rattle.rules.specs.Meetings.{Met, Scene, node_of, added_by, recorded, meetings}
 use Rattle.rules.specs.Nodes.{Projected, projected, by_projection, by_projections, inner_of, before_last, along_edge, collected, unless_none, sorted_nodes}
 use Rattle.rules.specs.Cell.{laid, darts_of, treated_by, treated, cell_of, near_of, outline_of}
-use Rattle.rules.proofs.Walk.{Kept, meetings_keep}
+use Rattle.rules.proofs.EdgePairs.{PairKeeps, meetings_keep}
 use Rattle.snap.proofs.Welds.{length_weld, weld_below}
 use Rattle.coordinates.proofs.Points.{Each, each_join, each_none, each_cons, hops_each, ring_each, Under, Both, descending_under, corners_under}
 
@@ -141,7 +141,7 @@ module _ (g : Grid) (coords : List Float) (s c : Net) (n : ℕ) (room : 2 * n �
   abbrev AllStand : List Met → Type 0
   AllStand ms = Each (StandAll (many ms)) ms
 
-  stand_kept : Kept g coords s c AllStand
+  stand_kept : PairKeeps g coords s c AllStand
   stand_kept i j ms r k e a =
       let new = recorded i j (many ms / 2) (edge_at s.edges i) (edge_at c.edges j) r in
       let u : Both n (edge_at s.edges i) = sub (edge_at s.edges i) (in_list s.edges i k.subject (0, 0)) in

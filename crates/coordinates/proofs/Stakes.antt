@@ -44,34 +44,25 @@ module _ (o : Settings) (s c : Mesh) (l : Lists) (h : Accepted o s c l) (subject
   t : Taken ours o s c l
   t = accepted ours o s c l h
 
-  -- the point p of a meeting
-  origin_within : (m : Met) (p : Point) → Origin o.grid lent (subject_net s) cutting m → m.point ≡ p.x ∷ p.y ∷ []
-      → PointWithin o.grid (subject_segment o s c m) (cutter_segment o s c m) p.x p.y
+  -- the point p of a meeting: its t is in 0..1, and how far it is off
+  origin_stake : (m : Met) (p : Point) → Origin o.grid lent (subject_net s) cutting m → m.point ≡ p.x ∷ p.y ∷ []
+      → (in_unit (parameter (subject_segment o s c m) (cutter_segment o s c m)) ≡ true) × PointWithin o.grid (subject_segment o s c m) (cutter_segment o s c m) p.x p.y
   unfolding scene_of
-  origin_within m p (bare k e) q = absurd cc
-  origin_within m p (new k x y e r) q =
-      let at : meeting_on o.grid (subject_segment o s c m) (cutter_segment o s c m) ≡ New p.x p.y = cc in
-      on_grid_within o.grid (subject_segment o s c m) (cutter_segment o s c m) (edge_allowed o s c (length l.work) t.entry subject m.subject_edge k.subject) p.x p.y at
-
-  origin_inside : (m : Met) (p : Point) → Origin o.grid lent (subject_net s) cutting m → m.point ≡ p.x ∷ p.y ∷ []
-      → in_unit (parameter (subject_segment o s c m) (cutter_segment o s c m)) ≡ true
-  unfolding scene_of
-  origin_inside m p (bare k e) q = absurd cc
-  origin_inside m p (new k x y e r) q = on_edge o.grid (subject_segment o s c m) (cutter_segment o s c m) x y r
+  origin_stake m p (bare k e) q = absurd cc
+  origin_stake m p (new k x y e r) q =
+      let S = subject_segment o s c m in
+      let C = cutter_segment o s c m in
+      let at : meeting_on o.grid S C ≡ New p.x p.y = cc in
+      (on_edge o.grid S C p.x p.y at, on_grid_within o.grid S C (edge_allowed o s c (length l.work) t.entry subject m.subject_edge k.subject) p.x p.y at)
 
   -- a meeting that a node comes from
   source_stake : (i : ℕ) → point_at (overlay_of o s c l).lists.coords i ≡ point_at (scene_for o s c).coords i
       → Source o.grid lent (subject_net s) cutting (scene_for o s c).met i → Stake o s c l i
   unfolding scene_of
-  source_stake i same f = record {
-    met = f.met;
-    found = f.found;
-    node = f.node;
-    inside = origin_inside f.met (point_at (overlay_of o s c l).lists.coords i) (meetings_origin o.grid lent (subject_net s) cutting f.met f.found)
-        (f.point ∙ ap (λ (p : Point). p.x ∷ p.y ∷ []) (sym same));
-    off = origin_within f.met (point_at (overlay_of o s c l).lists.coords i) (meetings_origin o.grid lent (subject_net s) cutting f.met f.found)
-        (f.point ∙ ap (λ (p : Point). p.x ∷ p.y ∷ []) (sym same));
-  }
+  source_stake i same f =
+      let n = origin_stake f.met (point_at (overlay_of o s c l).lists.coords i) (meetings_origin o.grid lent (subject_net s) cutting f.met f.found)
+      (f.point ∙ ap (λ (p : Point). p.x ∷ p.y ∷ []) (sym same)) in
+      record { met = f.met; found = f.found; node = f.node; inside = n.0; off = n.1 }
 
   -- Every new point that an accepted overlay's answer lists.
   pub stakes : (i : ℕ) → node_count s + node_count c ≤ i → i < node_count s + node_count c + (overlay_of o s c l).added → Stake o s c l i

@@ -1,5 +1,5 @@
 -- Document 02, W11: "How far a booked point may be off". It is stated "over whole numbers, in units fine enough for all terms": coordinates and t are
--- whole numbers of 2^-1074, and what they are multiplied to is a whole number of 2^-2148. Assumes nothing.
+-- whole numbers of 2^-1074, products of two of them of 2^-2148. Assumes nothing.
 use Rattle.std.specs.Prelude.{◌≡◌, Bool, true, ℕ, ◌+◌, ◌-◌, ◌*◌, ◌^◌, max, leb, Float, pos, nat_abs, ◌+ℤ◌, ◌-ℤ◌, ◌*ℤ◌, None, Some}
 use Rattle.std.specs.Float.{binary64}
 use Rattle.std.specs.Float.Ieee.{fits}

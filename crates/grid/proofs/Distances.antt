@@ -7,8 +7,6 @@ use Rattle.exact.specs.Exact.{signed}
 use Rattle.rounding.proofs.Whole.{gap}
 use Rattle.rounding.proofs.Sizes.{one_side, two_sides}
 
--- ---- how far ±a is from a multiple of g
-
 -- the multiple is on its side of 0, or on the other
 pub data Multiple (s : Bool) (a g : ℕ) (z : ℤ) : Type 0 where
   same : (n : ℕ) → z *ℤ pos g ≡ signed s (n * g) → nat_abs (signed s a -ℤ z *ℤ pos g) ≡ gap a (n * g) → Multiple s a g z

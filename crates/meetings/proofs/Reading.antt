@@ -14,7 +14,7 @@ use Rattle.grid.specs.Grid.{Grid}
 use Rattle.rules.specs.SpatialIndex.{edge_box, candidates}
 use Rattle.rules.specs.Neighbours.{Net}
 use Rattle.rules.specs.Meetings.{Met, recorded, met_pair, met_all, meetings_to, meetings}
-use Rattle.rules.proofs.Walk.{next, meetings_keep}
+use Rattle.rules.proofs.EdgePairs.{next_node, meetings_keep}
 use Rattle.meetings.specs.InNumbers.{five_numbers, in_numbers, net_on}
 
 -- ---- five numbers a meeting
@@ -64,7 +64,7 @@ module _ (g : Grid) (coords : List Float) (s c : Net) where
   meetings_fit q d h =
       let all : AllFit (meetings g coords s c) =
       meetings_keep g coords s c AllFit tt
-      (λ i j ms r k e a. fit_append ms _ a (fit_recorded i j (next g coords s c ms) (edge_at s.edges i) (edge_at c.edges j) r k.subject k.cutter)) in
+      (λ i j ms r k e a. fit_append ms _ a (fit_recorded i j (next_node g coords s c ms) (edge_at s.edges i) (edge_at c.edges j) r k.subject k.cutter)) in
       fit_at (meetings g coords s c) q d all h
 
   -- a net gives its edges only

@@ -21,7 +21,7 @@ use Rattle.rules.specs.SpatialIndex.{edge_box, boxes_meet}
 use Rattle.rules.specs.Meetings.{Met, Scene, added_by, scene_of}
 use Rattle.rules.specs.Cell.{cell_of, outline_of}
 use Rattle.rules.specs.Operations.{scene_for}
-use Rattle.rules.proofs.Walk.{Close}
+use Rattle.rules.proofs.EdgePairs.{Close}
 use Rattle.rules.proofs.Closing.{cells_lent}
 use Rattle.plane.proofs.FloatOrder.{finite_number}
 use Rattle.coordinates.proofs.Points.{Both, corners_under, edges_under}

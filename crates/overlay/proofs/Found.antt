@@ -22,7 +22,7 @@ use Rattle.grid.specs.Grid.{Grid}
 use Rattle.rules.specs.Neighbours.{Net, subject_net, cutter_net}
 use Rattle.rules.specs.Meetings.{Met, Scene, added_by, recorded, meetings, scene_of}
 use Rattle.rules.specs.Operations.{scene_for}
-use Rattle.rules.proofs.Walk.{next, meetings_keep}
+use Rattle.rules.proofs.EdgePairs.{next_node, meetings_keep}
 use Rattle.std.specs.Prelude.{Result, Ok}
 use Rattle.refusals.specs.declared.Refusal.{Refusal}
 use Rattle.refusals.specs.Numbers.{by_number, refused_with}
@@ -64,7 +64,7 @@ even_append ms ns a b = (
 even_met : (g : Grid) (coords : List Float) (s c : Net) → Even (meetings g coords s c)
 unfolding joined
 even_met g coords s c =
-    meetings_keep g coords s c Even (0, refl, omega arith) (λ i j ms r k e a. even_append ms _ a (even_one i j (next g coords s c ms) (edge_at s.edges i) (edge_at c.edges j) r))
+    meetings_keep g coords s c Even (0, refl, omega arith) (λ i j ms r k e a. even_append ms _ a (even_one i j (next_node g coords s c ms) (edge_at s.edges i) (edge_at c.edges j) r))
 
 -- ---- the coordinates of a scene
 

@@ -1,8 +1,8 @@
 -- What a scan of a list finds stands where the sorted list has it. Assumes nothing.
 use mathlib.Core.Path.{◌≡◌, refl, sym, ◌∙◌, ap}
-use mathlib.Core.Bool.{Bool, true, false, cond, not, ◌&&◌, true≢false}
+use mathlib.Core.Bool.{Bool, true, false, cond, ◌&&◌, true≢false}
 use mathlib.Core.List.{List, [], ◌∷◌, ◌++◌}
-use lib.Ieee.{Float, lt, is_nan}
+use lib.Ieee.{Float, lt}
 use Rattle.std.specs.Prelude.{Option, None, Some}
 use Rattle.std.specs.Option.{option_and_then}
 use Rattle.lists.specs.Gather.{all}
@@ -13,11 +13,7 @@ use Rattle.plane.specs.Plane.{is_number}
 use Rattle.polygons.specs.Interior.{first_two, lowest}
 use Rattle.polygons.specs.Scans.{exceeds, first_above, lower, closer, taken_of, taken}
 use Rattle.polygons.specs.declared.Lowest.TheVariants.{Two}
-use Rattle.plane.proofs.FloatOrder.{number_not_nan, lt_trans}
-
--- a value is a number where it is no NaN
-pub number_is : (x : Float) → is_number x ≡ not (is_nan x)
-number_is x = sym (number_not_nan x)
+use Rattle.plane.proofs.FloatOrder.{lt_trans}
 
 -- ---- the first above h
 

@@ -31,11 +31,11 @@ use Rattle.corners.specs.Corners.{corner_at, corner_after}
 use Rattle.polygons.specs.Interior.{height_at, heights, foot, passed, crossed, crossing_at, lowest}
 use Rattle.polygons.specs.Scans.{exceeds, first_above, closer, up_to, climbed, climb_to, taken, with_crossing}
 use Rattle.plane.specs.declared.Point.{Point}
-use Rattle.plane.proofs.FloatOrder.{lt_irrefl}
+use Rattle.plane.proofs.FloatOrder.{lt_irrefl, number_not_nan}
 use Rattle.polygons.specs.declared.Climb.{Climb}
 use Rattle.polygons.specs.declared.Lowest.{Lowest}
 use Rattle.polygons.proofs.Ascent.{not_back, passed_at}
-use Rattle.polygons.proofs.Scans.{number_is, above_more, exceeds_trans, lowest_more}
+use Rattle.polygons.proofs.Scans.{above_more, exceeds_trans, lowest_more}
 
 -- ---- the corners and the edges, one after the other
 
@@ -44,7 +44,7 @@ unfolding gathered all
 numbers_are zero f = refl
 numbers_are (suc n) f =
     list_all-append (λ p. not (is_nan p.y)) (each n f) (f n ∷ [])
-    ∙ ap₂ (λ a b. a && b) (numbers_are n f) (and-true (not (is_nan (f n).y)) ∙ sym (number_is (f n).y))
+    ∙ ap₂ (λ a b. a && b) (numbers_are n f) (and-true (not (is_nan (f n).y)) ∙ number_not_nan (f n).y)
     ∙ sym (all_snoc is_number (each n (λ i. (f i).y)) (f n).y)
 
 pub above_turn : (h : Option Float) (cs : List Float) (ps : List ℕ) (k : ℕ)

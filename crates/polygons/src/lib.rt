@@ -115,7 +115,7 @@ fn crossing_at(a: Point, b: Point, m: f64) -> f64
     a.x + (m - a.y) * (b.x - a.x) / (b.y - a.y)
 }
 
-#[tactic(auto, using(crate::proofs::Scans::number_is), unfolding(crate::specs::Scans::taken))]
+#[tactic(auto, using(plane::proofs::FloatOrder::number_not_nan), unfolding(crate::specs::Scans::taken))]
 fn taken(l: Lowest, x: f64) -> Option<Lowest>
     ensures { result ≡ taken l x }
 {

@@ -28,7 +28,7 @@ use Rattle.lists.proofs.Regions.{length_front}
 use Rattle.entry.proofs.Passed.{passed}
 use Rattle.rules.proofs.Endings.{Ending, input, state_met, success, ending, input_refused, state_refused, succeeds, no_refusal}
 use Rattle.rules.proofs.Accepts.{accepted, Calm, calm_left, calm_right, calm_gathered, calm_course}
-use Rattle.rules.proofs.Walk.{next, meetings_keep}
+use Rattle.rules.proofs.EdgePairs.{next_node, meetings_keep}
 use Rattle.rules.specs.Refusals as Refusals
 use Rattle.segments.specs.declared.Meeting.{Meeting}
 use Rattle.segments.specs.declared.Meeting.TheVariants.{Apart, Existing, New, Overlap}
@@ -144,7 +144,7 @@ pairs_recorded i j next e f (Overlap p q) = (refl, tt)
 
 pairs_met : (g : Grid) (coords : List Float) (s c : Net) → Pairs (meetings g coords s c)
 pairs_met g coords s c =
-    meetings_keep g coords s c Pairs tt (λ i j ms r k e h. pairs_append ms _ h (pairs_recorded i j (next g coords s c ms) (edge_at s.edges i) (edge_at c.edges j) r))
+    meetings_keep g coords s c Pairs tt (λ i j ms r k e h. pairs_append ms _ h (pairs_recorded i j (next_node g coords s c ms) (edge_at s.edges i) (edge_at c.edges j) r))
 
 points_of : (k : ℕ) → total a_point (replicate k point) ≡ k
 unfolding total

@@ -1,7 +1,7 @@
 pub mod Endings
 pub mod Accepts
 pub mod Course
-pub mod Walk
+pub mod EdgePairs
 pub mod Parts
 pub mod Once
 pub mod Lengths

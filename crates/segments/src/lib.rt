@@ -166,6 +166,7 @@ fn in_order(ts: [f64; 4]) -> [PointId; 4]
     ends.ids
 }
 
+// The last arm, and the `else` of `colinear`, stand where the Rust panics; no segments come there (proofs/Stops.antt).
 #[tactic(auto, unfolding(crate::specs::Colinear::of_order, crate::specs::Colinear::first_then_second))]
 fn of_order(ids: [PointId; 4]) -> Meeting
     ensures { result ≡ of_order Apart ids }

@@ -33,21 +33,21 @@ module _ (g : Grid) (coords : List Float) (s c : Net) where
     pub boxes : boxes_meet (edge_box coords (edge_at c.edges j)) (edge_box coords (edge_at s.edges i)) ≡ true
 
   -- the number of the next new point
-  abbrev pub next : List Met → ℕ
-  next ms = (length coords + length (added_by ms)) / 2
+  abbrev pub next_node : List Met → ℕ
+  next_node ms = (length coords + length (added_by ms)) / 2
 
-  -- P is kept where such a pair is gone through: r is what the meeting rule says of it
-  abbrev pub Kept : (List Met → Type 0) → Type 0
-  Kept P = (i j : ℕ) (ms : List Met) (r : Meeting) → Close i j → meeting_on g (segment_of coords (edge_at s.edges i)) (segment_of coords (edge_at c.edges j)) ≡ r → P ms
-      → P (ms ++ recorded i j (next ms) (edge_at s.edges i) (edge_at c.edges j) r)
+  -- such a pair keeps P: r is what the meeting rule says of it
+  abbrev pub PairKeeps : (List Met → Type 0) → Type 0
+  PairKeeps P = (i j : ℕ) (ms : List Met) (r : Meeting) → Close i j → meeting_on g (segment_of coords (edge_at s.edges i)) (segment_of coords (edge_at c.edges j)) ≡ r → P ms
+      → P (ms ++ recorded i j (next_node ms) (edge_at s.edges i) (edge_at c.edges j) r)
 
-  module _ (P : List Met → Type 0) (none : P []) (kept : Kept P) where
+  module _ (P : List Met → Type 0) (none : P []) (kept : PairKeeps P) where
     all_keep : (i : ℕ) (js : List ℕ) (ms : List Met) → ((j : ℕ) → Memᴰ j js → Close i j) → P ms → P (met_all g coords s c i js ms)
     unfolding met_all met_pair
     all_keep i [] ms h p = p
     all_keep i (j ∷ js) ms h p = all_keep i js (met_pair g coords s c i j ms) (λ k m. h k (Memᴰ.tail m)) (kept i j ms _ (h j (Memᴰ.head refl)) refl p)
 
-    pub to_keep : (i : ℕ) → i ≤ length s.edges → P (meetings_to g coords s c i)
+    to_keep : (i : ℕ) → i ≤ length s.edges → P (meetings_to g coords s c i)
     unfolding meetings_to
     to_keep zero h = none
     to_keep (suc i) h =
