@@ -8,11 +8,13 @@ pub record Edition : Type 0 where
   pub once : Bool
   -- W6: new points are booked on a grid, where an overlay sets one
   pub grids : Bool
+  -- W7: nodes have layers
+  pub layers : Bool
 
 -- document 01 by itself, but for what W2 and W5 added to the answer
 abbrev pub base : Edition
-base = record { turning = false; once = false; grids = false }
+base = record { turning = false; once = false; grids = false; layers = false }
 
 -- the library's own
 abbrev pub ours : Edition
-ours = record { turning = true; once = true; grids = true }
+ours = record { turning = true; once = true; grids = true; layers = true }

@@ -2,20 +2,21 @@
 use Rattle.std.specs.Prelude.{ℕ, zero, suc, ◌-◌, ◌/◌, ◌≤◌, ◌<◌, List, length, get_or, Float}
 use Rattle.views.specs.declared.MeshView.{MeshView}
 
--- coordinates (x then y), node numbers (flat), cell ends, kinds, families
+-- coordinates (x then y), W7: each node's layer, node numbers (flat), cell ends, kinds, families
 pub record Mesh : Type 0 where
   pub coords : List Float
+  pub layers : List ℕ
   pub nodes : List ℕ
   pub ends : List ℕ
   pub kinds : List ℕ
   pub families : List ℕ
 
-abbrev pub mesh : List Float → List ℕ → List ℕ → List ℕ → List ℕ → Mesh
-mesh c n e k f = record { coords = c; nodes = n; ends = e; kinds = k; families = f }
+abbrev pub mesh : List Float → List ℕ → List ℕ → List ℕ → List ℕ → List ℕ → Mesh
+mesh c l n e k f = record { coords = c; layers = l; nodes = n; ends = e; kinds = k; families = f }
 
 -- the mesh that a view shows
 abbrev pub mesh_of : MeshView → Mesh
-mesh_of v = mesh v.coords.now v.nodes.now v.ends.now v.kinds.now v.families.now
+mesh_of v = mesh v.coords.now v.layers.now v.nodes.now v.ends.now v.kinds.now v.families.now
 
 abbrev pub node_count : Mesh → ℕ
 node_count m = length m.coords / 2

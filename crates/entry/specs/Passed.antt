@@ -23,6 +23,7 @@ pub record Sound (lines : Bool) (m : Mesh) : Type 0 where
   pub last : prior m.ends (length m.ends) ≡ length m.nodes
   pub kinds_long : length m.kinds ≡ length m.ends
   pub families_long : length m.families ≡ length m.ends
+  pub layers_long : length m.layers ≡ node_count m
   pub most_nodes : node_count m ≤ 16384
   pub most_cells : length m.ends ≤ 16384
   pub most_entries : length m.nodes ≤ 65536

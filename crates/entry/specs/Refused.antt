@@ -21,13 +21,15 @@ grid_ok (Some k) = leb k 10
 unfoldable pub ends_ok : List ℕ → ℕ → Bool
 ends_ok ends n = every (length ends) (λ i. ltb (prior ends i) (get_or ends i 0)) && eqb (prior ends (length ends)) n
 
--- 2: an even count of coordinate numbers, the ends, ends, kinds and families of one length, at most 16,384 nodes, 16,384 cells and 65,536 entries
+-- 2: an even count of coordinate numbers, the ends, ends, kinds and families of one length, at most 16,384 nodes, 16,384 cells and 65,536 entries.
+-- W7: "Refusal 2 includes a layer list of the wrong length"
 unfoldable pub shape_ok : Mesh → Bool
 shape_ok m =
     eqb (length m.coords % 2) 0
     && ends_ok m.ends (length m.nodes)
     && eqb (length m.kinds) (length m.ends)
     && eqb (length m.families) (length m.ends)
+    && eqb (length m.layers) (node_count m)
     && leb (node_count m) 16384
     && leb (length m.ends) 16384
     && leb (length m.nodes) 65536

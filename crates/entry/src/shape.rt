@@ -28,6 +28,7 @@ pub(crate) fn shape_ok(mesh: &MeshView) -> bool
         && ends_ok(mesh.ends, mesh.nodes.len())
         && mesh.kinds.len() == mesh.ends.len()
         && mesh.families.len() == mesh.ends.len()
+        && mesh.layers.len() == mesh.coords.len() / 2
         && mesh.coords.len() / 2 <= 16384
         && mesh.ends.len() <= 16384
         && mesh.nodes.len() <= 65536

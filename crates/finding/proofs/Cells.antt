@@ -17,7 +17,7 @@ use Rattle.rules.specs.Mesh.{cell_at, cells_of}
 use Rattle.rules.specs.Neighbours.{line_edges}
 
 abbrev pub cells_in : List ℕ → List ℕ → List (List ℕ)
-cells_in nodes ends = cells_of (mesh [] nodes ends [] [])
+cells_in nodes ends = cells_of (mesh [] [] nodes ends [] [])
 
 -- only node entries and ends count
 pub cells_lists : (coords : List Float) (nodes ends kinds families : List ℕ) → cells_of (mesh coords nodes ends kinds families) ≡ cells_in nodes ends
@@ -49,7 +49,7 @@ module _ {A B : Type 0} (f : A → B) where
 pub cells_renumbered : (f : ℕ → ℕ) (nodes ends : List ℕ) → cells_in (map f nodes) ends ≡ map (map f) (cells_in nodes ends)
 unfolding cells_of cell_at
 cells_renumbered f nodes ends =
-    each_ext (length ends) _ _ (λ i h. sym (map_run f nodes (prior ends i) (cell_size ends i))) ∙ sym (map_each (map f) (length ends) (cell_at (mesh [] nodes ends [] [])))
+    each_ext (length ends) _ _ (λ i h. sym (map_run f nodes (prior ends i) (cell_size ends i))) ∙ sym (map_each (map f) (length ends) (cell_at (mesh [] [] nodes ends [] [])))
 
 -- ---- lines: two entries each
 
@@ -63,7 +63,7 @@ module _ (xs ends : List ℕ) (rises : (i : ℕ) → i < length ends → prior e
   unfolding cells_of cell_at
   line_pairs len =
       let half : length (pairs xs) ≡ length ends = omega (arith, pairs_length xs, len) in
-      map_each (λ l. (get_or l 0 0, get_or l 1 0)) (length ends) (cell_at (mesh [] xs ends [] []))
+      map_each (λ l. (get_or l 0 0, get_or l 1 0)) (length ends) (cell_at (mesh [] [] xs ends [] []))
       ∙ each_ext (length ends) _ _ (λ i h. pair_at i h) ∙ ap (λ (n : ℕ). each n (edge_at (pairs xs))) (sym half) ∙ each_get_or (pairs xs) (0, 0)
     where
       corner : (i k : ℕ) → i < length ends → k < 2 → get_or (run xs (prior ends i) (cell_size ends i)) k 0 ≡ get_or xs (2 * i + k) 0

@@ -17,11 +17,11 @@ use Rattle.strips.specs.Index.{index_size, index_of}
 use Rattle.finding.specs.declared.numbering.NetPlaces.{NetPlaces}
 
 -- a mesh without its kinds and families, at which nothing here looks (proofs/Scenes.antt)
-abbrev pub plain : List Float → List ℕ → List ℕ → Mesh
-plain coords nodes ends = mesh coords nodes ends [] []
+abbrev pub plain : List Float → (layers nodes ends : List ℕ) → Mesh
+plain coords layers nodes ends = mesh coords layers nodes ends [] []
 
 abbrev pub plain_of : MeshView → Mesh
-plain_of v = plain v.coords.now v.nodes.now v.ends.now
+plain_of v = plain v.coords.now v.layers.now v.nodes.now v.ends.now
 
 -- ---- what passed the entry, as far as it is needed here (proofs/Passed.antt)
 
@@ -116,7 +116,7 @@ netted lines s c w = put (edged lines s c w) (index_at s c) (index_of (s.coords 
 
 -- the edges of the cells that end at `ends`, whose entries stand in the list
 abbrev pub edges_from : List ℕ → List ℕ → Run → List Edge
-edges_from w ends entries = compute_descending (cells_of (mesh [] (run_in w entries) ends [] []))
+edges_from w ends entries = compute_descending (cells_of (mesh [] [] (run_in w entries) ends [] []))
 
 -- what writing them from `from` on asks: entries before, room for two numbers each, h chains and links for n edges
 pub record EdgesAsk (w ends : List ℕ) (entries : Run) (from h n : ℕ) : Type 0 where

@@ -1,7 +1,7 @@
-// What every layer does with lent lists: one copied into another, an element put in, one cut into runs, and the nodes that one names marked.
+// What every layer does with lent lists: a number read, one copied into another, an element put in, one cut into runs, and the nodes that one names marked.
 #![tactic(auto)]
 
-ghost use Rattle.std.specs.Prelude.{◌≡◌, ◌&&◌, ◌+◌, length, leb, ltb};
+ghost use Rattle.std.specs.Prelude.{◌≡◌, ◌&&◌, ◌+◌, length, get_or, leb, ltb};
 ghost use Rattle.lists.specs.Regions.{copied, insert_at};
 
 mod marks;
@@ -9,6 +9,13 @@ mod runs;
 
 pub use marks::mark_named;
 pub use runs::Runs;
+
+// Number i of a list, 0 where there is none.
+pub fn number_at(list: &[u32], i: usize) -> u32
+    ensures { result ≡ get_or list.now i 0 }
+{
+    list.get(i).copied().unwrap_or(0)
+}
 
 // Copies src into dst, from `at` on. Answers whether it has its place there; nothing changes where not.
 // The place stands beside the list: lists are fixed memory, filled in part. A bool, as a copy without a place is no fault of its own: the caller

@@ -90,12 +90,12 @@ added_from cells zero i h =
 added_from cells (suc k) i h =
     ap (cells_added (descending_to i cells)) (drop-cons cells i [] (omega (arith, h))) ∙ added_from cells k (suc i) (omega (arith, h))
 
-pub all_added : (nodes ends : List ℕ) → cells_added [] (runs nodes ends) ≡ compute_descending (cells_of (mesh [] nodes ends [] []))
+pub all_added : (nodes ends : List ℕ) → cells_added [] (runs nodes ends) ≡ compute_descending (cells_of (mesh [] [] nodes ends [] []))
 unfolding descending_to cells_of cell_at
 all_added nodes ends = rw (sym (runs_are nodes ends)) (added_from (runs nodes ends) (length (runs nodes ends)) 0 (omega arith))
 
 -- at most one for each entry
-pub few_edges : (nodes ends : List ℕ) → Rising ends (length nodes) → length (compute_descending (cells_of (mesh [] nodes ends [] []))) ≤ length nodes
+pub few_edges : (nodes ends : List ℕ) → Rising ends (length nodes) → length (compute_descending (cells_of (mesh [] [] nodes ends [] []))) ≤ length nodes
 few_edges nodes ends up = omega (arith, length_cells_added (runs nodes ends) [], fewer_corners nodes ends up, ap length (all_added nodes ends))
 
 -- ---- flat

@@ -238,10 +238,10 @@ module _ (all : List (List ℕ)) (l₀ l : EdgeLists) (cell : List ℕ) (left : 
 
 -- none is: to no edges those of the mesh are added
 pub cells_end : (nodes ends : List ℕ) (now : List (List ℕ)) (l₀ l : EdgeLists) → now ≡ [] → l₀.count ≡ 0 → InCells (runs nodes ends) now l₀ l
-    → Holds (compute_descending (cells_of (mesh [] nodes ends [] []))) l₀ l
+    → Holds (compute_descending (cells_of (mesh [] [] nodes ends [] []))) l₀ l
 unfolding cells_added pairs
 cells_end nodes ends now l₀ l done none inv =
-    let are : cells_added (edges_in l₀) (runs nodes ends) ≡ compute_descending (cells_of (mesh [] nodes ends [] [])) = rw none (all_added nodes ends) in
+    let are : cells_added (edges_in l₀) (runs nodes ends) ≡ compute_descending (cells_of (mesh [] [] nodes ends [] [])) = rw none (all_added nodes ends) in
     let held : Holds (cells_added (edges_in l₀) (runs nodes ends)) l₀ l = rw (sym inv.rest, done) inv.adding.holds in
     rw are at held
 

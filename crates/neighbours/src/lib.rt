@@ -106,7 +106,7 @@ impl<'a> EdgeLists<'a> {
         requires none { self.old.count ≡ 0 }
         requires room { Room (length nodes.now) self.old }
         requires rising { Rising cells.now (length nodes.now) }
-        ensures { Holds (compute_descending (cells_of (mesh [] nodes.now cells.now [] []))) self.old self.new }
+        ensures { Holds (compute_descending (cells_of (mesh [] [] nodes.now cells.now [] []))) self.old self.new }
     {
         for cell in Runs::new(nodes, cells) {
             self.add_cell(cell);
@@ -145,8 +145,8 @@ pub fn compute_descending(
 ) -> usize
     requires { (2 * length nodes.now ≤ length edges.old) × (length nodes.now ≤ length nexts.old) × (length nodes.now ≤ 65536) × (0 < length heads.old)
         × (Rising cells.now (length nodes.now)) }
-    ensures count { result ≡ length (compute_descending (cells_of (mesh [] nodes.now cells.now [] []))) }
-    ensures written { edges.new ≡ front edges.old (flat_edges (compute_descending (cells_of (mesh [] nodes.now cells.now [] [])))) }
+    ensures count { result ≡ length (compute_descending (cells_of (mesh [] [] nodes.now cells.now [] []))) }
+    ensures written { edges.new ≡ front edges.old (flat_edges (compute_descending (cells_of (mesh [] [] nodes.now cells.now [] [])))) }
     ensures clear_heads { heads.new ≡ zeros (length heads.old) }
     ensures clear_nexts { nexts.new ≡ zeros (length nexts.old) }
     ensures few { result ≤ length nodes.now }

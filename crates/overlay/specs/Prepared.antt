@@ -9,6 +9,7 @@ use Rattle.entry.specs.Refused.{entry_of}
 use Rattle.grid.specs.Grid.{Grid}
 use Rattle.rules.specs.Mesh.{Side, the_subject, the_cutter, other, side_number}
 use Rattle.rules.specs.Meetings.{Scene, net_of, added_by}
+use Rattle.rules.specs.Layers.{layers_of}
 use Rattle.rules.specs.Nodes.{sorted_nodes}
 use Rattle.rules.specs.Operations.{Piece, scene_for, listing}
 use Rattle.rules.specs.Overlay.{named_points}
@@ -49,9 +50,15 @@ pub record MeshesIn (sc : Scene) (grid : Grid) (coords : List Float) (work : Lis
   pub subject_cells : sc.subject.cells ≡ runs_of (run_in work g.subject.entries) se
   pub cutter_cells : sc.cutter.cells ≡ runs_of (run_in work g.cutter.entries) ce
 
--- All coordinates stand in the front of oc, which was oc₀, and the scene in the working list w; p is what the cells are asked with.
-pub record PreparedIn (o : Settings) (s c : Mesh) (oc₀ oc : List Float) (w : List ℕ) (p : Prepared) : Type 0 where
+-- coordinates and layers of as many points
+abbrev pub PointRoom : List Float → List ℕ → Type 0
+PointRoom oc ol = length oc ≡ 2 * length ol
+
+-- All coordinates stand in the front of oc, which was oc₀, all layers in that of ol, which was ol₀, and the scene in the working list w; p is what the
+-- cells are asked with.
+pub record PreparedIn (o : Settings) (s c : Mesh) (oc₀ : List Float) (ol₀ : List ℕ) (oc : List Float) (ol w : List ℕ) (p : Prepared) : Type 0 where
   pub placed : oc ≡ front oc₀ (scene_for o s c).coords
+  pub layered : ol ≡ front ol₀ (layers_of (scene_for o s c) s c)
   pub long : length (scene_for o s c).coords ≡ 2 * p.next
   pub fits : 2 * p.next ≤ length oc
   pub least : (length s.coords + length c.coords) / 2 ≤ p.next
@@ -70,10 +77,11 @@ pub record Tagged (s c : Mesh) (ts : List ℕ) (ps : List Piece) : Type 0 where
   pub meshes : map (mesh_by (length s.ends)) ts ≡ map (λ p. side_number p.mesh) ps
   pub cells : map (cell_by (length s.ends)) ts ≡ map (λ p. p.cell) ps
 
--- The coordinates, corners, ends and tags of the pieces stand in the fronts of oc', on', oe' and ot', which were oc, on, oe and ot; k counts pieces, the new
--- points that they name, and all new points.
-pub record PlacedIn (o : Settings) (s c : Mesh) (k : Counts) (oc : List Float) (on oe ot : List ℕ) (oc' : List Float) (on' oe' ot' : List ℕ) : Type 0 where
+-- All coordinates and layers, and the corners, ends and tags of the pieces, stand in the fronts of oc', ol', on', oe' and ot', which were oc, ol, on, oe
+-- and ot; k counts pieces, the new points that they name, and all new points.
+pub record PlacedIn (o : Settings) (s c : Mesh) (k : Counts) (oc : List Float) (ol on oe ot : List ℕ) (oc' : List Float) (ol' on' oe' ot' : List ℕ) : Type 0 where
   pub coords : oc' ≡ front oc (scene_for o s c).coords
+  pub layers : ol' ≡ front ol (layers_of (scene_for o s c) s c)
   pub corners : on' ≡ front on (flat (runs_in o s c))
   pub ends : oe' ≡ front oe (stops 0 (runs_in o s c))
   pub pieces : k.pieces ≡ length (listing o s c)

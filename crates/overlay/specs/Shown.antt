@@ -9,7 +9,7 @@ use Rattle.overlay.specs.declared.Counts.{Counts}
 
 -- the output's lists, and the working list w
 abbrev pub lists_of : OutputView → List ℕ → Lists
-lists_of o w = lent_lists o.coords.now o.nodes.now o.ends.now o.kinds.now o.families.now o.meshes.now o.cells.now w
+lists_of o w = lent_lists o.coords.now o.layers.now o.nodes.now o.ends.now o.kinds.now o.families.now o.meshes.now o.cells.now w
 
 -- The answer, with the lists at exit. W14: "The third count is 0 ever after".
 abbrev pub answer_of : Result Counts Refusal → Lists → Rules.Result

@@ -6,17 +6,18 @@ ghost use Rattle.lists.specs.Regions.{zeros};
 ghost use Rattle.refusals.specs.Numbers.{refused_with};
 ghost use Rattle.entry.specs.Mesh.{mesh_of};
 ghost use Rattle.rules.specs.Refusals.{course, first_refusal};
-ghost use Rattle.rules.specs.Overlay.{piece_room, state_of, answered, overlay_of};
+ghost use Rattle.rules.specs.Overlay.{piece_room, point_room, state_of, answered, overlay_of};
 ghost use Rattle.finding.specs.Found.{found_events};
 ghost use Rattle.views.specs.Same.{SameLists};
 ghost use Rattle.overlay.specs.Shown.{lists_of, answer_of};
-ghost use Rattle.overlay.specs.Prepared.{subject_of, cutter_of, Entered, PreparedIn, PlacedIn};
+ghost use Rattle.overlay.specs.Prepared.{subject_of, cutter_of, Entered, PointRoom, PreparedIn, PlacedIn};
 
 use cutting_cells::cut_meshes;
 use edge_nodes::SceneLists;
 use entry::entry;
 use finding::find;
 use indexing::index_meshes;
+use layers::write_layers;
 use passes::{count_named, write_families, write_kinds, write_parents};
 use refusals::Refusal;
 use regions::{Indexes, Regions};
@@ -58,25 +59,35 @@ struct Call<'a> {
 
 // That the entry refused nothing is asked of the working list's length too. The list is lent to each stage for itself: in a call that held it each contract would have to say that it is the same list.
 impl Call<'_> {
-    // The stages between the entry and the cells: all coordinates go to the front of their list, what the cells are cut by to the working list.
-    fn prepare(self, coords: &mut [f64], work: &mut [u32]) -> Result<Prepared, Refusal>
-        requires { Entered self (length work.old) }
+    // The stages between the entry and the cells: all coordinates and layers go to the fronts of their lists, what the cells are cut by to the working list.
+    fn prepare(
+        self,
+        coords: &mut [f64],
+        layers: &mut [u32],
+        work: &mut [u32],
+    ) -> Result<Prepared, Refusal>
+        requires { Entered self (length work.old) × PointRoom coords.old layers.old }
         ensures refusal { (q n : ℕ) → refused_with result ≡ first_refusal self.entry.settings.m (length coords.old / 2) q n
             (found_events self.entry.settings (subject_of self.entry) (cutter_of self.entry)) }
-        ensures prepared { IfOk result (λ p. PreparedIn self.entry.settings (subject_of self.entry) (cutter_of self.entry) coords.old coords.new work.new p) }
+        ensures prepared { IfOk result (λ p. PreparedIn self.entry.settings (subject_of self.entry) (cutter_of self.entry)
+            coords.old layers.old coords.new layers.new work.new p) }
     {
         let found = find(self.settings, self.subject, self.cutter, coords, work)?;
+        let g = found.regions;
+        let edges = g.subject.edges.part(work);
+        let met = g.met.part(work);
+        write_layers(self.subject.layers, self.cutter.layers, edges, met, layers);
         let points = first_nodes(coords, found.next);
         let indexes = index_meshes(
             points,
             work,
-            found.regions,
+            g,
             self.subject.ends,
             self.cutter.ends,
         );
         Ok(Prepared {
             next: found.next,
-            regions: found.regions,
+            regions: g,
             indexes,
         })
     }
@@ -88,19 +99,20 @@ impl Call<'_> {
     fn place(
         self,
         coords: &mut [f64],
+        layers: &mut [u32],
         nodes: &mut [u32],
         ends: &mut [u32],
         tags: &mut [u32],
         work: &mut [u32],
     ) -> Result<Counts, Refusal>
         requires entered { Entered self (length work.old) }
-        requires as_many { length ends.old ≡ length tags.old }
+        requires as_many { (length ends.old ≡ length tags.old) × PointRoom coords.old layers.old }
         ensures refusal { refused_with result ≡ first_refusal self.entry.settings.m (length coords.old / 2) (length ends.old) (length nodes.old)
             (course self.entry.settings (subject_of self.entry) (cutter_of self.entry)) }
         ensures placed { IfOk result (λ k. PlacedIn self.entry.settings (subject_of self.entry) (cutter_of self.entry) k
-            coords.old nodes.old ends.old tags.old coords.new nodes.new ends.new tags.new) }
+            coords.old layers.old nodes.old ends.old tags.old coords.new layers.new nodes.new ends.new tags.new) }
     {
-        let p = self.prepare(coords, work)?;
+        let p = self.prepare(coords, layers, work)?;
         let scene = SceneLists {
             grid: self.settings.grid,
             coords: first_nodes(coords, p.next),
@@ -137,11 +149,15 @@ impl Call<'_> {
             ≡ answered self.entry.settings (subject_of self.entry) (cutter_of self.entry) (lists_of out.old work.old)) }
         ensures same_lists { SameLists out.new out.old }
     {
+        let points = point_room(out);
         let room = piece_room(out);
+        let coords = &mut *out.coords;
+        let layers = &mut *out.layers;
         let ends = &mut *out.ends;
         let tags = &mut *out.families;
         let counts = self.place(
-            out.coords,
+            &mut coords[..2 * points],
+            &mut layers[..points],
             out.nodes,
             &mut ends[..room],
             &mut tags[..room],
@@ -154,6 +170,13 @@ impl Call<'_> {
         write_families(self.subject.families, self.cutter.families, tags);
         Ok(counts)
     }
+}
+
+// How many points have their places.
+fn point_room(out: &OutputView) -> usize
+    ensures { result ≡ point_room (lists_of out.now []) }
+{
+    out.layers.len().min(out.coords.len() / 2)
 }
 
 // How many pieces have their places.

@@ -29,8 +29,8 @@ fn put(counts: &mut [u32], pieces: u32, points: u32, added: u32)
     counts[..n].copy_from_slice(&all[..n]);
 }
 
-// Operation, meeting limit M, grid or none; the subject's and the cutter's coordinates, node numbers, cell ends, kinds and families; the same five output lists, and
-// those of the parents' meshes and cells; the working list; the counts of pieces, of new points that a piece names, 0, and of all new points. Plain lists, as C
+// Operation, meeting limit M, grid or none; the subject's and the cutter's coordinates, layers, node numbers, cell ends, kinds and families; the same six output lists,
+// and those of the parents' meshes and cells; the working list; the counts of pieces, of new points that a piece names, 0, and of all new points. Plain lists, as C
 // lends them; the output is written out, not made by `output`, so that the prover knows what each list ends as.
 #[unsafe(no_mangle)]
 pub extern "C" fn daqwimay_overlay<'a, 'b, 'c>(
@@ -38,16 +38,19 @@ pub extern "C" fn daqwimay_overlay<'a, 'b, 'c>(
     m: u32,
     grid: u32,
     sc: &'a [f64],
+    sl: &'a [u32],
     sn: &'a [u32],
     se: &'a [u32],
     sk: &'a [u8],
     sf: &'a [u32],
     cc: &'b [f64],
+    cl: &'b [u32],
     cn: &'b [u32],
     ce: &'b [u32],
     ck: &'b [u8],
     cf: &'b [u32],
     oc: &'c mut [f64],
+    ol: &'c mut [u32],
     on: &'c mut [u32],
     oe: &'c mut [u32],
     ok: &'c mut [u8],
@@ -58,15 +61,16 @@ pub extern "C" fn daqwimay_overlay<'a, 'b, 'c>(
     counts: &mut [u32],
 ) -> u32
     ensures { AnswerOf (overlay_of (settings_of op m grid)
-        (mesh sc.now sn.now se.now sk.now sf.now)
-        (mesh cc.now cn.now ce.now ck.now cf.now)
-        (lent_lists oc.old on.old oe.old ok.old of.old om.old oi.old work.old)) counts.old
-        result (lent_lists oc.new on.new oe.new ok.new of.new om.new oi.new work.new) counts.new }
+        (mesh sc.now sl.now sn.now se.now sk.now sf.now)
+        (mesh cc.now cl.now cn.now ce.now ck.now cf.now)
+        (lent_lists oc.old ol.old on.old oe.old ok.old of.old om.old oi.old work.old)) counts.old
+        result (lent_lists oc.new ol.new on.new oe.new ok.new of.new om.new oi.new work.new) counts.new }
 {
-    let subject = view(sc, sn, se, sk, sf);
-    let cutter = view(cc, cn, ce, ck, cf);
+    let subject = view(sc, sl, sn, se, sk, sf);
+    let cutter = view(cc, cl, cn, ce, ck, cf);
     let mut out = OutputView {
         coords: oc,
+        layers: ol,
         nodes: on,
         ends: oe,
         kinds: ok,

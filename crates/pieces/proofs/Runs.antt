@@ -20,11 +20,11 @@ use Rattle.pieces.specs.Pieces.{runs_of}
 
 pub length_runs : (nodes ends : List ℕ) → length (runs_of nodes ends) ≡ length ends
 unfolding cells_of
-length_runs nodes ends = length_each (length ends) (cell_at (mesh [] nodes ends [] []))
+length_runs nodes ends = length_each (length ends) (cell_at (mesh [] [] nodes ends [] []))
 
-pub run_at : (nodes ends : List ℕ) (i : ℕ) → i < length ends → get_or (runs_of nodes ends) i [] ≡ cell_at (mesh [] nodes ends [] []) i
+pub run_at : (nodes ends : List ℕ) (i : ℕ) → i < length ends → get_or (runs_of nodes ends) i [] ≡ cell_at (mesh [] [] nodes ends [] []) i
 unfolding cells_of
-run_at nodes ends i h = get_or_each (length ends) (cell_at (mesh [] nodes ends [] [])) i [] h
+run_at nodes ends i h = get_or_each (length ends) (cell_at (mesh [] [] nodes ends [] [])) i [] h
 
 -- one by one
 pub runs_one_by_one : (nodes ends : List ℕ) → runs nodes ends ≡ runs_of nodes ends

@@ -18,7 +18,7 @@ use Rattle.pieces.specs.declared.piece_lists.PieceLists.{PieceLists}
 -- ---- runs of node numbers in a flat list, by their ends
 
 abbrev pub runs_of : List ℕ → List ℕ → List (List ℕ)
-runs_of nodes ends = cells_of (mesh [] nodes ends [] [])
+runs_of nodes ends = cells_of (mesh [] [] nodes ends [] [])
 
 -- ---- "Operations": kept or not
 

@@ -19,5 +19,5 @@ lines_of l = piece_lines 0 l.nodes.now l.ends.now l.kinds.now l.families.now l.m
 unfoldable pub told : Given → Listing → Answer
 told given.Unread l = unread
 told (given.Refused n) l = refused n
-told (given.Overlay nodes c) l = overlay (bits (take (2 * nodes) l.coords.now))
+told (given.Overlay nodes c) l = overlay (bits (take (2 * nodes) l.coords.now)) l.layers.now
     (piece_lines 0 l.nodes.now (take c.pieces l.ends.now) l.kinds.now l.families.now l.meshes.now l.cells.now) c.pieces c.points c.doubled

@@ -33,11 +33,12 @@ pub enum Answer {
     Overlay { nodes: u32, counts: Counts },
 }
 
-// the lists of an `OutputView`, lent to be read only, as who prints need not lend them to be written: coordinates, the pieces' corners, where those of
+// the lists of an `OutputView`, lent to be read only, as who prints need not lend them to be written: coordinates, layers, the pieces' corners, where those of
 // each piece end, and of each piece its kind, family and parent
 #[derive(Clone, Copy, Default)]
 pub struct Listing<'a> {
     pub coords: &'a [f64],
+    pub layers: &'a [u32],
     pub nodes: &'a [u32],
     pub ends: &'a [u32],
     pub kinds: &'a [u8],
@@ -49,12 +50,12 @@ pub struct Listing<'a> {
 impl<'a> Writer<'a> {
     #[tactic(auto, unfolding(crate::specs::Page::page_with), using(crate::proofs::Pages::written_append, crate::proofs::Rests::listing_parts))]
     fn put_listing(&mut self, lists: &Listing, counts: Counts)
-        ensures { Wrote self.old self.new (listing_text (bits lists.now.coords.now)
+        ensures { Wrote self.old self.new (listing_text (bits lists.now.coords.now) lists.now.layers.now
             (lines_of lists.now) counts.pieces counts.points counts.doubled) }
     {
         let numbers = [counts.pieces, counts.points, counts.doubled];
         self.put(b"(overlay\n");
-        self.put_nodes(lists.coords);
+        self.put_nodes(lists.coords, lists.layers);
         self.put_pieces(lists);
         self.put_line(b"(count", &numbers);
         self.put(b")\n");

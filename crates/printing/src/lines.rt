@@ -58,22 +58,23 @@ impl<'a> Writer<'a> {
     }
 
     #[tactic(auto, unfolding(crate::specs::Page::page_with, text::specs::Text::node_text), using(crate::proofs::Pages::written_append))]
-    fn put_node(&mut self, x: f64, y: f64)
-        ensures { Wrote self.old self.new (node_text (to_bits binary64 x) (to_bits binary64 y)) }
+    fn put_node(&mut self, x: f64, y: f64, layer: u32)
+        ensures { Wrote self.old self.new (node_text (to_bits binary64 x) (to_bits binary64 y) layer) }
     {
         self.put(b"(node ");
         self.put_bits(x);
         self.put(b" ");
         self.put_bits(y);
+        self.put_number(layer);
         self.put(b")\n");
     }
 
     #[tactic(auto, using(crate::proofs::Rests::nodes_steps))]
-    pub(crate) fn put_nodes(&mut self, coords: &[f64])
-        ensures { Wrote self.old self.new (nodes_text (bits coords.now)) }
+    pub(crate) fn put_nodes(&mut self, coords: &[f64], layers: &[u32])
+        ensures { Wrote self.old self.new (nodes_text (bits coords.now) layers.now) }
     {
-        for node in coords.chunks_exact(2) {
-            self.put_node(node[0], node[1]);
+        for (node, layer) in coords.chunks_exact(2).zip(layers) {
+            self.put_node(node[0], node[1], *layer);
         }
     }
 

@@ -15,18 +15,18 @@ read_limits = at_most 512 512 2048
 
 -- a mesh that was read, as it is lent
 abbrev pub lent : ReadMesh → Mesh
-lent m = mesh m.coords m.cells.nodes m.cells.ends m.cells.kinds m.cells.families
+lent m = mesh m.points.coords m.points.layers m.cells.nodes m.cells.ends m.cells.kinds m.cells.families
 
 -- The program's lists: 2,048 nodes, 8,192 node entries, 2,048 pieces, 16,384 numbers to work with.
 unfoldable pub blank : Lists
-blank = lent_lists (fzeros 4096) (zeros 8192) (zeros 2048) (zeros 2048) (zeros 2048) (zeros 2048) (zeros 2048) (zeros 16384)
+blank = lent_lists (fzeros 4096) (zeros 2048) (zeros 8192) (zeros 2048) (zeros 2048) (zeros 2048) (zeros 2048) (zeros 2048) (zeros 16384)
 
 -- Of a refusal its number; else all nodes, `nodes` of them lent, the pieces and the first three counts. W5: "a fourth number, not printed".
 unfoldable pub result_told : ℕ → Result → Answer
 result_told nodes r =
     let l = r.lists in
     cond (eqb r.code 0)
-    (overlay (bits (take (2 * (nodes + r.added)) l.coords))
+    (overlay (bits (take (2 * (nodes + r.added)) l.coords)) l.layers
     (piece_lines 0 l.nodes (take r.pieces l.ends) l.kinds l.families l.meshes l.cells) r.pieces r.points r.doubled)
     (refused r.code)
 

@@ -21,7 +21,7 @@ use views::{MeshView, OutputView};
 pub const MOST_READ: u64 = 65537;
 
 // Holds any answer.
-pub const MOST_WRITTEN: usize = 278580;
+pub const MOST_WRITTEN: usize = 301108;
 
 // what is printed of an overlay's answer: `nodes` are those of both meshes
 fn told(nodes: u32, answer: Result<overlay::Counts, Refusal>) -> Answer
@@ -43,12 +43,13 @@ fn told(nodes: u32, answer: Result<overlay::Counts, Refusal>) -> Answer
 
 // the lists of the pieces, as they are printed. No From: both types are of other crates.
 fn listing<'a>(pieces: &'a OutputView) -> Listing<'a>
-    ensures { (result.coords.now ≡ pieces.now.coords.now) × (result.nodes.now ≡ pieces.now.nodes.now) × (result.ends.now ≡ pieces.now.ends.now)
+    ensures { (result.coords.now ≡ pieces.now.coords.now) × (result.layers.now ≡ pieces.now.layers.now) × (result.nodes.now ≡ pieces.now.nodes.now) × (result.ends.now ≡ pieces.now.ends.now)
         × (result.kinds.now ≡ pieces.now.kinds.now) × (result.families.now ≡ pieces.now.families.now)
         × (result.meshes.now ≡ pieces.now.meshes.now) × (result.cells.now ≡ pieces.now.cells.now) }
 {
     Listing {
         coords: pieces.coords,
+        layers: pieces.layers,
         nodes: pieces.nodes,
         ends: pieces.ends,
         kinds: pieces.kinds,
@@ -66,6 +67,7 @@ fn view<'a>(lists: &'a MeshLists, counts: reading::Counts) -> MeshView<'a>
 {
     MeshView {
         coords: &lists.coords[..2 * counts.points],
+        layers: &lists.layers[..counts.points],
         nodes: &lists.nodes[..counts.entries],
         ends: &lists.ends[..counts.cells],
         kinds: &lists.kinds[..counts.cells],
@@ -85,6 +87,7 @@ fn cut(
     ensures { Prints result out.old out.new (answer_text (overlay_told settings (mesh_of subject.now) (mesh_of cutter.now))) }
 {
     let mut oc = [0.0; 4096];
+    let mut ol = [0u32; 2048];
     let mut on = [0u32; 8192];
     let mut oe = [0u32; 2048];
     let mut ok = [0u8; 2048];
@@ -95,6 +98,7 @@ fn cut(
     let nodes = (subject.coords.len() / 2 + cutter.coords.len() / 2) as u32;
     let mut pieces = OutputView {
         coords: &mut oc,
+        layers: &mut ol,
         nodes: &mut on,
         ends: &mut oe,
         kinds: &mut ok,
@@ -113,17 +117,20 @@ pub fn answer(s: &[u8], out: &mut [u8]) -> Result<usize, Full>
     ensures { Prints result out.old out.new (answer_to s.now) }
 {
     let mut sc = [0.0; 1024];
+    let mut sl = [0u32; 512];
     let mut sn = [0u32; 2048];
     let mut se = [0u32; 512];
     let mut sk = [0u8; 512];
     let mut sf = [0u32; 512];
     let mut cc = [0.0; 1024];
+    let mut cl = [0u32; 512];
     let mut cn = [0u32; 2048];
     let mut ce = [0u32; 512];
     let mut ck = [0u8; 512];
     let mut cf = [0u32; 512];
     let mut subject_lists = MeshLists {
         coords: &mut sc,
+        layers: &mut sl,
         nodes: &mut sn,
         ends: &mut se,
         kinds: &mut sk,
@@ -131,6 +138,7 @@ pub fn answer(s: &[u8], out: &mut [u8]) -> Result<usize, Full>
     };
     let mut cutter_lists = MeshLists {
         coords: &mut cc,
+        layers: &mut cl,
         nodes: &mut cn,
         ends: &mut ce,
         kinds: &mut ck,
@@ -147,8 +155,8 @@ pub fn answer(s: &[u8], out: &mut [u8]) -> Result<usize, Full>
 // The same in a list that holds any answer: how many bytes it has.
 #[tactic(auto, using(crate::proofs::Sizes::reply_steps))]
 pub fn reply(s: &[u8], out: &mut [u8]) -> usize
-    requires { 278580 ≤ length out.old }
-    ensures { (result ≡ length (answer_to s.now)) × (out.new ≡ front out.old (answer_to s.now)) × (result ≤ 278580) }
+    requires { 301108 ≤ length out.old }
+    ensures { (result ≡ length (answer_to s.now)) × (out.new ≡ front out.old (answer_to s.now)) × (result ≤ 301108) }
 {
     answer(s, out).unwrap()
 }

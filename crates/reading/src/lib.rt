@@ -11,18 +11,19 @@ use reading_lines::lines::{CellCounts, CellLists, read_cells, read_first, read_n
 use reading_lines::words::{CLOSE, MESH, read_word};
 use settings::Settings;
 
-// the lists that a mesh is read into, those of a `MeshView`, lent to be written: coordinates (x then y), node numbers (flat), cell ends, kinds, families. Each contract
+// the lists that a mesh is read into, those of a `MeshView`, lent to be written: coordinates (x then y), layers, node numbers (flat), cell ends, kinds, families. Each contract
 // says that the lists are the same still, as a struct of `&mut` lists needs. The counts are an answer beside it: who lends lists has none to give yet
 #[derive(Drop)]
 pub struct MeshLists<'a> {
     pub coords: &'a mut [f64],
+    pub layers: &'a mut [u32],
     pub nodes: &'a mut [u32],
     pub ends: &'a mut [u32],
     pub kinds: &'a mut [u8],
     pub families: &'a mut [u32],
 }
 
-// how much of the five lists is a mesh
+// how much of the six lists is a mesh
 #[derive(Clone, Copy, Default)]
 pub struct Counts {
     pub points: usize,
@@ -44,13 +45,16 @@ fn read_mesh<'a>(s: &'a [u8], lists: &mut MeshLists) -> Option<(Counts, &'a [u8]
     ensures within { IfSome result (λ p. Within p.0 lists.old) }
     ensures same_lists { SameLists lists.new lists.old }
 {
-    let points = 512.min(lists.coords.len() / 2);
+    let points = 512
+        .min(lists.coords.len() / 2)
+        .min(lists.layers.len());
     let cells = 512
         .min(lists.ends.len())
         .min(lists.kinds.len())
         .min(lists.families.len());
     let entries = 2048.min(lists.nodes.len());
     let coords = &mut *lists.coords;
+    let layers = &mut *lists.layers;
     let nodes = &mut *lists.nodes;
     let ends = &mut *lists.ends;
     let kinds = &mut *lists.kinds;
@@ -58,6 +62,7 @@ fn read_mesh<'a>(s: &'a [u8], lists: &mut MeshLists) -> Option<(Counts, &'a [u8]
     read_within(
         s,
         &mut coords[..2 * points],
+        &mut layers[..points],
         &mut nodes[..entries],
         &mut ends[..cells],
         &mut kinds[..cells],
@@ -70,19 +75,20 @@ fn read_mesh<'a>(s: &'a [u8], lists: &mut MeshLists) -> Option<(Counts, &'a [u8]
 fn read_within<'a>(
     s: &'a [u8],
     coords: &mut [f64],
+    layers: &mut [u32],
     nodes: &mut [u32],
     ends: &mut [u32],
     kinds: &mut [u8],
     families: &mut [u32],
 ) -> Option<(Counts, &'a [u8])>
     requires few { length nodes.old ≤ 4294967295 }
-    requires as_many { (length ends.old ≤ length kinds.old) × (length ends.old ≤ length families.old) }
-    ensures read { read_by (λ c. mesh_seen c coords.new nodes.new ends.new kinds.new families.new) result
+    requires as_many { (length coords.old / 2 ≤ length layers.old) × (length ends.old ≤ length kinds.old) × (length ends.old ≤ length families.old) }
+    ensures read { read_by (λ c. mesh_seen c coords.new layers.new nodes.new ends.new kinds.new families.new) result
         ≡ mesh_from (at_most (length coords.old / 2) (length ends.old) (length nodes.old)) s.now }
-    ensures within { IfSome result (λ p. (2 * p.0.points ≤ length coords.old) × (p.0.cells ≤ length ends.old) × (p.0.entries ≤ length nodes.old)) }
+    ensures within { IfSome result (λ p. (2 * p.0.points ≤ length coords.old) × (p.0.points ≤ length layers.old) × (p.0.cells ≤ length ends.old) × (p.0.entries ≤ length nodes.old)) }
 {
     let s = read_word(s, MESH)?;
-    let (points, s) = read_nodes(s, coords)?;
+    let (points, s) = read_nodes(s, coords, layers)?;
     let mut lists = CellLists {
         nodes,
         ends,
@@ -132,6 +138,7 @@ fn clear_rest(mesh: Counts, lists: &mut MeshLists)
     ensures same_lists { SameLists lists.new lists.old }
 {
     lists.coords[2 * mesh.points..].fill(0.0);
+    lists.layers[mesh.points..].fill(0);
     lists.nodes[mesh.entries..].fill(0);
     lists.ends[mesh.cells..].fill(0);
     lists.kinds[mesh.cells..].fill(0);

@@ -1,9 +1,9 @@
 -- The answers of the code that reads words and lines, as what was read and the rest of the text. Assumes nothing.
-use Rattle.std.specs.Prelude.{ℕ, List, take, [], ◌∷◌, Float, Option, option_map}
+use Rattle.std.specs.Prelude.{ℕ, ◌*◌, List, take, [], ◌∷◌, Float, Option, option_map}
 use denote.Ref.{Bor}
 use Rattle.lists.specs.Same.{SameList}
 use Rattle.text.specs.Read.{Heading, Cell}
-use Rattle.text.specs.Given.{Parsed, Cells}
+use Rattle.text.specs.Given.{Parsed, Nodes, Cells}
 use Rattle.reading_lines.specs.declared.lines.Node.{Node}
 use Rattle.reading_lines.specs.declared.lines.Heading.{Heading as HeadingRead}
 use Rattle.reading_lines.specs.declared.lines.Cell.{Cell as CellRead}
@@ -17,8 +17,12 @@ read_by f r = option_map (λ p. (f p.0, p.1.now)) r
 abbrev pub read_as : {A : Type 0} → Option (A × Bor (List ℕ)) → Parsed A
 read_as r = read_by (λ x. x) r
 
-abbrev pub node_of : Node → List Float
-node_of n = n.x ∷ n.y ∷ []
+abbrev pub node_of : Node → Nodes
+node_of n = record { coords = n.x ∷ n.y ∷ []; layers = n.layer ∷ [] }
+
+-- the n nodes in the front of the lists
+abbrev pub nodes_of : ℕ → List Float → List ℕ → Nodes
+nodes_of n cs ls = record { coords = take (2 * n) cs; layers = take n ls }
 
 abbrev pub heading_of : HeadingRead → Heading
 heading_of h = record { kind = h.kind; family = h.family }

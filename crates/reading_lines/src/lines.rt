@@ -1,18 +1,19 @@
 // Lines: what is read of them stands in the front of the lent lists.
 ghost use Rattle.std.specs.Prelude.{◌≡◌, [], ◌/◌, ◌*◌, ◌≤◌, length, take, IfSome};
-ghost use Rattle.text.specs.Read.{node_from, nodes_from, entries_from, head_from, cell_from, cells_from, grid_from, first_from, empty};
-ghost use Rattle.reading_lines.specs.Lines.{read_as, read_by, node_of, heading_of, cell_of, cells_of, SameCellLists};
+ghost use Rattle.text.specs.Read.{node_from, nodes_from, entries_from, head_from, cell_from, cells_from, grid_from, first_from, no_nodes, empty};
+ghost use Rattle.reading_lines.specs.Lines.{read_as, read_by, node_of, nodes_of, heading_of, cell_of, cells_of, SameCellLists};
 
 use crate::words::{
     CELL, CLOSE, NEWLINE, NODE, OVERLAY, SPACE, coordinate_of, read_decimal, read_hex, read_word,
 };
 use settings::Settings;
 
-// Not plane's Point: the crates of the text rest on no geometry, and its two numbers alone go on.
+// Not plane's Point: the crates of the text rest on no geometry, and its two numbers and the layer alone go on.
 #[derive(Clone, Copy)]
 pub struct Node {
     pub x: f64,
     pub y: f64,
+    pub layer: u32,
 }
 
 // Any number up to 255 is read as a kind, as any as an operation (`read_first`): the entry refuses one that is none.
@@ -52,10 +53,13 @@ pub fn read_node(s: &[u8]) -> Option<(Node, &[u8])>
     let (x, s) = read_hex(s)?;
     let s = read_word(s, SPACE)?;
     let (y, s) = read_hex(s)?;
+    let s = read_word(s, SPACE)?;
+    let (layer, s) = read_decimal(s)?;
     let s = read_word(s, CLOSE)?;
     let node = Node {
         x: coordinate_of(x),
         y: coordinate_of(y),
+        layer,
     };
     Some((node, s))
 }
@@ -98,12 +102,17 @@ pub fn read_first(s: &[u8]) -> Option<(Settings, &[u8])>
     Some((Settings { op, m, grid }, s))
 }
 
-// Node lines, as many as the list has room for: how many there are, and the text after them. The list is written by index, since after a loop over
+// Node lines, as many as the lists have room for: how many there are, and the text after them. The lists are written by index, since after a loop over
 // chunks_exact_mut a proof knows its length and no element.
 #[tactic(auto, using(crate::proofs::Many::nodes_steps))]
-pub fn read_nodes<'a>(s: &'a [u8], coords: &mut [f64]) -> Option<(usize, &'a [u8])>
-    ensures read { read_by (λ n. take (2 * n) coords.new) result ≡ nodes_from (length coords.old / 2) [] s.now }
-    ensures within { IfSome result (λ p. 2 * p.0 ≤ length coords.old) }
+pub fn read_nodes<'a>(
+    s: &'a [u8],
+    coords: &mut [f64],
+    layers: &mut [u32],
+) -> Option<(usize, &'a [u8])>
+    requires { length coords.old / 2 ≤ length layers.old }
+    ensures read { read_by (λ n. nodes_of n coords.new layers.new) result ≡ nodes_from (length coords.old / 2) no_nodes s.now }
+    ensures within { IfSome result (λ p. (2 * p.0 ≤ length coords.old) × (p.0 ≤ length layers.old)) }
 {
     let mut rest = s;
     let room = coords.len() / 2;
@@ -114,6 +123,7 @@ pub fn read_nodes<'a>(s: &'a [u8], coords: &mut [f64]) -> Option<(usize, &'a [u8
         let (node, after) = read_node(line)?;
         coords[2 * k] = node.x;
         coords[2 * k + 1] = node.y;
+        layers[k] = node.layer;
         rest = after;
     }
     Some((room, rest))

@@ -47,7 +47,7 @@ Listed p o s c = (k : ℕ) × ListedAt p k o s c
 
 -- cell k that a result's lists hold, read as a lent mesh's cells are, has the piece's kind, family and node numbers; W2: and its parent
 abbrev pub answer_mesh : Lists → Mesh
-answer_mesh l = mesh l.coords l.nodes l.ends l.kinds l.families
+answer_mesh l = mesh l.coords l.layers l.nodes l.ends l.kinds l.families
 
 pub record WrittenAt (r : Result) (k : ℕ) (p : Piece) : Type 0 where
   pub below : k < r.pieces

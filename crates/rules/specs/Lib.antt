@@ -3,6 +3,7 @@ pub mod Snap
 pub mod Neighbours
 pub mod SpatialIndex
 pub mod Meetings
+pub mod Layers
 pub mod Nodes
 pub mod Cell
 pub mod Inside

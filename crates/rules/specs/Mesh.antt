@@ -1,4 +1,4 @@
--- Document 01, "From maps and vectors to lent lists": a mesh as read is a view over the caller's five lists. Assumes nothing.
+-- Document 01, "From maps and vectors to lent lists": a mesh as read is a view over the caller's lists, five and, from W7 on, six. Assumes nothing.
 use Rattle.std.specs.Prelude.{List, ℕ, length}
 use Rattle.lists.specs.Gather.{each}
 use Rattle.lists.specs.Regions.{run}

@@ -6,17 +6,19 @@ use Rattle.lists.specs.Regions.{front, zeros, fzeros}
 use Rattle.cutting.specs.Edition.{Edition, ours}
 use Rattle.cutting.specs.Outcome.{flat, stops}
 use Rattle.settings.specs.declared.Settings.{Settings}
-use Rattle.entry.specs.Mesh.{Mesh, node_count}
+use Rattle.entry.specs.Mesh.{Mesh, mesh, node_count}
 use Rattle.entry.specs.Refused.{entry_of}
 use Rattle.rules.specs.Mesh.{side_number}
 use Rattle.rules.specs.Meetings.{added_by}
+use Rattle.rules.specs.Layers.{layers_of}
 use Rattle.rules.specs.Operations.{scene_for, Piece, listing_with, doubled_cells}
 use Rattle.rules.specs.Refusals.{course_with, first_refusal}
 
 -- The output lists and the working list. W2: "Each piece gets two more numbers in the output: 0 for subject or 1 for cutter, and the index of its cell
--- there".
+-- there". W7: "The answer lists every node's layer".
 pub record Lists : Type 0 where
   pub coords : List Float
+  pub layers : List ℕ
   pub nodes : List ℕ
   pub ends : List ℕ
   pub kinds : List ℕ
@@ -34,8 +36,8 @@ pub record Result : Type 0 where
   pub added : ℕ
   pub lists : Lists
 
-abbrev pub lent_lists : List Float → List ℕ → List ℕ → List ℕ → List ℕ → List ℕ → List ℕ → List ℕ → Lists
-lent_lists c n e k f m i w = record { coords = c; nodes = n; ends = e; kinds = k; families = f; meshes = m; cells = i; work = w }
+abbrev pub lent_lists : List Float → (l n e k f m i w : List ℕ) → Lists
+lent_lists c l n e k f m i w = record { coords = c; layers = l; nodes = n; ends = e; kinds = k; families = f; meshes = m; cells = i; work = w }
 
 abbrev pub result_of : ℕ → ℕ → ℕ → ℕ → ℕ → Lists → Result
 result_of r p q d a l = record { code = r; pieces = p; points = q; doubled = d; added = a; lists = l }
@@ -44,27 +46,31 @@ result_of r p q d a l = record { code = r; pieces = p; points = q; doubled = d; 
 
 unfoldable pub cleared : Lists → Lists
 cleared l =
-    lent_lists (fzeros (length l.coords)) (zeros (length l.nodes)) (zeros (length l.ends)) (zeros (length l.kinds))
+    lent_lists (fzeros (length l.coords)) (zeros (length l.layers)) (zeros (length l.nodes)) (zeros (length l.ends)) (zeros (length l.kinds))
     (zeros (length l.families)) (zeros (length l.meshes)) (zeros (length l.cells)) (zeros (length l.work))
+
+-- A point takes two numbers of the coordinates; W7: "the item of 12 for a point covers its layer".
+abbrev pub point_room : Lists → ℕ
+point_room l = min (length l.coords / 2) (length l.layers)
 
 -- A piece takes a place in each of ends, kinds and families; W2: "Refusal 12 covers the added lists".
 abbrev pub piece_room : Lists → ℕ
 piece_room l = min (length l.ends) (min (length l.kinds) (min (length l.families) (min (length l.meshes) (length l.cells))))
 
--- Its number, or 0. A point takes two numbers of the coordinates; a piece takes its node entries besides.
+-- Its number, or 0. A piece takes its node entries besides.
 unfoldable pub state_with : Edition → Settings → Mesh → Mesh → Lists → ℕ
-state_with v o s c l = first_refusal o.m (length l.coords / 2) (piece_room l) (length l.nodes) (course_with v o s c)
+state_with v o s c l = first_refusal o.m (point_room l) (piece_room l) (length l.nodes) (course_with v o s c)
 
 abbrev pub state_of : Settings → Mesh → Mesh → Lists → ℕ
 state_of o s c l = state_with ours o s c l
 
 -- ---- success: "places after the answer keep their content and the working list is zero"
 
--- all coordinates, and the pieces one after the other, at the front of their lists
-unfoldable pub written : List Float → List Piece → Lists → Lists
-written coords ps l =
+-- all coordinates and layers, and the pieces one after the other, at the front of their lists
+unfoldable pub written : List Float → List ℕ → List Piece → Lists → Lists
+written coords layers ps l =
     let runs = map (λ p. p.nodes) ps in
-    lent_lists (front l.coords coords) (front l.nodes (flat runs)) (front l.ends (stops 0 runs))
+    lent_lists (front l.coords coords) (front l.layers layers) (front l.nodes (flat runs)) (front l.ends (stops 0 runs))
     (front l.kinds (map (λ p. p.kind) ps)) (front l.families (map (λ p. p.family) ps))
     (front l.meshes (map (λ p. side_number p.mesh) ps)) (front l.cells (map (λ p. p.cell) ps)) (zeros (length l.work))
 
@@ -84,7 +90,7 @@ answered_with v o s c l =
     let ps = listing_with v o s c in
     let points = named_points (node_count s + node_count c) (length sc.coords / 2) ps in
     let doubled = cond v.once 0 (length (doubled_cells o s c)) in
-    result_of 0 (length ps) (length points) doubled (length (added_by sc.met) / 2) (written sc.coords ps l)
+    result_of 0 (length ps) (length points) doubled (length (added_by sc.met) / 2) (written sc.coords (layers_of sc s c) ps l)
 
 abbrev pub answered : Settings → Mesh → Mesh → Lists → Result
 answered o s c l = answered_with ours o s c l
@@ -95,11 +101,21 @@ answered o s c l = answered_with ours o s c l
 abbrev pub seen_by : Edition → Settings → Settings
 seen_by v o = cond v.grids o (record { op = o.op; m = o.m; grid = None })
 
+-- and of a mesh and of the output: before W7 all nodes are of one layer, for which there is room
+abbrev pub mesh_seen : Edition → Mesh → Mesh
+mesh_seen v m = cond v.layers m (mesh m.coords (zeros (node_count m)) m.nodes m.ends m.kinds m.families)
+
+abbrev pub lists_seen : Edition → Lists → Lists
+lists_seen v l = cond v.layers l (lent_lists l.coords (zeros (length l.coords / 2)) l.nodes l.ends l.kinds l.families l.meshes l.cells l.work)
+
 -- The settings (operation, meeting limit M, grid), subject, cutter, lists; by the edition. Refused because of the input (1 to 7 and 13): "Counts are 0 and
 -- every list keeps its content".
 unfoldable pub overlay_with : Edition → Settings → Mesh → Mesh → Lists → Result
-overlay_with v settings s c l =
+overlay_with v settings subject cutter lists =
     let o = seen_by v settings in
+    let s = mesh_seen v subject in
+    let c = mesh_seen v cutter in
+    let l = lists_seen v lists in
     let entry = entry_of o s c (length l.work) in
     let state = state_with v o s c l in
     cond (eqb entry 0)

@@ -1,5 +1,5 @@
 -- Document 01, module 4 (snap.rs): the numbers of the cutter's nodes, where near nodes of the two meshes share one. Assumes nothing.
-use Rattle.std.specs.Prelude.{Option, None, Some, Bool, cond, ◌&&◌, ◌||◌, List, ℕ, zero, suc, ◌+◌, length, get_or, Float}
+use Rattle.std.specs.Prelude.{Option, None, Some, Bool, cond, ◌&&◌, ◌||◌, List, ℕ, zero, suc, ◌+◌, eqb, length, get_or, Float}
 use Rattle.std.specs.Float.Ieee as Ieee
 use Rattle.std.specs.Float.{binary64}
 use Rattle.lists.specs.Search.{named}
@@ -34,15 +34,17 @@ distance2 p q = let v = between q p in dot v v
 abbrev pub nearer : Float → ℕ → Nearest → Nearest
 nearer d n best = cond (Ieee.lt d best.dist2) (record { dist2 = d; node = Some n }) best
 
--- among the first k of the nodes `order`, at squared distance strictly below 1e-12 × 1e-12
-unfoldable pub nearest_to : ℕ → List Float → List ℕ → Point → Nearest
-nearest_to zero coords order p = record { dist2 = weld_eps ⊗ weld_eps; node = None }
-nearest_to (suc k) coords order p =
+-- Over nodes with these coordinates and layers: among the first k of the nodes `order`, at squared distance strictly below 1e-12 × 1e-12. W7: "among
+-- those of the same layer", the one sought.
+unfoldable pub nearest_to : ℕ → List Float → (layers order : List ℕ) → (sought : ℕ) → Point → Nearest
+nearest_to zero coords layers order sought p = record { dist2 = weld_eps ⊗ weld_eps; node = None }
+nearest_to (suc k) coords layers order sought p =
     let n = get_or order k 0 in
-    nearer (distance2 p (point_at coords n)) n (nearest_to k coords order p)
+    let best = nearest_to k coords layers order sought p in
+    cond (eqb (get_or layers n 0) sought) (nearer (distance2 p (point_at coords n)) n best) best
 
-unfoldable pub closest_within : List Float → List ℕ → Point → Option ℕ
-closest_within coords order p = (nearest_to (length order) coords order p).node
+unfoldable pub closest_within : List Float → (layers order : List ℕ) → (sought : ℕ) → Point → Option ℕ
+closest_within coords layers order sought p = (nearest_to (length order) coords layers order sought p).node
 
 -- ---- `duplicates_from`
 
@@ -50,12 +52,13 @@ abbrev pub or_shifted : ℕ → Option ℕ → ℕ
 or_shifted k None = k
 or_shifted k (Some n) = n
 
--- The number of the cutter's node j: a used one takes that of the nearest used subject node, if there is one so near; the others take their own
--- number plus the subject's node count.
+-- The number of the cutter's node j: a used one takes that of the nearest used subject node of its layer, if there is one so near; the others take
+-- their own number plus the subject's node count.
 abbrev pub number_of : Mesh → Mesh → List ℕ → ℕ → ℕ
 number_of subject cutter order j =
     let shifted = j + node_count subject in
-    cond (named cutter.nodes j) (or_shifted shifted (closest_within subject.coords order (point_at cutter.coords j))) shifted
+    let nearest = closest_within subject.coords subject.layers order (get_or cutter.layers j 0) (point_at cutter.coords j) in
+    cond (named cutter.nodes j) (or_shifted shifted nearest) shifted
 
 -- the numbers of all the cutter's nodes
 unfoldable pub weld : Mesh → Mesh → List ℕ

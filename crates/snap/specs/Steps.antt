@@ -77,8 +77,9 @@ window_start coords order p = first (λ i. lt (ahead coords p (get_or order i 0)
 
 -- ---- `duplicates_from`
 
--- the number of the cutter's node j, by its mark and the used subject nodes in order
-unfoldable pub number_by : List Float → List ℕ → List Float → ℕ → ℕ → ℕ
-number_by sc order cc mark j =
+-- The number of the cutter's node j, by its mark and the used subject nodes in order; sc and sl are the subject's coordinates and layers, cc and cl the
+-- cutter's.
+unfoldable pub number_by : (sc : List Float) → (sl order : List ℕ) → (cc : List Float) → (cl : List ℕ) → (mark j : ℕ) → ℕ
+number_by sc sl order cc cl mark j =
     let shifted = j + length sc / 2 in
-    cond (eqb mark 0) shifted (or_shifted shifted (closest_within sc order (point_at cc j)))
+    cond (eqb mark 0) shifted (or_shifted shifted (closest_within sc sl order (get_or cl j 0) (point_at cc j)))

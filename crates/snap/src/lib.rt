@@ -1,4 +1,4 @@
-// Near nodes of the two meshes share a number (document 01, module 4).
+// Near nodes of the two meshes share a number (document 01, module 4), where they have one layer (W7).
 #![tactic(auto)]
 
 ghost use Rattle.std.specs.Prelude.{◌≡◌, [], ◌++◌, ◌+◌, ◌/◌, ◌≤◌, ◌<◌, length, get_or, take};
@@ -10,7 +10,7 @@ ghost use Rattle.snap.specs.Ways.{InOrder-prop};
 ghost use Rattle.snap.specs.Steps.{AllPlaced, InOrder, place_of, indices_in_order, with_node, merged, merged_full, not_merged, window_start, number_by};
 
 use arrayvec::ArrayVec;
-use lists::mark_named;
+use lists::{mark_named, number_at};
 use plane::{Point, point_at};
 use rules::Nearest;
 use views::MeshView;
@@ -159,11 +159,11 @@ impl<'a> Nodes<'a> {
             .partition_point(|v| !(p.x - point_at(coords, *v).x < 1e-12))
     }
 
-    // The nearest of them at a squared distance strictly below 1e-12 × 1e-12, the first of equally near ones.
+    // The nearest of them that have the layer sought, at a squared distance strictly below 1e-12 × 1e-12, the first of equally near ones.
     // From the first on that lies 1e-12 or more to the right of p, all are too far.
     #[tactic(auto, unfolding(rules::specs::Snap::nearest_to), using(crate::proofs::Near::near_turn, crate::proofs::Near::near_end))]
-    fn nearest(&self, p: Point) -> Option<u32>
-        ensures { result ≡ closest_within self.now.coords.now self.now.order.now p }
+    fn nearest(&self, layers: &[u32], sought: u32, p: Point) -> Option<u32>
+        ensures { result ≡ closest_within self.now.coords.now layers.now self.now.order.now sought p }
     {
         let coords = self.coords;
         let mut best = Nearest {
@@ -175,50 +175,57 @@ impl<'a> Nodes<'a> {
             if p.x - q.x <= -1e-12 {
                 return best.node;
             }
-            best = nearer(distance2(p, q), *v, best);
+            if number_at(layers, *v as usize) == sought {
+                best = nearer(distance2(p, q), *v, best);
+            }
         }
         best.node
     }
 
     // The same, of nodes of which many may lie to the left of p. Nodes on one vertical line are all looked at: to weld such meshes stays quadratic.
     #[tactic(auto, using(crate::proofs::Near::window_whole, crate::proofs::Near::window_order))]
-    fn closest_within(&self, p: Point) -> Option<u32>
-        ensures { result ≡ closest_within self.now.coords.now self.now.order.now p }
+    fn closest_within(&self, layers: &[u32], sought: u32, p: Point) -> Option<u32>
+        ensures { result ≡ closest_within self.now.coords.now layers.now self.now.order.now sought p }
     {
         let from = self.window_start(p);
         let window = Nodes {
             coords: self.coords,
             order: &self.order[from..],
         };
-        window.nearest(p)
+        window.nearest(layers, sought, p)
     }
 
-    // The number of the cutter's node j, by its mark, where these are the used subject nodes.
+    // The number of the cutter's node j, by its mark, where these are the used subject nodes, with their layers.
     #[tactic(auto, unfolding(crate::specs::Steps::number_by), using(crate::proofs::Numbers::unwrap_shifted))]
-    fn number_of(&self, cc: &[f64], mark: u32, j: usize) -> u32
+    fn number_of(&self, layers: &[u32], cutter: &MeshView, mark: u32, j: usize) -> u32
         requires { (length self.now.coords.now / 2 ≤ 16384) × (j < 16384) }
-        ensures { result ≡ number_by self.now.coords.now self.now.order.now cc.now mark j }
+        ensures { result ≡ number_by self.now.coords.now layers.now self.now.order.now cutter.now.coords.now cutter.now.layers.now mark j }
     {
         let shifted = (j + self.coords.len() / 2) as u32;
         if mark == 0 {
             return shifted;
         }
-        let p = point_at(cc, j as u32);
-        self.closest_within(p).unwrap_or(shifted)
+        let p = point_at(cutter.coords, j as u32);
+        let sought = number_at(cutter.layers, j);
+        self.closest_within(layers, sought, p).unwrap_or(shifted)
     }
 }
 
 // Each of the cutter's nodes has a mark in `numbers`, whose place its number takes. `order` has the used subject nodes in order. A part of a list that is
 // written later is lent as it is, not in a struct, or a proof doesn't know the whole list in the end.
 #[tactic(auto, using(crate::proofs::Numbers::number_start))]
-fn number_nodes(coords: &[f64], order: &[u32], cc: &[f64], numbers: &mut [u32])
-    requires { (length coords.now / 2 ≤ 16384) × (length numbers.old ≤ 16384) × InOrder coords.now order.now }
-    ensures { numbers.new ≡ each (length numbers.old) (λ j. number_by coords.now order.now cc.now (get_or numbers.old j 0) j) }
+fn number_nodes(subject: &MeshView, order: &[u32], cutter: &MeshView, numbers: &mut [u32])
+    requires { (length subject.now.coords.now / 2 ≤ 16384) × (length numbers.old ≤ 16384) × InOrder subject.now.coords.now order.now }
+    ensures { numbers.new ≡ each (length numbers.old)
+        (λ j. number_by subject.now.coords.now subject.now.layers.now order.now cutter.now.coords.now cutter.now.layers.now (get_or numbers.old j 0) j) }
 {
-    let nodes = Nodes { coords, order };
+    let nodes = Nodes {
+        coords: subject.coords,
+        order,
+    };
     // By index: after a loop over `iter_mut().enumerate()` a proof knows no element.
     for j in 0..numbers.len() {
-        numbers[j] = nodes.number_of(cc, numbers[j], j);
+        numbers[j] = nodes.number_of(subject.layers, cutter, numbers[j], j);
     }
 }
 
@@ -228,8 +235,8 @@ pub fn duplicates_from(subject: &MeshView, cutter: &MeshView, w: &mut [u32])
     requires { (length subject.now.coords.now / 2 ≤ 16384) × (length cutter.now.coords.now / 2 ≤ 16384)
         × (length cutter.now.coords.now / 2 + length subject.now.coords.now / 2 ≤ length w.old)
         × AllPlaced subject.now.coords.now }
-    ensures { w.new ≡ front w.old (weld (mesh subject.now.coords.now subject.now.nodes.now [] [] []) (mesh cutter.now.coords.now cutter.now.nodes.now [] [] [])
-        ++ zeros (length subject.now.coords.now / 2)) }
+    ensures { w.new ≡ front w.old (weld (mesh subject.now.coords.now subject.now.layers.now subject.now.nodes.now [] [] [])
+        (mesh cutter.now.coords.now cutter.now.layers.now cutter.now.nodes.now [] [] []) ++ zeros (length subject.now.coords.now / 2)) }
 {
     let coords = subject.coords;
     let (numbers, rest) = w.split_at_mut(cutter.coords.len() / 2);
@@ -237,6 +244,6 @@ pub fn duplicates_from(subject: &MeshView, cutter: &MeshView, w: &mut [u32])
     mark_named(cutter.nodes, 0, numbers);
     mark_named(subject.nodes, 0, marks);
     let count = sorted_indices_for(coords, marks);
-    number_nodes(coords, &marks[..count], cutter.coords, numbers);
+    number_nodes(subject, &marks[..count], cutter, numbers);
     marks.fill(0);
 }

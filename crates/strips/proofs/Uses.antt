@@ -74,7 +74,7 @@ module _ (coords : List Float) (nodes : List ℕ) where
   cell_count_lem [] h = absurd (omega arith)
   cell_count_lem (e ∷ ends) h = refl
 
-  pub cell_box : (ends : List ℕ) (j : ℕ) → 0 < length ends → thing_box coords nodes ends j ≡ box_of coords (cell_at (mesh [] nodes ends [] []) j)
+  pub cell_box : (ends : List ℕ) (j : ℕ) → 0 < length ends → thing_box coords nodes ends j ≡ box_of coords (cell_at (mesh [] [] nodes ends [] []) j)
   unfolding thing_box cell_at
   cell_box [] j h = absurd (omega arith)
   cell_box (e ∷ ends) j h = refl

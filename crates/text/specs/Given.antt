@@ -11,6 +11,11 @@ Parsed A = Option (A × List ℕ)
 abbrev pub coordinate : ℕ → Float
 coordinate b = of_bits binary64 b
 
+-- coordinates (x then y), and each node's layer
+pub record Nodes : Type 0 where
+  pub coords : List Float
+  pub layers : List ℕ
+
 pub record Cells : Type 0 where
   pub nodes : List ℕ
   pub ends : List ℕ
@@ -18,7 +23,7 @@ pub record Cells : Type 0 where
   pub families : List ℕ
 
 pub record ReadMesh : Type 0 where
-  pub coords : List Float
+  pub points : Nodes
   pub cells : Cells
 
 -- how much of a mesh is read
@@ -31,9 +36,9 @@ abbrev pub at_most : ℕ → ℕ → ℕ → Limits
 at_most n c e = record { nodes = n; cells = c; entries = e }
 
 -- 512 nodes, 512 cells and 2,048 entries, or what lists of these lengths hold
-unfoldable pub limits : ℕ → ℕ → ℕ → ℕ → ℕ → Limits
-limits coords nodes ends kinds families =
-    at_most (min 512 (coords / 2)) (min 512 (min ends (min kinds families))) (min 2048 nodes)
+unfoldable pub limits : (coords layers nodes ends kinds families : ℕ) → Limits
+limits coords layers nodes ends kinds families =
+    at_most (min 512 (min (coords / 2) layers)) (min 512 (min ends (min kinds families))) (min 2048 nodes)
 
 -- an input: its first line gives the settings
 pub record Given : Type 0 where

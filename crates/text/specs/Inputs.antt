@@ -4,10 +4,10 @@ use Rattle.settings.specs.declared.Settings.{Settings}
 use Rattle.text.specs.Text.{Bits, input_text}
 use Rattle.text.specs.Given.{coordinate, ReadMesh, Limits, Given}
 
--- bits of coordinates, x then y
-pub data Coords : List ℕ → Type 0 where
-  no_coords : Coords []
-  pair : {x y : ℕ} {bs : List ℕ} → x < 18446744073709551616 → y < 18446744073709551616 → Coords bs → Coords (x ∷ y ∷ bs)
+-- bits of coordinates, x then y, and a layer for each two
+pub data Points : (bs ls : List ℕ) → Type 0 where
+  no_points : Points [] []
+  point : {x y l : ℕ} {bs ls : List ℕ} → x < 18446744073709551616 → y < 18446744073709551616 → l ≤ 4294967295 → Points bs ls → Points (x ∷ y ∷ bs) (l ∷ ls)
 
 -- numbers that fit 32 bits
 pub data Small : List ℕ → Type 0 where
@@ -20,14 +20,18 @@ pub data Rises (ns : List ℕ) : ℕ → List ℕ → List ℕ → List ℕ → 
   cell : {n e k f m : ℕ} {es ks fs : List ℕ} → n ≤ e → e ≤ length ns → k ≤ 255 → f ≤ 4294967295 → Small (take (e - n) (drop n ns))
       → Rises ns e es ks fs m → Rises ns n (e ∷ es) (k ∷ ks) (f ∷ fs) m
 
--- a mesh that has a text of its own: whole pairs of bits, ends that rise to the last entry, numbers that fit
+-- a mesh that has a text of its own: whole pairs of bits, a layer for each, ends that rise to the last entry, numbers that fit
 pub record Fine (m : Bits) : Type 0 where
-  pub points : Coords m.coords
+  pub points : Points m.coords m.layers
   pub rises : Rises m.nodes 0 m.ends m.kinds m.families (length m.nodes)
 
 -- what is read of it
 unfoldable pub read : Bits → ReadMesh
-read m = record { coords = map coordinate m.coords; cells = record { nodes = m.nodes; ends = m.ends; kinds = m.kinds; families = m.families } }
+read m =
+    record {
+      points = record { coords = map coordinate m.coords; layers = m.layers };
+      cells = record { nodes = m.nodes; ends = m.ends; kinds = m.kinds; families = m.families };
+    }
 
 pub record Within (l : Limits) (m : Bits) : Type 0 where
   pub nodes : length m.coords ≤ 2 * l.nodes

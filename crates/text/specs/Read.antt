@@ -2,7 +2,7 @@
 -- Assumes nothing.
 use Rattle.std.specs.Prelude.{ℕ, zero, suc, ◌+◌, ◌-◌, ◌*◌, cond, List, [], ◌∷◌, ◌++◌, length, ltb, leb, eqb, Float, Option, None, Some}
 use Rattle.settings.specs.declared.Settings.{Settings}
-use Rattle.text.specs.Given.{Parsed, coordinate, Cells, ReadMesh, Limits, Given}
+use Rattle.text.specs.Given.{Parsed, coordinate, Nodes, Cells, ReadMesh, Limits, Given}
 use Rattle.text.specs.Text.{node_word, cell_word, mesh_word, overlay_word, space, newline, close}
 
 -- what follows a word, where it stands there
@@ -59,19 +59,27 @@ repeated w f zero a t = Some (a, t)
 repeated w f (suc k) a t = if_word (word_from w t) (λ t₁. and_then (f a t₁) (λ a₁ t₂. repeated w f k a₁ t₂)) (Some (a, t))
 
 -- a node line after its word
-unfoldable pub node_from : List ℕ → Parsed (List Float)
+unfoldable pub node_from : List ℕ → Parsed Nodes
 node_from t =
     and_then (hex_from 16 0 t)
     (λ x t₁. after_word (word_from space t₁)
     (λ t₂. and_then (hex_from 16 0 t₂)
-    (λ y t₃. after_word (word_from close t₃)
-    (λ t₄. Some (coordinate x ∷ coordinate y ∷ [], t₄)))))
+    (λ y t₃. after_word (word_from space t₃)
+    (λ t₄. and_then (decimal_from t₄)
+    (λ l t₅. after_word (word_from close t₅)
+    (λ t₆. Some (record { coords = coordinate x ∷ coordinate y ∷ []; layers = l ∷ [] }, t₆)))))))
 
-unfoldable pub node_step : List Float → List ℕ → Parsed (List Float)
-node_step cs t = and_then (node_from t) (λ p t₁. Some (cs ++ p, t₁))
+unfoldable pub add_node : Nodes → Nodes → Nodes
+add_node ns n = record { coords = ns.coords ++ n.coords; layers = ns.layers ++ n.layers }
 
-unfoldable pub nodes_from : ℕ → List Float → List ℕ → Parsed (List Float)
-nodes_from k cs t = repeated node_word node_step k cs t
+unfoldable pub node_step : Nodes → List ℕ → Parsed Nodes
+node_step ns t = and_then (node_from t) (λ n t₁. Some (add_node ns n, t₁))
+
+unfoldable pub nodes_from : ℕ → Nodes → List ℕ → Parsed Nodes
+nodes_from k ns t = repeated node_word node_step k ns t
+
+abbrev pub no_nodes : Nodes
+no_nodes = record { coords = []; layers = [] }
 
 unfoldable pub entry_step : List ℕ → List ℕ → Parsed (List ℕ)
 entry_step ns t = and_then (decimal_from t) (λ n t₁. Some (ns ++ (n ∷ []), t₁))
@@ -124,10 +132,10 @@ empty = record { nodes = []; ends = []; kinds = []; families = [] }
 unfoldable pub mesh_from : Limits → List ℕ → Parsed ReadMesh
 mesh_from l t =
     after_word (word_from mesh_word t)
-    (λ t₁. and_then (nodes_from l.nodes [] t₁)
-    (λ cs t₂. and_then (cells_from l.entries l.cells empty t₂)
+    (λ t₁. and_then (nodes_from l.nodes no_nodes t₁)
+    (λ ns t₂. and_then (cells_from l.entries l.cells empty t₂)
     (λ cl t₃. after_word (word_from close t₃)
-    (λ t₄. Some (record { coords = cs; cells = cl }, t₄)))))
+    (λ t₄. Some (record { points = ns; cells = cl }, t₄)))))
 
 -- k, where a space follows M
 unfoldable pub grid_from : List ℕ → Parsed (Option ℕ)

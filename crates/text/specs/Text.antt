@@ -65,14 +65,16 @@ unfoldable pub hex : ℕ → List ℕ
 hex n = hex_to 16 n
 
 -- ---- lines
-unfoldable pub node_text : ℕ → ℕ → List ℕ
-node_text x y = node_word ++ (hex x ++ (space ++ (hex y ++ close)))
+-- W7: "node lines, read and printed, carry it in decimal after y", the layer
+unfoldable pub node_text : ℕ → ℕ → ℕ → List ℕ
+node_text x y l = node_word ++ (hex x ++ (space ++ (hex y ++ (space ++ (decimal l ++ close)))))
 
--- the node lines of coordinates' bits
-unfoldable pub nodes_text : List ℕ → List ℕ
-nodes_text [] = []
-nodes_text (x ∷ []) = []
-nodes_text (x ∷ y ∷ bs) = node_text x y ++ nodes_text bs
+-- the node lines of coordinates' bits and of layers, as many as both have
+unfoldable pub nodes_text : (bs ls : List ℕ) → List ℕ
+nodes_text [] ls = []
+nodes_text (x ∷ []) ls = []
+nodes_text (x ∷ y ∷ bs) [] = []
+nodes_text (x ∷ y ∷ bs) (l ∷ ls) = node_text x y l ++ nodes_text bs ls
 
 unfoldable pub numbers_text : List ℕ → List ℕ
 numbers_text [] = []
@@ -91,13 +93,14 @@ cells_text start ns (e ∷ es) (k ∷ ks) (f ∷ fs) = cell_text k f (take (e - 
 -- ---- a mesh and an input
 pub record Bits : Type 0 where
   pub coords : List ℕ
+  pub layers : List ℕ
   pub nodes : List ℕ
   pub ends : List ℕ
   pub kinds : List ℕ
   pub families : List ℕ
 
 unfoldable pub body_text : Bits → List ℕ
-body_text m = nodes_text m.coords ++ cells_text 0 m.nodes m.ends m.kinds m.families
+body_text m = nodes_text m.coords m.layers ++ cells_text 0 m.nodes m.ends m.kinds m.families
 
 unfoldable pub mesh_text : Bits → List ℕ
 mesh_text m = mesh_word ++ (body_text m ++ close)
@@ -144,9 +147,9 @@ piece_lines start ns (e ∷ es) (k ∷ ks) (f ∷ fs) (m ∷ ms) (i ∷ is) =
 unfoldable pub count_text : ℕ → ℕ → ℕ → List ℕ
 count_text pieces points doubled = count_word ++ (decimal pieces ++ (space ++ (decimal points ++ (space ++ (decimal doubled ++ close)))))
 
--- the bits of all coordinates, the pieces, the counts
-unfoldable pub listing_text : List ℕ → List PieceLine → ℕ → ℕ → ℕ → List ℕ
-listing_text bs ps pieces points doubled = listing_word ++ (nodes_text bs ++ (pieces_text ps ++ (count_text pieces points doubled ++ close)))
+-- the bits of all coordinates and the layers, the pieces, the counts
+unfoldable pub listing_text : (bs ls : List ℕ) → List PieceLine → ℕ → ℕ → ℕ → List ℕ
+listing_text bs ls ps pieces points doubled = listing_word ++ (nodes_text bs ls ++ (pieces_text ps ++ (count_text pieces points doubled ++ close)))
 
 unfoldable pub refused_text : ℕ → List ℕ
 refused_text n = refused_word ++ (decimal n ++ close)
@@ -155,9 +158,9 @@ refused_text n = refused_word ++ (decimal n ++ close)
 pub data Answer : Type 0 where
   unread : Answer
   refused : ℕ → Answer
-  overlay : List ℕ → List PieceLine → ℕ → ℕ → ℕ → Answer
+  overlay : (bs ls : List ℕ) → List PieceLine → ℕ → ℕ → ℕ → Answer
 
 unfoldable pub answer_text : Answer → List ℕ
 answer_text unread = unread_text
 answer_text (refused n) = refused_text n
-answer_text (overlay bs ps pieces points doubled) = listing_text bs ps pieces points doubled
+answer_text (overlay bs ls ps pieces points doubled) = listing_text bs ls ps pieces points doubled

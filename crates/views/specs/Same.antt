@@ -6,6 +6,7 @@ use Rattle.views.specs.declared.OutputView.{OutputView}
 
 pub record SameLists (l m : OutputView) : Type 0 where
   pub coords : SameList l.coords m.coords
+  pub layers : SameList l.layers m.layers
   pub nodes : SameList l.nodes m.nodes
   pub ends : SameList l.ends m.ends
   pub kinds : SameList l.kinds m.kinds
@@ -16,6 +17,7 @@ pub record SameLists (l m : OutputView) : Type 0 where
 -- where l is cleared it is m
 pub record Cleared (l m : OutputView) : Type 0 where
   pub coords : m.coords.now ≡ fzeros (length l.coords.now)
+  pub layers : m.layers.now ≡ zeros (length l.layers.now)
   pub nodes : m.nodes.now ≡ zeros (length l.nodes.now)
   pub ends : m.ends.now ≡ zeros (length l.ends.now)
   pub kinds : m.kinds.now ≡ zeros (length l.kinds.now)

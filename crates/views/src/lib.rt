@@ -4,10 +4,11 @@
 ghost use Rattle.std.specs.Prelude.{◌≡◌};
 ghost use Rattle.views.specs.Same.{SameLists, Cleared};
 
-// A mesh as read: coordinates (x then y), node numbers (flat), cell ends, kinds, families.
+// A mesh as read: coordinates (x then y), each node's layer, node numbers (flat), cell ends, kinds, families.
 #[derive(Clone, Copy)]
 pub struct MeshView<'a> {
     pub coords: &'a [f64],
+    pub layers: &'a [u32],
     pub nodes: &'a [u32],
     pub ends: &'a [u32],
     pub kinds: &'a [u8],
@@ -19,6 +20,7 @@ pub struct MeshView<'a> {
 #[derive(Drop)]
 pub struct OutputView<'a> {
     pub coords: &'a mut [f64],
+    pub layers: &'a mut [u32],
     pub nodes: &'a mut [u32],
     pub ends: &'a mut [u32],
     pub kinds: &'a mut [u8],
@@ -27,18 +29,21 @@ pub struct OutputView<'a> {
     pub cells: &'a mut [u32],
 }
 
-// A mesh of five lists, which C hands over one by one.
+// A mesh of six lists, which C hands over one by one.
 pub fn view<'a>(
     coords: &'a [f64],
+    layers: &'a [u32],
     nodes: &'a [u32],
     ends: &'a [u32],
     kinds: &'a [u8],
     families: &'a [u32],
 ) -> MeshView<'a>
-    ensures { (result.coords ≡ coords.entry) × (result.nodes ≡ nodes.entry) × (result.ends ≡ ends.entry) × (result.kinds ≡ kinds.entry) × (result.families ≡ families.entry) }
+    ensures { (result.coords ≡ coords.entry) × (result.layers ≡ layers.entry) × (result.nodes ≡ nodes.entry) × (result.ends ≡ ends.entry) × (result.kinds ≡ kinds.entry)
+        × (result.families ≡ families.entry) }
 {
     MeshView {
         coords,
+        layers,
         nodes,
         ends,
         kinds,
@@ -46,9 +51,10 @@ pub fn view<'a>(
     }
 }
 
-// An output of seven lists: it stands for the public interface, beside `view`. overlay_c writes the fields by name: over this call its proof didn't close.
+// An output of eight lists: it stands for the public interface, beside `view`. overlay_c writes the fields by name: over this call its proof didn't close.
 pub fn output<'a>(
     coords: &'a mut [f64],
+    layers: &'a mut [u32],
     nodes: &'a mut [u32],
     ends: &'a mut [u32],
     kinds: &'a mut [u8],
@@ -56,11 +62,12 @@ pub fn output<'a>(
     meshes: &'a mut [u32],
     cells: &'a mut [u32],
 ) -> OutputView<'a>
-    ensures { (result.coords ≡ coords.entry) × (result.nodes ≡ nodes.entry) × (result.ends ≡ ends.entry) × (result.kinds ≡ kinds.entry)
+    ensures { (result.coords ≡ coords.entry) × (result.layers ≡ layers.entry) × (result.nodes ≡ nodes.entry) × (result.ends ≡ ends.entry) × (result.kinds ≡ kinds.entry)
         × (result.families ≡ families.entry) × (result.meshes ≡ meshes.entry) × (result.cells ≡ cells.entry) }
 {
     OutputView {
         coords,
+        layers,
         nodes,
         ends,
         kinds,
@@ -77,6 +84,7 @@ impl OutputView<'_> {
         ensures same_lists { SameLists self.new self.old }
     {
         self.coords.fill(0.0);
+        self.layers.fill(0);
         self.nodes.fill(0);
         self.ends.fill(0);
         self.kinds.fill(0);
