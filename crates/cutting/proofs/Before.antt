@@ -10,6 +10,7 @@ use borrow.Author.Tests.{eq-eqb, ne_eqb}
 use Rattle.lists.specs.Search.{bit}
 use Rattle.lists.specs.Gather.{tally, passing, joined}
 use Rattle.lists.specs.Sort.{sorted}
+use Rattle.cutting.specs.Edition.{Edition}
 use Rattle.cutting.specs.Edges.{Edge, key, hops, ring, hit, times}
 use Rattle.cutting.specs.Cell.{Laid, near_darts, among, repeats, edge_slots, table, names, is_new, new_to, unless_outline, inner, inner_with}
 use Rattle.cutting.specs.declared.Slot.{Slot}
@@ -113,13 +114,13 @@ module _ (coords : List Float) (outline : List Edge) (near : List Laid) (clean :
   table_kept = ap (λ (es : List Edge). sorted (stands_before coords) (table outline es)) inner_kept
 
   -- and so are its pieces, or its refusal, whether a walk may turn back or not
-  pub outcome_kept : (turning grids : Bool) → cut_outcome_with (record { turning = turning; once = true; grids = grids }) outline (cell_table coords outline near)
-      ≡ cut_outcome_with (record { turning = turning; once = false; grids = grids }) outline (cell_table_with false coords outline near)
+  pub outcome_kept : (turning grids layers : Bool) → let by : Bool → Edition = λ once. record { turning = turning; once = once; grids = grids; layers = layers } in
+      cut_outcome_with (by true) outline (cell_table coords outline near) ≡ cut_outcome_with (by false) outline (cell_table_with false coords outline near)
   unfolding cut_outcome_with
-  outcome_kept turning grids =
+  outcome_kept turning grids layers =
       let t = cell_table_with false coords outline near in
       let walked : Bool → Outcome = λ unasked. cond (too_many (length t)) (refusal 10) (after_walk outline unasked (of_walk (walk_with turning outline t))) in
-      ap (cut_outcome_with (record { turning = turning; once = true; grids = grids }) outline) table_kept
+      ap (cut_outcome_with (record { turning = turning; once = true; grids = grids; layers = layers }) outline) table_kept
       ∙ ap (λ (b : Bool). cond b (refusal 19) (walked false)) outline_once ∙ sym (ap walked clean)
 
 -- a copied cell too

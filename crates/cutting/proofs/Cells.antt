@@ -111,7 +111,7 @@ module _ (turning : Bool) (coords : List Float) (outline : List Edge) (near : Li
     test_passes e = closes_test outline ps (closes_up_lem e).edges
 
   -- the outcome without the test is the same
-  pub without_test : cut_outcome_with (record { turning = turning; once = true; grids = true }) outline (cell_table coords outline near)
+  pub without_test : cut_outcome_with (record { turning = turning; once = true; grids = true; layers = true }) outline (cell_table coords outline near)
       ≡ cond (repeats outline) (refusal 19) (cond (too_many (length (cell_table coords outline near))) (refusal 10)
       (of_walk (walk_with turning outline (cell_table coords outline near))))
   unfolding cut_outcome_with
@@ -131,7 +131,7 @@ module _ (turning : Bool) (coords : List Float) (outline : List Edge) (near : Li
       by false f = ap (λ (x : Outcome). cond (too_many (length (cell_table coords outline near))) (refusal 10) x)
           (go f (walk_with turning outline (cell_table coords outline near)) refl)
 
-  pub accepted_closes_up : (ps : List (List ℕ)) → cut_outcome_with (record { turning = turning; once = true; grids = true }) outline (cell_table coords outline near) ≡ pieces
+  pub accepted_closes_up : (ps : List (List ℕ)) → cut_outcome_with (record { turning = turning; once = true; grids = true; layers = true }) outline (cell_table coords outline near) ≡ pieces
       ps → ClosesUp coords outline ps
   accepted_closes_up ps e = by (repeats outline) refl (sym without_test ∙ e)
     where
@@ -171,7 +171,7 @@ round_closes coords outline near round =
 
 -- an outline that gives pieces doesn't repeat
 pub accepted_once : (turning : Bool) (outline : List Edge) (t : List Slot) (ps : List (List ℕ))
-    → cut_outcome_with (record { turning = turning; once = true; grids = true }) outline t ≡ pieces ps → repeats outline ≡ false
+    → cut_outcome_with (record { turning = turning; once = true; grids = true; layers = true }) outline t ≡ pieces ps → repeats outline ≡ false
 unfolding cut_outcome_with
 accepted_once turning outline t ps e = go (repeats outline) refl e
   where

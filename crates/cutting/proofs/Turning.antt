@@ -74,11 +74,11 @@ module _ (outline : List Edge) (t : List Slot) where
   walk_agrees = steps_agree _ _ _ _ _
 
   -- A cell that isn't refused 11 without a turn back comes to the same with it.
-  pub outcome_turned : (once grids : Bool)
-      → let by : Bool → Outcome = λ turning. cut_outcome_with (record { turning = turning; once = once; grids = grids }) outline t in
+  pub outcome_turned : (once grids layers : Bool)
+      → let by : Bool → Outcome = λ turning. cut_outcome_with (record { turning = turning; once = once; grids = grids; layers = layers }) outline t in
       (by false ≡ refusal 11) ⊎ (by true ≡ by false)
   unfolding cut_outcome_with
-  outcome_turned once grids = go (once && repeats outline) (too_many (length t)) (walk_with false outline t) (walk_with true outline t) walk_agrees
+  outcome_turned once grids layers = go (once && repeats outline) (too_many (length t)) (walk_with false outline t) (walk_with true outline t) walk_agrees
     where
       by : Bool → Bool → Next → Outcome
       by x b u = cond x (refusal 19) (cond b (refusal 10) (after_walk outline (not once && doubled t) (of_walk u)))

@@ -42,30 +42,33 @@ passes_at p xs i d h l = go (p (get_or xs i d)) refl
 
 pub shape_parts : (m : Mesh) → shape_ok m ≡ true
     → (length m.coords % 2 ≡ 0) × (ends_ok m.ends (length m.nodes) ≡ true) × (length m.kinds ≡ length m.ends) × (length m.families ≡ length m.ends)
-    × (node_count m ≤ 16384) × (length m.ends ≤ 16384) × (length m.nodes ≤ 65536)
+    × (length m.layers ≡ node_count m) × (node_count m ≤ 16384) × (length m.ends ≤ 16384) × (length m.nodes ≤ 65536)
 unfolding shape_ok
 shape_parts m h =
     let p = parts (eqb (length m.coords % 2) 0) (ends_ok m.ends (length m.nodes)) (eqb (length m.kinds) (length m.ends))
-    (eqb (length m.families) (length m.ends))
+    (eqb (length m.families) (length m.ends)) (eqb (length m.layers) (node_count m))
     (leb (node_count m) 16384) (leb (length m.ends) 16384) (leb (length m.nodes) 65536) h in (
       eqb-true (length m.coords % 2) 0 p.0,
       p.1,
       eqb-true (length m.kinds) (length m.ends) p.2,
       eqb-true (length m.families) (length m.ends) p.3,
-      leb-true (node_count m) 16384 p.4,
-      leb-true (length m.ends) 16384 p.5,
-      leb-true (length m.nodes) 65536 p.6,
+      eqb-true (length m.layers) (node_count m) p.4,
+      leb-true (node_count m) 16384 p.5,
+      leb-true (length m.ends) 16384 p.6,
+      leb-true (length m.nodes) 65536 p.7,
     )
   where
-    parts : (a b c d e f g : Bool) → a && b && c && d && e && f && g ≡ true → (a ≡ true) × (b ≡ true) × (c ≡ true) × (d ≡ true) × (e ≡ true) × (f ≡ true) × (g ≡ true)
-    parts a b c d e f g h =
-        let p = and_true (a && b && c && d && e && f) g h in
+    parts : (a b c d e f g h : Bool) → a && b && c && d && e && f && g && h ≡ true
+        → (a ≡ true) × (b ≡ true) × (c ≡ true) × (d ≡ true) × (e ≡ true) × (f ≡ true) × (g ≡ true) × (h ≡ true)
+    parts a b c d e f g h all =
+        let o = and_true (a && b && c && d && e && f && g) h all in
+        let p = and_true (a && b && c && d && e && f) g o.0 in
         let q = and_true (a && b && c && d && e) f p.0 in
         let r = and_true (a && b && c && d) e q.0 in
         let s = and_true (a && b && c) d r.0 in
         let t = and_true (a && b) c s.0 in
         let u = and_true a b t.0 in
-        (u.0, u.1, t.1, s.1, r.1, q.1, p.1)
+        (u.0, u.1, t.1, s.1, r.1, q.1, p.1, o.1)
 
 -- ---- 3
 
@@ -169,9 +172,10 @@ module _ (lines : Bool) (m : Mesh) (shape : shape_ok m ≡ true) (coords : coord
         last = end_last m.ends (length m.nodes) p.1;
         kinds_long = p.2;
         families_long = p.3;
-        most_nodes = p.4;
-        most_cells = p.5;
-        most_entries = p.6;
+        layers_long = p.4;
+        most_nodes = p.5;
+        most_cells = p.6;
+        most_entries = p.7;
         placed = λ i h. placed_of (get_or m.coords i nan) (coord_at i h);
         kinds_rise = λ i h. (kind_at i h).0;
         line_kind = λ i h e. line_kind_lem (get_or m.kinds i 0) (cell_size m.ends i)

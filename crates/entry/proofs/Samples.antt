@@ -34,9 +34,9 @@ one = of_bits binary64 0x3ff0_0000_0000_0000
 abbrev minus : Float
 minus = of_bits binary64 0x8000_0000_0000_0000
 
--- four corners and one more node, with these cells
+-- four corners and one more node, above one of them, with these cells
 abbrev of : List ℕ → List ℕ → List ℕ → List ℕ → Mesh
-of = mesh (zero ∷ zero ∷ one ∷ zero ∷ one ∷ one ∷ zero ∷ one ∷ one ∷ one ∷ [])
+of = mesh (zero ∷ zero ∷ one ∷ zero ∷ one ∷ one ∷ zero ∷ one ∷ one ∷ one ∷ []) (0 ∷ 4294967295 ∷ 0 ∷ 0 ∷ 1 ∷ [])
 
 abbrev quad : Mesh
 quad = of (0 ∷ 1 ∷ 2 ∷ 3 ∷ []) (4 ∷ []) (8 ∷ []) (7 ∷ [])
@@ -45,7 +45,7 @@ abbrev line : Mesh
 line = of (0 ∷ 2 ∷ []) (2 ∷ []) (1 ∷ []) (7 ∷ [])
 
 abbrev none : Mesh
-none = mesh [] [] [] [] []
+none = mesh [] [] [] [] [] []
 
 -- an operation and a meeting limit, and a grid
 abbrev set : ℕ → ℕ → Settings
@@ -66,19 +66,22 @@ pub meshes : map subject
     ∷ none
     ∷ of [] [] [] []
     ∷ of (0 ∷ 1 ∷ 2 ∷ 0 ∷ 1 ∷ 2 ∷ 3 ∷ []) (3 ∷ 7 ∷ []) (5 ∷ 8 ∷ []) (7 ∷ 7 ∷ [])
-    ∷ mesh (zero ∷ []) [] [] [] []
+    ∷ mesh (zero ∷ []) [] [] [] [] []
+    ∷ mesh (minus ∷ zero ∷ []) [] [] [] [] []
+    ∷ mesh (minus ∷ zero ∷ []) (0 ∷ 0 ∷ []) [] [] [] []
+    ∷ mesh [] (0 ∷ []) [] [] [] []
     ∷ of (0 ∷ 1 ∷ 2 ∷ 3 ∷ []) [] [] []
     ∷ of (0 ∷ 1 ∷ 2 ∷ 3 ∷ []) (0 ∷ 4 ∷ []) (8 ∷ 8 ∷ []) (7 ∷ 7 ∷ [])
     ∷ of (0 ∷ 1 ∷ 2 ∷ 3 ∷ []) (4 ∷ 4 ∷ []) (8 ∷ 8 ∷ []) (7 ∷ 7 ∷ [])
     ∷ of (0 ∷ 1 ∷ 2 ∷ 3 ∷ []) (3 ∷ []) (5 ∷ []) (7 ∷ [])
     ∷ of (0 ∷ 1 ∷ 2 ∷ 3 ∷ []) (4 ∷ []) (8 ∷ 8 ∷ []) (7 ∷ [])
     ∷ of (0 ∷ 1 ∷ 2 ∷ 3 ∷ []) (4 ∷ []) (8 ∷ []) []
-    ∷ mesh (minus ∷ zero ∷ []) [] [] [] []
+    ∷ mesh (minus ∷ zero ∷ []) (0 ∷ []) [] [] [] []
     ∷ of (0 ∷ 1 ∷ 2 ∷ 3 ∷ 0 ∷ 1 ∷ 2 ∷ []) (4 ∷ 7 ∷ []) (8 ∷ 5 ∷ []) (7 ∷ 7 ∷ [])
     ∷ line
     ∷ of (0 ∷ 1 ∷ 2 ∷ 5 ∷ []) (4 ∷ []) (8 ∷ []) (7 ∷ [])
     ∷ of (0 ∷ 1 ∷ 2 ∷ 0 ∷ []) (4 ∷ []) (8 ∷ []) (7 ∷ [])
-    ∷ []) ≡ 0 ∷ 0 ∷ 0 ∷ 0 ∷ 2 ∷ 2 ∷ 2 ∷ 2 ∷ 2 ∷ 2 ∷ 2 ∷ 3 ∷ 4 ∷ 4 ∷ 5 ∷ 6 ∷ []
+    ∷ []) ≡ 0 ∷ 0 ∷ 0 ∷ 0 ∷ 2 ∷ 2 ∷ 2 ∷ 2 ∷ 2 ∷ 2 ∷ 2 ∷ 2 ∷ 2 ∷ 2 ∷ 3 ∷ 4 ∷ 4 ∷ 5 ∷ 6 ∷ []
 unfolding every run prior call_ok grid_ok ends_ok shape_ok coord_ok coords_ok kind_ok kinds_ok nodes_ok absent cell_ok cells_ok work_ok entry_of of_bits
 meshes = refl
 
@@ -87,8 +90,8 @@ pub calls : (entry_of (set 5 1) quad line 1000 ≡ 0) × (entry_of (set 5 65536)
     × (entry_of (set 6 9) quad quad 10000 ≡ 1) × (entry_of (set 0 0) quad quad 10000 ≡ 1) × (entry_of (set 0 65537) quad quad 10000000 ≡ 1)
     × (entry_of (set 5 9) quad quad 10000 ≡ 4) × (cutter line ≡ 4) × (entry_of (set 5 9) line line 10000 ≡ 4)
     × (entry_of (set 0 9) (of (0 ∷ 1 ∷ 2 ∷ 0 ∷ []) (4 ∷ []) (8 ∷ []) (7 ∷ [])) line 0 ≡ 4)
-    × (entry_of (set 0 9) line (mesh (minus ∷ zero ∷ []) [] [] [] []) 0 ≡ 3)
+    × (entry_of (set 0 9) line (mesh (minus ∷ zero ∷ []) (0 ∷ []) [] [] [] []) 0 ≡ 3)
     × (entry_of (on_grid 0 9 0) quad quad 10000 ≡ 0) × (entry_of (on_grid 0 9 10) quad quad 10000 ≡ 0) × (entry_of (on_grid 0 9 11) quad quad 10000 ≡ 13)
-    × (entry_of (on_grid 6 9 11) quad quad 10000 ≡ 1) × (entry_of (on_grid 0 9 4294967295) (mesh (zero ∷ []) [] [] [] []) quad 0 ≡ 13)
+    × (entry_of (on_grid 6 9 11) quad quad 10000 ≡ 1) × (entry_of (on_grid 0 9 4294967295) (mesh (zero ∷ []) [] [] [] [] []) quad 0 ≡ 13)
 unfolding every run prior call_ok grid_ok ends_ok shape_ok coord_ok coords_ok kind_ok kinds_ok nodes_ok absent cell_ok cells_ok work_ok entry_of of_bits
 calls = (refl, refl, refl, refl, refl, refl, refl, refl, refl, refl, refl, refl, refl, refl, refl, refl)

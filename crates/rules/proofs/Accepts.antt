@@ -23,16 +23,16 @@ use Rattle.rules.specs.Nodes.{crowded}
 use Rattle.rules.specs.Cell.{near_of, treated_by, treated, outcome_with, cell_of}
 use Rattle.rules.specs.Operations.{cuts, scene_for, kept_with, over_cells, Piece, outcome_pieces}
 use Rattle.rules.specs.Refusals.{Event, meeting, point, piece, stop, of_meeting, of_cell, course_with, first_refusal}
-use Rattle.rules.specs.Overlay.{Lists, Result, answered_with, state_with, seen_by, overlay_with}
+use Rattle.rules.specs.Overlay.{Lists, Result, answered_with, state_with, seen_by, mesh_seen, lists_seen, overlay_with}
 use Rattle.rules.specs.Demand3.{AcceptedWith}
 use Rattle.rules.proofs.Endings.{Ending, input, state_met, success, ending, input_refused, state_refused, succeeds}
 
 -- ---- an accepted overlay gives the answer, and its state no refusal
 
 pub record Taken (v : Edition) (o : Settings) (s c : Mesh) (l : Lists) : Type 0 where
-  pub entry : entry_of (seen_by v o) s c (length l.work) ≡ 0
-  pub answer : overlay_with v o s c l ≡ answered_with v (seen_by v o) s c l
-  pub state : state_with v (seen_by v o) s c l ≡ 0
+  pub entry : entry_of (seen_by v o) (mesh_seen v s) (mesh_seen v c) (length (lists_seen v l).work) ≡ 0
+  pub answer : overlay_with v o s c l ≡ answered_with v (seen_by v o) (mesh_seen v s) (mesh_seen v c) (lists_seen v l)
+  pub state : state_with v (seen_by v o) (mesh_seen v s) (mesh_seen v c) (lists_seen v l) ≡ 0
 
 pub accepted : (v : Edition) (o : Settings) (s c : Mesh) (l : Lists) → AcceptedWith v o s c l → Taken v o s c l
 accepted v o s c l h = go (ending v o s c l)

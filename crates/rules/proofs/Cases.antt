@@ -1,7 +1,7 @@
 -- The cases K1 to K10 of document 01, the limits named behind them, and what it is tempting to get wrong, as one table and one theorem. Assumes nothing.
 use mathlib.Core.Bool.{Bool, true, false}
 use mathlib.Core.List.{List, [], ◌∷◌, ◌++◌, map}
-use Prim.Native.Nat.{ℕ, ◌+◌, ◌*◌, ◌^◌}
+use Prim.Native.Nat.{ℕ, ◌+◌, ◌*◌, ◌/◌, ◌^◌}
 use lib.Dec.{T, eqb}
 use lib.ListN.{replicate}
 use lib.IntN.{ℤ, pos, negsuc}
@@ -34,7 +34,7 @@ use Rattle.rules.specs.Operations.{pieces_of}
 use Rattle.rules.specs.Overlay.{Lists, Result, result_of, overlay_with, overlay_of}
 use Rattle.rules.specs.Forward.{forward_on, forward_cell}
 use Rattle.rules.specs.Demand3.{set_on}
-use Rattle.rules.proofs.Tables.{Case, asked, case, lent, on_lists, floats, both, same, right_by}
+use Rattle.rules.proofs.Tables.{Case, asked, case, lent, on_lists, layered, with_layers, floats, both, same, right_by}
 use Rattle.plane.specs.declared.Point.{Point}
 use Rattle.segments.specs.declared.Segment.{Segment}
 
@@ -182,7 +182,7 @@ lines k =
 -- lists with 5 in each place and 2.0 for each coordinate; and all zero
 abbrev fives : ℕ → ℕ → ℕ → ℕ → ℕ → ℕ → ℕ → ℕ → Lists
 fives c n e k f m j w =
-    on_lists (replicate c ii) (replicate n 5) (replicate e 5) (replicate k 5) (replicate f 5) (replicate m 5) (replicate j 5) (replicate w 5)
+    with_layers (replicate (c / 2) 5) (on_lists (replicate c ii) (replicate n 5) (replicate e 5) (replicate k 5) (replicate f 5) (replicate m 5) (replicate j 5) (replicate w 5))
 
 abbrev noughts : ℕ → ℕ → ℕ → ℕ → ℕ → ℕ → ℕ → ℕ → Lists
 noughts c n e k f m j w =
@@ -236,7 +236,7 @@ rows =
     (3 ∷ 7 ∷ 6 ∷ 2 ∷ 6 ∷ 7 ∷ 0 ∷ 1 ∷ []) (4 ∷ 8 ∷ []) (11 ∷ 11 ∷ []) (0 ∷ 0 ∷ []) (0 ∷ 0 ∷ []) (0 ∷ 0 ∷ []) (replicate 500 0))))
     -- a grid finer than 1/1,024 is refused; before W6 no overlay had one
     ∷ overlay (asked (set_on (Some 11) 0 2) square strip (fives 20 8 2 2 2 2 2 352) (refused 13 (fives 20 8 2 2 2 2 2 352)))
-    ∷ set_to (record { turning = true; once = true; grids = false }) (asked (set_on (Some 11) 0 2) square strip (fives 20 8 2 2 2 2 2 352) (result_of 0 2 2 0 2
+    ∷ set_to (record { turning = true; once = true; grids = false; layers = true }) (asked (set_on (Some 11) 0 2) square strip (fives 20 8 2 2 2 2 2 352) (result_of 0 2 2 0 2
     (on_lists cut_coords (3 ∷ 0 ∷ 8 ∷ 9 ∷ 9 ∷ 8 ∷ 1 ∷ 2 ∷ []) (4 ∷ 8 ∷ []) (11 ∷ 11 ∷ []) (7 ∷ 7 ∷ []) (0 ∷ 0 ∷ []) (0 ∷ 0 ∷ []) (replicate 352 0))))
     -- with a grid a key's first node is put first and its other entries are dropped, as its second node's are
     ∷ nodes_along None (o ∷ o ∷ ii ∷ o ∷ -i ∷ o ∷ i ∷ o ∷ []) (0, 1) (1 ∷ 2 ∷ 0 ∷ 3 ∷ []) (2 ∷ 0 ∷ 3 ∷ 1 ∷ [])
@@ -254,6 +254,20 @@ rows =
     ∷ weld_of square nearby (4 ∷ 0 ∷ 6 ∷ [])
     ∷ weld_of square unnamed (4 ∷ 5 ∷ 6 ∷ 7 ∷ [])
     ∷ weld_of unnamed square (4 ∷ 5 ∷ 6 ∷ 7 ∷ [])
+    -- W7: a node is welded to one of its own layer alone, though one of another is nearer, or at its place
+    ∷ weld_of (layered (3 ∷ 0 ∷ 0 ∷ 0 ∷ []) square) nearby (4 ∷ 5 ∷ 6 ∷ [])
+    ∷ weld_of (layered (3 ∷ 0 ∷ 0 ∷ 0 ∷ []) square) (layered (3 ∷ 3 ∷ 3 ∷ []) nearby) (4 ∷ 0 ∷ 6 ∷ [])
+    ∷ weld_of nearby nearby (0 ∷ 1 ∷ 2 ∷ [])
+    ∷ weld_of (layered (1 ∷ 0 ∷ 0 ∷ []) nearby) nearby (1 ∷ 1 ∷ 2 ∷ [])
+    -- edges of different layers meet; a new point takes the layer of the subject edge's first node, and each node's layer is listed
+    ∷ overlay (case 0 2 (layered (7 ∷ 8 ∷ 9 ∷ 6 ∷ []) square) (layered (1 ∷ 2 ∷ 3 ∷ 4294967295 ∷ []) strip) (with_layers (replicate 11 5) (fives 20 8 2 2 2 2 2 352))
+    (result_of 0 2 2 0 2 (with_layers (7 ∷ 8 ∷ 9 ∷ 6 ∷ 1 ∷ 2 ∷ 3 ∷ 4294967295 ∷ 7 ∷ 9 ∷ 5 ∷ [])
+    (on_lists cut_coords (3 ∷ 0 ∷ 8 ∷ 9 ∷ 9 ∷ 8 ∷ 1 ∷ 2 ∷ []) (4 ∷ 8 ∷ []) (11 ∷ 11 ∷ []) (7 ∷ 7 ∷ []) (0 ∷ 0 ∷ []) (0 ∷ 0 ∷ []) (replicate 352 0)))))
+    -- a layer less than there are nodes is refused, and so is an output with a place less; before W7 there were no layers
+    ∷ overlay (case 0 2 (layered (0 ∷ 0 ∷ 0 ∷ []) square) strip (fives 20 8 2 2 2 2 2 352) (refused 2 (fives 20 8 2 2 2 2 2 352)))
+    ∷ overlay (case 0 2 square strip (with_layers (replicate 9 5) (fives 20 8 2 2 2 2 2 352)) (refused 12 (with_layers (replicate 9 0) (noughts 20 8 2 2 2 2 2 352))))
+    ∷ set_to base (case 0 2 (layered (7 ∷ 8 ∷ 9 ∷ []) square) strip (with_layers [] (fives 20 8 2 2 2 2 2 352)) (result_of 0 2 2 0 2
+    (on_lists cut_coords (3 ∷ 0 ∷ 8 ∷ 9 ∷ 9 ∷ 8 ∷ 1 ∷ 2 ∷ []) (4 ∷ 8 ∷ []) (11 ∷ 11 ∷ []) (7 ∷ 7 ∷ []) (0 ∷ 0 ∷ []) (0 ∷ 0 ∷ []) (replicate 352 0))))
     -- boxes that only touch meet
     ∷ near_box (o ∷ o ∷ i ∷ i ∷ i ∷ i ∷ ii ∷ ii ∷ []) (0, 1) (2, 3) (0 ∷ [])
     -- 256 nodes collected under an edge aren't too many, 257 are; overlays of so many stand below
@@ -330,7 +344,7 @@ rows =
     ∷ overlay (case 0 9 square welded (fives 14 6 1 1 1 1 1 500) (result_of 0 1 0 0 0 (on_lists
     (square_coords ++ 0x3d61_9799_812d_ea11 ∷ o ∷ o ∷ 0x3d61_9799_812d_ea11 ∷ i ∷ i ∷ []) (3 ∷ 0 ∷ 6 ∷ 0 ∷ 1 ∷ 2 ∷ []) (6 ∷ []) (11 ∷ []) (7 ∷ []) (0 ∷ []) (0 ∷ []) (replicate 500 0))))
     ∷ overlay (case 1 9 square welded (fives 14 6 1 1 1 1 1 500) (refused 19 (noughts 14 6 1 1 1 1 1 500)))
-    ∷ set_to (record { turning = true; once = false; grids = false }) (case 1 9 square welded (fives 14 9 3 3 3 3 3 500) (result_of 0 3 0 2 0 (on_lists
+    ∷ set_to (record { turning = true; once = false; grids = false; layers = true }) (case 1 9 square welded (fives 14 9 3 3 3 3 3 500) (result_of 0 3 0 2 0 (on_lists
     (square_coords ++ 0x3d61_9799_812d_ea11 ∷ o ∷ o ∷ 0x3d61_9799_812d_ea11 ∷ i ∷ i ∷ [])
     (3 ∷ 0 ∷ 6 ∷ 0 ∷ 1 ∷ 2 ∷ 0 ∷ 6 ∷ 0 ∷ []) (6 ∷ 8 ∷ 9 ∷ []) (11 ∷ 11 ∷ 11 ∷ []) (7 ∷ 3 ∷ 3 ∷ []) (0 ∷ 1 ∷ 1 ∷ []) (0 ∷ 0 ∷ 0 ∷ []) (replicate 500 0))))
     -- the limits, last since they take longest: 256 nodes on an edge pass, so that the next thing is that the first triangle has no place; 257 give 9

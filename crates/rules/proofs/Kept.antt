@@ -22,18 +22,29 @@ use Rattle.entry.specs.Mesh.{Mesh, node_count}
 use Rattle.entry.specs.Refused.{entry_of}
 use Rattle.rules.specs.Mesh.{Side, the_subject, the_cutter, other}
 use Rattle.rules.specs.Meetings.{Scene, net_of, added_by}
+use Rattle.rules.specs.Layers.{layers_of}
 use Rattle.rules.specs.Nodes.{crowded}
 use Rattle.rules.specs.Cell.{darts_of, near_edges, near_of, treated_by, treated, outcome_with, table_with, cell_of, kind_of}
 use Rattle.rules.specs.Operations.{cuts, keeps, scene_for, Piece, piece_with, kept_with, lies_inside, over_cells, listing_with, outcome_pieces, doubled_cells}
 use Rattle.rules.specs.Refusals.{Event, meeting, point, piece, stop, of_meeting, of_cell, course_with, first_refusal}
-use Rattle.rules.specs.Overlay.{Lists, Result, result_of, cleared, piece_room, written, named_points, answered_with, state_with, seen_by, overlay_with, overlay_of}
+use Rattle.rules.specs.Overlay.{Lists, Result, result_of, cleared, point_room, piece_room, written, named_points, answered_with, state_with, seen_by, overlay_with, overlay_of}
 use Rattle.rules.specs.Demand3.{AcceptedWith}
 use Rattle.rules.proofs.Endings.{told, overlay_told, Ending, input, state_met, success, ending, input_refused, state_refused, succeeds}
 use Rattle.rules.proofs.Accepts.{Made, all_made, accepted}
 
--- ---- cells that come to the same by two editions
+-- ---- cells that come to the same by two editions with layers
 
-module _ (u v : Edition) (o : Settings) (s c : Mesh) (l : Lists) where
+-- an edition, with layers
+abbrev layered : Edition → Edition
+layered v = record { turning = v.turning; once = v.once; grids = v.grids; layers = true }
+
+module _ (u₀ v₀ : Edition) (o : Settings) (s c : Mesh) (l : Lists) where
+  abbrev u : Edition
+  u = layered u₀
+
+  abbrev v : Edition
+  v = layered v₀
+
   abbrev sc : Scene
   sc = scene_for o s c
 
@@ -75,7 +86,7 @@ module _ (u v : Edition) (o : Settings) (s c : Mesh) (l : Lists) where
     unfolding answered_with
     answer_as e =
         ap₂ (λ (ps : List Piece) (d : ℕ). result_of 0 (length ps) (length (named_points (node_count s + node_count c) (length sc.coords / 2) ps)) d
-        (length (added_by sc.met) / 2) (written sc.coords ps l)) listing_as e
+        (length (added_by sc.met) / 2) (written sc.coords (layers_of sc s c) ps l)) listing_as e
 
     course_as : course_with u o s c ≡ course_with v o s c
     unfolding course_with
@@ -91,7 +102,7 @@ module _ (u v : Edition) (o : Settings) (s c : Mesh) (l : Lists) where
 
     state_as : state_with u o s c l ≡ state_with v o s c l
     unfolding state_with
-    state_as = ap (first_refusal o.m (length l.coords / 2) (piece_room l) (length l.nodes)) course_as
+    state_as = ap (first_refusal o.m (point_room l) (piece_room l) (length l.nodes)) course_as
 
     -- where both editions see the settings o
     overlay_as : (x : Settings) → seen_by u x ≡ o → seen_by v x ≡ o → third u ≡ third v → overlay_with u x s c l ≡ overlay_with v x s c l
@@ -169,24 +180,24 @@ first_until es fs m p q n (inr d) h =
 -- ---- W1: a walk may turn back, or not
 
 cell_turned : (once grids : Bool) (sc : Scene) (w : Side) (i : ℕ)
-    → let by : Bool → Outcome = λ turning. outcome_with (record { turning = turning; once = once; grids = grids }) sc w i in (by false ≡ refusal 11) ⊎ (by true ≡ by false)
+    → let by : Bool → Outcome = λ turning. outcome_with (record { turning = turning; once = once; grids = grids; layers = true }) sc w i in (by false ≡ refusal 11) ⊎ (by true ≡ by false)
 unfolding treated
 cell_turned once grids sc w i = go (near_of sc w i)
   where
     by : Bool → List ℕ → Outcome
-    by turning js = (treated_by sc w i js).outcome (record { turning = turning; once = once; grids = grids })
+    by turning js = (treated_by sc w i js).outcome (record { turning = turning; once = once; grids = grids; layers = true })
 
     go : (js : List ℕ) → (by false js ≡ refusal 11) ⊎ (by true js ≡ by false js)
     go [] = inr refl
-    go (j ∷ js) = outcome_turned (treated_by sc w i (j ∷ js)).outline ((treated_by sc w i (j ∷ js)).table once) once grids
+    go (j ∷ js) = outcome_turned (treated_by sc w i (j ∷ js)).outline ((treated_by sc w i (j ∷ js)).table once) once grids true
 
 module _ (once grids : Bool) (settings : Settings) (s c : Mesh) (l : Lists) where
   -- with and without turning back
   abbrev forth : Edition
-  forth = record { turning = false; once = once; grids = grids }
+  forth = record { turning = false; once = once; grids = grids; layers = true }
 
   abbrev back : Edition
-  back = record { turning = true; once = once; grids = grids }
+  back = record { turning = true; once = once; grids = grids; layers = true }
 
   -- as both see them
   abbrev o : Settings
@@ -265,8 +276,7 @@ module _ (once grids : Bool) (settings : Settings) (s c : Mesh) (l : Lists) wher
 
 -- a cell whose table before names no neighbour twice
 cell_undoubled : (turning grids : Bool) (sc : Scene) (w : Side) (i : ℕ) → doubled (table_with sc w i false) ≡ false
-    → outcome_with (record { turning = turning; once = true; grids = grids }) sc w i
-    ≡ outcome_with (record { turning = turning; once = false; grids = grids }) sc w i
+    → let by : Bool → Outcome = λ once. outcome_with (record { turning = turning; once = once; grids = grids; layers = true }) sc w i in by true ≡ by false
 unfolding treated
 cell_undoubled turning grids sc w i clean = go (near_of sc w i) clean
   where
@@ -274,11 +284,11 @@ cell_undoubled turning grids sc w i clean = go (near_of sc w i) clean
     cell = cell_of sc w i
 
     by : Bool → List ℕ → Outcome
-    by once js = (treated_by sc w i js).outcome (record { turning = turning; once = once; grids = grids })
+    by once js = (treated_by sc w i js).outcome (record { turning = turning; once = once; grids = grids; layers = true })
 
     go : (js : List ℕ) → doubled ((treated_by sc w i js).table false) ≡ false → by true js ≡ by false js
     go [] h = copy_kept cell h
-    go (j ∷ js) h = outcome_kept sc.coords (darts_of sc cell) (near_edges sc (net_of sc (other w)).edges (j ∷ js)) h turning grids
+    go (j ∷ js) h = outcome_kept sc.coords (darts_of sc cell) (near_edges sc (net_of sc (other w)).edges (j ∷ js)) h turning grids true
 
 -- no list among those that make up an empty one has an element
 none_either : {A : Type 0} (xs ys : List A) → length (xs ++ ys) ≡ 0 → (length xs ≡ 0) × (length ys ≡ 0)
@@ -322,10 +332,10 @@ module _ (o : Settings) (s c : Mesh) (l : Lists) (none : length (doubled_cells o
 
   -- For all settings, meshes and lists: where no cell that the operation cuts was doubled (so no outline repeats), the overlay gives the result that it
   -- gave before W14, that is the same code, counts (the second one W5's on both sides) and lists.
-  pub result_undoubled : (turning grids : Bool) (x : Settings) → let by : Bool → Edition = λ once. record { turning = turning; once = once; grids = grids } in
+  pub result_undoubled : (turning grids : Bool) (x : Settings) → let by : Bool → Edition = λ once. record { turning = turning; once = once; grids = grids; layers = true } in
       seen_by (by true) x ≡ o → overlay_with (by true) x s c l ≡ overlay_with (by false) x s c l
   result_undoubled turning grids x e =
-      overlay_as (record { turning = turning; once = true; grids = grids }) (record { turning = turning; once = false; grids = grids }) o s c l
+      overlay_as (record { turning = turning; once = true; grids = grids; layers = true }) (record { turning = turning; once = false; grids = grids; layers = true }) o s c l
       (λ w e i k. cell_undoubled turning grids (scene_for o s c) w i (undoubled w e i k)) x e e (sym none)
 
 -- ---- W6: new points are booked on a grid, or not
@@ -335,45 +345,40 @@ seen_whole : (o : Settings) → o.grid ≡ None → record { op = o.op; m = o.m;
 seen_whole o none = ap (λ (g : Grid). record { op = o.op; m = o.m; grid = g }) (sym none)
 
 module _ (turning once : Bool) (o : Settings) (s c : Mesh) (l : Lists) where
-  cell_as : (w : Side) (i : ℕ) → let by : Bool → Outcome = λ grids. outcome_with (record { turning = turning; once = once; grids = grids }) (scene_for o s c) w i in
+  cell_as : (w : Side) (i : ℕ) → let by : Bool → Outcome = λ grids. outcome_with (record { turning = turning; once = once; grids = grids; layers = true }) (scene_for o s c) w i in
       by true ≡ by false
   unfolding treated cut_outcome_with
   cell_as w i = go (near_of (scene_for o s c) w i)
     where
       by : Bool → List ℕ → Outcome
-      by grids js = (treated_by (scene_for o s c) w i js).outcome (record { turning = turning; once = once; grids = grids })
+      by grids js = (treated_by (scene_for o s c) w i js).outcome (record { turning = turning; once = once; grids = grids; layers = true })
 
       go : (js : List ℕ) → by true js ≡ by false js
       go [] = refl
       go (j ∷ js) = refl
 
   -- "Without a grid every answer is the one of before": the same code, counts and lists.
-  pub result_without_grid : let by : Bool → Edition = λ grids. record { turning = turning; once = once; grids = grids } in
+  pub result_without_grid : let by : Bool → Edition = λ grids. record { turning = turning; once = once; grids = grids; layers = true } in
       o.grid ≡ None → overlay_with (by true) o s c l ≡ overlay_with (by false) o s c l
   result_without_grid none =
-      overlay_as (record { turning = turning; once = once; grids = true }) (record { turning = turning; once = once; grids = false }) o s c l
+      overlay_as (record { turning = turning; once = once; grids = true; layers = true }) (record { turning = turning; once = once; grids = false; layers = true }) o s c l
       (λ w e i k. cell_as w i) o refl (seen_whole o none) refl
 
 -- ---- all of them
 
 module _ (o : Settings) (s c : Mesh) (l : Lists) where
   -- "Every overlay answered before keeps its answer": where the overlay without turning back is accepted.
-  pub answers_kept : let forth : Edition = record { turning = false; once = true; grids = true } in
+  pub answers_kept : let forth : Edition = record { turning = false; once = true; grids = true; layers = true } in
       AcceptedWith forth o s c l → overlay_of o s c l ≡ overlay_with forth o s c l
   answers_kept h = result_turned true true o s c l (λ e. omega (arith, h, e))
 
-  -- "The Rust stays the measure for cells without repeats", and "overlays without a grid are the ones set against the Rust": by document 01 alone, where the
-  -- overlay has no grid and no doubled cell and isn't refused 11.
-  pub result_kept : o.grid ≡ None → length (doubled_cells o s c) ≡ 0 → ((overlay_with base o s c l).code ≡ 11 → ⊥) → overlay_of o s c l ≡ overlay_with base o s c l
-  result_kept none single h =
+  -- document 01 by itself, but for layers
+  abbrev base_layered : Edition
+  base_layered = record { turning = false; once = false; grids = false; layers = true }
+
+  result_before : o.grid ≡ None → length (doubled_cells o s c) ≡ 0 → ((overlay_with base_layered o s c l).code ≡ 11 → ⊥)
+      → overlay_of o s c l ≡ overlay_with base_layered o s c l
+  result_before none single h =
       result_without_grid true true o s c l none
       ∙ result_undoubled o s c l single true false o (seen_whole o none)
       ∙ result_turned false false o s c l h
-
-  -- So an overlay without a grid that document 01 by itself accepts with the third count 0 keeps its answer, whole; the second count is W5's on both sides.
-  pub accepted_kept : o.grid ≡ None → AcceptedWith base o s c l → (overlay_with base o s c l).doubled ≡ 0 → overlay_of o s c l ≡ overlay_with base o s c l
-  unfolding answered_with
-  accepted_kept none h d =
-      result_kept none
-      (ap (λ (x : Settings). length (doubled_cells x s c)) (sym (seen_whole o none))
-      ∙ sym (ap (λ (r : Result). r.doubled) (accepted base o s c l h).answer) ∙ d) (λ e. omega (arith, h, e))

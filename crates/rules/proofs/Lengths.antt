@@ -5,7 +5,7 @@ use mathlib.Core.List.{List, [], ◌∷◌, ◌++◌, map}
 use Prim.Native.Nat.{ℕ, zero, suc, ◌+◌, ◌-◌, ◌*◌, ◌/◌, ◌≤◌, ◌<◌}
 use native.Mathlib.Omega.{arith}
 use lib.Dec.{leb, eqb}
-use lib.ListN.{length, replicate, length-append, length-map, length-replicate}
+use lib.ListN.{length, get_or, replicate, length-append, length-map, length-replicate}
 use lib.Ieee.{Float}
 use borrow.Author.Tests.{leb-true}
 use Rattle.lists.specs.Gather.{gathered, joined}
@@ -18,13 +18,15 @@ use Rattle.entry.specs.Mesh.{Mesh}
 use Rattle.rules.specs.Mesh.{Side, the_subject, the_cutter, side_number}
 use Rattle.rules.specs.Neighbours.{Net, subject_net, cutter_net}
 use Rattle.rules.specs.Meetings.{Met, Scene, net_of, added_by, recorded, meetings, scene_of}
+use Rattle.rules.specs.Layers.{layer_added, layers_of}
 use Rattle.rules.specs.Nodes.{crowded}
 use Rattle.rules.specs.Cell.{outcome_of}
 use Rattle.rules.specs.Operations.{cuts, scene_for, Piece, kept, over_cells, listing, listing_with}
 use Rattle.rules.specs.Refusals.{Event, point, piece, stop, of_meeting, of_cell, course, course_with, first_refusal}
-use Rattle.rules.specs.Overlay.{Lists, Result, cleared, piece_room, written, answered, answered_with, state_with, overlay_of}
+use Rattle.rules.specs.Overlay.{Lists, Result, cleared, point_room, piece_room, written, answered, answered_with, state_with, overlay_of}
 use Rattle.rules.specs.Demand3.{Accepted}
 use Rattle.lists.proofs.Regions.{length_front}
+use Rattle.entry.specs.Passed.{Passed}
 use Rattle.entry.proofs.Passed.{passed}
 use Rattle.rules.proofs.Endings.{Ending, input, state_met, success, ending, input_refused, state_refused, succeeds, no_refusal}
 use Rattle.rules.proofs.Accepts.{accepted, Calm, calm_left, calm_right, calm_gathered, calm_course}
@@ -234,6 +236,7 @@ module _ (o : Settings) (s c : Mesh) where
 
 pub record SameLengths (l l' : Lists) : Type 0 where
   pub coords : length l.coords ≡ length l'.coords
+  pub layers : length l.layers ≡ length l'.layers
   pub nodes : length l.nodes ≡ length l'.nodes
   pub ends : length l.ends ≡ length l'.ends
   pub kinds : length l.kinds ≡ length l'.kinds
@@ -251,6 +254,7 @@ cleared_lengths : (l : Lists) → SameLengths (cleared l) l
 unfolding cleared
 cleared_lengths l = record {
   coords = length-replicate _ _;
+  layers = length-replicate _ _;
   nodes = length-replicate _ _;
   ends = length-replicate _ _;
   kinds = length-replicate _ _;
@@ -263,6 +267,7 @@ cleared_lengths l = record {
 -- what an accepted overlay answers, and the room there was for it
 pub record Fits (o : Settings) (s c : Mesh) (l : Lists) : Type 0 where
   pub coords : length (scene_for o s c).coords ≤ length l.coords
+  pub layers : length (layers_of (scene_for o s c) s c) ≤ length l.layers
   pub nodes : length (flat (map (λ (p : Piece). p.nodes) (listing o s c))) ≤ length l.nodes
   pub ends : length (listing o s c) ≤ length l.ends
   pub kinds : length (listing o s c) ≤ length l.kinds
@@ -278,8 +283,42 @@ scene_pairs : (g : Grid) (lines : Bool) (s c : Mesh) → Pairs (scene_of g lines
 unfolding scene_of
 scene_pairs g lines s c = pairs_met g (s.coords ++ c.coords) (subject_net s) (cutter_net lines s c)
 
+-- ---- W7: a layer for each of the points that meetings add
+
+layers_added : (ls : List ℕ) (es : List Edge) (ms : List Met) → Pairs ms → 2 * length (joined (layer_added ls es) ms) ≡ length (added_by ms)
+unfolding joined
+layers_added ls es [] h = refl
+layers_added ls es (m ∷ ms) h =
+    omega (
+      arith,
+      h.0,
+      layers_added ls es ms h.1,
+      length-append m.point (added_by ms),
+      length-append (layer_added ls es m) (joined (layer_added ls es) ms),
+      length-replicate {A = ℕ} (length m.point / 2) (get_or ls (edge_at es m.subject_edge).0 0),
+    )
+
+-- "the answer's layer list is as long as its nodes"
+pub layers_long : (o : Settings) (s c : Mesh) (w : ℕ) → Passed o s c w → 2 * length (layers_of (scene_for o s c) s c) ≡ length (scene_for o s c).coords
+unfolding layers_of
+layers_long o s c w ok =
+    let sc = scene_for o s c in
+    let more = joined (layer_added s.layers sc.subject.edges) sc.met in
+    omega (
+      arith,
+      length-append s.layers (c.layers ++ more),
+      length-append c.layers more,
+      length-append s.coords c.coords,
+      layers_added s.layers sc.subject.edges sc.met (scene_pairs o.grid (eqb o.op 5) s c),
+      scene_coords o.grid (eqb o.op 5) s c,
+      ok.subject.even,
+      ok.cutter.even,
+      ok.subject.layers_long,
+      ok.cutter.layers_long,
+    )
+
 -- twice the half of an even number
-whole_points : (a b t p n : ℕ) → a ≡ 2 * (a / 2) → b ≡ 2 * (b / 2) → (a + b) / 2 + t ≤ p → p ≤ n / 2 → a + b + 2 * t ≤ n
+whole_points : (a b t p n : ℕ) → a ≡ 2 * (a / 2) → b ≡ 2 * (b / 2) → (a + b) / 2 + t ≤ p → p ≤ n → a + b + 2 * t ≤ 2 * n
 whole_points a b t p n e f h k = omega (arith, e, f, h, k)
 
 pub accepted_fits : (o : Settings) (s c : Mesh) (l : Lists) → Accepted o s c l → Fits o s c l
@@ -288,20 +327,23 @@ accepted_fits o s c l h =
     let t = accepted ours o s c l h in
     let calm = calm_course ours o s c l t.state in
     let entry = passed o s c (length l.work) t.entry in
-    let r = room (course o s c) o.m (length l.coords / 2) (piece_room l) (length l.nodes) calm t.state in
+    let r = room (course o s c) o.m (point_room l) (piece_room l) (length l.nodes) calm t.state in
     let takes = course_takes o s c calm in
     let sum = length-append s.coords c.coords in
     let points = met_points (scene_for o s c).met (scene_pairs o.grid (eqb o.op 5) s c) in
-    record {
-      coords = omega (
+    let coords : length (scene_for o s c).coords ≤ 2 * point_room l =
+    omega (
         arith,
         scene_coords o.grid (eqb o.op 5) s c,
         sum,
         points,
-        whole_points (length s.coords) (length c.coords) (total a_point (joined of_meeting (scene_for o s c).met)) (total a_point (course o s c)) (length l.coords)
+        whole_points (length s.coords) (length c.coords) (total a_point (joined of_meeting (scene_for o s c).met)) (total a_point (course o s c)) (point_room l)
             entry.subject.even entry.cutter.even (subst (λ (x : ℕ). x / 2 + total a_point (joined of_meeting (scene_for o s c).met) ≤ total a_point
             (course o s c)) sum (course_points o s c)) r.0,
-      );
+      ) in
+    record {
+      coords = omega (arith, coords);
+      layers = omega (arith, coords, layers_long o s c (length l.work) entry);
       nodes = omega (arith, r.2, takes.nodes);
       ends = omega (arith, r.1, takes.places);
       kinds = omega (arith, r.1, takes.places);
@@ -317,6 +359,7 @@ answered_lengths o s c l f =
     let many = length-map (listing o s c) (λ (p : Piece). p.nodes) in
     record {
       coords = length_front l.coords (scene_for o s c).coords f.coords;
+      layers = length_front l.layers (layers_of (scene_for o s c) s c) f.layers;
       nodes = length_front l.nodes (flat runs) f.nodes;
       ends = length_front l.ends (stops 0 runs) (omega (arith, f.ends, length_stops 0 runs, many));
       kinds = length_front l.kinds (map (λ (p : Piece). p.kind) (listing o s c)) (omega (arith, f.kinds, length-map (listing o s c) (λ (p : Piece). p.kind)));
@@ -329,7 +372,7 @@ answered_lengths o s c l f =
     }
 
 same_lengths : (l : Lists) → SameLengths l l
-same_lengths l = record { coords = refl; nodes = refl; ends = refl; kinds = refl; families = refl; meshes = refl; cells = refl; work = refl }
+same_lengths l = record { coords = refl; layers = refl; nodes = refl; ends = refl; kinds = refl; families = refl; meshes = refl; cells = refl; work = refl }
 
 -- For all settings, meshes and lists, accepted or refused.
 pub lengths_kept : (o : Settings) (s c : Mesh) (l : Lists) → SameLengths (overlay_of o s c l).lists l

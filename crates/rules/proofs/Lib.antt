@@ -5,6 +5,7 @@ pub mod EdgePairs
 pub mod Parts
 pub mod Once
 pub mod Lengths
+pub mod Weld
 pub mod ReadBack
 pub mod Rings
 pub mod Closing

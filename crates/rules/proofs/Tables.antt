@@ -1,12 +1,14 @@
 -- A table of overlays and their answers, lists and all, and the test that the definitions give them. Assumes nothing.
 use mathlib.Core.Bool.{Bool, true, false}
 use mathlib.Core.List.{List, [], ◌∷◌, map}
-use Prim.Native.Nat.{ℕ}
+use Prim.Native.Nat.{ℕ, ◌/◌}
+use lib.ListN.{length}
 use lib.Dec.{eqb}
 use lib.Ieee.{Float, binary64, add, sub, mul, div, neg, lt, le, eq, of_bits, to_bits}
 use Rattle.lists.specs.Search.{seek, first, every}
 use Rattle.lists.specs.Gather.{gathered, all, passing, tally, slim_after, slim, joined}
 use Rattle.lists.specs.Sort.{insert, sort_onto}
+use Rattle.lists.specs.Regions.{zeros}
 use Rattle.lists.specs.Regions as Regions
 use Rattle.exact.specs.Exact.{coord, mag, sign, ordered}
 use Rattle.exact.specs.Angle.{angles, orientation}
@@ -47,6 +49,7 @@ use Rattle.rules.specs.Snap.{used_nodes, sorted_indices_for, nearest_to, closest
 use Rattle.rules.specs.Neighbours.{added, added_all, descending_to, subject_net, cutter_net}
 use Rattle.rules.specs.SpatialIndex.{box_to, boxes_meet, box_holds, candidates}
 use Rattle.rules.specs.Meetings.{meeting_on, met_pair, met_all, meetings_to, meetings, scene_of}
+use Rattle.rules.specs.Layers.{layers_of}
 use Rattle.rules.specs.Nodes.{collected, crowded, before_last, along_edge, sorted_nodes}
 use Rattle.rules.specs.Cell.{darts_of, near_of, treated}
 use Rattle.rules.specs.Inside.{some_holds, point_inside}
@@ -58,12 +61,19 @@ use Rattle.rules.specs.Demand3.{set_on}
 abbrev pub floats : List ℕ → List Float
 floats bits = map (of_bits binary64) bits
 
--- coordinates by their bits
-abbrev pub lent : List ℕ → List ℕ → List ℕ → List ℕ → List ℕ → Mesh
-lent c n e k f = mesh (floats c) n e k f
+-- coordinates by their bits; all nodes are of layer 0
+abbrev pub lent : (c n e k f : List ℕ) → Mesh
+lent c n e k f = mesh (floats c) (zeros (length c / 2)) n e k f
 
-abbrev pub on_lists : List ℕ → List ℕ → List ℕ → List ℕ → List ℕ → List ℕ → List ℕ → List ℕ → Lists
-on_lists c n e k f m i w = lent_lists (floats c) n e k f m i w
+abbrev pub on_lists : (c n e k f m i w : List ℕ) → Lists
+on_lists c n e k f m i w = lent_lists (floats c) (zeros (length c / 2)) n e k f m i w
+
+-- nodes of these layers
+abbrev pub layered : List ℕ → Mesh → Mesh
+layered ls m = mesh m.coords ls m.nodes m.ends m.kinds m.families
+
+abbrev pub with_layers : List ℕ → Lists → Lists
+with_layers ls l = lent_lists l.coords ls l.nodes l.ends l.kinds l.families l.meshes l.cells l.work
 
 -- what is set, meshes, the lists at entry, and the result with the lists at exit
 pub data Case : Type 0 where
@@ -87,9 +97,9 @@ same (x ∷ xs) (y ∷ ys) = both (eqb x y) (same xs ys)
 unfoldable pub same_lists : Lists → Lists → Bool
 same_lists l l' =
     both (same (map (to_bits binary64) l.coords) (map (to_bits binary64) l'.coords))
-    (both (same l.nodes l'.nodes) (both (same l.ends l'.ends)
+    (both (same l.layers l'.layers) (both (same l.nodes l'.nodes) (both (same l.ends l'.ends)
     (both (same l.kinds l'.kinds) (both (same l.families l'.families)
-    (both (same l.meshes l'.meshes) (both (same l.cells l'.cells) (same l.work l'.work)))))))
+    (both (same l.meshes l'.meshes) (both (same l.cells l'.cells) (same l.work l'.work))))))))
 
 unfoldable pub same_result : Result → Result → Bool
 same_result r r' =
@@ -107,7 +117,7 @@ unfolding both same same_lists same_result add sub mul div neg lt le eq of_bits 
     cell_table_with copied_table doubled slot next_open begin rest onward arrive follow step walk_steps starts walk_from walk_with closes_up cut_outcome_with flat stops
     every prior ends_ok coord_ok coords_ok kind_ok kinds_ok nodes_ok absent cell_ok cells_ok shape_ok call_ok grid_ok work_ok mesh_refusal lower_refusal entry_of cell_at cells_of used_nodes
     sorted_indices_for nearest_to closest_within weld added added_all descending_to subject_net cutter_net box_to boxes_meet box_holds candidates steps grid_number on_grid booked meeting_on met_pair
-    met_all meetings_to meetings scene_of collected crowded before_last along_edge sorted_nodes darts_of near_of treated some_holds point_inside piece_with
+    met_all meetings_to meetings scene_of layers_of collected crowded before_last along_edge sorted_nodes darts_of near_of treated some_holds point_inside piece_with
     lies_inside kept_with listing_with doubled_cells course_with first_refusal cleared written named_points answered_with state_with overlay_with
 right_by overlay [] = true
 right_by overlay (asked o s c l r ∷ cs) = both (same_result (overlay o s c l) r) (right_by overlay cs)

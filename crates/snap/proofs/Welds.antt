@@ -20,39 +20,13 @@ use Rattle.entry.specs.Mesh.{Mesh, mesh, node_count}
 use Rattle.std.specs.Prelude.{Some}
 use Rattle.rules.specs.declared.Nearest.{Nearest}
 use Rattle.rules.specs.Snap.{used_nodes, sorted_indices_for, distance2, nearest_to, closest_within, or_shifted, number_of, weld}
-use Rattle.snap.specs.Steps.{Below, before}
+use Rattle.rules.proofs.Weld.{order_below}
+use Rattle.snap.specs.Steps.{Below}
 
 -- only coordinates and node numbers count
 pub weld_lists : (sc cc : List Float) (sn cn se ce sk ck sf cf : List ℕ) → weld (mesh sc sn se sk sf) (mesh cc cn ce ck cf) ≡ weld (mesh sc sn [] [] []) (mesh cc cn [] [] [])
 unfolding weld used_nodes sorted_indices_for
 weld_lists sc cc sn cn se ce sk ck sf cf = refl
-
--- ---- the nodes in order are those of the subject
-
--- what holds of each element holds of each of the sorted ones
-sorted_below : (stands : ℕ → ℕ → Bool) (n : ℕ) (xs : List ℕ) → Below n xs → Below n (sorted stands xs)
-sorted_below stands n xs h k l = go (ltb (get_or ys k 0) n) refl
-  where
-    ys : List ℕ
-    ys = sorted stands xs
-
-    over : ℕ → Bool
-    over v = not (ltb v n)
-
-    count : (zs : List ℕ) → tally over zs ≡ many (λ i. over (get_or zs i 0)) (length zs)
-    count zs = ap (tally over) (sym (each_get_or zs 0)) ∙ tally_each over (length zs) (λ i. get_or zs i 0)
-
-    go : (t : Bool) → ltb (get_or ys k 0) n ≡ t → get_or ys k 0 < n
-    go true e = ltb-true (get_or ys k 0) n e
-    go false e =
-        let some_over : 0 < many (λ i. over (get_or xs i 0)) (length xs) =
-        omega (arith, many_has (λ i. over (get_or ys i 0)) (length ys) k l (ap not e), count ys, count xs, sorted_tally stands over xs) in
-        let r = many_some (λ i. over (get_or xs i 0)) (length xs) some_over in
-        absurd (true≢false (sym r.2 ∙ ap not (lt-ltb (get_or xs r.0 0) n (h r.0 r.1))))
-
-order_below : (s : Mesh) → Below (node_count s) (sorted_indices_for s)
-unfolding sorted_indices_for used_nodes
-order_below s = sorted_below (before s.coords) (node_count s) (used_nodes s) (λ k h. (places_at (named s.nodes) (node_count s) k h).0)
 
 -- ---- so each number is that of a node of one of the meshes
 
