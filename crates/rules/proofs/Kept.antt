@@ -1,38 +1,37 @@
--- W1, W14 and W6: which overlays keep the answer that they had before. Assumes nothing.
+-- W1, W14, W6 and W7: which overlays keep the answer that they had before. Assumes nothing.
 use mathlib.Core.Path.{◌≡◌, refl, sym, ap, ap₂, ◌∙◌, subst}
 use mathlib.Core.Logic.{◌⊎◌, inl, inr}
 use mathlib.Core.Bool.{Bool, true, false, cond}
 use mathlib.Core.List.{List, [], ◌∷◌, ◌++◌, append_assoc}
-use Prim.Native.Nat.{ℕ, zero, suc, ◌+◌, ◌-◌, ◌/◌, ◌≤◌, ◌<◌}
+use Prim.Native.Nat.{ℕ, zero, suc, ◌-◌, ◌/◌, ◌≤◌, ◌<◌}
 use native.Mathlib.Omega.{arith}
 use native.Mathlib.Decide.{dec_le}
 use lib.Dec.{leb}
-use lib.ListN.{length, get_or, replicate, length-append}
-use Rattle.lists.specs.Gather.{gathered, each, passing, joined}
-use Rattle.lists.proofs.Gather.{gathered_ext}
+use lib.ListN.{length, replicate, length-append}
+use Rattle.lists.specs.Gather.{gathered, joined}
 use Rattle.cutting.specs.Edition.{Edition, base}
 use Rattle.cutting.specs.Cell.{doubled}
-use Rattle.cutting.specs.Outcome.{Outcome, refusal, cut_outcome_with}
+use Rattle.cutting.specs.Outcome.{Outcome, refusal}
 use Rattle.cutting.proofs.Turning.{outcome_turned}
 use Rattle.cutting.proofs.Before.{outcome_kept, copy_kept}
 use Rattle.std.specs.Prelude.{None}
 use Rattle.grid.specs.Grid.{Grid}
 use Rattle.settings.specs.declared.Settings.{Settings}
-use Rattle.entry.specs.Mesh.{Mesh, node_count}
+use Rattle.entry.specs.Mesh.{Mesh}
 use Rattle.entry.specs.Refused.{entry_of}
 use Rattle.rules.specs.Mesh.{Side, the_subject, the_cutter, other}
-use Rattle.rules.specs.Meetings.{Scene, net_of, added_by}
-use Rattle.rules.specs.Layers.{layers_of}
+use Rattle.rules.specs.Meetings.{Scene, net_of}
+use Rattle.rules.specs.Layers.{InLayer}
 use Rattle.rules.specs.Nodes.{crowded}
-use Rattle.rules.specs.Cell.{darts_of, near_edges, near_of, treated_by, treated, outcome_with, table_with, cell_of, kind_of}
-use Rattle.rules.specs.Operations.{cuts, keeps, scene_for, Piece, piece_with, kept_with, lies_inside, over_cells, listing_with, outcome_pieces, doubled_cells}
+use Rattle.rules.specs.Cell.{darts_of, near_edges, near_of, treated_by, treated, outcome_with, table_with, cell_of}
+use Rattle.rules.specs.Operations.{cuts, scene_for, kept_with, over_cells, doubled_cells}
 use Rattle.rules.specs.Refusals.{Event, meeting, point, piece, stop, of_meeting, of_cell, course_with, first_refusal}
-use Rattle.rules.specs.Overlay.{Lists, Result, result_of, cleared, point_room, piece_room, written, named_points, answered_with, state_with, seen_by, overlay_with, overlay_of}
+use Rattle.rules.specs.Overlay.{Lists, Result, result_of, cleared, answered_with, state_with, seen_by, overlay_with, overlay_of, but_layers}
 use Rattle.rules.specs.Demand3.{AcceptedWith}
+use Rattle.rules.proofs.Editions.{third, cut_as, answer_as, state_as, cell_as}
+use Rattle.rules.proofs.OneLayer.{result_one_layer}
 use Rattle.rules.proofs.Endings.{told, overlay_told, Ending, input, state_met, success, ending, input_refused, state_refused, succeeds}
 use Rattle.rules.proofs.Accepts.{Made, all_made, accepted}
-
--- ---- cells that come to the same by two editions with layers
 
 -- an edition, with layers
 abbrev layered : Edition → Edition
@@ -45,73 +44,16 @@ module _ (u₀ v₀ : Edition) (o : Settings) (s c : Mesh) (l : Lists) where
   abbrev v : Edition
   v = layered v₀
 
-  abbrev sc : Scene
-  sc = scene_for o s c
-
-  -- a cell's kept pieces go by its outcome
-  kept_as : (w : Side) (i : ℕ) → outcome_with u sc w i ≡ outcome_with v sc w i → kept_with u sc w o.op i ≡ kept_with v sc w o.op i
-  unfolding kept_with piece_with
-  kept_as w i e = ap by e
-    where
-      at : Outcome → ℕ → Piece
-      at x j = record { mesh = w; cell = i; place = j; kind = kind_of sc w i; family = get_or (net_of sc w).families i 0; nodes = get_or (outcome_pieces x) j [] }
-
-      by : Outcome → List Piece
-      by x = passing (λ p. keeps o.op w (lies_inside sc w p)) (each (length (outcome_pieces x)) (at x))
-
-  -- and so does what happens in it
-  cut_as : (w : Side) (i : ℕ) → outcome_with u sc w i ≡ outcome_with v sc w i
-      → of_cell (outcome_with u sc w i) (kept_with u sc w o.op i) ≡ of_cell (outcome_with v sc w i) (kept_with v sc w o.op i)
-  cut_as w i e = ap₂ (λ (x : Outcome) (ps : List Piece). of_cell x ps) e (kept_as w i e)
-
-  module _ (same : (w : Side) → cuts o.op w ≡ true → (i : ℕ) → i < length (net_of sc w).cells → outcome_with u sc w i ≡ outcome_with v sc w i) where
-    over_as : {A : Type 0} (w : Side) (f g : ℕ → List A) → ((i : ℕ) → outcome_with u sc w i ≡ outcome_with v sc w i → f i ≡ g i) → over_cells o.op sc w f ≡ over_cells o.op sc w g
-    over_as w f g by = go (cuts o.op w) refl
-      where
-        go : (t : Bool) → cuts o.op w ≡ t → cond t (gathered (length (net_of sc w).cells) f) [] ≡ cond t (gathered (length (net_of sc w).cells) g) []
-        go true e = gathered_ext (length (net_of sc w).cells) f g (λ i k. by i (same w e i k))
-        go false e = refl
-
-    pieces_as : (w : Side) → over_cells o.op sc w (kept_with u sc w o.op) ≡ over_cells o.op sc w (kept_with v sc w o.op)
-    pieces_as w = over_as w (kept_with u sc w o.op) (kept_with v sc w o.op) (kept_as w)
-
-    listing_as : listing_with u o s c ≡ listing_with v o s c
-    unfolding listing_with
-    listing_as = ap₂ (λ (xs ys : List Piece). xs ++ ys) (pieces_as the_subject) (pieces_as the_cutter)
-
-    abbrev third : Edition → ℕ
-    third x = cond x.once 0 (length (doubled_cells o s c))
-
-    answer_as : third u ≡ third v → answered_with u o s c l ≡ answered_with v o s c l
-    unfolding answered_with
-    answer_as e =
-        ap₂ (λ (ps : List Piece) (d : ℕ). result_of 0 (length ps) (length (named_points (node_count s + node_count c) (length sc.coords / 2) ps)) d
-        (length (added_by sc.met) / 2) (written sc.coords (layers_of sc s c) ps l)) listing_as e
-
-    course_as : course_with u o s c ≡ course_with v o s c
-    unfolding course_with
-    course_as =
-        ap₂ (λ (es fs : List Event). found ++ (es ++ fs)) (over_as the_subject (cut u the_subject) (cut v the_subject) (cut_as the_subject))
-        (over_as the_cutter (cut u the_cutter) (cut v the_cutter) (cut_as the_cutter))
-      where
-        found : List Event
-        found = replicate (length (s.coords ++ c.coords) / 2) point ++ joined of_meeting sc.met ++ cond (crowded sc) (stop 9 ∷ []) []
-
-        cut : Edition → Side → ℕ → List Event
-        cut x w i = of_cell (outcome_with x sc w i) (kept_with x sc w o.op i)
-
-    state_as : state_with u o s c l ≡ state_with v o s c l
-    unfolding state_with
-    state_as = ap (first_refusal o.m (point_room l) (piece_room l) (length l.nodes)) course_as
-
-    -- where both editions see the settings o
-    overlay_as : (x : Settings) → seen_by u x ≡ o → seen_by v x ≡ o → third u ≡ third v → overlay_with u x s c l ≡ overlay_with v x s c l
-    overlay_as x a b e =
-        overlay_told u x s c l
-        ∙ ap (λ (y : Settings). told l (entry_of y s c (length l.work)) (state_with u y s c l) (answered_with u y s c l)) a
-        ∙ ap₂ (told l (entry_of o s c (length l.work))) state_as (answer_as e)
-        ∙ sym (ap (λ (y : Settings). told l (entry_of y s c (length l.work)) (state_with v y s c l) (answered_with v y s c l)) b)
-        ∙ sym (overlay_told v x s c l)
+  -- where both editions see the settings o, and layers
+  overlay_as : ((w : Side) → cuts o.op w ≡ true → (i : ℕ) → i < length (net_of (scene_for o s c) w).cells
+      → outcome_with u (scene_for o s c) w i ≡ outcome_with v (scene_for o s c) w i)
+      → (x : Settings) → seen_by u x ≡ o → seen_by v x ≡ o → third u v o s c l u ≡ third u v o s c l v → overlay_with u x s c l ≡ overlay_with v x s c l
+  overlay_as same x a b e =
+      overlay_told u x s c l
+      ∙ ap (λ (y : Settings). told l (entry_of y s c (length l.work)) (state_with u y s c l) (answered_with u y s c l)) a
+      ∙ ap₂ (told l (entry_of o s c (length l.work))) (state_as u v o s c l same) (answer_as u v o s c l same e)
+      ∙ sym (ap (λ (y : Settings). told l (entry_of y s c (length l.work)) (state_with v y s c l) (answered_with v y s c l)) b)
+      ∙ sym (overlay_told v x s c l)
 
 -- ---- events that are the same up to a stop 11
 
@@ -345,24 +287,12 @@ seen_whole : (o : Settings) → o.grid ≡ None → record { op = o.op; m = o.m;
 seen_whole o none = ap (λ (g : Grid). record { op = o.op; m = o.m; grid = g }) (sym none)
 
 module _ (turning once : Bool) (o : Settings) (s c : Mesh) (l : Lists) where
-  cell_as : (w : Side) (i : ℕ) → let by : Bool → Outcome = λ grids. outcome_with (record { turning = turning; once = once; grids = grids; layers = true }) (scene_for o s c) w i in
-      by true ≡ by false
-  unfolding treated cut_outcome_with
-  cell_as w i = go (near_of (scene_for o s c) w i)
-    where
-      by : Bool → List ℕ → Outcome
-      by grids js = (treated_by (scene_for o s c) w i js).outcome (record { turning = turning; once = once; grids = grids; layers = true })
-
-      go : (js : List ℕ) → by true js ≡ by false js
-      go [] = refl
-      go (j ∷ js) = refl
-
   -- "Without a grid every answer is the one of before": the same code, counts and lists.
   pub result_without_grid : let by : Bool → Edition = λ grids. record { turning = turning; once = once; grids = grids; layers = true } in
       o.grid ≡ None → overlay_with (by true) o s c l ≡ overlay_with (by false) o s c l
   result_without_grid none =
       overlay_as (record { turning = turning; once = once; grids = true; layers = true }) (record { turning = turning; once = once; grids = false; layers = true }) o s c l
-      (λ w e i k. cell_as w i) o refl (seen_whole o none) refl
+      (λ w e i k. cell_as turning once true false true true (scene_for o s c) w i) o refl (seen_whole o none) refl
 
 -- ---- all of them
 
@@ -372,7 +302,7 @@ module _ (o : Settings) (s c : Mesh) (l : Lists) where
       AcceptedWith forth o s c l → overlay_of o s c l ≡ overlay_with forth o s c l
   answers_kept h = result_turned true true o s c l (λ e. omega (arith, h, e))
 
-  -- document 01 by itself, but for layers
+  -- document 01 by itself, with layers
   abbrev base_layered : Edition
   base_layered = record { turning = false; once = false; grids = false; layers = true }
 
@@ -382,3 +312,23 @@ module _ (o : Settings) (s c : Mesh) (l : Lists) where
       result_without_grid true true o s c l none
       ∙ result_undoubled o s c l single true false o (seen_whole o none)
       ∙ result_turned false false o s c l h
+
+  -- "The Rust stays the measure for cells without repeats", "overlays without a grid are the ones set against the Rust", and "with one layer throughout, the
+  -- overlay is still set against the Rust": by document 01 alone, where the overlay has no grid, one layer with room for each point, and no doubled cell,
+  -- and isn't refused 11.
+  module _ (none : o.grid ≡ None) (k : ℕ) (es : InLayer k s) (ec : InLayer k c) (layers_room : length l.coords / 2 ≤ length l.layers) where
+    one_layer : but_layers (overlay_with base_layered o s c l) ≡ but_layers (overlay_with base o s c l)
+    one_layer = result_one_layer false false false o s c l k es ec layers_room
+
+    pub result_kept : length (doubled_cells o s c) ≡ 0 → ((overlay_with base o s c l).code ≡ 11 → ⊥) → but_layers (overlay_of o s c l) ≡ but_layers (overlay_with base o s c l)
+    result_kept single h = ap but_layers (result_before none single (λ e. h (sym (ap (λ (r : Result). r.code) one_layer) ∙ e))) ∙ one_layer
+
+    -- So an overlay without a grid that document 01 by itself accepts with the third count 0 keeps its answer, whole; the second count is W5's on both sides.
+    pub accepted_kept : AcceptedWith base o s c l → (overlay_with base o s c l).doubled ≡ 0 → but_layers (overlay_of o s c l) ≡ but_layers (overlay_with base o s c l)
+    unfolding answered_with
+    accepted_kept h d =
+        let code : (overlay_with base_layered o s c l).code ≡ 0 = ap (λ (r : Result). r.code) one_layer ∙ h in
+        let doubled : (overlay_with base_layered o s c l).doubled ≡ 0 = ap (λ (r : Result). r.doubled) one_layer ∙ d in
+        result_kept
+        (ap (λ (x : Settings). length (doubled_cells x s c)) (sym (seen_whole o none))
+        ∙ sym (ap (λ (r : Result). r.doubled) (accepted base_layered o s c l code).answer) ∙ doubled) (λ e. omega (arith, h, e))

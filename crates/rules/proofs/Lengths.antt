@@ -333,14 +333,14 @@ accepted_fits o s c l h =
     let points = met_points (scene_for o s c).met (scene_pairs o.grid (eqb o.op 5) s c) in
     let coords : length (scene_for o s c).coords ≤ 2 * point_room l =
     omega (
-        arith,
-        scene_coords o.grid (eqb o.op 5) s c,
-        sum,
-        points,
-        whole_points (length s.coords) (length c.coords) (total a_point (joined of_meeting (scene_for o s c).met)) (total a_point (course o s c)) (point_room l)
-            entry.subject.even entry.cutter.even (subst (λ (x : ℕ). x / 2 + total a_point (joined of_meeting (scene_for o s c).met) ≤ total a_point
-            (course o s c)) sum (course_points o s c)) r.0,
-      ) in
+      arith,
+      scene_coords o.grid (eqb o.op 5) s c,
+      sum,
+      points,
+      whole_points (length s.coords) (length c.coords) (total a_point (joined of_meeting (scene_for o s c).met)) (total a_point (course o s c)) (point_room l)
+          entry.subject.even entry.cutter.even (subst (λ (x : ℕ). x / 2 + total a_point (joined of_meeting (scene_for o s c).met) ≤ total a_point
+          (course o s c)) sum (course_points o s c)) r.0,
+    ) in
     record {
       coords = omega (arith, coords);
       layers = omega (arith, coords, layers_long o s c (length l.work) entry);

@@ -13,6 +13,8 @@ pub mod Distinct
 pub mod Rows
 pub mod Demand3
 pub mod Points
+pub mod Editions
+pub mod OneLayer
 pub mod Kept
 pub mod Rounds
 pub mod NeverEleven

@@ -1,5 +1,5 @@
 -- Document 01, the public call: the answer, and every list at exit, for refusals too. Assumes nothing.
-use Rattle.std.specs.Prelude.{cond, ◌&&◌, List, map, ℕ, ◌+◌, ◌/◌, min, eqb, leb, length, Float, None}
+use Rattle.std.specs.Prelude.{cond, ◌&&◌, List, [], map, ℕ, ◌+◌, ◌/◌, min, eqb, leb, length, Float, None}
 use Rattle.lists.specs.Search.{named}
 use Rattle.lists.specs.Gather.{places}
 use Rattle.lists.specs.Regions.{front, zeros, fzeros}
@@ -121,6 +121,12 @@ overlay_with v settings subject cutter lists =
     cond (eqb entry 0)
     (cond (eqb state 0) (answered_with v o s c l) (result_of state 0 0 0 0 (cleared l)))
     (result_of entry 0 0 0 0 l)
+
+-- a result but for the list of layers, of which an edition from before W7 has none
+abbrev pub but_layers : Result → Result
+but_layers r =
+    let l = r.lists in
+    result_of r.code r.pieces r.points r.doubled r.added (lent_lists l.coords [] l.nodes l.ends l.kinds l.families l.meshes l.cells l.work)
 
 -- the overlay
 abbrev pub overlay_of : Settings → Mesh → Mesh → Lists → Result
