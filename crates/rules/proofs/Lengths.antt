@@ -298,7 +298,7 @@ layers_added ls es (m ∷ ms) h =
       length-replicate {A = ℕ} (length m.point / 2) (get_or ls (edge_at es m.subject_edge).0 0),
     )
 
--- "the answer's layer list is as long as its nodes"
+-- An answer has as many layers as nodes.
 pub layers_long : (o : Settings) (s c : Mesh) (w : ℕ) → Passed o s c w → 2 * length (layers_of (scene_for o s c) s c) ≡ length (scene_for o s c).coords
 unfolding layers_of
 layers_long o s c w ok =

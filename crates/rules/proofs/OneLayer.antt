@@ -136,8 +136,8 @@ module _ (turning once grids : Bool) (settings : Settings) (s c : Mesh) (l : Lis
           (result_of 0 (length ps) (length (named_points (node_count s + node_count c) (length sc.coords / 2) ps)) (cond once 0 many) (length (added_by sc.met) / 2)
           (written sc.coords [] ps l))
 
-  -- "With one layer throughout (in both meshes) the overlay is the one without layers, whatever the number": the same code, counts and lists but for that of
-  -- the layers.
+  -- "With one layer throughout", in both meshes and whatever its number, the overlay is the one without layers: the same code, counts and lists but for that
+  -- of the layers.
   pub result_one_layer : but_layers (overlay_with with_them settings s c l) ≡ but_layers (overlay_with without settings s c l)
   result_one_layer =
       let bare = (but_layers (result_of 0 0 0 0 0 l)).lists in

@@ -105,7 +105,7 @@ module _ (s c : Mesh) (j : ℕ) (h : j < node_count c) where
       by_name true = by_near near (nearest_sought s.coords s.layers order (get_or c.layers j 0) (point_at c.coords j) (length order) (le_refl (length order)))
       by_name false = own refl
 
-  -- "A node is only ever welded to one of its own layer": a number below the subject's node count is that of a node with this layer.
+  -- A node is only ever welded to one of its own layer: a number below the subject's node count is that of a node with this layer.
   pub welded_in_layer : get_or (weld s c) j 0 < node_count s → get_or s.layers (get_or (weld s c) j 0) 0 ≡ get_or c.layers j 0
   welded_in_layer b = go (get_or (weld s c) j 0) welded b
     where

@@ -49,7 +49,7 @@ cleared l =
     lent_lists (fzeros (length l.coords)) (zeros (length l.layers)) (zeros (length l.nodes)) (zeros (length l.ends)) (zeros (length l.kinds))
     (zeros (length l.families)) (zeros (length l.meshes)) (zeros (length l.cells)) (zeros (length l.work))
 
--- A point takes two numbers of the coordinates; W7: "the item of 12 for a point covers its layer".
+-- A point takes two numbers of the coordinates and, from W7 on, one of the layers.
 abbrev pub point_room : Lists → ℕ
 point_room l = min (length l.coords / 2) (length l.layers)
 
