@@ -1,19 +1,14 @@
 -- What callers use of `weld`: what it looks at, how many numbers there are, and how large they are. Assumes nothing.
-use mathlib.Core.Path.{◌≡◌, refl, sym, ap, ◌∙◌}
-use mathlib.Core.Bool.{Bool, true, false, not, cond, true≢false}
+use mathlib.Core.Path.{◌≡◌, refl}
+use mathlib.Core.Bool.{Bool, true, false, cond}
 use mathlib.Core.List.{List, []}
 use Prim.Native.Nat.{ℕ, zero, suc, ◌+◌, ◌≤◌, ◌<◌}
 use native.Mathlib.Omega.{arith}
-use lib.Dec.{ltb}
+use lib.Dec.{eqb}
 use lib.ListN.{length, get_or}
 use lib.Ieee.{Float, lt}
-use borrow.Author.Tests.{ltb-true, lt-ltb}
-use Rattle.lists.specs.Search.{many, named}
-use Rattle.lists.specs.Gather.{tally}
-use Rattle.lists.specs.Sort.{sorted}
-use Rattle.lists.proofs.Search.{many_has, many_some}
-use Rattle.lists.proofs.Gather.{length_each, get_or_each, each_get_or, tally_each, places_at}
-use Rattle.lists.proofs.Sort.{sorted_tally}
+use Rattle.lists.specs.Search.{named}
+use Rattle.lists.proofs.Gather.{length_each, get_or_each}
 use Rattle.plane.specs.declared.Point.{Point}
 use Rattle.plane.specs.Plane.{point_at}
 use Rattle.entry.specs.Mesh.{Mesh, mesh, node_count}
@@ -23,27 +18,32 @@ use Rattle.rules.specs.Snap.{used_nodes, sorted_indices_for, distance2, nearest_
 use Rattle.rules.proofs.Weld.{order_below}
 use Rattle.snap.specs.Steps.{Below}
 
--- only coordinates and node numbers count
-pub weld_lists : (sc cc : List Float) (sn cn se ce sk ck sf cf : List ℕ) → weld (mesh sc sn se sk sf) (mesh cc cn ce ck cf) ≡ weld (mesh sc sn [] [] []) (mesh cc cn [] [] [])
+-- only coordinates, layers and node numbers count
+pub weld_lists : (sc : List Float) (sl sn se sk sf : List ℕ) (cc : List Float) (cl cn ce ck cf : List ℕ)
+    → weld (mesh sc sl sn se sk sf) (mesh cc cl cn ce ck cf) ≡ weld (mesh sc sl sn [] [] []) (mesh cc cl cn [] [] [])
 unfolding weld used_nodes sorted_indices_for
-weld_lists sc cc sn cn se ce sk ck sf cf = refl
+weld_lists sc sl sn se sk sf cc cl cn ce ck cf = refl
 
 -- ---- so each number is that of a node of one of the meshes
 
-or_shifted_below : (m other : ℕ) → other < m → (coords : List Float) (order : List ℕ) (p : Point) → Below m order → (k : ℕ) → k ≤ length order
-    → or_shifted other (nearest_to k coords order p).node < m
+or_shifted_below : (m other : ℕ) → other < m → (coords : List Float) (layers order : List ℕ) (sought : ℕ) (p : Point) → Below m order → (k : ℕ) → k ≤ length order
+    → or_shifted other (nearest_to k coords layers order sought p).node < m
 unfolding nearest_to
-or_shifted_below m other o coords order p b zero h = o
-or_shifted_below m other o coords order p b (suc k) h =
-    go (lt (distance2 p (point_at coords n)) (nearest_to k coords order p).dist2) (or_shifted_below m other o coords order p b k (omega arith))
+or_shifted_below m other o coords layers order sought p b zero h = o
+or_shifted_below m other o coords layers order sought p b (suc k) h =
+    go (eqb (get_or layers n 0) sought) (lt (distance2 p (point_at coords n)) best.dist2) (or_shifted_below m other o coords layers order sought p b k (omega arith))
   where
     n : ℕ
     n = get_or order k 0
 
-    go : (t : Bool) → or_shifted other (nearest_to k coords order p).node < m
-        → (let best : Nearest = cond t (record { dist2 = distance2 p (point_at coords n); node = Some n }) (nearest_to k coords order p) in or_shifted other best.node < m)
-    go true ih = b k (omega arith)
-    go false ih = ih
+    best : Nearest
+    best = nearest_to k coords layers order sought p
+
+    go : (s t : Bool) → or_shifted other best.node < m
+        → (let r : Nearest = cond s (cond t (record { dist2 = distance2 p (point_at coords n); node = Some n }) best) best in or_shifted other r.node < m)
+    go true true ih = b k (omega arith)
+    go true false ih = ih
+    go false t ih = ih
 
 module _ (s c : Mesh) where
   pub length_weld : length (weld s c) ≡ node_count c
@@ -65,11 +65,11 @@ module _ (s c : Mesh) where
       order = sorted_indices_for s
 
       near : ℕ
-      near = or_shifted (j + node_count s) (closest_within s.coords order (point_at c.coords j))
+      near = or_shifted (j + node_count s) (closest_within s.coords s.layers order (get_or c.layers j 0) (point_at c.coords j))
 
       near_below : near < node_count s + node_count c
       near_below =
-          or_shifted_below (node_count s + node_count c) (j + node_count s) (omega (arith, within)) s.coords order (point_at c.coords j)
+          or_shifted_below (node_count s + node_count c) (j + node_count s) (omega (arith, within)) s.coords s.layers order (get_or c.layers j 0) (point_at c.coords j)
           (λ k l. omega (arith, order_below s k l)) (length order) (omega arith)
 
       go : (t : Bool) → cond t near (j + node_count s) < node_count s + node_count c

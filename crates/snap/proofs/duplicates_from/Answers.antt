@@ -28,5 +28,5 @@ returns c =
     let o = c.sorted_indices_for-count in
     let z = c.fill.ensures in
     whole _ _ _ _ _ o.result (marks_are (goal.at.returns c).After-mark_named-2) o.ensures.0 o.ensures.1
-    _ _ _ _ (c.mark_named.ensures ∙ ap (used c.args.cutter.now.nodes.now) numbers.front_len) refl refl _ _ _ _ c.number_nodes.ensures
+    _ _ _ _ _ _ (c.mark_named.ensures ∙ ap (used c.args.cutter.now.nodes.now) numbers.front_len) refl refl _ _ _ _ c.number_nodes.ensures
     (z.after (λ _ h. h) ∙ ap zeros (o.auto.s ∙ c.mark_named-2.auto.marks ∙ marks.front_len)) (marks.back ∙ ap (drop (length c.args.subject.now.coords.now / 2)) numbers.back)

@@ -7,4 +7,5 @@ use Rattle.snap.proofs.Numbers.{number_in}
 use Rattle.snap.proofs.number_nodes.Given as goal
 
 abbrev pub invariant-loop-j : goal.invariant-loop-j
-invariant-loop-j l = (length l.numbers ≡ length l.initial.numbers) × (l.numbers ≡ front l.initial.numbers (each l.j (number_in l.coords l.cc l.order l.initial.numbers)))
+invariant-loop-j l = (length l.numbers ≡ length l.initial.numbers)
+    × (l.numbers ≡ front l.initial.numbers (each l.j (number_in l.subject.coords.now l.subject.layers.now l.order l.cutter.coords.now l.cutter.layers.now l.initial.numbers)))

@@ -4,4 +4,4 @@ use Rattle.rules.specs.Snap.{nearest_to}
 use Rattle.snap.proofs.Nodes.nearest.Given as goal
 
 abbrev pub invariant-loop-v : goal.invariant-loop-v
-invariant-loop-v l = l.best ≡ nearest_to l.v-index l.self.coords.now l.self.order.now l.p
+invariant-loop-v l = l.best ≡ nearest_to l.v-index l.self.coords.now l.layers l.self.order.now l.sought l.p
