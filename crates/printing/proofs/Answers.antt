@@ -20,7 +20,7 @@ module _ (l : Listing) where
   unfolding told answer_text
   told_refused n = refused_parts n
 
-  pub told_overlay : (nodes : ℕ) (c : Counts) → answer_text (told (Overlay nodes c) l) ≡ listing_text (bits (take (min (2 * nodes) (length l.coords.now)) l.coords.now))
+  pub told_overlay : (nodes : ℕ) (c : Counts) → answer_text (told (Overlay nodes c) l) ≡ listing_text (bits (take (min (2 * nodes) (length l.coords.now)) l.coords.now)) l.layers.now
       (piece_lines 0 l.nodes.now (take (min c.pieces (length l.ends.now)) l.ends.now) l.kinds.now l.families.now l.meshes.now l.cells.now) c.pieces c.points c.doubled
   unfolding told answer_text
   told_overlay nodes c = rw (take_min (2 * nodes) l.coords.now, take_min c.pieces l.ends.now) refl

@@ -13,8 +13,9 @@ use Rattle.std.specs.Prelude.{Option, Some, None}
 use denote.Ref.{Bor}
 use Rattle.std.specs.Iterator.{YieldsFirstRef}
 use Rattle.std.specs.declared.slice.Iter.{Iter}
+use Rattle.std.specs.declared.slice.ChunksExact.{ChunksExact}
 use Rattle.std.specs.declared.iter.Zip.{Zip}
-use Rattle.std.specs.Slice.Iter.{iter_rest}
+use Rattle.std.specs.Slice.Iter.{iter_rest, chunks_exact_rest, chunks_exact_size, chunks_exact_steps}
 use Rattle.std.specs.Iterator.Adapters.{zip_first, zip_second}
 use Rattle.std.proofs.iter.Yields.{fronts}
 use Rattle.std.proofs.lemmas.Iterator.{zips}
@@ -28,22 +29,52 @@ use Rattle.printing.specs.Page.{Page, page_with}
 use Rattle.printing.specs.Told.{bits}
 use Rattle.printing.proofs.Pages.{written_append, written_nil}
 
--- l begins with the pair x
-pub nodes_next : (l x rest : List Float) → l ≡ x ++ rest → length x ≡ 2
-    → nodes_text (bits l) ≡ node_text (to_bits binary64 (get_or x 0 nan)) (to_bits binary64 (get_or x 1 nan)) ++ nodes_text (bits rest)
-unfolding nodes_text bits
-nodes_next l [] rest e h = absurd (omega arith)
-nodes_next l (a ∷ []) rest e h = absurd (omega arith)
-nodes_next l (a ∷ b ∷ []) rest e h = rw e refl
-nodes_next l (a ∷ b ∷ c ∷ x) rest e h = absurd (omega arith)
+-- ---- the nodes by their coordinates and layers
 
-pub nodes_short : (l : List Float) → length l < 2 → nodes_text (bits l) ≡ []
+-- cs begins with the pair x
+node_next : (cs x rest : List Float) (l : ℕ) (ls : List ℕ) → cs ≡ x ++ rest → length x ≡ 2
+    → nodes_text (bits cs) (l ∷ ls) ≡ node_text (to_bits binary64 (get_or x 0 nan)) (to_bits binary64 (get_or x 1 nan)) l ++ nodes_text (bits rest) ls
 unfolding nodes_text bits
-nodes_short [] h = refl
-nodes_short (x ∷ []) h = refl
-nodes_short (x ∷ y ∷ l) h = absurd (not-suc-le-zero (le_of_suc-le-suc (le_of_suc-le-suc h)))
+node_next cs [] rest l ls e h = absurd (omega arith)
+node_next cs (a ∷ []) rest l ls e h = absurd (omega arith)
+node_next cs (a ∷ b ∷ []) rest l ls e h = rw e refl
+node_next cs (a ∷ b ∷ c ∷ x) rest l ls e h = absurd (omega arith)
 
-pub ruleset nodes_steps = (written_append, written_nil, nodes_next, nodes_short)
+no_pair : (cs : List Float) (ls : List ℕ) → length cs < 2 → nodes_text (bits cs) ls ≡ []
+unfolding nodes_text bits
+no_pair [] ls h = refl
+no_pair (x ∷ []) ls h = refl
+no_pair (x ∷ y ∷ cs) ls h = absurd (not-suc-le-zero (le_of_suc-le-suc (le_of_suc-le-suc h)))
+
+no_layer : (bs ls : List ℕ) → length ls ≡ 0 → nodes_text bs ls ≡ []
+unfolding nodes_text
+no_layer [] ls h = refl
+no_layer (x ∷ []) ls h = refl
+no_layer (x ∷ y ∷ bs) [] h = refl
+no_layer (x ∷ y ∷ bs) (l ∷ ls) h = absurd (omega arith)
+
+-- pairs of coordinates beside layers
+abbrev pub Places : Type 0
+Places = Zip (ChunksExact Float) (Iter ℕ)
+
+abbrev places_steps : Places → Option (Bor (List Float) × Bor ℕ) → Places → Type 0
+places_steps = zips chunks_exact_steps fronts
+
+-- the lines of the nodes that are left
+abbrev pub nodes_left : Places → List ℕ
+nodes_left s = nodes_text (bits (chunks_exact_rest (zip_first s))) (iter_rest (zip_second s))
+
+module _ (s t : Places) (two : chunks_exact_size (zip_first s) ≡ 2) where
+  pub nodes_next : (node : Bor (List Float)) (layer : Bor ℕ) → places_steps s (Some (node, layer)) t
+      → nodes_left s ≡ node_text (to_bits binary64 (get_or node.now 0 nan)) (to_bits binary64 (get_or node.now 1 nan)) layer.now ++ nodes_left t
+  nodes_next node layer ((_, (item, long), _), more) =
+      ap (nodes_text (bits (chunks_exact_rest (zip_first s)))) more ∙ node_next _ node.now _ layer.now _ item (long ∙ two)
+
+  pub nodes_end : places_steps s None t → nodes_left s ≡ []
+  nodes_end (inl (u, (_, (short, _), _))) = no_pair _ _ (rw two at short)
+  nodes_end (inr (u, z)) = no_layer _ _ z.0
+
+pub ruleset nodes_steps = (written_append, written_nil, nodes_next, nodes_end)
 
 -- a piece's line: a word, numbers, the corners
 pub piece_parts : (p : PieceLine) → piece_text p ≡ bytes "(cell" ++ (numbers_text (p.kind ∷ p.family ∷ p.mesh ∷ p.cell ∷ []) ++ (numbers_text p.nodes ++ close))
@@ -54,10 +85,10 @@ pub refused_parts : (n : ℕ) → refused_text n ≡ bytes "(refused" ++ (number
 unfolding refused_text numbers_text
 refused_parts n = simp append_assoc
 
-pub listing_parts : (bs : List ℕ) (ps : List PieceLine) (pieces points doubled : ℕ) → listing_text bs ps pieces points doubled
-    ≡ listing_word ++ (nodes_text bs ++ (pieces_text ps ++ ((bytes "(count" ++ (numbers_text (pieces ∷ points ∷ doubled ∷ []) ++ close)) ++ close)))
+pub listing_parts : (bs ls : List ℕ) (ps : List PieceLine) (pieces points doubled : ℕ) → listing_text bs ls ps pieces points doubled
+    ≡ listing_word ++ (nodes_text bs ls ++ (pieces_text ps ++ ((bytes "(count" ++ (numbers_text (pieces ∷ points ∷ doubled ∷ []) ++ close)) ++ close)))
 unfolding listing_text count_text numbers_text
-listing_parts bs ps pieces points doubled = simp append_assoc
+listing_parts bs ls ps pieces points doubled = simp append_assoc
 
 module _ (ns : List ℕ) (k : ℕ) where
   pub numbers_end : length ns ≤ k → numbers_text (drop k ns) ≡ []

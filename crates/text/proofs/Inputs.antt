@@ -1,6 +1,6 @@
 -- Reading undoes printing: a mesh and an input. Printing has no two inputs of one text. Assumes nothing.
 use mathlib.Core.Path.{◌≡◌, refl, sym, ap, ◌∙◌}
-use mathlib.Core.List.{List, [], ◌++◌, append_assoc, map}
+use mathlib.Core.List.{List, [], ◌++◌, append_assoc}
 use Prim.Native.Nat.{ℕ, ◌≤◌}
 use lib.ListN.{length}
 use lib.Seq.{take-length}
@@ -26,11 +26,11 @@ use Rattle.text.specs.Text.{
   first_text,
   input_text,
 }
-use Rattle.text.specs.Read.{and_then, after_word, if_word, word_from, cells_from, mesh_from, grid_from, first_from, input_from, empty}
-use Rattle.text.specs.Given.{Parsed, coordinate, Limits, Given}
+use Rattle.text.specs.Read.{and_then, after_word, if_word, word_from, cells_from, mesh_from, grid_from, first_from, input_from, add_node, no_nodes, empty}
+use Rattle.text.specs.Given.{Parsed, Limits, Given}
 use Rattle.text.proofs.Inverse.{word_self}
 use Rattle.text.specs.Inputs.{Rises, no_cells, cell, Fine, read, Within, Fits, Input, text_of, given, Readable}
-use Rattle.text.proofs.Lines.{nodes_read, cells_read, so_far, Stop, before_stop, stop_space, stop_newline}
+use Rattle.text.proofs.Lines.{nodes_given, nodes_read, cells_read, so_far, Stop, before_stop, stop_space, stop_newline}
 use Rattle.text.proofs.Whole.{mesh_read, input_read}
 
 no_cell_close : (t : List ℕ) → word_from cell_word (close ++ t) ≡ None
@@ -42,7 +42,7 @@ unfolding cells_text cell_text word_from
 no_node t no_cells = refl
 no_node t (cell h g hk hf c d) = refl
 
-pub mesh_apart : (m : Bits) (t : List ℕ) → mesh_text m ++ t ≡ mesh_word ++ (nodes_text m.coords ++ (cells_text 0 m.nodes m.ends m.kinds m.families ++ (close ++ t)))
+pub mesh_apart : (m : Bits) (t : List ℕ) → mesh_text m ++ t ≡ mesh_word ++ (nodes_text m.coords m.layers ++ (cells_text 0 m.nodes m.ends m.kinds m.families ++ (close ++ t)))
 unfolding mesh_text body_text
 mesh_apart m t = simp append_assoc
 
@@ -55,12 +55,12 @@ whole_cells c e ns es ks fs t r l h =
 
 -- a mesh within its limits is read back
 pub mesh_back : (l : Limits) (m : Bits) (t : List ℕ) → Fine m → Within l m → mesh_from l (mesh_text m ++ t) ≡ Some (read m, t)
-unfolding read
+unfolding read add_node
 mesh_back l m t f w =
     ap (mesh_from l) (mesh_apart m t)
-    ∙ mesh_read l _ _ _ _ t (map coordinate m.coords) (record { nodes = m.nodes; ends = m.ends; kinds = m.kinds; families = m.families })
-    (word_self mesh_word (nodes_text m.coords ++ (cells_text 0 m.nodes m.ends m.kinds m.families ++ (close ++ t))))
-    (nodes_read l.nodes [] (cells_text 0 m.nodes m.ends m.kinds m.families ++ (close ++ t)) f.points w.nodes (no_node t f.rises))
+    ∙ mesh_read l _ _ _ _ t (nodes_given m.coords m.layers) (record { nodes = m.nodes; ends = m.ends; kinds = m.kinds; families = m.families })
+    (word_self mesh_word (nodes_text m.coords m.layers ++ (cells_text 0 m.nodes m.ends m.kinds m.families ++ (close ++ t))))
+    (nodes_read l.nodes no_nodes (cells_text 0 m.nodes m.ends m.kinds m.families ++ (close ++ t)) f.points w.nodes (no_node t f.rises))
     (whole_cells l.cells l.entries m.nodes m.ends m.kinds m.families t f.rises w.cells w.entries)
     (word_self close t)
 

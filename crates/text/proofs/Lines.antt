@@ -7,13 +7,12 @@ use native.Mathlib.Omega.{arith}
 use borrow.Author.Tests.{le-leb}
 use lib.ListN.{length, take, drop, length-drop}
 use lib.Seq.{length-take-le, take-add}
-use lib.Ieee.{Float}
 use Rattle.std.specs.Prelude.{None, Some}
 use Rattle.text.specs.Text.{space, close, newline, node_word, cell_word, decimal, hex, node_text, nodes_text, numbers_text, cell_text, cells_text}
 use Rattle.text.specs.Read.{if_word, and_then, after_word, word_from, digit_val, decimal_from, repeated, node_from}
-use Rattle.text.specs.Read.{node_step, nodes_from, entry_step, entries_from, head_from, cell_from, add_cell, cell_step, cells_from}
-use Rattle.text.specs.Given.{Parsed, coordinate, Cells}
-use Rattle.text.specs.Inputs.{Coords, no_coords, pair, Small, no_numbers, small, Rises, no_cells, cell}
+use Rattle.text.specs.Read.{add_node, node_step, nodes_from, no_nodes, entry_step, entries_from, head_from, cell_from, add_cell, cell_step, cells_from}
+use Rattle.text.specs.Given.{Parsed, coordinate, Nodes, Cells}
+use Rattle.text.specs.Inputs.{Points, no_points, point, Small, no_numbers, small, Rises, no_cells, cell}
 use Rattle.text.proofs.Repeats.{repeated_stop}
 use Rattle.text.proofs.Inverse.{word_self, decimal_read, hex_read}
 
@@ -22,38 +21,7 @@ one : {A : Type 0} (w : List ℕ) (f : A → List ℕ → Parsed A) (k : ℕ) (a
 unfolding repeated if_word and_then
 one w f k a a₁ u t e = rw (word_self w u, e)
 
--- ---- node lines
-pub node_read : (x y : ℕ) (t : List ℕ) → x < 18446744073709551616 → y < 18446744073709551616
-    → node_from (hex x ++ (space ++ (hex y ++ (close ++ t)))) ≡ Some (coordinate x ∷ coordinate y ∷ [], t)
-unfolding node_from and_then after_word
-node_read x y t h g = rw (hex_read x (space ++ (hex y ++ (close ++ t))) h, word_self space (hex y ++ (close ++ t)), hex_read y (close ++ t) g, word_self close t)
-
-node_step_lem : (x y : ℕ) (cs : List Float) (t : List ℕ) → x < 18446744073709551616 → y < 18446744073709551616
-    → node_step cs (hex x ++ (space ++ (hex y ++ (close ++ t)))) ≡ Some (cs ++ (coordinate x ∷ coordinate y ∷ []), t)
-unfolding node_step and_then
-node_step_lem x y cs t h g = rw (node_read x y t h g)
-
-node_apart : (x y : ℕ) (bs t : List ℕ) → nodes_text (x ∷ y ∷ bs) ++ t ≡ node_word ++ (hex x ++ (space ++ (hex y ++ (close ++ (nodes_text bs ++ t)))))
-unfolding nodes_text node_text
-node_apart x y bs t = simp append_assoc
-
-none_left : (k : ℕ) (cs : List Float) (t : List ℕ) → word_from node_word t ≡ None → repeated node_word node_step k cs (nodes_text [] ++ t) ≡ Some (cs ++ [], t)
-unfolding nodes_text
-none_left k cs t s = repeated_stop node_word node_step cs t k s ∙ ap (λ (l : List Float). Some (l, t)) (sym (append-nil cs))
-
-pub nodes_read : {bs : List ℕ} (k : ℕ) (cs : List Float) (t : List ℕ) → Coords bs → length bs ≤ 2 * k → word_from node_word t ≡ None
-    → nodes_from k cs (nodes_text bs ++ t) ≡ Some (cs ++ map coordinate bs, t)
-unfolding nodes_from
-nodes_read k cs t no_coords l s = none_left k cs t s
-nodes_read zero cs t (pair hx hy c) l s = absurd (not-suc-le-zero l)
-nodes_read (suc k) cs t (pair {x} {y} {bs} hx hy c) l s =
-    ap (repeated node_word node_step (suc k) cs) (node_apart x y bs t)
-    ∙ one node_word node_step k cs (cs ++ (coordinate x ∷ coordinate y ∷ [])) (hex x ++ (space ++ (hex y ++ (close ++ (nodes_text bs ++ t))))) (nodes_text bs ++ t)
-    (node_step_lem x y cs (nodes_text bs ++ t) hx hy)
-    ∙ nodes_read k (cs ++ (coordinate x ∷ coordinate y ∷ [])) t c (omega arith) s
-    ∙ ap (λ (l : List Float). Some (l, t)) (append_assoc cs (coordinate x ∷ coordinate y ∷ []) (map coordinate bs))
-
--- ---- numbers
+-- ---- a number and what follows
 -- a text that does not go on with a digit
 pub record Stop (t : List ℕ) : Type 0 where
   pub b : ℕ
@@ -76,6 +44,68 @@ stop_newline t = record { b = 10; rest = t; is = refl; stops = omega arith }
 pub before_stop : (n : ℕ) (t : List ℕ) → n ≤ 4294967295 → Stop t → decimal_from (decimal n ++ t) ≡ Some (n, t)
 before_stop n t h s = rw s.is (decimal_read n s.b s.rest h s.stops)
 
+-- ---- node lines
+abbrev pub one_node : (x y l : ℕ) → Nodes
+one_node x y l = record { coords = coordinate x ∷ coordinate y ∷ []; layers = l ∷ [] }
+
+-- what is read of coordinates' bits and layers
+abbrev pub nodes_given : (bs ls : List ℕ) → Nodes
+nodes_given bs ls = record { coords = map coordinate bs; layers = ls }
+
+pub add_none : (ns : Nodes) → ns ≡ add_node ns no_nodes
+unfolding add_node
+add_none ns = rw (append-nil ns.coords, append-nil ns.layers) refl
+
+pub add_assoc : (ns n m : Nodes) → add_node (add_node ns n) m ≡ add_node ns (add_node n m)
+unfolding add_node
+add_assoc ns n m = rw (append_assoc ns.coords n.coords m.coords, append_assoc ns.layers n.layers m.layers) refl
+
+pub add_more : (x y l : ℕ) (bs ls : List ℕ) → add_node (one_node x y l) (nodes_given bs ls) ≡ nodes_given (x ∷ y ∷ bs) (l ∷ ls)
+unfolding add_node
+add_more x y l bs ls = refl
+
+pub node_read : (x y l : ℕ) (t : List ℕ) → x < 18446744073709551616 → y < 18446744073709551616 → l ≤ 4294967295
+    → node_from (hex x ++ (space ++ (hex y ++ (space ++ (decimal l ++ (close ++ t)))))) ≡ Some (one_node x y l, t)
+unfolding node_from and_then after_word
+node_read x y l t h g f =
+    let layer = decimal l ++ (close ++ t) in
+    rw (
+      hex_read x (space ++ (hex y ++ (space ++ layer))) h,
+      word_self space (hex y ++ (space ++ layer)),
+      hex_read y (space ++ layer) g,
+      word_self space layer,
+      before_stop l (close ++ t) f (stop_close t),
+      word_self close t,
+    )
+
+node_step_lem : (x y l : ℕ) (ns : Nodes) (t : List ℕ) → x < 18446744073709551616 → y < 18446744073709551616 → l ≤ 4294967295
+    → node_step ns (hex x ++ (space ++ (hex y ++ (space ++ (decimal l ++ (close ++ t)))))) ≡ Some (add_node ns (one_node x y l), t)
+unfolding node_step and_then
+node_step_lem x y l ns t h g f = rw (node_read x y l t h g f)
+
+pub node_apart : (x y l : ℕ) (bs ls t : List ℕ) → nodes_text (x ∷ y ∷ bs) (l ∷ ls) ++ t
+    ≡ node_word ++ (hex x ++ (space ++ (hex y ++ (space ++ (decimal l ++ (close ++ (nodes_text bs ls ++ t)))))))
+unfolding nodes_text node_text
+node_apart x y l bs ls t = simp append_assoc
+
+none_left : (k : ℕ) (ns : Nodes) (t : List ℕ) → word_from node_word t ≡ None → repeated node_word node_step k ns (nodes_text [] [] ++ t) ≡ Some (add_node ns no_nodes, t)
+unfolding nodes_text
+none_left k ns t s = repeated_stop node_word node_step ns t k s ∙ ap (λ (n : Nodes). Some (n, t)) (add_none ns)
+
+pub nodes_read : {bs ls : List ℕ} (k : ℕ) (ns : Nodes) (t : List ℕ) → Points bs ls → length bs ≤ 2 * k → word_from node_word t ≡ None
+    → nodes_from k ns (nodes_text bs ls ++ t) ≡ Some (add_node ns (nodes_given bs ls), t)
+unfolding nodes_from
+nodes_read k ns t no_points h s = none_left k ns t s
+nodes_read zero ns t (point hx hy hl c) h s = absurd (not-suc-le-zero h)
+nodes_read (suc k) ns t (point {x} {y} {l} {bs} {ls} hx hy hl c) h s =
+    let rest = nodes_text bs ls ++ t in
+    ap (repeated node_word node_step (suc k) ns) (node_apart x y l bs ls t)
+    ∙ one node_word node_step k ns (add_node ns (one_node x y l)) (hex x ++ (space ++ (hex y ++ (space ++ (decimal l ++ (close ++ rest)))))) rest
+    (node_step_lem x y l ns rest hx hy hl)
+    ∙ nodes_read k (add_node ns (one_node x y l)) t c (omega arith) s
+    ∙ ap (λ (n : Nodes). Some (n, t)) (add_assoc ns (one_node x y l) (nodes_given bs ls) ∙ ap (add_node ns) (add_more x y l bs ls))
+
+-- ---- a cell's numbers
 pub stop_numbers : (ns t : List ℕ) → Stop (numbers_text ns ++ (close ++ t))
 unfolding numbers_text
 stop_numbers [] t = stop_close t

@@ -1,18 +1,18 @@
 -- Only printed text is read: whatever is read is an input whose text this is. Assumes nothing.
 use mathlib.Core.Path.{◌≡◌, refl, sym, ap, ◌∙◌}
-use mathlib.Core.List.{List, [], ◌∷◌, ◌++◌, append_assoc, map}
+use mathlib.Core.List.{List, [], ◌∷◌, ◌++◌, append_assoc}
 use Prim.Native.Nat.{ℕ, ◌≤◌}
 use native.Mathlib.Omega.{arith}
 use borrow.Author.Tests.{leb-true, eqb-true}
 use lib.Dec.{leb, eqb}
 use lib.ListN.{length}
-use lib.Ieee.{Float}
 use Rattle.std.specs.Prelude.{Option, None, Some, IfSome}
 use Rattle.settings.specs.declared.Settings.{Settings}
 use Rattle.text.specs.Text.{space, newline, close, overlay_word, mesh_word, node_word, cell_word, decimal, nodes_text, cells_text, Bits, mesh_text, grid_text, first_text, input_text}
-use Rattle.text.specs.Read.{Rest, if_word, and_then, word_from, decimal_from, repeated, node_step, nodes_from, cell_step, cells_from, mesh_from, grid_from, first_from, input_from, empty}
-use Rattle.text.specs.Given.{Parsed, coordinate, Cells, Limits, ReadMesh, Given}
+use Rattle.text.specs.Read.{Rest, if_word, and_then, word_from, decimal_from, repeated, add_node, node_step, nodes_from, no_nodes, cell_step, cells_from, mesh_from, grid_from, first_from, input_from, empty}
+use Rattle.text.specs.Given.{Parsed, Nodes, Cells, Limits, ReadMesh, Given}
 use Rattle.text.specs.Inputs.{Fine, read, Within, Fits, Input, text_of, given, Readable}
+use Rattle.text.proofs.Lines.{nodes_given}
 use Rattle.text.proofs.Inputs.{mesh_apart, first_apart, input_back}
 use Rattle.text.proofs.Only.{then_got, after_got, cond_got, moved, none_got, same_value, same_rest, word_only, decimal_only, repeated_only}
 use Rattle.text.proofs.OnlyLines.{nodes_turns, cells_turns}
@@ -24,31 +24,31 @@ record MeshOf (l : Limits) (m : ReadMesh) (t u : List ℕ) : Type 0 where
   mesh : read bits ≡ m
   is : t ≡ mesh_text bits ++ u
 
-same_mesh : (m : Bits) (cs : List Float) (cl : Cells) → cs ≡ map coordinate m.coords → cl.nodes ≡ m.nodes → cl.ends ≡ m.ends → cl.kinds ≡ m.kinds
-    → cl.families ≡ m.families → read m ≡ record { coords = cs; cells = cl }
+same_mesh : (m : Bits) (ns : Nodes) (cl : Cells) → ns ≡ nodes_given m.coords m.layers → cl.nodes ≡ m.nodes → cl.ends ≡ m.ends → cl.kinds ≡ m.kinds
+    → cl.families ≡ m.families → read m ≡ record { points = ns; cells = cl }
 unfolding read
-same_mesh m cs cl p q r s t = rw (← p, ← q, ← r, ← s, ← t)
+same_mesh m ns cl p q r s t = rw (← p, ← q, ← r, ← s, ← t)
 
 mesh_only : {m : ReadMesh} {u : List ℕ} (l : Limits) (t : List ℕ) → mesh_from l t ≡ Some (m, u) → MeshOf l m t u
-unfolding mesh_from nodes_from cells_from read
+unfolding mesh_from nodes_from cells_from add_node
 mesh_only l t e =
     let a = after_got (word_from mesh_word t) _ e in
-    let b = then_got (repeated node_word node_step l.nodes [] a.rest) _ a.second in
+    let b = then_got (repeated node_word node_step l.nodes no_nodes a.rest) _ a.second in
     let c = then_got (repeated cell_word (cell_step l.entries) l.cells empty b.rest) _ b.second in
     let d = after_got (word_from close c.rest) _ c.second in
-    let n = repeated_only node_word node_step l.nodes [] a.rest b.first in
+    let n = repeated_only node_word node_step l.nodes no_nodes a.rest b.first in
     let k = repeated_only cell_word (cell_step l.entries) l.cells empty b.rest c.first in
     let p = nodes_turns n.turns in
     let q = cells_turns l.entries (omega arith) k.turns in
-    let m : Bits = record { coords = p.bits; nodes = c.value.nodes; ends = q.es; kinds = q.ks; families = q.fs } in
+    let m : Bits = record { coords = p.bits; layers = p.layers; nodes = c.value.nodes; ends = q.es; kinds = q.ks; families = q.fs } in
     record {
       bits = m;
       fine = record { points = p.fits; rises = q.rises };
       within = record { nodes = omega (arith, p.count, n.most); cells = omega (arith, q.count, k.most); entries = q.most };
-      mesh = same_mesh m b.value c.value p.coords refl q.ends q.kinds q.families ∙ same_value d.second;
+      mesh = same_mesh m b.value c.value p.nodes refl q.ends q.kinds q.families ∙ same_value d.second;
       is =
           word_only mesh_word t a.word
-          ∙ ap (λ (l : List ℕ). mesh_word ++ l) (p.is ∙ ap (λ (l : List ℕ). nodes_text p.bits ++ l)
+          ∙ ap (λ (l : List ℕ). mesh_word ++ l) (p.is ∙ ap (λ (l : List ℕ). nodes_text p.bits p.layers ++ l)
           (q.is ∙ ap (λ (l : List ℕ). cells_text 0 c.value.nodes q.es q.ks q.fs ++ l)
           (word_only close c.rest d.word ∙ ap (λ (l : List ℕ). close ++ l) (same_rest d.second))))
           ∙ sym (mesh_apart m _);

@@ -1,73 +1,87 @@
 -- Only printed text is read: node lines and cell lines. Assumes nothing.
 use mathlib.Core.Path.{◌≡◌, refl, sym, ap, ◌∙◌}
-use mathlib.Core.List.{List, [], ◌∷◌, ◌++◌, append_assoc, append-nil, map}
+use mathlib.Core.List.{List, [], ◌∷◌, ◌++◌, append_assoc, append-nil}
 use Prim.Native.Nat.{ℕ, suc, ◌+◌, ◌-◌, ◌*◌, ◌≤◌, ◌<◌}
 use native.Mathlib.Omega.{arith}
 use borrow.Author.Tests.{leb-true}
 use lib.Dec.{leb}
 use lib.ListN.{length, take, drop, length-append}
 use lib.Seq.{take_at, drop_at}
-use lib.Ieee.{Float}
 use Rattle.std.specs.Prelude.{Some}
-use Rattle.text.specs.Text.{space, close, node_word, cell_word, decimal, hex, node_text, nodes_text, numbers_text, cells_text}
-use Rattle.text.specs.Read.{word_from, decimal_from, hex_from, repeated, node_from, node_step}
+use Rattle.text.specs.Text.{space, close, node_word, cell_word, decimal, hex, nodes_text, numbers_text, cells_text}
+use Rattle.text.specs.Read.{word_from, decimal_from, hex_from, repeated, node_from, add_node, node_step}
 use Rattle.text.specs.Read.{entry_step, entries_from, Heading, head_from, Cell, cell_from, add_cell, cell_step}
-use Rattle.text.specs.Given.{coordinate, Cells}
-use Rattle.text.specs.Inputs.{Coords, no_coords, pair, Small, no_numbers, small, Rises, no_cells, cell}
-use Rattle.text.proofs.Lines.{cell_apart}
+use Rattle.text.specs.Given.{Nodes, Cells}
+use Rattle.text.specs.Inputs.{Points, no_points, point, Small, no_numbers, small, Rises, no_cells, cell}
+use Rattle.text.proofs.Lines.{one_node, nodes_given, add_none, add_assoc, add_more, node_apart, cell_apart}
 use Rattle.text.proofs.Only.{then_got, after_got, cond_got, moved, same_value, same_rest, word_only, decimal_only, hex_only, Turns, no_more, turn, repeated_only}
 
 -- ---- node lines
-record Node (p : List Float) (t u : List ℕ) : Type 0 where
+record Node (n : Nodes) (t u : List ℕ) : Type 0 where
   x : ℕ
   y : ℕ
+  layer : ℕ
   fits : x < 18446744073709551616
   fits' : y < 18446744073709551616
-  coords : p ≡ coordinate x ∷ coordinate y ∷ []
-  is : t ≡ hex x ++ (space ++ (hex y ++ (close ++ u)))
+  fits'' : layer ≤ 4294967295
+  node : n ≡ one_node x y layer
+  is : t ≡ hex x ++ (space ++ (hex y ++ (space ++ (decimal layer ++ (close ++ u)))))
 
-node_only : {p : List Float} {u : List ℕ} (t : List ℕ) → node_from t ≡ Some (p, u) → Node p t u
+node_only : {n : Nodes} {u : List ℕ} (t : List ℕ) → node_from t ≡ Some (n, u) → Node n t u
 unfolding node_from
 node_only t e =
     let a = then_got (hex_from 16 0 t) _ e in
     let b = after_got (word_from space a.rest) _ a.second in
     let c = then_got (hex_from 16 0 b.rest) _ b.second in
-    let d = after_got (word_from close c.rest) _ c.second in
+    let d = after_got (word_from space c.rest) _ c.second in
+    let f = then_got (decimal_from d.rest) _ d.second in
+    let g = after_got (word_from close f.rest) _ f.second in
     let x = hex_only t a.first in
     let y = hex_only b.rest c.first in
-    record {
+    let l = decimal_only d.rest f.first in
+    moved (λ n u. Node n t u) g.second
+    (record {
       x = a.value;
       y = c.value;
+      layer = f.value;
       fits = x.fits;
       fits' = y.fits;
-      coords = sym (same_value d.second);
+      fits'' = l.fits;
+      node = refl;
       is = x.is ∙ ap (λ (l : List ℕ). hex a.value ++ l) (word_only space a.rest b.word ∙ ap (λ (l : List ℕ). space ++ l)
-          (y.is ∙ ap (λ (l : List ℕ). hex c.value ++ l) (word_only close c.rest d.word ∙ ap (λ (l : List ℕ). close ++ l) (same_rest d.second))));
-    }
+          (y.is ∙ ap (λ (l : List ℕ). hex c.value ++ l) (word_only space c.rest d.word ∙ ap (λ (l : List ℕ). space ++ l)
+          (l.is ∙ ap (λ (l : List ℕ). decimal f.value ++ l) (word_only close f.rest g.word)))));
+    })
 
-pub record Nodes (n : ℕ) (cs ds : List Float) (t u : List ℕ) : Type 0 where
+pub record NodeLines (n : ℕ) (ns ms : Nodes) (t u : List ℕ) : Type 0 where
   pub bits : List ℕ
-  pub fits : Coords bits
+  pub layers : List ℕ
+  pub fits : Points bits layers
   pub count : length bits ≡ 2 * n
-  pub coords : ds ≡ cs ++ map coordinate bits
-  pub is : t ≡ nodes_text bits ++ u
+  pub nodes : ms ≡ add_node ns (nodes_given bits layers)
+  pub is : t ≡ nodes_text bits layers ++ u
 
-pub nodes_turns : {n : ℕ} {cs ds : List Float} {t u : List ℕ} → Turns node_word node_step n cs ds t u → Nodes n cs ds t u
-unfolding node_step nodes_text node_text
-nodes_turns {cs = cs} no_more = record { bits = []; fits = no_coords; count = refl; coords = sym (append-nil cs); is = refl }
-nodes_turns {cs = cs} (turn {n = n} {a₁ = ds} {b = es} {t₁ = t₁} {t₂ = t₂} {u = u} w e r) =
+pub nodes_turns : {n : ℕ} {ns ms : Nodes} {t u : List ℕ} → Turns node_word node_step n ns ms t u → NodeLines n ns ms t u
+unfolding node_step nodes_text
+nodes_turns {ns = ns} no_more = record { bits = []; layers = []; fits = no_points; count = refl; nodes = add_none ns; is = refl }
+nodes_turns {ns = ns} (turn {a₁ = ms} {t₁ = t₁} {t₂ = t₂} {u = u} w e r) =
     let s = nodes_turns r in
     let a = then_got (node_from t₁) _ e in
     let p = node_only t₁ a.first in
-    let d : cs ++ a.value ≡ ds = same_value a.second in
+    let one = one_node p.x p.y p.layer in
+    let more = nodes_given s.bits s.layers in
+    let d : ms ≡ add_node ns one = sym (same_value a.second) ∙ ap (add_node ns) p.node in
     let v : a.rest ≡ t₂ = same_rest a.second in
     record {
       bits = p.x ∷ p.y ∷ s.bits;
-      fits = pair p.fits p.fits' s.fits;
+      layers = p.layer ∷ s.layers;
+      fits = point p.fits p.fits' p.fits'' s.fits;
       count = omega (arith, s.count);
-      coords = s.coords ∙ ap (λ (l : List Float). l ++ map coordinate s.bits) (sym d ∙ ap (λ (l : List Float). cs ++ l) p.coords) ∙ append_assoc cs
-          (coordinate p.x ∷ coordinate p.y ∷ []) (map coordinate s.bits);
-      is = w ∙ ap (λ (l : List ℕ). node_word ++ l) (p.is ∙ ap (λ (l : List ℕ). hex p.x ++ (space ++ (hex p.y ++ (close ++ l)))) (v ∙ s.is)) ∙ simp append_assoc;
+      nodes = s.nodes ∙ ap (λ (n : Nodes). add_node n more) d ∙ add_assoc ns one more ∙ ap (add_node ns) (add_more p.x p.y p.layer s.bits s.layers);
+      is =
+          w
+          ∙ ap (λ (l : List ℕ). node_word ++ l) (p.is ∙ ap (λ (l : List ℕ). hex p.x ++ (space ++ (hex p.y ++ (space ++ (decimal p.layer ++ (close ++ l)))))) (v ∙ s.is))
+          ∙ sym (node_apart p.x p.y p.layer s.bits s.layers u);
     }
 
 -- ---- a cell's numbers

@@ -32,15 +32,16 @@ hex_size : (n : ℕ) → length (hex n) ≡ 16
 unfolding hex
 hex_size n = hex_to_size 16 n
 
-node_size : (x y : ℕ) → length (node_text x y) ≡ 41
+node_size : (x y l : ℕ) → length (node_text x y l) ≤ 52
 unfolding node_text
-node_size x y = simp (length-append, hex_size)
+node_size x y l = simp (length-append, hex_size) (omega (arith, decimal_size l))
 
-nodes_size : (bs : List ℕ) → 2 * length (nodes_text bs) ≤ 41 * length bs
+nodes_size : (bs ls : List ℕ) → 2 * length (nodes_text bs ls) ≤ 52 * length bs
 unfolding nodes_text
-nodes_size [] = omega arith
-nodes_size (x ∷ []) = omega arith
-nodes_size (x ∷ y ∷ bs) = omega (arith, length-append (node_text x y) (nodes_text bs), node_size x y, nodes_size bs)
+nodes_size [] ls = omega arith
+nodes_size (x ∷ []) ls = omega arith
+nodes_size (x ∷ y ∷ bs) [] = omega arith
+nodes_size (x ∷ y ∷ bs) (l ∷ ls) = omega (arith, length-append (node_text x y l) (nodes_text bs ls), node_size x y l, nodes_size bs ls)
 
 numbers_size : (ns : List ℕ) → length (numbers_text ns) ≤ 11 * length ns
 unfolding numbers_text
@@ -82,11 +83,11 @@ count_size : (a b c : ℕ) → length (count_text a b c) ≤ 41
 unfolding count_text
 count_size a b c = simp length-append (omega (arith, decimal_size a, decimal_size b, decimal_size c))
 
--- an answer of at most 2,048 nodes, 2,048 pieces and 8,192 entries has at most 278,580 bytes
-pub overlay_size : (bs ns es ks fs ms is : List ℕ) (a b c : ℕ) → length bs ≤ 4096 → length es ≤ 2048 → Rising 8192 0 es
-    → length (answer_text (overlay bs (piece_lines 0 ns es ks fs ms is) a b c)) ≤ 278580
+-- an answer of at most 2,048 nodes, 2,048 pieces and 8,192 entries has at most 301,108 bytes
+pub overlay_size : (bs ls ns es ks fs ms is : List ℕ) (a b c : ℕ) → length bs ≤ 4096 → length es ≤ 2048 → Rising 8192 0 es
+    → length (answer_text (overlay bs ls (piece_lines 0 ns es ks fs ms is) a b c)) ≤ 301108
 unfolding answer_text listing_text
-overlay_size bs ns es ks fs ms is a b c h g r = simp length-append (omega (arith, nodes_size bs, pieces_size ns ks fs ms is r, count_size a b c))
+overlay_size bs ls ns es ks fs ms is a b c h g r = simp length-append (omega (arith, nodes_size bs ls, pieces_size ns ks fs ms is r, count_size a b c))
 
 pub refused_size : (n : ℕ) → length (answer_text (refused n)) ≤ 21
 unfolding answer_text refused_text

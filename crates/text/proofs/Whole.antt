@@ -1,25 +1,19 @@
 -- A mesh and an input from their parts. Assumes nothing.
 use mathlib.Core.Path.{◌≡◌}
 use mathlib.Core.List.{List, []}
-use Prim.Native.Nat.{ℕ, ◌/◌, ◌≤◌, ◌<◌, min}
+use Prim.Native.Nat.{ℕ, ◌≤◌, ◌<◌}
 use borrow.Author.Tests.{le-leb, lt-leb, eq-eqb, ne_eqb}
 use lib.ListN.{length}
-use lib.Ieee.{Float}
 use Rattle.std.specs.Prelude.{None, Some}
 use Rattle.settings.specs.declared.Settings.{Settings}
 use Rattle.text.specs.Text.{mesh_word, close}
-use Rattle.text.specs.Read.{and_then, after_word, word_from, nodes_from, cells_from, mesh_from, first_from, input_from, empty}
-use Rattle.text.specs.Given.{Cells, Limits, at_most, limits, ReadMesh}
+use Rattle.text.specs.Read.{and_then, after_word, word_from, nodes_from, cells_from, mesh_from, first_from, input_from, no_nodes, empty}
+use Rattle.text.specs.Given.{Nodes, Cells, Limits, ReadMesh}
 
-pub mesh_read : (l : Limits) (t t₁ t₂ t₃ t₄ : List ℕ) (cs : List Float) (cl : Cells) → word_from mesh_word t ≡ Some t₁ → nodes_from l.nodes [] t₁ ≡ Some (cs, t₂)
-    → cells_from l.entries l.cells empty t₂ ≡ Some (cl, t₃) → word_from close t₃ ≡ Some t₄ → mesh_from l t ≡ Some (record { coords = cs; cells = cl }, t₄)
+pub mesh_read : (l : Limits) (t t₁ t₂ t₃ t₄ : List ℕ) (ns : Nodes) (cl : Cells) → word_from mesh_word t ≡ Some t₁ → nodes_from l.nodes no_nodes t₁ ≡ Some (ns, t₂)
+    → cells_from l.entries l.cells empty t₂ ≡ Some (cl, t₃) → word_from close t₃ ≡ Some t₄ → mesh_from l t ≡ Some (record { points = ns; cells = cl }, t₄)
 unfolding mesh_from and_then after_word
-mesh_read l t t₁ t₂ t₃ t₄ cs cl e₁ e₂ e₃ e₄ = rw (e₁, e₂, e₃, e₄)
-
-pub limited : (c n e k f points some more cells entries : ℕ) (t : List ℕ) → points ≡ min 512 (c / 2) → some ≡ min k f → more ≡ min e some
-    → cells ≡ min 512 more → entries ≡ min 2048 n → mesh_from (at_most points cells entries) t ≡ mesh_from (limits c n e k f) t
-unfolding limits
-limited c n e k f points some more cells entries t p₁ p₂ p₃ p₄ p₅ = rw (p₁, p₅, p₄, p₃, p₂)
+mesh_read l t t₁ t₂ t₃ t₄ ns cl e₁ e₂ e₃ e₄ = rw (e₁, e₂, e₃, e₄)
 
 module _ (l k : Limits) (t : List ℕ) where
   pub input_long : 65536 < length t → input_from l k t ≡ None

@@ -1,6 +1,6 @@
 -- Reading, as a function of the rest of the text. proofs/Inputs.antt shows that it undoes printing, proofs/OnlyInputs.antt that nothing but printed text is read.
 -- Assumes nothing.
-use Rattle.std.specs.Prelude.{ℕ, zero, suc, ◌+◌, ◌-◌, ◌*◌, cond, List, [], ◌∷◌, ◌++◌, length, ltb, leb, eqb, Float, Option, None, Some}
+use Rattle.std.specs.Prelude.{ℕ, zero, suc, ◌+◌, ◌-◌, ◌*◌, cond, List, [], ◌∷◌, ◌++◌, length, ltb, leb, eqb, Option, None, Some}
 use Rattle.settings.specs.declared.Settings.{Settings}
 use Rattle.text.specs.Given.{Parsed, coordinate, Nodes, Cells, ReadMesh, Limits, Given}
 use Rattle.text.specs.Text.{node_word, cell_word, mesh_word, overlay_word, space, newline, close}

@@ -7,6 +7,8 @@ use Rattle.printing.proofs.writer.Writer.put_nodes.Goals as goal
 
 pub loop-node-preserved : goal.loop-node-preserved
 loop-node-preserved c =
-    let (size, (item, long), _) = c.in-Some.ensures.steps in
+    let i = c.in-Some in
+    let ((size, _, _), _) = i.ensures.steps in
     let (_, _, two, left) = c.loop-node.invariant in
-    (omega (arith, size, two), tt, size ∙ two, turn left (nodes_next _ _ _ item (long ∙ two)) c.put_node.ensures)
+    let next = nodes_next c.loop-node.node-iterator c.next.new.self two i.node i.layer i.ensures.steps in
+    ((omega (arith, size, two), tt), tt, size ∙ two, turn left next c.put_node.ensures)
