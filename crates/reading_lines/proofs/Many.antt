@@ -7,9 +7,10 @@ use lib.Seq.{take-suc-set, length-take-le, take-append-add}
 use Rattle.std.proofs.lemmas.List.{take-append-le}
 use lib.Ieee.{Float}
 use Rattle.text.specs.Text.{node_word, cell_word, space, close}
-use Rattle.text.specs.Read.{Rest, Heading, Cell, repeated, if_word, and_then, after_word, word_from, head_from, node_from, node_step, nodes_from}
+use Rattle.text.specs.Read.{Rest, Heading, Cell, repeated, if_word, and_then, after_word, word_from, head_from, node_from, add_node, node_step, nodes_from}
 use Rattle.text.specs.Read.{decimal_from, entry_step, entries_from, cell_from, add_cell, cell_step, cells_from}
 use Rattle.text.specs.Given.{Parsed, Cells}
+use Rattle.reading_lines.specs.Lines.{nodes_of}
 use Rattle.text.proofs.Repeats.{repeated_stop, repeated_end, repeated_bad, repeated_step}
 
 module _ {A : Type 0} where
@@ -22,27 +23,29 @@ module _ {A : Type 0} where
       rw (e, one_more (set l n x) (n + 1) y (rw length-set h), one_more l n x (omega arith), append_assoc)
 
 -- ---- node lines
-module _ (room k : ℕ) (cs : List Float) (t : List ℕ) where
-  pub nodes_end : room ≤ k → nodes_from (room - k) (take (2 * k) cs) t ≡ Some (take (2 * k) cs, t)
+module _ (room k : ℕ) (cs : List Float) (ls t : List ℕ) where
+  pub nodes_end : room ≤ k → nodes_from (room - k) (nodes_of k cs ls) t ≡ Some (nodes_of k cs ls, t)
   unfolding nodes_from
-  nodes_end h = repeated_end node_word node_step (take (2 * k) cs) t room k h
+  nodes_end h = repeated_end node_word node_step (nodes_of k cs ls) t room k h
 
-  pub nodes_stop : word_from node_word t ≡ None → nodes_from (room - k) (take (2 * k) cs) t ≡ Some (take (2 * k) cs, t)
+  pub nodes_stop : word_from node_word t ≡ None → nodes_from (room - k) (nodes_of k cs ls) t ≡ Some (nodes_of k cs ls, t)
   unfolding nodes_from
-  nodes_stop e = repeated_stop node_word node_step (take (2 * k) cs) t (room - k) e
+  nodes_stop e = repeated_stop node_word node_step (nodes_of k cs ls) t (room - k) e
 
   module _ (h : k < room) (t₁ : List ℕ) (e : word_from node_word t ≡ Some t₁) where
-    pub nodes_bad : node_from t₁ ≡ None → nodes_from (room - k) (take (2 * k) cs) t ≡ None
+    pub nodes_bad : node_from t₁ ≡ None → nodes_from (room - k) (nodes_of k cs ls) t ≡ None
     unfolding nodes_from node_step and_then
-    nodes_bad g = repeated_bad node_word node_step (take (2 * k) cs) t room k h t₁ e (rw g)
+    nodes_bad g = repeated_bad node_word node_step (nodes_of k cs ls) t room k h t₁ e (rw g)
 
-    pub nodes_turn : (x y : Float) (t₂ : List ℕ) → 2 * room ≤ length cs → node_from t₁ ≡ Some (x ∷ y ∷ [], t₂)
-        → nodes_from (room - k) (take (2 * k) cs) t ≡ nodes_from (room - (k + 1)) (take (2 * (k + 1)) (set (set cs (2 * k) x) (2 * k + 1) y)) t₂
-    unfolding nodes_from node_step and_then
-    nodes_turn x y t₂ l g =
+    pub nodes_turn : (x y : Float) (l : ℕ) (t₂ : List ℕ) → 2 * room ≤ length cs → room ≤ length ls
+        → node_from t₁ ≡ Some (record { coords = x ∷ y ∷ []; layers = l ∷ [] }, t₂)
+        → nodes_from (room - k) (nodes_of k cs ls) t ≡ nodes_from (room - (k + 1)) (nodes_of (k + 1) (set (set cs (2 * k) x) (2 * k + 1) y) (set ls k l)) t₂
+    unfolding nodes_from node_step and_then add_node
+    nodes_turn x y l t₂ m n g =
         let e₂ : 2 * (k + 1) ≡ 2 * k + 2 = omega arith in
-        rw (e₂, two_more cs (2 * k) x y (omega arith))
-        (repeated_step node_word node_step (take (2 * k) cs) t room k h t₁ e (take (2 * k) cs ++ (x ∷ y ∷ [])) t₂ (rw g))
+        rw (e₂, two_more cs (2 * k) x y (omega arith), one_more ls k l (omega arith))
+        (repeated_step node_word node_step (nodes_of k cs ls) t room k h t₁ e
+        (record { coords = take (2 * k) cs ++ (x ∷ y ∷ []); layers = take k ls ++ (l ∷ []) }) t₂ (rw g))
 
 pub ruleset nodes_steps = (nodes_end, nodes_stop, nodes_bad, nodes_turn)
 

@@ -1,6 +1,7 @@
-use Rattle.std.proofs.Common.{◌≡◌, ◌-◌, ◌*◌, [], take}
-use Rattle.text.specs.Read.{nodes_from}
+use Rattle.std.proofs.Common.{◌≡◌, ◌-◌, ◌≤◌, length, ◌/◌}
+use Rattle.text.specs.Read.{nodes_from, no_nodes}
+use Rattle.reading_lines.specs.Lines.{nodes_of}
 use Rattle.reading_lines.proofs.lines.read_nodes.Given as goal
 
 abbrev pub invariant-loop-k : goal.invariant-loop-k
-invariant-loop-k l = nodes_from (l.room - l.k) (take (2 * l.k) l.coords) l.rest ≡ nodes_from l.room [] l.s
+invariant-loop-k l = nodes_from (l.room - l.k) (nodes_of l.k l.coords l.layers) l.rest ≡ nodes_from l.room no_nodes l.s
