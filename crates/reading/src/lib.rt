@@ -45,9 +45,7 @@ fn read_mesh<'a>(s: &'a [u8], lists: &mut MeshLists) -> Option<(Counts, &'a [u8]
     ensures within { IfSome result (λ p. Within p.0 lists.old) }
     ensures same_lists { SameLists lists.new lists.old }
 {
-    let points = 512
-        .min(lists.coords.len() / 2)
-        .min(lists.layers.len());
+    let points = 512.min(lists.coords.len() / 2).min(lists.layers.len());
     let cells = 512
         .min(lists.ends.len())
         .min(lists.kinds.len())

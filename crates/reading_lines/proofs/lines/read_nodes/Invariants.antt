@@ -1,4 +1,4 @@
-use Rattle.std.proofs.Common.{◌≡◌, ◌-◌, ◌≤◌, length, ◌/◌}
+use Rattle.std.proofs.Common.{◌≡◌, ◌-◌}
 use Rattle.text.specs.Read.{nodes_from, no_nodes}
 use Rattle.reading_lines.specs.Lines.{nodes_of}
 use Rattle.reading_lines.proofs.lines.read_nodes.Given as goal
