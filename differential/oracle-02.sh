@@ -2,7 +2,10 @@
 # oracle-02.sh OUT: builds OUT/release/oracle-law as oracle.sh does, from a copy of the published Rust that goes on as document 02 says
 # (W1: where no other slot is free the walk turns back, if the reverse is unmarked; W14: an edge that the cell's table has, either way
 # round, isn't added again, and none from a node to itself; W6: a third number on a form's first line is k, and new points are booked on the
-# grid of 1/2^k) and that also counts. To standard error it writes for each overlay `point` with the coordinates of each new point before it is
+# grid of 1/2^k; W7: near nodes share a number where they have one layer, found by the published `duplicates_from`, once for each layer over meshes of
+# that layer's nodes alone; node lines are listed with the layer) and that also counts. To standard error it writes for each overlay `weld` with each
+# of the cutter's nodes that takes a subject node's number, and that one, and `whole` with those that would if layers were ignored, then `point` with the
+# coordinates of each new point before it is
 # booked, `of` and those of P1 to P4 of its meeting, then `meetings N collected N`, the second the most nodes collected under one edge key, and
 # then for each cell that it comes to `cell SLOTS` of W14's table, with ` doubled` where the table that the published function makes names a neighbour
 # twice at some node, and ` repeats` where the outline as cut passes between the same two nodes twice or from a node to itself (the copy goes
@@ -102,10 +105,75 @@ pub mod grid {
 READ_M = '        let _m: u64 = self.num()?;\n'
 READ_K = '''        let k = if *self.it.peek()? == "(" { None } else { Some(self.num()?) };
         mefikit::grid::K.set(k);
+        mefikit::layers::none();
 '''
+# W7
+LAYERS = '''
+pub mod layers {
+    use std::cell::RefCell;
+    thread_local! {
+        /// The layers of the subject's nodes, of the cutter's and of new points.
+        static ALL: RefCell<Vec<u32>> = const { RefCell::new(Vec::new()) };
+    }
+    pub fn none() {
+        ALL.take();
+    }
+    pub fn add(layer: u32) {
+        ALL.with_borrow_mut(|all| all.push(layer));
+    }
+    pub fn of(node: usize) -> u32 {
+        ALL.with_borrow(|all| all[node])
+    }
+}
+'''
+READ_LAYER, ADD_LAYER = 'let _layer: u32 = self.num()?;', 'mefikit::layers::add(self.num()?);'
+NODE = '"(node {:016x} {:016x})", c[(i, 0)].to_bits(), c[(i, 1)].to_bits());'
+NODE_ON_LAYER = '"(node {:016x} {:016x} {})", c[(i, 0)].to_bits(), c[(i, 1)].to_bits(), mefikit::layers::of(i));'
+NEAR = 'duplicates_from(&subject.view(), &reference.clone(), eps)'
+BY_LAYERS = '''/// The nodes of one layer as a mesh, and their numbers; `base` is that of the mesh's first node. Each cell has its corners there.
+fn on_layer(mesh: &UMeshView, base: usize, layer: u32) -> (UMesh, Vec<usize>) {
+    let nodes: Vec<usize> = (0..mesh.coords().nrows()).filter(|n| crate::layers::of(base + n) == layer).collect();
+    let coords = nodes.iter().flat_map(|n| mesh.coords().row(*n).to_slice().unwrap().to_vec()).collect();
+    let mut part = UMesh::new(nd::Array2::from_shape_vec((nodes.len(), 2), coords).unwrap().into_shared());
+    for cell in mesh.elements() {
+        let corners: Vec<usize> = cell.connectivity().iter().filter_map(|n| nodes.binary_search(n).ok()).collect();
+        if !corners.is_empty() {
+            part.add_element(ElementType::PGON, &corners, None);
+        }
+    }
+    (part, nodes)
+}
+
+fn tell(what: &str, near: &FxHashMap<usize, Vec<usize>>) {
+    let mut pairs: Vec<(usize, usize)> = near.iter().flat_map(|(to, from)| from.iter().map(|n| (*n, *to))).collect();
+    pairs.sort();
+    eprintln!("{what}{}", pairs.iter().map(|(n, to)| format!(" {n} {to}")).collect::<String>());
+}
+
+fn near_by_layers(subject: &UMeshView, reference: &UMeshView, eps: f64) -> FxHashMap<usize, Vec<usize>> {
+    let base = reference.coords().nrows();
+    let mut layers: Vec<u32> = (0..base).map(crate::layers::of).collect();
+    layers.sort();
+    layers.dedup();
+    let mut near: FxHashMap<usize, Vec<usize>> = FxHashMap::default();
+    for layer in layers {
+        let (upper, from) = on_layer(subject, base, layer);
+        let (lower, to) = on_layer(reference, 0, layer);
+        for (n, ns) in duplicates_from(&upper.view(), &lower.view(), eps) {
+            near.insert(to[n], ns.iter().map(|n| from[*n]).collect());
+        }
+    }
+    tell("weld", &near);
+    tell("whole", &duplicates_from(subject, reference, eps));
+    near
+}
+
+'''
+OPERATION = '/// Boolean-like operation to perform on two 2D meshes.\n'
 POINT = '                    Intersection::New(coord) => {\n'
 BOOKED = '''                        let ends = [edge.coord2(0), edge.coord2(1), edge2.coord2(0), edge2.coord2(1)];
                         let coord = crate::grid::booked(coord, ends.map(|p| p.into()));
+                        crate::layers::add(crate::layers::of(edge.connectivity[0]));
 '''
 INNER = '        sorted_ints.extend(v.iter().map(|&n| (projection(n), n)));\n'
 NEW_INNER = '''        if crate::grid::is_set() {
@@ -136,7 +204,11 @@ exchange(overlay, POINT, POINT + BOOKED)
 put(overlay, NEW_INNER, INNER)
 exchange(overlay, NODES, NODES + FIRST)
 exchange(cli, READ_M, READ_M + READ_K)
-put(lib, GRID, '\npub mod probe;\n')
+put(lib, GRID + LAYERS, '\npub mod probe;\n')
+exchange(cli, READ_LAYER, ADD_LAYER)
+exchange(cli, NODE, NODE_ON_LAYER)
+exchange(overlay, NEAR, 'near_by_layers(&subject.view(), &reference, eps)')
+put(overlay, BY_LAYERS, OPERATION)
 END
 # so that nothing is compiled anew where nothing has changed
 touch -r "$here/oracle-02.sh" "$src/element_traits/cut.rs" "$src/tools/overlay.rs" "$cli" "$lib"

@@ -132,6 +132,7 @@ impl<'a> Words<'a> {
                 "node" => {
                     coords.push(self.float()?);
                     coords.push(self.float()?);
+                    let _layer: u32 = self.num()?;
                     self.is(")")?;
                 }
                 "cell" => {
@@ -266,9 +267,9 @@ fn geometry(text: &str) -> String {
 
 // ------------------------------------------------------------------ K1 to K10
 
-const K1: &str = "(overlay 0 9\n(mesh\n(node 0000000000000000 0000000000000000)\n(node 4000000000000000 0000000000000000)\n(node 4000000000000000 4000000000000000)\n(node 0000000000000000 4000000000000000)\n(cell 8 7 0 1 2 3)\n)\n(mesh\n(node 3ff0000000000000 bff0000000000000)\n(node 4008000000000000 bff0000000000000)\n(node 4008000000000000 4008000000000000)\n(node 3ff0000000000000 4008000000000000)\n(cell 11 0 0 1 2 3)\n)\n)\n";
+const K1: &str = "(overlay 0 9\n(mesh\n(node 0000000000000000 0000000000000000 0)\n(node 4000000000000000 0000000000000000 0)\n(node 4000000000000000 4000000000000000 0)\n(node 0000000000000000 4000000000000000 0)\n(cell 8 7 0 1 2 3)\n)\n(mesh\n(node 3ff0000000000000 bff0000000000000 0)\n(node 4008000000000000 bff0000000000000 0)\n(node 4008000000000000 4008000000000000 0)\n(node 3ff0000000000000 4008000000000000 0)\n(cell 11 0 0 1 2 3)\n)\n)\n";
 const K1_TAIL: &str = "(node 3ff0000000000000 0000000000000000)\n(node 3ff0000000000000 4000000000000000)\n(cell 11 7 3 0 8 9)\n(cell 11 7 9 8 1 2)\n(count 2 2)\n)\n";
-const K10: &str = "(overlay 5 9\n(mesh\n(node 0000000000000000 0000000000000000)\n(node 4000000000000000 0000000000000000)\n(node 4000000000000000 4000000000000000)\n(node 0000000000000000 4000000000000000)\n(cell 8 7 0 1 2 3)\n)\n(mesh\n(node 3ff0000000000000 bff0000000000000)\n(node 3ff0000000000000 3ff0000000000000)\n(cell 1 0 0 1)\n)\n)\n";
+const K10: &str = "(overlay 5 9\n(mesh\n(node 0000000000000000 0000000000000000 0)\n(node 4000000000000000 0000000000000000 0)\n(node 4000000000000000 4000000000000000 0)\n(node 0000000000000000 4000000000000000 0)\n(cell 8 7 0 1 2 3)\n)\n(mesh\n(node 3ff0000000000000 bff0000000000000 0)\n(node 3ff0000000000000 3ff0000000000000 0)\n(cell 1 0 0 1)\n)\n)\n";
 
 fn forms(text: &str, counts: bool) -> String {
     let mut w = Words { it: words(text).into_iter().peekable() };
@@ -326,7 +327,7 @@ fn selftest() -> bool {
     };
     let mut want1 = String::from("(overlay\n");
     for l in K1.lines().filter(|l| l.starts_with("(node")) {
-        want1.push_str(l);
+        want1.push_str(&l.replace(" 0)", ")"));
         want1.push('\n');
     }
     want1.push_str(K1_TAIL);
@@ -470,7 +471,7 @@ fn bench_text(n: usize, m: usize) -> String {
     for (coords, cells) in [a, b] {
         s.push_str("(mesh\n");
         for c in coords.chunks_exact(2) {
-            let _ = writeln!(s, "(node {:016x} {:016x})", c[0].to_bits(), c[1].to_bits());
+            let _ = writeln!(s, "(node {:016x} {:016x} 0)", c[0].to_bits(), c[1].to_bits());
         }
         for (k, f, nodes) in cells {
             let _ = write!(s, "(cell {k} {f}");

@@ -1,7 +1,7 @@
 //! Reads the program's forms from standard input, one after another, overlays each by the proved library and prints what `oracle count`
 //! prints: pieces regrouped by kind, `(count pieces newpoints)`, where the Rust's new points are all added ones, the fourth count; or
-//! `(refused N)`. A third number on a form's first line is k of the survey grid. After a piece's family stand the mesh and the index of its
-//! parent, as the program prints them. Standard error has each form's second and third counts: the added points that a piece names, and 0.
+//! `(refused N)`. A third number on a form's first line is k of the survey grid. After a node's y stands its layer, after a piece's family the mesh and
+//! the index of its parent, as the program prints them. Standard error has each form's second and third counts: the added points that a piece names, and 0.
 use daqwimay::{Mesh, Operation, Overlay, Overlayer, Settings};
 use std::fmt::Write as _;
 use std::io::{Read, Write as _};
@@ -27,6 +27,7 @@ impl<'a> Words<'a> {
                 "node" => {
                     m.coords.push(self.float()?);
                     m.coords.push(self.float()?);
+                    m.layers.push(self.number()?);
                     self.is(")")?;
                 }
                 "cell" => {
@@ -65,8 +66,9 @@ fn operation(n: u32) -> Option<Operation> {
 
 fn listing(s: &mut String, o: &Overlay) {
     s.push_str("(overlay\n");
-    for c in o.mesh.coords.chunks_exact(2) {
-        let _ = writeln!(s, "(node {:016x} {:016x})", c[0].to_bits(), c[1].to_bits());
+    assert_eq!(o.mesh.coords.len(), 2 * o.mesh.layers.len());
+    for (c, layer) in o.mesh.coords.chunks_exact(2).zip(&o.mesh.layers) {
+        let _ = writeln!(s, "(node {:016x} {:016x} {layer})", c[0].to_bits(), c[1].to_bits());
     }
     let mut pieces: Vec<_> = o.mesh.cells().zip(o.parent_meshes.iter().zip(&o.parent_cells)).collect();
     pieces.sort_by_key(|(p, _)| p.kind);
