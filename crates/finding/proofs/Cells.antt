@@ -20,9 +20,9 @@ abbrev pub cells_in : List ℕ → List ℕ → List (List ℕ)
 cells_in nodes ends = cells_of (mesh [] [] nodes ends [] [])
 
 -- only node entries and ends count
-pub cells_lists : (coords : List Float) (nodes ends kinds families : List ℕ) → cells_of (mesh coords nodes ends kinds families) ≡ cells_in nodes ends
+pub cells_lists : (coords : List Float) (layers nodes ends kinds families : List ℕ) → cells_of (mesh coords layers nodes ends kinds families) ≡ cells_in nodes ends
 unfolding cells_of cell_at
-cells_lists coords nodes ends kinds families = refl
+cells_lists coords layers nodes ends kinds families = refl
 
 -- ---- other numbers
 

@@ -93,15 +93,16 @@ module _ (w : List ℕ) (g : Regions) (es fs ms : List ℕ) (is-es : es ≡ run_
 
 -- ---- `find`
 
-module _ (o : Settings) (sc cc : List Float) (sn se cn ce : List ℕ) (w₀ : List ℕ) (ok : FindAsks o (mesh sc sn se [] []) (mesh cc cn ce [] []) (length w₀)) (oc : List Float) where
+module _ (o : Settings) (sc : List Float) (sl sn se : List ℕ) (cc : List Float) (cl cn ce : List ℕ) (w₀ : List ℕ)
+    (ok : FindAsks o (mesh sc sl sn se [] []) (mesh cc cl cn ce [] []) (length w₀)) (oc : List Float) where
   abbrev lines : Bool
   lines = eqb o.op 5
 
   abbrev s : Mesh
-  s = mesh sc sn se [] []
+  s = mesh sc sl sn se [] []
 
   abbrev c : Mesh
-  c = mesh cc cn ce [] []
+  c = mesh cc cl cn ce [] []
 
   abbrev fs : Fit false s
   fs = ok.subject
@@ -205,13 +206,13 @@ module _ (o : Settings) (sc cc : List Float) (sn se cn ce : List ℕ) (w₀ : Li
     length_placed = ap length oe ∙ length_front oc (sc ++ cc) (omega (arith, fits, len))
 
     length_work : length w₁ ≡ length w₀
-    length_work = ap length we ∙ length_held lines sc cc sn se cn ce fs fc w₀ room₀
+    length_work = ap length we ∙ length_held lines sc sl sn se cc cl cn ce fs fc w₀ room₀
 
     asked_of : MeetingsRoom (nets_of lines s c) (length oc₁) (length w₁) placed o.m
     unfolding nets_of
     asked_of =
-        let a = subjects_before lines sc cc sn se cn ce fs fc w₀ room₀ in
-        let b = cutters_before lines sc cc sn se cn ce fs fc w₀ room₀ in
+        let a = subjects_before lines sc sl sn se cc cl cn ce fs fc w₀ room₀ in
+        let b = cutters_before lines sc sl sn se cc cl cn ce fs fc w₀ room₀ in
         record {
           placed_fits = omega (arith, fits, length_placed);
           placed_even = omega (arith, fs.even, fc.even);
@@ -233,13 +234,13 @@ module _ (o : Settings) (sc cc : List Float) (sn se cn ce : List ℕ) (w₀ : Li
     unfolding nets_of
     subjects_read =
         ap (λ (w : List ℕ). run_in w (nets_of lines s c).subject.edges) we ∙ run_long (netted lines s c w₀) (subject_at s c) (2 * length subjects)
-        ∙ subjects_held lines sc cc sn se cn ce fs fc w₀ room₀
+        ∙ subjects_held lines sc sl sn se cc cl cn ce fs fc w₀ room₀
 
     cutters_read : run_in w₁ (nets_of lines s c).cutter.edges ≡ flat_edges cutters
     unfolding nets_of
     cutters_read =
         ap (λ (w : List ℕ). run_in w (nets_of lines s c).cutter.edges) we ∙ run_long (netted lines s c w₀) (cond lines (length cc / 2) (cutter_at s c)) (2 * length cutters)
-        ∙ cutters_held lines sc cc sn se cn ce fs fc w₀ room₀
+        ∙ cutters_held lines sc sl sn se cc cl cn ce fs fc w₀ room₀
 
     coords_read : take placed oc₁ ≡ sc ++ cc
     coords_read = ap (take placed) oe ∙ take_front_of oc (sc ++ cc) placed len
@@ -248,11 +249,11 @@ module _ (o : Settings) (sc cc : List Float) (sn se cn ce : List ℕ) (w₀ : Li
     unfolding nets_of
     indexed_of =
         record {
-          index = record { rises = omega arith; fits = index_fits_lem lines sc cc sn se cn ce fs fc w₀ room₀ };
+          index = record { rises = omega arith; fits = index_fits_lem lines sc sl sn se cc cl cn ce fs fc w₀ room₀ };
           indexed =
               let w = netted lines s c w₀ in
               rw (coords_read, we, run_long w (cond lines (length cc / 2) (cutter_at s c)) (2 * length cutters), run_long w (index_at s c) (index_size (length cutters)))
-              (cutters_indexed lines sc cc sn se cn ce fs fc w₀ room₀);
+              (cutters_indexed lines sc sl sn se cc cl cn ce fs fc w₀ room₀);
         }
 
     indexed : CutterIndexed r (take placed oc₁) w₁
@@ -324,8 +325,8 @@ module _ (o : Settings) (sc cc : List Float) (sn se cn ce : List ℕ) (w₀ : Li
         unfolding nets_of
         link_asked_of h e =
             record {
-              subject = record { rises = omega arith; fits = omega (arith, (subjects_before lines sc cc sn se cn ce fs fc w₀ room₀).0) };
-              cutter = record { rises = omega arith; fits = omega (arith, (cutters_before lines sc cc sn se cn ce fs fc w₀ room₀).0) };
+              subject = record { rises = omega arith; fits = omega (arith, (subjects_before lines sc sl sn se cc cl cn ce fs fc w₀ room₀).0) };
+              cutter = record { rises = omega arith; fits = omega (arith, (cutters_before lines sc sl sn se cc cl cn ce fs fc w₀ room₀).0) };
               links_fit = omega (arith, e, ok.room, few, fs.even, fc.even);
               some = omega (arith, e);
               few = omega (arith, few, ok.most);
@@ -336,27 +337,27 @@ module _ (o : Settings) (sc cc : List Float) (sn se cn ce : List ℕ) (w₀ : Li
         link_asked h e = rw (re, count, lw, length_work) (link_asked_of h e)
 
         -- the meetings, and nothing behind them yet
-        work_then : w₂ ≡ with o sc cc sn se cn ce fs fc w₀ room₀ []
+        work_then : w₂ ≡ with o sc sl sn se cc cl cn ce fs fc w₀ room₀ []
         unfolding nets_of
         work_then =
             all.work ∙ ap₂ (λ (w : List ℕ) (ms : List Met). put w r.behind (in_numbers ms)) we met_are
             ∙ ap (λ (x : NetPlaces). put (netted lines s c w₀) x.behind (in_numbers scene.met)) re
             ∙ ap (put (netted lines s c w₀) (met_at s c)) (sym (append-nil (in_numbers scene.met)))
 
-        linked_is : linked_by (nets_of lines s c) (length scene.met) (chains s c) (with o sc cc sn se cn ce fs fc w₀ room₀ []) ≡ worked o s c w₀
+        linked_is : linked_by (nets_of lines s c) (length scene.met) (chains s c) (with o sc sl sn se cc cl cn ce fs fc w₀ room₀ []) ≡ worked o s c w₀
         unfolding linked_by nets_of worked scene_of
         linked_is =
-            let w = with o sc cc sn se cn ce fs fc w₀ room₀ [] in
-            let base : met_at s c ≤ length (netted lines s c w₀) = omega (arith, ok.room, length_held lines sc cc sn se cn ce fs fc w₀ room₀) in
+            let w = with o sc sl sn se cc cl cn ce fs fc w₀ room₀ [] in
+            let base : met_at s c ≤ length (netted lines s c w₀) = omega (arith, ok.room, length_held lines sc sl sn se cc cl cn ce fs fc w₀ room₀) in
             let end : met_at s c + 5 * length scene.met ≡ met_at s c + length (in_numbers scene.met) = omega (arith, length_in_numbers scene.met) in
             let fit : met_at s c + length (in_numbers scene.met) ≤ length (netted lines s c w₀) = omega
-            (arith, length_in_numbers scene.met, few, ok.room, length_held lines sc cc sn se cn ce fs fc w₀ room₀) in
+            (arith, length_in_numbers scene.met, few, ok.room, length_held lines sc sl sn se cc cl cn ce fs fc w₀ room₀) in
             ap₂ (λ (es fs : List ℕ). put w (met_at s c + 5 * length scene.met) (links_of (chains s c) (pairs es) (pairs fs) (run w (met_at s c) (5 * length scene.met))))
-            (run_long w (subject_at s c) (2 * length subjects) ∙ subjects_found o sc cc sn se cn ce fs fc w₀ room₀ [])
-            (run_long w (cond lines (length cc / 2) (cutter_at s c)) (2 * length cutters) ∙ cutters_found o sc cc sn se cn ce fs fc w₀ room₀ [])
+            (run_long w (subject_at s c) (2 * length subjects) ∙ subjects_found o sc sl sn se cc cl cn ce fs fc w₀ room₀ [])
+            (run_long w (cond lines (length cc / 2) (cutter_at s c)) (2 * length cutters) ∙ cutters_found o sc sl sn se cc cl cn ce fs fc w₀ room₀ [])
             ∙ ap₂ (λ (es fs : List Edge). put w (met_at s c + 5 * length scene.met) (links_of (chains s c) es fs (run w (met_at s c) (5 * length scene.met))))
             (pairs_ends subjects) (pairs_ends cutters)
-            ∙ ap₂ (λ (i : ℕ) (ms : List ℕ). put w i (links_of (chains s c) subjects cutters ms)) end (met_found o sc cc sn se cn ce fs fc w₀ room₀ [])
+            ∙ ap₂ (λ (i : ℕ) (ms : List ℕ). put w i (links_of (chains s c) subjects cutters ms)) end (met_found o sc sl sn se cc cl cn ce fs fc w₀ room₀ [])
             ∙ ap (λ (v : List ℕ). put (put (netted lines s c w₀) (met_at s c) v) (met_at s c + length (in_numbers scene.met)) (links_in o s c)) (append-nil (in_numbers scene.met))
             ∙ put_append (netted lines s c w₀) (met_at s c) base (in_numbers scene.met) (links_in o s c) fit
 
@@ -373,10 +374,10 @@ module _ (o : Settings) (sc cc : List Float) (sn se cn ce : List ℕ) (w₀ : Li
           work_is : w₃ ≡ worked o s c w₀
           work_is =
               le.1 ∙ ap₂ (λ (x : NetPlaces) (w : List ℕ). linked_by x f.met h w) re work_then
-              ∙ ap₂ (λ (i j : ℕ). linked_by (nets_of lines s c) i j (with o sc cc sn se cn ce fs fc w₀ room₀ [])) count chains_are ∙ linked_is
+              ∙ ap₂ (λ (i j : ℕ). linked_by (nets_of lines s c) i j (with o sc sl sn se cc cl cn ce fs fc w₀ room₀ [])) count chains_are ∙ linked_is
 
           held : Holds o s c g w₃
-          held = rw (regions_are, work_is) (worked_holds o sc cc sn se cn ce fs fc w₀ room₀ ok.room few ok.most)
+          held = rw (regions_are, work_is) (worked_holds o sc sl sn se cc cl cn ce fs fc w₀ room₀ ok.room few ok.most)
 
           -- what `crowded` asks
           crowded_asks : LinkedIn w₃ g

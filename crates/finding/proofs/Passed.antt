@@ -9,7 +9,7 @@ use Rattle.entry.specs.Passed.{Sound, Passed}
 use Rattle.finding.specs.Nets.{plain, Fit, FindAsks}
 
 abbrev pub bare : Mesh → Mesh
-bare m = plain m.coords m.nodes m.ends
+bare m = plain m.coords m.layers m.nodes m.ends
 
 pub fit_of : (lines : Bool) (m : Mesh) → Sound lines m → Fit lines (bare m)
 fit_of lines m ok =

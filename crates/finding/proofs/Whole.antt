@@ -31,12 +31,12 @@ use Rattle.finding.proofs.Joined.{put_left, put_right, zeros_apart}
 pub rising : (lines : Bool) (m : Mesh) → Fit lines m → Rising m.ends (length m.nodes)
 rising lines m ok i h = (omega (arith, ok.rises i h), ok.within i h)
 
-module _ (lines : Bool) (sc cc : List Float) (sn se cn ce : List ℕ) where
+module _ (lines : Bool) (sc : List Float) (sl sn se : List ℕ) (cc : List Float) (cl cn ce : List ℕ) where
   abbrev s : Mesh
-  s = mesh sc sn se [] []
+  s = mesh sc sl sn se [] []
 
   abbrev c : Mesh
-  c = mesh cc cn ce [] []
+  c = mesh cc cl cn ce [] []
 
   abbrev entries : List ℕ
   entries = cutter_entries s c
@@ -54,15 +54,15 @@ module _ (lines : Bool) (sc cc : List Float) (sn se cn ce : List ℕ) where
 
   pub subject_cells_lem : (subject_net s).cells ≡ cells_in sn se
   unfolding subject_net
-  subject_cells_lem = cells_lists sc sn se [] []
+  subject_cells_lem = cells_lists sc sl sn se [] []
 
   pub cutter_cells_lem : (cutter_net lines s c).cells ≡ cells_in entries ce
   unfolding cutter_net
-  cutter_cells_lem = ap (map (map (λ n. get_or (weld s c) n 0))) (cells_lists cc cn ce [] []) ∙ sym (cells_renumbered (λ n. get_or (weld s c) n 0) cn ce)
+  cutter_cells_lem = ap (map (map (λ n. get_or (weld s c) n 0))) (cells_lists cc cl cn ce [] []) ∙ sym (cells_renumbered (λ n. get_or (weld s c) n 0) cn ce)
 
   subjects_are : subjects ≡ compute_descending (cells_in sn se)
   unfolding subject_net
-  subjects_are = ap compute_descending (cells_lists sc sn se [] [])
+  subjects_are = ap compute_descending (cells_lists sc sl sn se [] [])
 
   cutters_cells : lines ≡ false → cutters ≡ compute_descending (cells_in entries ce)
   unfolding cutter_net
@@ -149,10 +149,10 @@ module _ (lines : Bool) (sc cc : List Float) (sn se cn ce : List ℕ) where
         pub cutter : run_in nets (between (node_count c) (copied_at s c)) ≡ entries
         pub all : nets ++ rest ≡ two
 
-      module _ (w₁ w₂ w₃ : List ℕ) (d₁ : w₁ ≡ front w₀ (weld (mesh sc sn [] [] []) (mesh cc cn [] [] []) ++ zeros (length sc / 2)))
+      module _ (w₁ w₂ w₃ : List ℕ) (d₁ : w₁ ≡ front w₀ (weld (mesh sc sl sn [] [] []) (mesh cc cl cn [] [] []) ++ zeros (length sc / 2)))
           (d₂ : w₂ ≡ put w₁ (node_count c) (map (λ n. get_or w₁ n 0) cn)) (d₃ : w₃ ≡ copied w₂ (copied_at s c) sn) where
         one_is : w₁ ≡ numbers
-        one_is = d₁ ∙ ap (λ (l : List ℕ). front w₀ (l ++ zeros (node_count s))) (sym (weld_lists sc cc sn cn se ce [] [] [] []))
+        one_is = d₁ ∙ ap (λ (l : List ℕ). front w₀ (l ++ zeros (node_count s))) (sym (weld_lists sc sl sn se [] [] cc cl cn ce [] []))
 
         two_is : w₂ ≡ put numbers (node_count c) entries
         two_is =
