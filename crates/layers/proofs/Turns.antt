@@ -1,12 +1,12 @@
 -- The layers of all nodes, written to the front of a list meeting by meeting. Assumes nothing.
 use mathlib.Core.Path.{◌≡◌, refl, sym, ap, ◌∙◌}
-use mathlib.Core.Bool.{Bool, true, false, cond}
+use mathlib.Core.Bool.{Bool, true, false}
 use mathlib.Core.List.{List, [], ◌∷◌, ◌++◌}
 use Prim.Native.Nat.{ℕ, zero, suc, ◌+◌, ◌-◌, ◌*◌, ◌/◌, ◌≤◌, ◌<◌}
 use native.Mathlib.Omega.{arith}
 use native.Mathlib.Numerals.{add-one}
 use lib.Dec.{eqb}
-use lib.ListN.{length, get_or, set, take, drop, length-append}
+use lib.ListN.{length, get_or, set, drop, length-append}
 use Rattle.std.proofs.Common.{get_or-take, get_or-drop}
 use Rattle.std.specs.Simd.{first_chunks}
 use borrow.Author.Tests.{eqb-true, eqb-false, eq-eqb, ne_eqb}
@@ -61,8 +61,7 @@ module _ (ss cs es met : List ℕ) where
         let all : length ss + length cs ≤ length old = omega (arith, in_room 0 (omega arith), length-append ss cs) in
         let one : w₁ ≡ put old 0 ss = e ∙ copied_fits old 0 ss (omega (arith, all)) in
         let long : length (put old 0 ss) ≡ length old = length_put old 0 (omega arith) ss (omega (arith, all)) in
-        let zero_on : length ss ≡ 0 + length ss = omega arith in
-        (
+        let zero_on : length ss ≡ 0 + length ss = omega arith in (
           f ∙ ap (λ (w : List ℕ). copied w (length ss) cs) one ∙ copied_fits (put old 0 ss) (length ss) cs (omega (arith, all, long))
               ∙ ap (λ (b : ℕ). put (put old 0 ss) b cs) zero_on ∙ put_append old 0 (omega arith) ss cs (omega (arith, all)) ∙ front_put old (ss ++ cs),
           sym (length-append ss cs),

@@ -1,5 +1,5 @@
 -- `layers::write_layers` meets its contract. Assumes nothing.
-use Rattle.std.proofs.Common.{◌≡◌, sym, ap, ◌∙◌, arith, ℕ}
+use Rattle.std.proofs.Common.{ap, ◌∙◌, arith, ℕ}
 use Rattle.lists.specs.Regions.{front}
 use Rattle.layers.specs.Written.{layers_to}
 use Rattle.layers.proofs.Turns.{start, place_at, turn_new, turn_known}
