@@ -47,7 +47,7 @@ module _ (o : Settings) (s c : Mesh) (w : ℕ) (pass : entry_of o s c w ≡ 0) w
   lent_node : (n : ℕ) → n < node_count s + node_count c → NodeOf (scene_for o s c) n
   lent_node n h = omega (arith, h, scene_length o s c, lent_even, length-append s.coords c.coords)
 
-  subject_all : Each (Both (node_count s + node_count c)) (subject_net s).edges
+  pub subject_all : Each (Both (node_count s + node_count c)) (subject_net s).edges
   subject_all e h = let b = edges_under false s (passed o s c w pass).subject e h in (omega (arith, b.0), omega (arith, b.1))
 
   pub cutter_all : Each (Both (node_count s + node_count c)) (cutter_net (eqb o.op 5) s c).edges

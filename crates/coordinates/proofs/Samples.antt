@@ -197,12 +197,12 @@ not_minus_zero h = false≢true h.ok
 
 -- ---- the edges of a meeting
 
--- the square from (0, 0) to (4, 4), and as a line what crosses its lower side
+-- the square from (0, 0) to (4, 4), and as a line, of another layer, what crosses its lower side
 abbrev square : Mesh
-square = mesh (zero_f ∷ zero_f ∷ four_f ∷ zero_f ∷ four_f ∷ four_f ∷ zero_f ∷ four_f ∷ []) (0 ∷ 1 ∷ 2 ∷ 3 ∷ []) (4 ∷ []) (8 ∷ []) (0 ∷ [])
+square = mesh (zero_f ∷ zero_f ∷ four_f ∷ zero_f ∷ four_f ∷ four_f ∷ zero_f ∷ four_f ∷ []) (0 ∷ 0 ∷ 0 ∷ 0 ∷ []) (0 ∷ 1 ∷ 2 ∷ 3 ∷ []) (4 ∷ []) (8 ∷ []) (0 ∷ [])
 
 abbrev line : Mesh
-line = mesh (one_f ∷ minus_one ∷ one_f ∷ one_f ∷ []) (0 ∷ 1 ∷ []) (2 ∷ []) (1 ∷ []) (0 ∷ [])
+line = mesh (one_f ∷ minus_one ∷ one_f ∷ one_f ∷ []) (1 ∷ 1 ∷ []) (0 ∷ 1 ∷ []) (2 ∷ []) (1 ∷ []) (0 ∷ [])
 
 abbrev lines : Settings
 lines = record { op = 5; m = 9; grid = None }

@@ -1,2 +1,3 @@
 pub mod Turns
 pub mod Meant
+pub mod Scene
