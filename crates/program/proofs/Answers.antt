@@ -33,7 +33,7 @@ use Rattle.program.specs.Printed.{printed_of}
 
 -- the lists that printing is lent, and the working list
 abbrev shown : Listing → List ℕ → Lists
-shown v ws = lent_lists v.coords.now v.nodes.now v.ends.now v.kinds.now v.families.now v.meshes.now v.cells.now ws
+shown v ws = lent_lists v.coords.now v.layers.now v.nodes.now v.ends.now v.kinds.now v.families.now v.meshes.now v.cells.now ws
 
 printed_told : (n : ℕ) (r : Result Counts Refusal) (v : Listing) (ws : List ℕ) → told (printed_of n r) v ≡ result_told n (answer_of r (shown v ws))
 unfolding told result_told
@@ -43,7 +43,7 @@ printed_told n (Err r) v ws = rw (ne_eqb (number r) 0 (some_not_zero r)) refl
 -- ---- the overlay of two meshes, into the program's lists
 
 abbrev lists : Lists
-lists = lent_lists (fzeros 4096) (zeros 8192) (zeros 2048) (zeros 2048) (zeros 2048) (zeros 2048) (zeros 2048) (zeros 16384)
+lists = lent_lists (fzeros 4096) (zeros 2048) (zeros 8192) (zeros 2048) (zeros 2048) (zeros 2048) (zeros 2048) (zeros 2048) (zeros 16384)
 
 module _ (settings : Settings) (s c : Mesh) where
   coords_added : length (scene_for settings s c).coords ≡ length (s.coords ++ c.coords) + length (added_by (scene_for settings s c).met)
@@ -66,7 +66,7 @@ module _ (settings : Settings) (s c : Mesh) where
 
   module _ (n : ℕ) (a : Result Counts Refusal) (l : Lists)
       (same : answer_of a l ≡ overlay_of settings s c
-      (lent_lists (fzeros 4096) (zeros 8192) (zeros 2048) (zeros 2048) (zeros 2048) (zeros 2048) (zeros 2048) (zeros 16384))) where
+      (lent_lists (fzeros 4096) (zeros 2048) (zeros 8192) (zeros 2048) (zeros 2048) (zeros 2048) (zeros 2048) (zeros 2048) (zeros 16384))) where
     pub nodes_fit_lem : n ≤ 1024 → IfOk a (λ k. n + k.added ≤ 4294967295)
     nodes_fit_lem h = go a same
       where
@@ -86,7 +86,7 @@ module _ (settings : Settings) (s c : Mesh) where
 
 module _ (s : List ℕ) where
   abbrev whole : Limits
-  whole = limits (length (fzeros 1024)) (length (zeros 2048)) (length (zeros 512)) (length (zeros 512)) (length (zeros 512))
+  whole = limits (length (fzeros 1024)) (length (zeros 512)) (length (zeros 2048)) (length (zeros 512)) (length (zeros 512)) (length (zeros 512))
 
   most_read : whole ≡ read_limits
   unfolding limits

@@ -73,10 +73,10 @@ module _ (settings : Settings) (s c : Mesh) (l : Lists) where
 
   -- and so what is told of it, where `nodes` nodes are lent.
   pub listing_told : (nodes : ℕ) → Accepted settings s c l → let r = overlay_of settings s c l in
-      result_told nodes r ≡ overlay (bits (take (2 * (nodes + r.added)) r.lists.coords)) (map line_of (listing settings s c)) r.pieces r.points r.doubled
+      result_told nodes r ≡ overlay (bits (take (2 * (nodes + r.added)) r.lists.coords)) r.lists.layers (map line_of (listing settings s c)) r.pieces r.points r.doubled
   unfolding result_told
   listing_told nodes h =
       let r = overlay_of settings s c l in
       let coords = bits (take (2 * (nodes + r.added)) r.lists.coords) in
-      ap (λ (b : Bool). cond b (overlay coords (lines_of r) r.pieces r.points r.doubled) (refused r.code)) (eq-eqb r.code 0 h)
-      ∙ ap (λ (ps : List PieceLine). overlay coords ps r.pieces r.points r.doubled) (listing_lines h)
+      ap (λ (b : Bool). cond b (overlay coords r.lists.layers (lines_of r) r.pieces r.points r.doubled) (refused r.code)) (eq-eqb r.code 0 h)
+      ∙ ap (λ (ps : List PieceLine). overlay coords r.lists.layers ps r.pieces r.points r.doubled) (listing_lines h)

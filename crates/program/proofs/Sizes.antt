@@ -1,4 +1,4 @@
--- No answer is longer than 278,580 bytes. Assumes nothing.
+-- No answer is longer than 301,108 bytes. Assumes nothing.
 use mathlib.Core.Path.{◌≡◌, refl, sym, ap, ◌∙◌}
 use mathlib.Core.Bool.{Bool, true, false, cond}
 use mathlib.Core.List.{List, [], ◌∷◌, map}
@@ -80,32 +80,32 @@ module _ (settings : Settings) (s c : Mesh) where
   ends_few k = omega (arith, take-le k r.lists.ends, (lengths_kept settings s c blank).ends)
 
   -- what is printed of an overlay
-  told_size : (n : ℕ) → length (answer_text (result_told n r)) ≤ 278580
+  told_size : (n : ℕ) → length (answer_text (result_told n r)) ≤ 301108
   unfolding result_told
   told_size n = go (eqb r.code 0) refl
     where
       go : (b : Bool) → eqb r.code 0 ≡ b → length (answer_text (cond b
-          (overlay (bits (take (2 * (n + r.added)) r.lists.coords)) (piece_lines 0 r.lists.nodes (take r.pieces r.lists.ends) r.lists.kinds
-          r.lists.families r.lists.meshes r.lists.cells) r.pieces r.points r.doubled) (refused r.code))) ≤ 278580
-      go true e = overlay_size _ _ _ _ _ _ _ r.pieces r.points r.doubled (coords_few (2 * (n + r.added))) (ends_few r.pieces) (rises (eqb-true r.code 0 e))
+          (overlay (bits (take (2 * (n + r.added)) r.lists.coords)) r.lists.layers (piece_lines 0 r.lists.nodes (take r.pieces r.lists.ends) r.lists.kinds
+          r.lists.families r.lists.meshes r.lists.cells) r.pieces r.points r.doubled) (refused r.code))) ≤ 301108
+      go true e = overlay_size _ _ _ _ _ _ _ _ r.pieces r.points r.doubled (coords_few (2 * (n + r.added))) (ends_few r.pieces) (rises (eqb-true r.code 0 e))
       go false e = omega (arith, refused_size r.code)
 
-unread_size : length (answer_text unread) ≤ 278580
+unread_size : length (answer_text unread) ≤ 301108
 unfolding answer_text
 unread_size = omega arith
 
-answered_size : (g : Parsed Given) → length (answer_text (answer_given g)) ≤ 278580
+answered_size : (g : Parsed Given) → length (answer_text (answer_given g)) ≤ 301108
 unfolding answer_given overlay_told
 answered_size None = unread_size
 answered_size (Some (g, t)) = told_size g.settings (lent g.subject) (lent g.cutter) _
 
 -- every answer
-pub answer_size : (t : List ℕ) → length (answer_to t) ≤ 278580
+pub answer_size : (t : List ℕ) → length (answer_to t) ≤ 301108
 unfolding answer_to
 answer_size t = answered_size (input_from read_limits read_limits t)
 
 -- so a list of so many bytes holds it
-pub answer_whole : (t o : List ℕ) → 278580 ≤ length o → room_for (length o) (answer_to t) ≡ Ok (length (answer_to t))
+pub answer_whole : (t o : List ℕ) → 301108 ≤ length o → room_for (length o) (answer_to t) ≡ Ok (length (answer_to t))
 unfolding room_for
 answer_whole t o h = rw (le-leb (length (answer_to t)) (length o) (le_trans (answer_size t) h)) refl
 

@@ -9,7 +9,8 @@ use lib.ListN.{length}
 use Rattle.std.specs.Prelude.{Option, None, Some, IfSome}
 use Rattle.settings.specs.declared.Settings.{Settings}
 use Rattle.text.specs.Text.{space, newline, close, overlay_word, mesh_word, node_word, cell_word, decimal, nodes_text, cells_text, Bits, mesh_text, grid_text, first_text, input_text}
-use Rattle.text.specs.Read.{Rest, if_word, and_then, word_from, decimal_from, repeated, add_node, node_step, nodes_from, no_nodes, cell_step, cells_from, mesh_from, grid_from, first_from, input_from, empty}
+use Rattle.text.specs.Read.{Rest, if_word, and_then, word_from, decimal_from, repeated, add_node, node_step, nodes_from, no_nodes, cell_step, cells_from, empty}
+use Rattle.text.specs.Read.{mesh_from, grid_from, first_from, input_from}
 use Rattle.text.specs.Given.{Parsed, Nodes, Cells, Limits, ReadMesh, Given}
 use Rattle.text.specs.Inputs.{Fine, read, Within, Fits, Input, text_of, given, Readable}
 use Rattle.text.proofs.Lines.{nodes_given}

@@ -104,8 +104,8 @@ unfolding input_text first_text grid_text mesh_text body_text nodes_text node_te
 k1_text_lem = refl
 
 pub k1_read : input_from most most k1_text ≡ Some (given k1, [])
-unfolding input_from first_from grid_from mesh_from nodes_from cells_from repeated add_node node_step node_from entry_step entries_from head_from cell_from add_cell cell_step decimal_from more_from hex_from
-    digit_val hex_val word_from after_word and_then if_word read
+unfolding input_from first_from grid_from mesh_from nodes_from cells_from repeated add_node node_step node_from entry_step entries_from head_from cell_from add_cell cell_step decimal_from more_from
+    hex_from digit_val hex_val word_from after_word and_then if_word read
 k1_read = refl
 
 abbrev k1_coords : List ℕ
@@ -192,8 +192,8 @@ read_samples : T (every (λ s. is_read (bytes s))
     "(overlay 5 1 11\n(mesh\n)\n(mesh\n)\n)\n" ∷
     "(overlay 5 1 4294967295\n(mesh\n)\n(mesh\n)\n)\n" ∷
     []))
-unfolding input_from first_from grid_from mesh_from nodes_from cells_from repeated add_node node_step node_from entry_step entries_from head_from cell_from add_cell cell_step decimal_from more_from hex_from
-    digit_val hex_val word_from after_word and_then if_word
+unfolding input_from first_from grid_from mesh_from nodes_from cells_from repeated add_node node_step node_from entry_step entries_from head_from cell_from add_cell cell_step decimal_from more_from
+    hex_from digit_val hex_val word_from after_word and_then if_word
 read_samples = tt
 
 unread_samples : T (every (λ s. not (is_read (bytes s)))
@@ -233,6 +233,6 @@ unread_samples : T (every (λ s. not (is_read (bytes s)))
     "(overlay 0 9\n(mesh\n(node 0000000000000000 000000000000000a 0)\n(cell 8 7 0 1)\n)\n)\n" ∷
     "" ∷
     []))
-unfolding input_from first_from grid_from mesh_from nodes_from cells_from repeated add_node node_step node_from entry_step entries_from head_from cell_from add_cell cell_step decimal_from more_from hex_from
-    digit_val hex_val word_from after_word and_then if_word
+unfolding input_from first_from grid_from mesh_from nodes_from cells_from repeated add_node node_step node_from entry_step entries_from head_from cell_from add_cell cell_step decimal_from more_from
+    hex_from digit_val hex_val word_from after_word and_then if_word
 unread_samples = tt
