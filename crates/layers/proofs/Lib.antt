@@ -1,3 +1,4 @@
 pub mod Turns
 pub mod Meant
 pub mod Scene
+pub mod OneLayer
