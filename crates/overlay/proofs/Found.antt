@@ -13,6 +13,7 @@ use Rattle.lists.proofs.Regions.{take_front_of}
 use Rattle.segments.specs.declared.Meeting.{Meeting}
 use Rattle.segments.specs.declared.Meeting.TheVariants.{Apart, Existing, New, Overlap}
 use Rattle.cutting.specs.Edges.{Edge, edge_at}
+use Rattle.cutting.specs.Lent.{flat_edges}
 use Rattle.settings.specs.declared.Settings.{Settings}
 use Rattle.entry.specs.Mesh.{Mesh, node_count}
 use Rattle.entry.specs.Passed.{Passed}
@@ -21,8 +22,10 @@ use Rattle.entry.proofs.Passed.{passed}
 use Rattle.grid.specs.Grid.{Grid}
 use Rattle.rules.specs.Neighbours.{Net, subject_net, cutter_net}
 use Rattle.rules.specs.Meetings.{Met, Scene, added_by, recorded, meetings, scene_of}
+use Rattle.rules.specs.Layers.{layers_of}
 use Rattle.rules.specs.Operations.{scene_for}
 use Rattle.rules.proofs.EdgePairs.{next_node, meetings_keep}
+use Rattle.rules.proofs.Lengths.{layers_long}
 use Rattle.std.specs.Prelude.{Result, Ok}
 use Rattle.refusals.specs.declared.Refusal.{Refusal}
 use Rattle.refusals.specs.Numbers.{by_number, refused_with}
@@ -35,10 +38,15 @@ use Rattle.finding.proofs.Held.{Holds}
 use Rattle.finding.proofs.Settled.{leaves}
 use Rattle.finding.proofs.Result.{answer_is, coords_are, work_is, code_is, worked_long, calm, holds, low, met_few}
 use Rattle.regions.specs.declared.Indexes.{Indexes}
+use Rattle.regions.specs.Runs.{Within, run_in}
+use Rattle.meetings.specs.InNumbers.{in_numbers}
+use Rattle.meetings.proofs.Reading.{length_in_numbers}
+use Rattle.layers.specs.Written.{layers_to}
+use Rattle.layers.proofs.Scene.{layers_met}
 use Rattle.indexing.specs.Indexes.{indexes, indexes_at, MeshIndexed, Asks}
 use Rattle.indexing.proofs.Written.{subject_indexed, cutter_indexed}
 use Rattle.cutting_cells.specs.Yields.{MeshesReady}
-use Rattle.overlay.specs.Prepared.{MeshesIn, PreparedIn}
+use Rattle.overlay.specs.Prepared.{MeshesIn, PointRoom, PreparedIn}
 use Rattle.overlay.proofs.Stands.{meshes_in, meshes_ready}
 use Rattle.overlay.proofs.Indexed.{index_asks, holds_after}
 
@@ -128,6 +136,22 @@ module _ (o : Settings) (s c : Mesh) (w₀ : List ℕ) (ok : Passed o s c (lengt
       let few = met_few o s c (length oc / 2) 0 0 (sym (code_is o s c w₀ asks oc oc' w' r told 0 0) ∙ ap refused_with z) in
       omega (arith, next_long, k.1, k.2, few, ok.subject.even, ok.cutter.even, ok.room)
 
+  -- ---- the layers
+
+  -- by what stands in the working list
+  abbrev by_list : List ℕ
+  by_list = layers_to (length (run_in w' x.regions.met) / 5) s.layers c.layers (run_in w' x.regions.subject.edges) (run_in w' x.regions.met)
+
+  layers_are : entry_of o s c (length w₀) ≡ 0 → by_list ≡ layers_of sc s c
+  layers_are entered =
+      let count : length (in_numbers sc.met) / 5 ≡ length sc.met = omega (arith, length_in_numbers sc.met) in
+      (λ i. layers_to (length (held.met i) / 5) s.layers c.layers (held.subject_edges_lem i) (held.met i))
+      ∙ ap (λ (k : ℕ). layers_to k s.layers c.layers (flat_edges sc.subject.edges) (in_numbers sc.met)) count ∙ layers_met o s c (length w₀) entered
+
+  layers_fit : entry_of o s c (length w₀) ≡ 0 → (ol : List ℕ) → PointRoom oc ol → length oc' ≡ length oc → length by_list ≤ length ol
+  layers_fit entered ol as_many kept =
+      omega (arith, ap length (layers_are entered), layers_long o s c (length w₀) ok, next_long, points_in_lem, as_many, kept)
+
   -- ---- with the indexes
 
   index_ready : Asks w' x.regions s.ends c.ends
@@ -155,10 +179,12 @@ module _ (o : Settings) (s c : Mesh) (w₀ : List ℕ) (ok : Passed o s c (lengt
             (put w' x.regions.links.end (indexes (take (2 * x.next) oc') w' x.regions s.ends c.ends)) → P i w''
         both P h = subst (λ (y : Indexes). P y w'') (sym built.0) (subst (P (indexes_at (take (2 * x.next) oc') w' x.regions s.ends c.ends)) (sym built.1) h)
 
-    held_in : length w'' ≡ length w' → PreparedIn o s c oc oc' w'' (record { next = x.next; regions = x.regions; indexes = i })
-    held_in long =
+    held_in : (ol ol' : List ℕ) → ol' ≡ front ol (layers_of sc s c) → length w'' ≡ length w'
+        → PreparedIn o s c oc ol oc' ol' w'' (record { next = x.next; regions = x.regions; indexes = i })
+    held_in ol ol' layered long =
         record {
           placed = placed;
+          layered = layered;
           long = next_long;
           fits = points_in_lem;
           least = least;
@@ -192,7 +218,23 @@ module _ (o : Settings) (s c : Mesh) (w : List ℕ) (entered : entry_of o s c (l
       pub next_most : x.next < 2 ^ 32
       next_most = most o s c w ok oc oc' w' (Ok x) told x refl
 
+      -- the runs that the layers are read from, and room for these
+      pub edges_within : Within x.regions.subject.edges (length w')
+      edges_within = (held o s c w ok oc oc' w' (Ok x) told x refl).lies.subject_edges
+
+      pub met_within : Within x.regions.met (length w')
+      met_within = (held o s c w ok oc oc' w' (Ok x) told x refl).lies.met
+
+      pub layers_asked : (ol es ms : List ℕ) → es ≡ run_in w' x.regions.subject.edges → ms ≡ run_in w' x.regions.met → PointRoom oc ol → length oc' ≡ length oc
+          → length (layers_to (length ms / 5) s.layers c.layers es ms) ≤ length ol
+      layers_asked ol es ms e f as_many kept = rw (e, f) (layers_fit o s c w ok oc oc' w' (Ok x) told x refl entered ol as_many kept)
+
       pub prepared : (i : Indexes) (w'' : List ℕ) → (i ≡ indexes_at (take (2 * x.next) oc') w' x.regions s.ends c.ends)
-          × (w'' ≡ put w' x.regions.links.end (indexes (take (2 * x.next) oc') w' x.regions s.ends c.ends))
-          → length w'' ≡ length w' → PreparedIn o s c oc oc' w'' (record { next = x.next; regions = x.regions; indexes = i })
-      prepared i w'' built = held_in o s c w ok oc oc' w' (Ok x) told x refl i w'' built
+          × (w'' ≡ put w' x.regions.links.end (indexes (take (2 * x.next) oc') w' x.regions s.ends c.ends)) → length w'' ≡ length w'
+          → (ol ol' es ms : List ℕ) → es ≡ run_in w' x.regions.subject.edges → ms ≡ run_in w' x.regions.met
+          → ol' ≡ front ol (layers_to (length ms / 5) s.layers c.layers es ms)
+          → PreparedIn o s c oc ol oc' ol' w'' (record { next = x.next; regions = x.regions; indexes = i })
+      prepared i w'' built long ol ol' es ms e f written =
+          held_in o s c w ok oc oc' w' (Ok x) told x refl i w'' built ol ol'
+          (written ∙ (λ k. front ol (layers_to (length (f k) / 5) s.layers c.layers (e k) (f k)))
+          ∙ ap (front ol) (layers_are o s c w ok oc oc' w' (Ok x) told x refl entered)) long

@@ -24,6 +24,7 @@ unfolding cleared
 cleared_all o o₁ o₂ w w₁ w₂ same gone work long =
     rw (
       gone.coords,
+      gone.layers,
       gone.nodes,
       gone.ends,
       gone.kinds,
@@ -32,6 +33,7 @@ cleared_all o o₁ o₂ w w₁ w₂ same gone work long =
       gone.cells,
       work,
       same.coords.long,
+      same.layers.long,
       same.nodes.long,
       same.ends.long,
       same.kinds.long,

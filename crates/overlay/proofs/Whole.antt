@@ -24,7 +24,8 @@ use Rattle.rules.specs.Meetings.{Scene, net_of, added_by, scene_of}
 use Rattle.rules.specs.Cell.{outcome_of}
 use Rattle.rules.specs.Operations.{Piece, cuts, scene_for, kept, over_cells, listing, listing_with}
 use Rattle.rules.specs.Refusals.{Event, meeting, point, piece, stop, of_cell, course, first_refusal}
-use Rattle.rules.specs.Overlay.{Lists, lent_lists, result_of, piece_room, written, named_points, state_of, state_with, answered, answered_with}
+use Rattle.rules.specs.Layers.{layers_of}
+use Rattle.rules.specs.Overlay.{Lists, lent_lists, result_of, point_room, piece_room, written, named_points, state_of, state_with, answered, answered_with}
 use Rattle.rules.proofs.Points.{points_counted}
 use Rattle.finding.specs.Found.{found_events}
 use Rattle.finding.proofs.Scenes.{course_is, found_passes}
@@ -36,7 +37,7 @@ use Rattle.cutting_cells.specs.Yields.{meshes_yield, none_yet}
 use Rattle.passes.specs.Tags.{kind_by, family_by, mesh_by, cell_by}
 use Rattle.overlay.specs.declared.Counts.{Counts}
 use Rattle.overlay.specs.declared.Prepared.{Prepared}
-use Rattle.overlay.specs.Prepared.{PreparedIn, PlacedIn, runs_in}
+use Rattle.overlay.specs.Prepared.{PointRoom, PreparedIn, PlacedIn, runs_in}
 use Rattle.overlay.proofs.Scene.{cell_events, nodes_of}
 use Rattle.overlay.proofs.Yielded.{over_both, of_side, meshes_events, meshes_pieces, meshes_kinds, meshes_families, meshes_parent_meshes, meshes_parent_cells}
 
@@ -140,7 +141,7 @@ module _ (o : Settings) (s c : Mesh) where
   abbrev ps : List Piece
   ps = over_both o.op sc₀ (λ v. kept sc₀ v o.op)
 
-  module _ (oc₀ oc : List Float) (w : List ℕ) (p : Prepared) (ready : PreparedIn o s c oc₀ oc w p) where
+  module _ (oc₀ : List Float) (ol₀ : List ℕ) (oc : List Float) (ol w : List ℕ) (p : Prepared) (ready : PreparedIn o s c oc₀ ol₀ oc ol w p) where
     -- what they yield
     abbrev y : Yield
     y = meshes_yield o.op o.grid (take (2 * p.next) oc) w p.regions s.ends c.ends
@@ -182,7 +183,7 @@ module _ (o : Settings) (s c : Mesh) where
     pub placed_in : (n : ℕ) → Passed o s c n → (on oe ot on' oe' ot' : List ℕ) (r : Listed)
         → AllPlaced none_yet (meshes_yield o.op o.grid (take (2 * p.next) oc) w p.regions s.ends c.ends) on oe ot r on' oe' ot' → r.count ≤ length oe
         → (points : ℕ) → (let lent : ℕ = (length s.coords + length c.coords) / 2 in points ≡ many (λ k. named (take r.entries on') (lent + k)) (p.next - lent))
-        → PlacedIn o s c (record { pieces = r.count; points = points; added = p.next - (length s.coords + length c.coords) / 2 }) oc₀ on oe ot oc on' oe' ot'
+        → PlacedIn o s c (record { pieces = r.count; points = points; added = p.next - (length s.coords + length c.coords) / 2 }) oc₀ ol₀ on oe ot oc ol on' oe' ot'
     unfolding listing_with
     placed_in n ok on oe ot on' oe' ot' r a low points counted =
         let sc = sc₀ in
@@ -194,6 +195,7 @@ module _ (o : Settings) (s c : Mesh) where
         let half : length s.coords + length c.coords ≡ 2 * lent = omega (arith, ok.subject.even, ok.cutter.even) in
         record {
           coords = ready.placed;
+          layers = ready.layered;
           corners = a.corners ∙ front_put on (flat y.pieces) ∙ ap (λ (ks : List (List ℕ)). front on (flat ks)) pieces;
           ends = a.ends ∙ front_put oe (stops 0 y.pieces) ∙ ap (λ (ks : List (List ℕ)). front oe (stops 0 ks)) pieces;
           pieces = a.counted ∙ zero-add (length y.pieces) ∙ ap length pieces ∙ length-map ps (λ p. p.nodes);
@@ -212,19 +214,34 @@ module _ (o : Settings) (s c : Mesh) where
 
 -- ---- the answer
 
-in_ends : (l : Lists) (room : ℕ) → room ≡ piece_room l → length (take room l.ends) ≡ room
-in_ends l room most = length-take-le room l.ends (omega (arith, most))
+-- what is written to the front of a list that keeps its length has a place there
+front_fits : {A : Type 0} (w xs w' : List A) → w' ≡ front w xs → length w' ≡ length w → length xs ≤ length w
+unfolding front
+front_fits w xs w' e kept = omega (arith, kept, ap length e, length-append xs (drop (length xs) w))
 
--- the pieces' room is that of the ends lent
+-- a part of n elements, written to and come back, is the front of its list
+come_back : {A : Type 0} (w xs w' : List A) (n : ℕ) → n ≤ length w → w' ≡ front (take n w) xs → length w' ≡ length (take n w) → w' ++ drop n w ≡ front w xs
+come_back w xs w' n l e kept = front_back w xs w' n e (omega (arith, front_fits (take n w) xs w' e kept, length-take-le n w l)) l
+
+-- the points' room is that of the coordinates lent, and the pieces' that of the ends
 pub state_is : (o : Settings) (s c : Mesh) (l : Lists)
-    → state_of o s c l ≡ first_refusal o.m (length l.coords / 2) (length (take (piece_room l) l.ends)) (length l.nodes) (course o s c)
+    → state_of o s c l ≡ first_refusal o.m (length (take (2 * point_room l) l.coords) / 2) (length (take (piece_room l) l.ends)) (length l.nodes) (course o s c)
 unfolding state_with
-state_is o s c l = ap (λ (q : ℕ). first_refusal o.m (length l.coords / 2) q (length l.nodes) (course o s c)) (sym (in_ends l (piece_room l) refl))
+state_is o s c l =
+    let points : point_room l ≡ length (take (2 * point_room l) l.coords) / 2 = omega (arith, length-take-le (2 * point_room l) l.coords (omega arith)) in
+    let ends : piece_room l ≡ length (take (piece_room l) l.ends) = sym (length-take-le (piece_room l) l.ends (omega arith)) in
+    λ i. first_refusal o.m (points i) (ends i) (length l.nodes) (course o s c)
 
-module _ (o : Settings) (s c : Mesh) (l : Lists) (room : ℕ) (most : room ≡ piece_room l) where
-  module _ (k : Counts) (oc : List Float) (on oe ot : List ℕ) (h : PlacedIn o s c k l.coords l.nodes (take room l.ends) (take room l.families) oc on oe ot) where
+-- as many points as there are layers
+pub as_many_points : (l : Lists) (points : ℕ) → points ≡ point_room l → PointRoom (take (2 * points) l.coords) (take points l.layers)
+as_many_points l points e =
+    omega (arith, e, length-take-le (2 * points) l.coords (omega (arith, e)), length-take-le points l.layers (omega (arith, e)))
+
+module _ (o : Settings) (s c : Mesh) (l : Lists) (points room : ℕ) (most_points : points ≡ point_room l) (most : room ≡ piece_room l) where
+  module _ (k : Counts) (oc : List Float) (ol on oe ot : List ℕ)
+      (h : PlacedIn o s c k (take (2 * points) l.coords) (take points l.layers) l.nodes (take room l.ends) (take room l.families) oc ol on oe ot) where
     few : k.pieces ≤ room
-    few = omega (arith, h.room, in_ends l room most)
+    few = omega (arith, h.room, length-take-le room l.ends (omega (arith, most)))
 
     -- a number of each piece, as many as there are
     long : (f : Piece → ℕ) → length (map f (listing o s c)) ≡ k.pieces
@@ -248,15 +265,18 @@ module _ (o : Settings) (s c : Mesh) (l : Lists) (room : ℕ) (most : room ≡ p
         → list' ≡ front list (map part (listing o s c))
     by_tags list list' by part say e = e ∙ ap (λ (ts : List ℕ). front list (map by ts)) read_is ∙ ap (front list) say
 
-    pub answer_is : (ok fs om oi : List ℕ) → ok ≡ front l.kinds (map (kind_by s.kinds c.kinds) (take k.pieces (ot ++ drop room l.families)))
+    pub answer_is : length oc ≡ length (take (2 * points) l.coords) → length ol ≡ length (take points l.layers) → (ok fs om oi : List ℕ) → ok ≡ front l.kinds (map (kind_by s.kinds c.kinds) (take k.pieces (ot ++ drop room l.families)))
         → fs ≡ map (family_by s.families c.families) (take k.pieces (ot ++ drop room l.families))
         → (om ≡ front l.meshes (map (mesh_by (length s.ends)) (take k.pieces (ot ++ drop room l.families))))
         × (oi ≡ front l.cells (map (cell_by (length s.ends)) (take k.pieces (ot ++ drop room l.families))))
-        → result_of 0 k.pieces k.points 0 k.added (lent_lists oc on (oe ++ drop room l.ends) ok (fs ++ drop k.pieces (ot ++ drop room l.families)) om oi (zeros (length l.work)))
+        → result_of 0 k.pieces k.points 0 k.added (lent_lists (oc ++ drop (2 * points) l.coords) (ol ++ drop points l.layers) on (oe ++ drop room l.ends) ok
+        (fs ++ drop k.pieces (ot ++ drop room l.families)) om oi (zeros (length l.work)))
         ≡ answered o s c l
     unfolding answered_with written
-    answer_is ok fs om oi ek ef (em, ei) =
+    answer_is kc kl ok fs om oi ek ef (em, ei) =
         let runs = runs_in o s c in
+        let coords = come_back l.coords (scene_for o s c).coords oc (2 * points) (omega (arith, most_points)) h.coords kc in
+        let layers = come_back l.layers (layers_of (scene_for o s c) s c) ol points (omega (arith, most_points)) h.layers kl in
         let ends : oe ++ drop room l.ends ≡ front l.ends (stops 0 runs) =
         front_back l.ends (stops 0 runs) oe room h.ends
         (omega (arith, stops_length 0 runs, length-map (listing o s c) (λ (p : Piece). p.nodes), h.pieces, few)) (omega (arith, most)) in
@@ -268,4 +288,4 @@ module _ (o : Settings) (s c : Mesh) (l : Lists) (room : ℕ) (most : room ≡ p
         ap₂ (λ (u v : List ℕ). u ++ drop k.pieces v) of tagged
         ∙ front_over l.families h.tags (map (λ p. p.family) (listing o s c)) k.pieces tags_long (long (λ p. p.family)) in
         λ i. result_of 0 (h.pieces i) (h.points i) 0 (h.added i)
-        (lent_lists (h.coords i) (h.corners i) (ends i) (kinds i) (families i) (meshes i) (cells i) (zeros (length l.work)))
+        (lent_lists (coords i) (layers i) (h.corners i) (ends i) (kinds i) (families i) (meshes i) (cells i) (zeros (length l.work)))

@@ -14,13 +14,13 @@ returns-in_err-listed-clause-refusal c =
     let ready = c.in_ok-p.ensures in
     let told = rw c.first_nodes.ensures at c.in_err-listed.ensures.placed in
     rw (passed_on _ _ c.from_residual-in_err-listed.ensures.1)
-    (cells_met _ _ _ _ _ _ _ _ _ ready.refusal (yielded_events _ _ _ _ _ _ _ ready.prepared) (code_met _ _ _ _ _ (Err _) _ _ _ told))
+    (cells_met _ _ _ _ _ _ _ _ _ ready.refusal (yielded_events _ _ _ _ _ _ _ _ _ ready.prepared) (code_met _ _ _ _ _ (Err _) _ _ _ told))
 
 pub returns-clause-refusal : goal.returns-clause-refusal
 returns-clause-refusal c =
     let ready = c.in_ok-p.ensures in
     let told = rw c.first_nodes.ensures at c.in_ok-listed.ensures.placed in
-    cells_met _ _ _ _ _ _ _ _ _ ready.refusal (yielded_events _ _ _ _ _ _ _ ready.prepared) (code_met _ _ _ _ _ (Ok c.in_ok-listed.listed) _ _ _ told)
+    cells_met _ _ _ _ _ _ _ _ _ ready.refusal (yielded_events _ _ _ _ _ _ _ _ _ ready.prepared) (code_met _ _ _ _ _ (Ok c.in_ok-listed.listed) _ _ _ told)
 
 pub slice_bounds-count_named-end : goal.slice_bounds-count_named-end
 slice_bounds-count_named-end c =
@@ -33,6 +33,6 @@ slice_bounds-count_named-end-2 c = sym (length-take-le _ _ (slice_bounds-count_n
 pub returns-clause-placed : goal.returns-clause-placed
 returns-clause-placed c =
     let told = rw c.first_nodes.ensures at c.in_ok-listed.ensures.placed in
-    placed_in _ _ _ _ _ _ _ c.in_ok-p.ensures.prepared _ (passed _ _ _ _ c.requires.entered) _ _ _ _ _ _ c.in_ok-listed.listed
+    placed_in _ _ _ _ _ _ _ _ _ c.in_ok-p.ensures.prepared _ (passed _ _ _ _ c.requires.entered) _ _ _ _ _ _ c.in_ok-listed.listed
     (all_placed _ _ _ _ _ _ _ _ _ told) (fit _ _ _ _ _ _ _ _ _ told (meshes_steady _ _ _ _ _ _ _) (omega arith) (omega arith)).0
     _ (c.count_named-points.ensures.count ∙ ap (many _) (length-take-le _ _ c.in_ok-p.ensures.prepared.marks))
