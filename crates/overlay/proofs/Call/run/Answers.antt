@@ -4,5 +4,5 @@ use Rattle.overlay.proofs.Call.run.Goals as goal
 
 pub returns-clause-answer : goal.returns-clause-answer
 returns-clause-answer c =
-    answer_is _ _ _ _ _ _ c.point_room-points.ensures c.piece_room-room.ensures _ _ _ _ _ _ c.in_ok-counts.ensures.placed ? ? _ _ _ _
+    answer_is _ _ _ _ _ _ c.point_room-points.ensures c.piece_room-room.ensures _ _ _ _ _ _ c.in_ok-counts.ensures.placed c.place.auto.coords c.place.auto.layers _ _ _ _
     c.write_kinds.ensures c.write_families.ensures c.write_parents.ensures
