@@ -37,7 +37,7 @@ use Rattle.cutting_cells.specs.Yields.{meshes_yield, none_yet}
 use Rattle.passes.specs.Tags.{kind_by, family_by, mesh_by, cell_by}
 use Rattle.overlay.specs.declared.Counts.{Counts}
 use Rattle.overlay.specs.declared.Prepared.{Prepared}
-use Rattle.overlay.specs.Prepared.{PointRoom, PreparedIn, PlacedIn, runs_in}
+use Rattle.overlay.specs.Prepared.{PreparedIn, PlacedIn, runs_in}
 use Rattle.overlay.proofs.Scene.{cell_events, nodes_of}
 use Rattle.overlay.proofs.Yielded.{over_both, of_side, meshes_events, meshes_pieces, meshes_kinds, meshes_families, meshes_parent_meshes, meshes_parent_cells}
 
@@ -231,11 +231,6 @@ state_is o s c l =
     let points : point_room l ≡ length (take (2 * point_room l) l.coords) / 2 = omega (arith, length-take-le (2 * point_room l) l.coords (omega arith)) in
     let ends : piece_room l ≡ length (take (piece_room l) l.ends) = sym (length-take-le (piece_room l) l.ends (omega arith)) in
     λ i. first_refusal o.m (points i) (ends i) (length l.nodes) (course o s c)
-
--- as many points as there are layers
-pub as_many_points : (l : Lists) (points : ℕ) → points ≡ point_room l → PointRoom (take (2 * points) l.coords) (take points l.layers)
-as_many_points l points e =
-    omega (arith, e, length-take-le (2 * points) l.coords (omega (arith, e)), length-take-le points l.layers (omega (arith, e)))
 
 module _ (o : Settings) (s c : Mesh) (l : Lists) (points room : ℕ) (most_points : points ≡ point_room l) (most : room ≡ piece_room l) where
   module _ (k : Counts) (oc : List Float) (ol on oe ot : List ℕ)

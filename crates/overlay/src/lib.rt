@@ -78,13 +78,7 @@ impl Call<'_> {
         let met = g.met.part(work);
         write_layers(self.subject.layers, self.cutter.layers, edges, met, layers);
         let points = first_nodes(coords, found.next);
-        let indexes = index_meshes(
-            points,
-            work,
-            g,
-            self.subject.ends,
-            self.cutter.ends,
-        );
+        let indexes = index_meshes(points, work, g, self.subject.ends, self.cutter.ends);
         Ok(Prepared {
             next: found.next,
             regions: g,
