@@ -11,6 +11,9 @@ what is missing shows. A text that is neither gives a message and exit status 1.
 An input's survey grid, the third number of its first line, is drawn in it and in the answers behind it whose added points all lie on it, where
 the lines have room. Of two answers to one input the second has a cross where an added point was in the first, and a stroke to where it is now.
 
+Where the cells drawn have corners of more than one layer, each corner's layer stands in its cell, the cutter's in the colour of its lines. A text from
+before W7, whose nodes have none, is of one layer.
+
 With `--by parent` all pieces of one cell have one colour, its neighbours others, and its index stands in each piece that has room; pieces of
 the cutter's cells are hatched. An answer may also be a listing of differential/oracle, with two counts and without parents, or one with
 doubled cells, from before W14; these are drawn by family alone. A listing from before W5, which counts all added points as new,
@@ -49,10 +52,11 @@ class Cell(NamedTuple):
 
 
 class Mesh:
-    """Nodes as pairs of floats; cells."""
+    """Nodes as pairs of floats, and their layers; cells."""
 
     def __init__(self):
         self.nodes = []
+        self.layers = []
         self.cells = []
 
 
@@ -97,11 +101,12 @@ class Reader:
     def body(self, side=None):
         """The nodes and cells of a mesh, the subject (0) or the cutter (1); without a side an answer's, and its counts."""
         mesh, rows = Mesh(), []
-        while m := self.match(r'\(node ([0-9a-f]{16}) ([0-9a-f]{16})\)'):
-            x, y = (struct.unpack('>d', bytes.fromhex(h))[0] for h in m.groups())
+        while m := self.match(rf'\(node ([0-9a-f]{{16}}) ([0-9a-f]{{16}})(?:{NUMBER})?\)'):
+            x, y = (struct.unpack('>d', bytes.fromhex(h))[0] for h in m.groups()[:2])
             if not (abs(x) <= 2.0 ** 40 and abs(y) <= 2.0 ** 40):
                 self.fail('a coordinate that no picture holds')
             mesh.nodes.append((x, y))
+            mesh.layers.append(int(m[3] or 0))
         start = self.at
         while m := self.match(rf'\(cell{NUMBER}{NUMBER}((?:{NUMBER})*)\)'):
             rows.append([int(n) for n in f'{m[2]} {m[3]}'.split()])
@@ -286,11 +291,38 @@ class Frame:
             yield self.stroke((self.left, i * step), (self.right, i * step))
 
 
+def layered(panels):
+    """Whether the corners drawn are of more than one layer."""
+    return len({m.layers[c] for p in panels for m in (p.filled, p.dashed) for cell in m.cells for c in cell.corners}) > 1
+
+
+def inwards(a, p, b):
+    """From the corner p of an anticlockwise cell, y downwards, a way into it; a and b are the corners before and behind. None where they are too near."""
+    (u, v), (x, y) = (a[0] - p[0], a[1] - p[1]), (b[0] - p[0], b[1] - p[1])
+    before, behind = math.hypot(u, v), math.hypot(x, y)
+    if min(before, behind) < 2 * ROOM:
+        return None
+    u, v, x, y = u / before, v / before, x / behind, y / behind
+    # half the angle at p, to the left of the way to b, and so far that the number clears both sides
+    half = (math.atan2(v, u) - math.atan2(y, x)) % (-2 * math.pi) / 2 or -math.pi / 2
+    far = ROOM / max(math.sin(-half), 0.3)
+    return far * (x * math.cos(half) - y * math.sin(half)), far * (x * math.sin(half) + y * math.cos(half))
+
+
+def layers(mesh, frame, colour):
+    """Each corner's layer, in its cell."""
+    for cell in mesh.cells:
+        places = [frame.on_page(mesh.nodes[c]) for c in cell.corners]
+        for n, a, p, b in zip(cell.corners, places[-1:] + places, places, places[1:] + places):
+            if way := inwards(a, p, b):
+                yield f'<text x="{p[0] + way[0]:.2f}" y="{p[1] + way[1] + 3:.2f}" font-size="9" text-anchor="middle" fill="{colour}">{mesh.layers[n]}</text>'
+
+
 def cross(x, y):
     return f'<path d="M{x - 3:.2f} {y - 3:.2f}l6 6m0 -6l-6 6" stroke="{DOT}" stroke-width="1.2"/>'
 
 
-def drawn(panel, frame, colour, by):
+def drawn(panel, frame, colour, by, with_layers):
     title, filled, dashed, points, rings, thin, step, moved = panel
     yield f'<text x="0" y="-12">{escape(title)}</text>'
     for edge in edges(thin):
@@ -319,9 +351,12 @@ def drawn(panel, frame, colour, by):
         room, (x, y) = roomiest([frame.on_page(filled.nodes[c]) for c in cell.corners])
         if 2 * room > ROOM + 2 * len(name):
             yield f'<text x="{x:.2f}" y="{y + 3.5:.2f}" font-size="10" text-anchor="middle">{name}</text>'
+    if with_layers:
+        yield from layers(filled, frame, TEXT)
+        yield from layers(dashed, frame, DASH)
 
 
-def legend(colour, by, dashed, dots, rings, twice, step, moved):
+def legend(colour, by, dashed, dots, rings, twice, step, moved, with_layers):
     """The lines of the legend, and how wide it is."""
     lines, x, keys = [], 0, sorted(colour)
     if len(keys) > 6:
@@ -354,6 +389,9 @@ def legend(colour, by, dashed, dots, rings, twice, step, moved):
         words = f'grid of {f"1/{1 / step:g}" if step < 1 else 1} m'
         lines.append(f'<path d="M{x} 3.5h20m0 6h-20M{x + 6.5} 0v13m7 0v-13" {FAINT}/><text x="{x + 26}" y="11">{words}</text>')
         x += 40 + 7 * len(words)
+    if with_layers:
+        lines.append(f'<text x="{x}" y="10" font-size="9">1</text><text x="{x + 12}" y="11">a corner\'s layer</text>')
+        x += 120
     return lines, x
 
 
@@ -362,7 +400,8 @@ def picture(panels, by):
     frame = Frame([q for p in panels for q in used(p)])
     step = round(max(frame.width, *(7 * len(p.title) for p in panels))) + GAP
     lines, wide = legend(colour, by, any(p.dashed.cells for p in panels), any(p.points for p in panels), any(p.rings for p in panels),
-                         any(map(ditches, panels)), max((p.step for p in panels if frame.has_room(p.step)), default=0.0), any(p.moved for p in panels))
+                         any(map(ditches, panels)), max((p.step for p in panels if frame.has_room(p.step)), default=0.0), any(p.moved for p in panels),
+                         layered(panels))
     width = max(len(panels) * step + GAP, GAP + wide, 330)
     height = HEAD + frame.height + FOOT + 10
     yield f'<svg xmlns="http://www.w3.org/2000/svg" width="{width}" height="{height:.0f}" viewBox="0 0 {width} {height:.0f}" font-family="sans-serif" font-size="13" fill="{TEXT}">'
@@ -371,7 +410,7 @@ def picture(panels, by):
         yield HATCH
     for i, panel in enumerate(panels):
         yield f'<g transform="translate({GAP + i * step} {HEAD})" stroke-linejoin="round">'
-        yield from drawn(panel, frame, colour, by)
+        yield from drawn(panel, frame, colour, by, layered(panels))
         yield '</g>'
     yield f'<g transform="translate({GAP} {HEAD + frame.height + 22:.0f})">'
     yield from lines

@@ -3,7 +3,7 @@
 
 OUT/data/NAME.in are the inputs, OUT/args their names in order, OUT/stdout each name and its answer. No answer comes from the
 program under test. Those of overlays are what LAW lists (`oracle-law`, as differential/oracle-02.sh builds it, by default into
-target/oracle-02: the published Rust with W1's turn back, W14's table and W6's grid), with 0 as the third count, the parents of W2 and W5's
+target/oracle-02: the published Rust with W1's turn back, W14's table, W6's grid and W7's weld by layers), with 0 as the third count, the parents of W2 and W5's
 second count; how many cells the published table doubles must be as stands here. LAW is asked with each cell's number as its family, and what it
 lists as a piece's family is its parent; the second count is of the new points that its pieces name. Refusals 8 and 9, and 19, 10 and 11 cell by cell, are what LAW's
 counts and its stop give; where one stands here it must be that one. Other refusals, and text that can't be read, stand here, from the documents. The
@@ -32,9 +32,9 @@ def bits(x):
     return struct.pack('>d', x).hex()
 
 
-def mesh(points, cells):
-    """Points are pairs of floats; cells are (kind, family, node numbers)."""
-    nodes = [f'(node {bits(x)} {bits(y)})' for x, y in points]
+def mesh(points, cells, layers=None):
+    """Points are pairs of floats; cells are (kind, family, node numbers); layers are one for each point, all 0 where none are given."""
+    nodes = [f'(node {bits(x)} {bits(y)} {layer})' for (x, y), layer in zip(points, [0] * len(points) if layers is None else layers, strict=True)]
     lines = [f'(cell {" ".join(map(str, (k, f, *c)))})' for k, f, c in cells]
     return ['(mesh', *nodes, *lines, ')']
 
@@ -66,6 +66,8 @@ CARRIED = 'W2, and the families of the published Rust'
 NAMED = 'W5, and the pieces of the published Rust'
 BOOKED = 'W6, and the published Rust on that grid'
 W6 = 'W6, document 02'
+LAYERED = 'W7, and the published Rust that welds by layers'
+W7 = 'W7, document 02'
 SQUARE = box(0., 0., 2., 2., 7, 8)
 STRIP = box(1., -1., 3., 3.)
 K1 = overlay(0, 9, SQUARE, STRIP)
@@ -137,8 +139,8 @@ def sized(total):
         p = [(float(i % 32), float(i // 32)) for i in range(512)]
         c = [(8, family, (q, q + 1, q + 33, q + 32)) for q in (i // 31 * 32 + i % 31 for i in range(cells))]
         return p, c
-    left = total - len(overlay(0, 9, grid(460, 1), grid(300, 1)))
-    subject, cutter = grid(460, 1), grid(300, 1)
+    left = total - len(overlay(0, 9, grid(460, 1), grid(260, 1)))
+    subject, cutter = grid(460, 1), grid(260, 1)
     cells = subject[1]
     for i, (k, f, c) in enumerate(cells):
         more = min(9, left)
@@ -525,6 +527,104 @@ def beyond_grids():
         yield f'read-grid-{name}', on_grid(k, K1), UNREAD, W6
 
 
+def of(layers, made):
+    """A mesh with these layers, one for each node or one for all."""
+    points, cs = made
+    return points, cs, [layers] * len(points) if isinstance(layers, int) else layers
+
+
+LAST_LAYER = 2 ** 32 - 1
+
+
+def layered():
+    """W7: layers of nodes. (name, text, answer, where the answer comes from)"""
+    for layer in 7, LAST_LAYER:
+        yield f'layers-one-{layer}', overlay(0, 9, of(layer, SQUARE), of(layer, STRIP)), Listed(), LAYERED
+    # every node has another: the new points have those of the square's nodes 0 and 2, whichever mesh is cut
+    for op in range(5):
+        yield f'layers-k1-op{op}', overlay(op, 9, of([4, 3, 2, 1], SQUARE), of([9, 8, 7, 6], STRIP)), Listed(), LAYERED
+    yield 'layers-ditch', overlay(5, 9, of([4, 3, 2, 1], SQUARE), of([9, LAST_LAYER], ditch([(1., -1.), (1., 1.)]))), Listed(), LAYERED
+    yield 'layers-lines', overlay(5, 9, of([4, 3, 2, 1], SQUARE), of(0, ditch([(1., -1.), (1., 3.)], [(-1., 1.), (3., 1.)]))), Listed(), LAYERED
+    yield from above()
+    yield from along_sides()
+    # on a grid: new points at corners of the square, and at one place, stay apart with their layers
+    third, thin = box(1 / 3, -1., 3., 3.), box(.625, -1., .875, 3.)
+    for name, op, cutter in ('third-op0', 0, third), ('third-op2', 2, third), ('thin-op0', 0, thin), ('thin-op1', 1, thin):
+        yield f'layers-grid-{name}', overlay(op, 9, of([4, 3, 2, 1], SQUARE), of(5, cutter), 0), Listed(), LAYERED
+    yield 'refused-13-with-layers', on_grid(11, overlay(0, 9, of(1, SQUARE), of(2, STRIP))), refused(13), W6
+    yield 'refused-8-with-layers', overlay(0, 1, of(1, SQUARE), of(2, STRIP)), refused(8), W7
+    yield from layers_read()
+
+
+def above():
+    """Corners of the subject's cells a hair, or nothing, from a triangle's corner, which takes the number of the nearest of its layer. Its sides meet none
+    of theirs, so that it is copied under that number."""
+    d, e = 2. ** -41, 2. ** -41
+    two = joined(box(0., 0., 2., 2., 7, 8), box(0., 2 + d, 2., 4., 8, 8))
+
+    def triangle(y):
+        return cells([(2 + e, y), (4., 1.), (4., 3.)], kind=5)
+    nearer, halfway = triangle(2 + d / 4), triangle(2 + d / 2)
+    for low, high, layer in (1, 1, 1), (1, 2, 1), (1, 2, 2), (2, 1, 2), (2, 2, 1), (1, 2, 3), (1, LAST_LAYER, LAST_LAYER):
+        text = overlay(1, 20, of([low] * 4 + [high] * 4, two), of([layer, 9, 9], nearer))
+        yield f'layers-nearer-{low}-{high}-{layer}', text, Listed(), LAYERED
+    for low, high, layer in (1, 1, 1), (2, 1, 1):
+        text = overlay(1, 20, of([low] * 4 + [high] * 4, two), of([layer, 9, 9], halfway))
+        yield f'layers-halfway-{low}-{high}-{layer}', text, Listed(), LAYERED
+    yield 'layers-nearer-op4', overlay(4, 20, of([1] * 4 + [2] * 4, two), of([2, 9, 9], nearer)), Listed(), LAYERED
+    # three corners, and a node that no cell names
+    three = cells([(2., 2.), (0., 2.), (0., 0.)], [(2., 2 + d), (0., 4.), (0., 3.)], [(2., 2 + 2 * d), (0., 6.), (0., 5.)], kind=5)
+    three = three[0] + [(2., 2 + d)], three[1]
+    for layer in 1, 2, 3, 4, 5:
+        text = overlay(1, 20, of([1] * 3 + [2] * 3 + [3] * 3 + [4], three), of([layer, 9, 9], triangle(2 + d)))
+        yield f'layers-three-{layer}', text, Listed(), LAYERED
+    # touching, the sides meet: of another layer the corner stays, and the outline goes to the square's and back
+    touching = cells([(2., 2.), (4., 1.), (3., 4.)], kind=5)
+    for op in 0, 1, 4:
+        yield f'layers-touching-same-op{op}', overlay(op, 20, of(1, SQUARE), of([1, 2, 2], touching)), Listed(), LAYERED
+        text = overlay(op, 20, of(1, SQUARE), of([2, 1, 1], touching))
+        yield f'layers-touching-other-op{op}', text, refused(19) if op else Listed(1), W7 if op else LAYERED
+
+
+def along_sides():
+    """Which node of a side is its first, and sides and lines from one place in two layers."""
+    # a common side from node 1 to node 4 in the left cell, back in the right one; the first cell's direction stays
+    points = [(0., 0.), (2., 0.), (4., 0.), (0., 2.), (2., 2.), (4., 2.)]
+    left, right = (8, 1, (0, 1, 4, 3)), (8, 2, (1, 2, 5, 4))
+    for name, both in ('left', [left, right]), ('right', [right, left]), ('turned', [(8, 1, (1, 4, 3, 0)), right]):
+        subject = of([0, 5, 1, 2, 6, 3], (points, both))
+        yield f'layers-first-{name}-lines', overlay(5, 20, subject, of(9, ditch([(-1., 1.), (5., 1.)]))), Listed(), LAYERED
+        yield f'layers-first-{name}-op0', overlay(0, 20, subject, of(9, box(1., .5, 3., 1.5))), Listed(), LAYERED
+    # a diagonal and a side as lines, of the square's layer or another
+    for name, a, b in ('diagonal', (2., 2.), (0., 0.)), ('side', (2., 0.), (2., 2.)):
+        for layer in 1, 2:
+            yield f'layers-{name}-{layer}', overlay(5, 20, of(1, SQUARE), of(layer, ditch([a, b]))), Listed(), LAYERED
+    six = [(0., 0.), (2., 0.), (2., 1.), (2., 2.), (0., 2.), (0., 1.)], [(11, 7, range(6))]
+    twice = [(0., 1.), (2., 1.)] * 2, [(1, 0, (0, 1)), (1, 0, (2, 3))]
+    yield 'layers-line-twice', overlay(5, 20, of(1, six), of([1, 1, 2, 2], twice)), Listed(1), LAYERED
+    # examples/layers.in in one layer, with a wedge of the other layer, and united
+    upper, lower = ([(x, y) for y in (0., 1., 2.) for x in places] for places in ((0., 2.), (2., 4.)))
+    step = upper + lower, [(8, 1 + i, (a, a + 1, a + 3, a + 2)) for i, a in enumerate((0, 2, 6, 8))]
+    wedge = cells([(2., 1.), (5., 0.), (5., 2.)], kind=5)
+    for name, op, upper, lower, layer in ('one', 0, 0, 0, 0), ('lower', 2, 1, 2, 2), ('upper', 0, 1, 2, 1), ('outside', 3, 1, 2, 2):
+        yield f'layers-step-{name}', overlay(op, 20, of([upper] * 6 + [lower] * 6, step), of(layer, wedge)), Listed(4), LAYERED
+    yield 'layers-step-united', overlay(1, 20, of([1] * 6 + [2] * 6, step), of(2, wedge)), refused(19), W7
+
+
+def layers_read():
+    """Node lines, and which can't be read."""
+    line = f'(node {bits(2.)} {bits(0.)} '
+    assert K1.count(line) == 1
+    yield 'read-layer-largest', K1.replace(line + '0', f'{line}{LAST_LAYER}'), Listed(), LAYERED
+    for name, layer in [('too-large', '4294967296'), ('of-many-digits', '1' * 40), ('leading-zero', '00'), ('leading-zero-before-1', '01'), ('sign', '-1'), ('two-spaces', ' 0'),
+                        ('space-after', '0 '), ('two', '0 0'), ('letter', 'a'), ('point', '0.0'), ('space', '')]:
+        yield f'read-layer-{name}', K1.replace(line + '0', line + layer), UNREAD, W7
+    yield 'read-no-layer', K1.replace(line + '0', line[:-1]), UNREAD, W7
+    cutter = f'(node {bits(3.)} {bits(-1.)}'
+    yield 'read-no-layer-in-the-cutter', K1.replace(cutter + ' 0', cutter), UNREAD, W7
+    yield 'read-no-layers', re.sub(r'^(\(node .*) 0\)$', r'\1)', K1, flags=re.M), UNREAD, W7
+
+
 CELL = re.compile(r'^(?:copied )?cell (\d+)( doubled)?( repeats)?$', re.M)
 PIECE = re.compile(r'^\(cell (\d+) (\d+)', re.M)
 
@@ -568,19 +668,19 @@ def listed(law, name, text, doubled, source):
         sys.exit(f'{name}: the oracle says {answer.strip()}')
     if answer != refused(11) and n != doubled:
         sys.exit(f'{name}: the published table doubles {n} cells, not {doubled}')
-    return answer, ONCE if n and source != BOOKED else source
+    return answer, ONCE if n and source not in (BOOKED, LAYERED) else source
 
 
 TOLD = [refused(n) for n in (8, 9, 10, 11, 19)]
 
 
 def stored(law):
-    """(name, text, answer) of the stored ones, 001-... to 355-..., w2-..., w5-... and w6-..."""
+    """(name, text, answer) of the stored ones, 001-... to 355-..., w2-..., w5-..., w6-... and w7-..."""
     names = read(f'{REPLAYED}/args').decode().split()
     answers = re.split('^(' + '|'.join(map(re.escape, names)) + ')\n', read(f'{REPLAYED}/stdout').decode(), flags=re.M)[1:]
     assert answers[::2] == names
     for name, answer in zip(names, answers[1::2]):
-        if re.match(r'(w[256]-)?\d{3}-', name):
+        if re.match(r'(w[2567]-)?\d{3}-', name):
             text = read(f'{REPLAYED}/data/{name}')
             if answer.startswith('(overlay') or answer in TOLD:
                 if told(law, name, text.decode())[0] != answer:
@@ -593,8 +693,9 @@ def read(path):
         return f.read()
 
 
-# of the smallest inputs and the examples: the same line twice doubles a cell, a border that two sheets have two; an edge of no length that another's part runs back over is an outline's
-DOUBLED = {'map-order-panic-op5.in': 1, 'traced.in': 2}
+# of the smallest inputs and the examples: the same line twice doubles a cell, a border that two sheets have two, a corner beside another layer's all four around it; an
+# edge of no length that another's part runs back over is an outline's
+DOUBLED = {'map-order-panic-op5.in': 1, 'traced.in': 2, 'layers.in': 4}
 REPEATS = ['rounded-angles-op5.in']
 
 
@@ -603,9 +704,10 @@ def answers(law):
     for name, text, answer in stored(law):
         yield name, text, answer, None
     rows = [(f, f'{SMALLEST}/{f}', 'the published Rust') for f in sorted(os.listdir(SMALLEST))]
-    rows += [(f, f'{ROOT}/examples/{f}', source) for f, source in (('soil.in', 'the published Rust'), ('model.in', 'the published Rust'), ('ditch.in', TURNING), ('traced.in', ONCE))]
+    rows += [(f, f'{ROOT}/examples/{f}', source) for f, source in (('soil.in', 'the published Rust'), ('model.in', 'the published Rust'), ('ditch.in', TURNING), ('traced.in', ONCE),
+                                                    ('layers.in', LAYERED))]
     rows = [(f, read(path), refused(19) if f in REPEATS else Listed(DOUBLED.get(f, 0)), source) for f, path, source in rows]
-    rows += [(f'{name}.in', text.encode(), answer, source) for name, text, answer, source in [*made(), *traced(), *descended(), *pointed(), *gridded()]]
+    rows += [(f'{name}.in', text.encode(), answer, source) for name, text, answer, source in [*made(), *traced(), *descended(), *pointed(), *gridded(), *layered()]]
     for name, text, answer, source in rows:
         if isinstance(answer, Listed):
             answer, source = listed(law, name, text.decode(), answer.doubled, source)

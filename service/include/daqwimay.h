@@ -35,7 +35,7 @@ enum { DAQWIMAY_PIECES = 0, DAQWIMAY_NEW_POINTS = 1, DAQWIMAY_ADDED_POINTS = 3, 
 enum {
     DAQWIMAY_DONE = 0,
     DAQWIMAY_BAD_OPERATION = 1,       /* operation above 5, or meeting limit outside 1..65,536 */
-    DAQWIMAY_BAD_SHAPE = 2,           /* lists of unequal or odd lengths, ends that don't rise, a mesh that is too large */
+    DAQWIMAY_BAD_SHAPE = 2,           /* lists of unequal or odd lengths, not one layer for each node, ends that don't rise, a mesh that is too large */
     DAQWIMAY_BAD_COORDINATE = 3,      /* not finite, above 2^40 in size, or -0 */
     DAQWIMAY_BAD_KIND = 4,            /* unknown, out of order, or with a wrong count of corners (PGON: 3..256) */
     DAQWIMAY_BAD_NODE = 5,            /* a node number not below the node count */
@@ -60,6 +60,8 @@ enum {
  * among the coordinates of the edge's ends, and on a grid within 2^-(k+1), half a step, more: docs/TOLERANCE.md. Each list is an address and a
  * count of numbers:
  *   coords    x and y of each node
+ *   layers    one for each node, any number: nodes less than 1e-12 apart become one only where they are of the same layer. With 0 for all
+ *             nodes of both meshes every answer is that without layers
  *   nodes     the cells' node numbers, one cell after the other
  *   ends      where each cell's node numbers end
  *   kinds, families   one for each cell
@@ -67,7 +69,8 @@ enum {
  *   parent_meshes   DAQWIMAY_SUBJECT or DAQWIMAY_CUTTER
  *   parent_cells    the index of the cell in that mesh, from 0
  * The output's coordinates are those of the subject, of the cutter, then of all points added where edges meet, pieces name them or not:
- * 2 x (nodes + added points) numbers. 2 x (nodes + limit) always suffice.
+ * 2 x (nodes + added points) numbers. 2 x (nodes + limit) always suffice. Its layers are those of the same nodes, half as many numbers: an
+ * added point has that of its subject edge's first node. Where edges meet doesn't hang on layers.
  * A piece takes its node numbers and a place in each of ends, kinds, families, parent_meshes and parent_cells. Places behind the answer
  * are kept.
  * counts: as many of these four as it has places, all 0 at a refusal; places behind them are kept.
@@ -83,12 +86,12 @@ enum {
  */
 uint32_t daqwimay_overlay(
     uint32_t operation, uint32_t limit, uint32_t grid,
-    const double *scoords, size_t scoords_len, const uint32_t *snodes, size_t snodes_len, const uint32_t *sends, size_t sends_len,
-    const uint8_t *skinds, size_t skinds_len, const uint32_t *sfamilies, size_t sfamilies_len,
-    const double *ccoords, size_t ccoords_len, const uint32_t *cnodes, size_t cnodes_len, const uint32_t *cends, size_t cends_len,
-    const uint8_t *ckinds, size_t ckinds_len, const uint32_t *cfamilies, size_t cfamilies_len,
-    double *ocoords, size_t ocoords_len, uint32_t *onodes, size_t onodes_len, uint32_t *oends, size_t oends_len,
-    uint8_t *okinds, size_t okinds_len, uint32_t *ofamilies, size_t ofamilies_len,
+    const double *scoords, size_t scoords_len, const uint32_t *slayers, size_t slayers_len, const uint32_t *snodes, size_t snodes_len,
+    const uint32_t *sends, size_t sends_len, const uint8_t *skinds, size_t skinds_len, const uint32_t *sfamilies, size_t sfamilies_len,
+    const double *ccoords, size_t ccoords_len, const uint32_t *clayers, size_t clayers_len, const uint32_t *cnodes, size_t cnodes_len,
+    const uint32_t *cends, size_t cends_len, const uint8_t *ckinds, size_t ckinds_len, const uint32_t *cfamilies, size_t cfamilies_len,
+    double *ocoords, size_t ocoords_len, uint32_t *olayers, size_t olayers_len, uint32_t *onodes, size_t onodes_len,
+    uint32_t *oends, size_t oends_len, uint8_t *okinds, size_t okinds_len, uint32_t *ofamilies, size_t ofamilies_len,
     uint32_t *parent_meshes, size_t parent_meshes_len, uint32_t *parent_cells, size_t parent_cells_len,
     uint32_t *work, size_t work_len, uint32_t *counts, size_t counts_len);
 

@@ -10,8 +10,8 @@ from daqwimay.soils import faces_mesh
 
 
 def places(pieces):
-    """The corners of all pieces as bits, cell by cell, and what is told of each piece."""
-    told = (pieces.ends, pieces.kinds, pieces.families, pieces.parent_meshes, pieces.parent_cells)
+    """The corners of all pieces as bits, with their layers, cell by cell, and what is told of each piece."""
+    told = (pieces.layers[pieces.nodes], pieces.ends, pieces.kinds, pieces.families, pieces.parent_meshes, pieces.parent_cells)
     return pieces.xy[pieces.nodes].tobytes(), *(a.tobytes() for a in told)
 
 
@@ -32,6 +32,28 @@ def test_the_same_pieces_as_one_call(meshes, operation, chunk):
     assert len(np.unique(one.nodes)) == len(np.unique(many.nodes))
     assert one.new_points == many.new_points == many.added_points == len(many.xy) - len(model.xy) - len(soils.xy)
     assert (one.new_points < one.added_points) == (operation == 'difference')
+
+
+@pytest.mark.parametrize('chunk', [7, 333])
+def test_layers_in_chunks(meshes, chunk):
+    """A layer for each column of nodes, so that the two ends of a side differ; the soils' corners are of another one."""
+    model, soils = meshes
+    model = Mesh(model.xy, model.nodes, model.ends, model.kinds, model.families, 1 + np.arange(len(model.xy)) % 61)
+    soils = Mesh(soils.xy, soils.nodes, soils.ends, soils.kinds, soils.families, 2 ** 32 - 1)
+    one, many = overlay(model, soils), overlay_in_chunks(model, soils, chunk=chunk)
+    assert places(one) == places(many) and len(np.unique(one.layers)) == 62
+    assert many.layers.tolist()[:len(model.xy) + len(soils.xy)] == [*model.layers.tolist(), *soils.layers.tolist()]
+    assert len(many.layers) == len(many.xy)
+
+
+@pytest.mark.parametrize('layers, points', [([1] * 4 + [2] * 4, 4), ([0] * 8, 3)])
+def test_points_above_one_another_stay_apart(layers, points):
+    """Cells with nodes of their own along x = 2, cut by a line across it: a new point for each in its layer, in one layer one."""
+    model = Mesh.from_cells([[0, 0], [2, 0], [2, 2], [0, 2], [2, 0], [4, 0], [4, 2], [2, 2]], [[0, 1, 2, 3], [4, 5, 6, 7]], layers=layers)
+    line = Mesh.from_cells([[-1, 1], [5, 1]], [[0, 1]])
+    pieces = overlay_in_chunks(model, line, 'lines', chunk=1)
+    assert (len(pieces), pieces.new_points) == (4, points) and pieces.areas().tolist() == [2] * 4
+    assert [{*pieces.layers[c].tolist()} for c in pieces.cells()] == [{layers[0]}] * 2 + [{layers[-1]}] * 2
 
 
 @pytest.mark.parametrize('chunk', [7, 333])

@@ -10,7 +10,7 @@ import pytest
 from shapely.geometry import LineString, MultiPolygon, box
 
 import maps
-from daqwimay import InputError, Mesh, Model, cut, read_model, read_soils, write_mesh, write_strips
+from daqwimay import InputError, Mesh, Model, cut, read_model, read_soils, write_mesh, write_stakes, write_strips
 
 RD = pyproj.CRS('EPSG:28992')
 MIXED = Mesh.from_cells([[0, 0], [2, 0], [2, 2], [0, 2], [3, 1], [1.2, 3.3], [0.1, 3.1]], [[0, 1, 2, 3], [1, 4, 2], [3, 2, 5, 6], [4, 5, 2]])
@@ -207,6 +207,43 @@ def test_columns_of_disv_and_ugrid_are_not_lost(tmp_path):
     assert write_mesh(tmp_path / 'm.nc', FIVE, {'soil': np.array([4, 5])}, RD) == [str(tmp_path / 'm.nc')]
     with netCDF4.Dataset(tmp_path / 'm.nc') as d:
         assert d['soil'][:].tolist() == [4, 5] and d['soil'].location == 'face'
+
+
+def test_layers_of_nodes_are_written_and_read(tmp_path):
+    """Nodes at one place in different layers stay two; without layers nothing is written of them."""
+    square = [[0, 0], [1, 0], [1, 1], [0, 1]]
+    two = Mesh.from_cells(square + [[1, 0], [2, 0], [2, 1], [1, 1]] + [[9, 9]], [[0, 1, 2, 3], [4, 5, 6, 7]], layers=[1] * 4 + [4_294_967_295] * 4 + [5])
+    for name in 'm.vtu', 'm.nc':
+        write_mesh(tmp_path / name, two)
+        model = read_model(tmp_path / name)
+        assert model.mesh.layers.tolist() == [1] * 4 + [4_294_967_295] * 4 and model.notes == () and len(np.unique(model.mesh.nodes)) == 8, name
+        write_mesh(tmp_path / name, Mesh(two.xy, two.nodes, two.ends, two.kinds, two.families))
+        model = read_model(tmp_path / name)
+        assert not model.mesh.layers.any() and model.notes == ('2 nodes made one with others of equal coordinates',)
+    assert 'layer' not in meshio.read(tmp_path / 'm.vtu').point_data
+    written = write_mesh(tmp_path / 'm.disv', two, {'soil': np.array([4, 5])})
+    assert [w.split('/')[-1] for w in written] == ['m.disv', 'm.vertices.csv', 'm.cells.csv']
+    assert (tmp_path / 'm.vertices.csv').read_text() == 'iv,layer\n' + ''.join(f'{i},{n}\n' for i, n in enumerate([1] * 4 + [4_294_967_295] * 4, 1))
+    for layers in ([0.5, 0, 0], [-1, 0, 0], [0, 0, 2.0 ** 32]):
+        meshio.Mesh(np.eye(3), [('triangle', np.array([[0, 1, 2]]))], point_data={'layer': np.array(layers)}).write(tmp_path / 'm.vtu')
+        with pytest.raises(InputError, match='"layer" of the nodes'):
+            read_model(tmp_path / 'm.vtu')
+
+
+def test_a_map_takes_the_layers_of_the_nodes_that_it_lies_on(tmp_path):
+    """Strips of a model in layers are those without; the stakes have theirs."""
+    made, shapes = maps.along(3, maps.voronoi(3)), maps.voronoi(3)
+    plain = cut(made, maps.soil_map(shapes))
+    for layers in (np.full(len(made.mesh.xy), 7), 1 + np.arange(len(made.mesh.xy)) % 3):
+        mesh = made.mesh
+        layered = Model(Mesh(mesh.xy, mesh.nodes, mesh.ends, mesh.kinds, mesh.families, layers))
+        strips = cut(layered, maps.soil_map(shapes))
+        assert np.array_equal(strips.pieces.nodes, plain.pieces.nodes) and np.array_equal(strips.pieces.xy, plain.pieces.xy)
+        assert np.array_equal(strips.pieces.layers[:len(mesh.xy)], layers) and strips.pieces.layers.all()
+        with open(tmp_path / 'stakes.csv', 'w', newline='') as f:
+            write_stakes(f, strips.pieces)
+        rows = list(csv.DictReader(open(tmp_path / 'stakes.csv')))
+        assert [int(r['layer']) for r in rows] == strips.pieces.layers[strips.pieces.stakes()].tolist() and list(rows[0]) == ['x', 'y', 'tolerance', 'layer']
 
 
 def test_a_models_families_are_its_cells():

@@ -9,8 +9,19 @@ SQUARE = [[0, 0], [2, 0], [2, 2], [0, 2]]
 
 def test_arrays_of_the_right_type_are_lent_as_they_are():
     lists = (np.array(SQUARE, float), np.arange(4, dtype=np.uint32), np.array([4], np.uint32), np.array([8], np.uint8), np.array([7], np.uint32))
-    mesh = Mesh(*lists)
-    assert all(a is b for a, b in zip(lists, mesh.lists()))
+    layers = np.array([3, 3, 4, 4], np.uint32)
+    mesh = Mesh(*lists, layers)
+    assert all(a is b for a, b in zip((lists[0], layers, *lists[1:]), mesh.lists()))
+
+
+def test_layers_are_given_one_by_one_or_for_all():
+    lists = (SQUARE, [0, 1, 2, 3], [4], [8], [7])
+    cells = SQUARE, [[0, 1, 2, 3]]
+    for mesh, want in ((Mesh(*lists), [0] * 4), (Mesh(*lists, layers=2 ** 32 - 1), [2 ** 32 - 1] * 4), (Mesh(*lists, [1, 2, 3, 4]), [1, 2, 3, 4]),
+                       (Mesh.from_cells(*cells), [0] * 4), (Mesh.from_cells(*cells, layers=[1, 2, 3, 4]), [1, 2, 3, 4]), (Mesh([], [], [], [], [], 5), [])):
+        assert mesh.layers.dtype == np.uint32 and mesh.layers.tolist() == want
+    taken, nodes = Mesh.from_cells([*SQUARE, [3, 1]], [[0, 1, 2, 3], [1, 4, 2]], layers=[1, 2, 3, 4, 5]).take(np.array([0]))
+    assert nodes.tolist() == [1, 2, 4] and taken.layers.tolist() == [2, 3, 5]
 
 
 def test_arrays_at_odd_addresses_are_copied():
@@ -31,7 +42,7 @@ def test_answers_are_parts_of_the_lists_that_were_written():
 
 
 @pytest.mark.parametrize('field, value', [('nodes', [0, 1, 2, -1]), ('nodes', [0, 1, 2, 2.5]), ('families', [2 ** 32]), ('kinds', [256]),
-                                          ('families', [-1]), ('nodes', [0, 1, 2, float('nan')])])
+                                          ('families', [-1]), ('nodes', [0, 1, 2, float('nan')]), ('layers', -1), ('layers', [0, 1, 2, 2 ** 32])])
 def test_numbers_that_would_change_are_an_error(field, value):
     lists = dict(xy=SQUARE, nodes=[0, 1, 2, 3], ends=[4], kinds=[8], families=[0])
     with pytest.raises(ValueError, match=field):

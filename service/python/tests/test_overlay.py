@@ -11,16 +11,16 @@ from daqwimay.program import Unread, answer, explained, listing, read_question
 ROOT = Path(__file__).resolve().parents[3]
 CASES = ROOT / 'crates' / 'overlay_cases'
 K1 = """(overlay
-(node 0000000000000000 0000000000000000)
-(node 4000000000000000 0000000000000000)
-(node 4000000000000000 4000000000000000)
-(node 0000000000000000 4000000000000000)
-(node 3ff0000000000000 bff0000000000000)
-(node 4008000000000000 bff0000000000000)
-(node 4008000000000000 4008000000000000)
-(node 3ff0000000000000 4008000000000000)
-(node 3ff0000000000000 0000000000000000)
-(node 3ff0000000000000 4000000000000000)
+(node 0000000000000000 0000000000000000 0)
+(node 4000000000000000 0000000000000000 0)
+(node 4000000000000000 4000000000000000 0)
+(node 0000000000000000 4000000000000000 0)
+(node 3ff0000000000000 bff0000000000000 0)
+(node 4008000000000000 bff0000000000000 0)
+(node 4008000000000000 4008000000000000 0)
+(node 3ff0000000000000 4008000000000000 0)
+(node 3ff0000000000000 0000000000000000 0)
+(node 3ff0000000000000 4000000000000000 0)
 (cell 11 7 0 0 3 0 8 9)
 (cell 11 7 0 0 9 8 1 2)
 (count 2 2 0)
@@ -95,7 +95,7 @@ def test_the_program_counts_two_new_points_and_lists_all_four():
     data = (ROOT / 'examples' / 'points.in').read_bytes()
     lines = answer(data).splitlines()
     assert lines[0] == '(overlay' and lines[15:] == ['(cell 11 7 0 0 13 11 1 2)', '(count 1 2 0)', ')']
-    assert lines[11:15] == [f'(node {x} {y})' for y in ('0' * 16, '4' + '0' * 15) for x in ('3ff0000000000000', '3ff8000000000000')]
+    assert lines[11:15] == [f'(node {x} {y} 0)' for y in ('0' * 16, '4' + '0' * 15) for x in ('3ff0000000000000', '3ff8000000000000')]
     assert listing(overlay(SQUARE, SOILS, 'difference', limit=20)) == answer(data)
     assert explained(data) == (0, 'answered: 1 pieces, 2 new points')
 
@@ -154,6 +154,53 @@ def test_a_boundary_traced_twice_cuts_once():
     pieces = asked(q)
     assert dict(zip(pieces.families.tolist(), pieces.areas().tolist())) == {2: 7750, 3: 10_000, 4: 10_000, 5: 2250}
     assert (pieces.new_points, pieces.added_points, pieces.doubled_cells) == (0, 0, 0)
+
+
+def test_layers_of_an_answer():
+    """Those of the lent nodes; a new point has that of the first node of its side, in the direction of the first cell that has the side."""
+    layers = [[4, 3, 2, 1], [9, 8, 7, 6]]
+    square, right = (Mesh(m.xy, m.nodes, m.ends, m.kinds, m.families, of) for m, of in zip((SQUARE, RIGHT), layers))
+    for operation in Operation:
+        if operation != Operation.LINES:
+            pieces = overlay(square, right, operation)
+            assert pieces.xy[8:].tolist() == [[1, 0], [1, 2]] and pieces.layers.tolist() == [*layers[0], *layers[1], 4, 2]
+            assert pieces.layers.dtype == np.uint32 and pieces.take(np.array([0]))[0].layers.tolist() == pieces.layers[np.unique(pieces.cells()[0])].tolist()
+    assert overlay(SQUARE, RIGHT).layers.tolist() == [0] * 10
+
+
+@pytest.mark.parametrize('square, corner', [(0, 0), (1, 1), (2 ** 32 - 1, 2 ** 32 - 1), (0, 1), (1, 2 ** 32 - 1)])
+def test_nodes_at_one_place_are_one_in_one_layer(square, corner):
+    """A triangle that touches the square's third corner. Of another layer its corner stays a node of its own, and its sides run to the square's and back."""
+    touching = Mesh([[2, 2], [4, 2], [3, 4]], [0, 1, 2], [3], [Kind.TRI3], [1], [corner, 5, 5])
+    subject = Mesh(SQUARE.xy, SQUARE.nodes, SQUARE.ends, SQUARE.kinds, [7], square)
+    if square == corner:
+        pieces = overlay(subject, touching, 'union')
+        assert [c.tolist() for c in pieces.cells()] == [[0, 1, 2, 3], [2, 5, 6]] and pieces.layers.tolist() == [square] * 4 + [corner, 5, 5]
+    else:
+        with pytest.raises(Refused, match='at one place in different layers'):
+            overlay(subject, touching, 'union')
+
+
+def test_one_layer_is_as_none():
+    for layers in 0, 7, 2 ** 32 - 1:
+        square, soils = (Mesh(m.xy, m.nodes, m.ends, m.kinds, m.families, layers) for m in (SQUARE, SOILS))
+        for operation in range(5):
+            pieces, want = overlay(square, soils, operation), overlay(SQUARE, SOILS, operation)
+            assert pieces.layers.tolist() == [layers] * 14
+            assert all(np.array_equal(getattr(pieces, f), getattr(want, f)) for f in ('xy', 'nodes', 'ends', 'kinds', 'families', 'parent_cells'))
+
+
+def test_the_programs_node_lines_have_layers():
+    text = (ROOT / 'examples' / 'k1.in').read_text()
+    lines = text.splitlines()
+    numbered = '\n'.join(line.replace(' 0)', f' {i})') if line.startswith('(node') else line for i, line in enumerate(lines)) + '\n'
+    assert read_question(numbered.encode()).subject.layers.tolist() == [2, 3, 4, 5]
+    assert [line.split()[-1] for line in answer(numbered.encode()).splitlines() if line.startswith('(node')] == [f'{n})' for n in (2, 3, 4, 5, 9, 10, 11, 12, 2, 4)]
+    wrong = [(' 4294967296', 'above 4,294,967,295'), ('', 'a layer behind y'), (' 01', 'leading zero'), (' -1', 'a sign'), ('  1', 'a space too many'), (' 1.5', 'in decimal')]
+    for layer, why in wrong:
+        given = '\n'.join([*lines[:3], lines[3].replace(' 0)', f'{layer})'), *lines[4:], '']).encode()
+        status, words = explained(given)
+        assert status == 2 and 'line 4: ' in words and why in words and answer(given) == '(unread)\n', (layer, words)
 
 
 def test_lines():
@@ -227,7 +274,7 @@ def test_threads_get_the_same_answers():
     ('', 1, 'the text ends'), ('(overlay 0 9\r\n', 1, 'Windows'), ('(overlay 0 9 03\n', 1, 'leading zero'), ('(overlay 0 9 \n', 1, 'a space too many'), ('(overlay 0 9\n(mesh\n(node 0.5 1)\n', 3, '16 hexadecimal'),
     ('(overlay 0 9\n(mesh\n(cell 8 07 1)\n', 3, 'leading zero'), ('(overlay 0 9\n(mesh\n)\n(mesh\n)\n)', 6, 'without a newline'),
     ('(overlay 0 9\n(mesh\n)\n(mesh\n)\n)\n\n', 7, 'after the end'), ('(overlay 0 9\n(mesh\n(cell 8 7 0 1 2 3)\n(node', 4, 'the text ends'),
-    ('(overlay 0 9\n(mesh\n(cell 300 7 0)\n', 3, 'above 255'), ('(overlay 0 9\n(mesh\n' + 513 * '(node 0000000000000000 0000000000000000)\n', 515, '512 nodes')])
+    ('(overlay 0 9\n(mesh\n(cell 300 7 0)\n', 3, 'above 255'), ('(overlay 0 9\n(mesh\n' + 513 * '(node 0000000000000000 0000000000000000 0)\n', 515, '512 nodes')])
 def test_where_reading_stops(text, line, why):
     with pytest.raises(Unread, match=why) as e:
         read_question(text.encode())

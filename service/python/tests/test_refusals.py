@@ -50,7 +50,7 @@ def spike():
 
 CASES = {
     1: [(SQUARE, NOTHING, 6), (SQUARE, NOTHING, -1)],
-    2: [(square(ends=[3]), NOTHING, 0), (square(kinds=[8, 8]), NOTHING, 0),
+    2: [(square(ends=[3]), NOTHING, 0), (square(kinds=[8, 8]), NOTHING, 0), (square(layers=[1, 1, 1]), NOTHING, 0), (SQUARE, square(layers=[1] * 5), 0),
         (Mesh(np.zeros((16_385, 2)), [], [], [], []), NOTHING, 0)],
     3: [(square(xy=[[0, 0], [2, 0], [2, float('nan')], [0, 2]]), NOTHING, 0), (square(xy=[[-0.0, 0], [2, 0], [2, 2], [0, 2]]), NOTHING, 0),
         (square(xy=[[0, 0], [2.0 ** 41, 0], [2, 2], [0, 2]]), NOTHING, 0)],

@@ -29,17 +29,29 @@
 //! ```
 //!
 //! How far a new point may be off its subject edge is proved: `Settings::tolerance` says it, here a quarter of a metre and some 1e-15.
+//!
+//! Nodes of aquifer maps lie above one another: each has a layer, and nodes at one place are made one only where they are of the same layer.
+//! `add_node` is of layer 0, so who has one layer need not think of them:
+//!
+//! ```
+//! # use daqwimay::{Kind, Mesh, Operation, overlay};
+//! let mut aquifer = Mesh::default();
+//! let corners = [[0.0, 0.0], [2.0, 0.0], [2.0, 2.0]].map(|[x, y]| aquifer.add_node_of(1, x, y));
+//! aquifer.add_cell(Kind::Tri3, 0, &corners);
+//! let answer = overlay(Operation::Union, &aquifer, &Mesh::default()).unwrap();
+//! assert_eq!((answer.mesh.layer(2), answer.mesh.layers.as_slice()), (Some(1), &[1, 1, 1][..]));
+//! ```
 
 #[rustfmt::skip]
 unsafe extern "C" {
     fn daqwimay_overlay(
         operation: u32, limit: u32, grid: u32,
-        scoords: *const f64, scoords_len: usize, snodes: *const u32, snodes_len: usize, sends: *const u32, sends_len: usize,
-        skinds: *const u8, skinds_len: usize, sfamilies: *const u32, sfamilies_len: usize,
-        ccoords: *const f64, ccoords_len: usize, cnodes: *const u32, cnodes_len: usize, cends: *const u32, cends_len: usize,
-        ckinds: *const u8, ckinds_len: usize, cfamilies: *const u32, cfamilies_len: usize,
-        ocoords: *mut f64, ocoords_len: usize, onodes: *mut u32, onodes_len: usize, oends: *mut u32, oends_len: usize,
-        okinds: *mut u8, okinds_len: usize, ofamilies: *mut u32, ofamilies_len: usize,
+        scoords: *const f64, scoords_len: usize, slayers: *const u32, slayers_len: usize, snodes: *const u32, snodes_len: usize,
+        sends: *const u32, sends_len: usize, skinds: *const u8, skinds_len: usize, sfamilies: *const u32, sfamilies_len: usize,
+        ccoords: *const f64, ccoords_len: usize, clayers: *const u32, clayers_len: usize, cnodes: *const u32, cnodes_len: usize,
+        cends: *const u32, cends_len: usize, ckinds: *const u8, ckinds_len: usize, cfamilies: *const u32, cfamilies_len: usize,
+        ocoords: *mut f64, ocoords_len: usize, olayers: *mut u32, olayers_len: usize, onodes: *mut u32, onodes_len: usize,
+        oends: *mut u32, oends_len: usize, okinds: *mut u8, okinds_len: usize, ofamilies: *mut u32, ofamilies_len: usize,
         parent_meshes: *mut u32, parent_meshes_len: usize, parent_cells: *mut u32, parent_cells_len: usize,
         work: *mut u32, work_len: usize, counts: *mut u32, counts_len: usize,
     ) -> u32;
@@ -108,6 +120,9 @@ pub enum Kind {
 pub struct Mesh {
     /// x and y of each node.
     pub coords: Vec<f64>,
+    /// One for each node, any number: of two meshes, nodes nearer than 1e-12 are made one only where their layers are equal. An empty list stands for
+    /// layer 0 throughout, so a mesh of one layer need not have them; an answer lists all.
+    pub layers: Vec<u32>,
     /// The cells' node numbers, one cell after the other.
     pub nodes: Vec<u32>,
     /// Where each cell's node numbers end.
@@ -126,10 +141,19 @@ pub struct Cell<'a> {
 }
 
 impl Mesh {
-    /// Answers the node's number.
+    /// A node of layer 0. Answers its number.
     pub fn add_node(&mut self, x: f64, y: f64) -> u32 {
+        self.add_node_of(0, x, y)
+    }
+
+    /// A node of this layer. Answers its number.
+    pub fn add_node_of(&mut self, layer: u32, x: f64, y: f64) -> u32 {
+        if self.layers.is_empty() {
+            self.layers.resize(self.node_count(), 0);
+        }
         self.coords.extend([x, y]);
-        (self.coords.len() / 2 - 1) as u32
+        self.layers.push(layer);
+        (self.node_count() - 1) as u32
     }
 
     /// Cells are added by rising kind.
@@ -147,6 +171,12 @@ impl Mesh {
     pub fn node(&self, number: u32) -> Option<[f64; 2]> {
         let at = 2 * number as usize;
         Some([*self.coords.get(at)?, *self.coords.get(at + 1)?])
+    }
+
+    /// The layer of a node; 0 where the mesh has no list of them.
+    pub fn layer(&self, number: u32) -> Option<u32> {
+        self.node(number)?;
+        if self.layers.is_empty() { Some(0) } else { self.layers.get(number as usize).copied() }
     }
 
     pub fn cells(&self) -> impl Iterator<Item = Cell<'_>> {
@@ -208,8 +238,8 @@ impl std::fmt::Display for Refusal {
         f.write_str(match self {
             Refusal::BadOperation => "the limit of meetings is not from 1 to 65,536",
             Refusal::BadShape => {
-                "a mesh whose lists don't fit together (an odd count of coordinates, ends that don't rise to the count of node \
-                 entries, unequal counts of ends, kinds and families), or one of over 16,384 nodes, 16,384 cells or 65,536 node entries"
+                "a mesh whose lists don't fit together (an odd count of coordinates, some layers but not one for each node, ends that don't rise to \
+                 the count of node entries, unequal counts of ends, kinds and families), or one of over 16,384 nodes, 16,384 cells or 65,536 node entries"
             }
             Refusal::BadCoordinate => "a coordinate that is not finite, above 2^40 in size, or -0",
             Refusal::BadKind => {
@@ -244,7 +274,8 @@ pub enum Parent {
 /// The answer.
 #[derive(Clone, Debug, PartialEq)]
 pub struct Overlay {
-    /// The coordinates of the subject, of the cutter and of all points added where edges meet, in this order; the pieces as its cells.
+    /// The coordinates of the subject, of the cutter and of all points added where edges meet, in this order; the pieces as its cells. As many layers:
+    /// an added point has that of its subject edge's first node, in the direction that the first cell with this edge has it.
     pub mesh: Mesh,
     /// For each piece the mesh of the cell that it was cut from: 0 for the subject, 1 for the cutter.
     pub parent_meshes: Vec<u32>,
@@ -274,6 +305,8 @@ pub struct Overlayer {
     meshes: Vec<u32>,
     cells: Vec<u32>,
     work: Vec<u32>,
+    /// Layers of a mesh that has none.
+    zeros: Vec<u32>,
 }
 
 fn at_least<T: Clone + Default>(l: &mut Vec<T>, n: usize) {
@@ -298,6 +331,8 @@ impl Overlayer {
         let most = SLOTS * cells;
         let mut room = (4 * entries + 256).min(most);
         at_least(&mut self.out.coords, 2 * points);
+        at_least(&mut self.out.layers, points);
+        at_least(&mut self.zeros, nodes);
         at_least(&mut self.work, work);
         loop {
             at_least(&mut self.out.nodes, room);
@@ -322,8 +357,10 @@ impl Overlayer {
         let n = pieces as usize;
         let ends = self.out.ends[..n].to_vec();
         let last = ends.last().map_or(0, |e| *e as usize);
+        let points = nodes + added_points as usize;
         let mesh = Mesh {
-            coords: self.out.coords[..2 * (nodes + added_points as usize)].to_vec(),
+            coords: self.out.coords[..2 * points].to_vec(),
+            layers: self.out.layers[..points].to_vec(),
             nodes: self.out.nodes[..last].to_vec(),
             ends,
             kinds: self.out.kinds[..n].to_vec(),
@@ -334,20 +371,22 @@ impl Overlayer {
     }
 
     #[rustfmt::skip]
-    fn call(&mut self, settings: Settings, s: &Mesh, c: &Mesh, work: usize, counts: &mut [u32; 4]) -> u32 {
+    fn call<'a>(&'a mut self, settings: Settings, s: &'a Mesh, c: &'a Mesh, work: usize, counts: &mut [u32; 4]) -> u32 {
         // the number of no grid is no k: as a k it is as bad as the one below it
         let grid = settings.grid.map_or(NO_GRID, |k| k.min(NO_GRID - 1));
         let (o, meshes, cells, work) = (&mut self.out, &mut self.meshes, &mut self.cells, &mut self.work[..work]);
+        let layers_of = |m: &'a Mesh| if m.layers.is_empty() { &self.zeros[..m.node_count()] } else { &m.layers[..] };
+        let (sl, cl) = (layers_of(s), layers_of(c));
         // Each pair is a list of its own, lent for the call; those that are written are borrowed mutably.
         unsafe {
             daqwimay_overlay(
                 settings.operation as u32, settings.limit, grid,
-                s.coords.as_ptr(), s.coords.len(), s.nodes.as_ptr(), s.nodes.len(), s.ends.as_ptr(), s.ends.len(),
+                s.coords.as_ptr(), s.coords.len(), sl.as_ptr(), sl.len(), s.nodes.as_ptr(), s.nodes.len(), s.ends.as_ptr(), s.ends.len(),
                 s.kinds.as_ptr(), s.kinds.len(), s.families.as_ptr(), s.families.len(),
-                c.coords.as_ptr(), c.coords.len(), c.nodes.as_ptr(), c.nodes.len(), c.ends.as_ptr(), c.ends.len(),
+                c.coords.as_ptr(), c.coords.len(), cl.as_ptr(), cl.len(), c.nodes.as_ptr(), c.nodes.len(), c.ends.as_ptr(), c.ends.len(),
                 c.kinds.as_ptr(), c.kinds.len(), c.families.as_ptr(), c.families.len(),
-                o.coords.as_mut_ptr(), o.coords.len(), o.nodes.as_mut_ptr(), o.nodes.len(), o.ends.as_mut_ptr(), o.ends.len(),
-                o.kinds.as_mut_ptr(), o.kinds.len(), o.families.as_mut_ptr(), o.families.len(),
+                o.coords.as_mut_ptr(), o.coords.len(), o.layers.as_mut_ptr(), o.layers.len(), o.nodes.as_mut_ptr(), o.nodes.len(),
+                o.ends.as_mut_ptr(), o.ends.len(), o.kinds.as_mut_ptr(), o.kinds.len(), o.families.as_mut_ptr(), o.families.len(),
                 meshes.as_mut_ptr(), meshes.len(), cells.as_mut_ptr(), cells.len(),
                 work.as_mut_ptr(), work.len(), counts.as_mut_ptr(), counts.len(),
             )

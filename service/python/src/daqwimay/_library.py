@@ -20,6 +20,7 @@ class ListRecord(NamedTuple):
 # In the order of the call. A list added to the call is a row added here and a field of `Mesh`, or of `Overlay` where the output alone has it.
 MESH_LISTS = (
     ListRecord('xy', np.dtype(np.float64), 'node', 2),
+    ListRecord('layers', np.dtype(np.uint32), 'node'),
     ListRecord('nodes', np.dtype(np.uint32), 'corner'),
     ListRecord('ends', np.dtype(np.uint32), 'cell'),
     ListRecord('kinds', np.dtype(np.uint8), 'cell'),

@@ -23,7 +23,7 @@ def overlay_in_chunks(subject: Mesh, cutter: Mesh, operation: Union[Operation, s
     """The overlay of meshes of any size, for operations that cut the subject alone. Pieces are listed by the subject's cells.
 
     A chunk is lent with its rim: the earlier cells that have an edge in common with it. So each edge has the direction that it has in
-    the whole mesh, and a point where two edges meet has the same bits in every chunk: points of equal bits are one node. Chunks are
+    the whole mesh, and a point where two edges meet has the same bits in every chunk: points of equal bits and of one layer are one node. Chunks are
     halved where a limit of the library asks for it. A refused cell is named. `progress` is told how many cells are done, of how many.
     With a survey grid the rim is all cells around the chunk, since points that come near each other are put in order by their rounded places.
     Added points that no piece names are left out, whichever chunk found them: `added_points` is `new_points`.
@@ -97,6 +97,8 @@ class _Whole:
         """Cuts a cell in triangles, in as many as it takes; false where that is no way."""
         corners = self.subject.nodes[entries(self.counts, np.array([cell]))].astype(np.int64)
         for mesh in triangles(self.subject.xy[corners], self.settings.survey_grid):
+            layers = self.subject.layers[corners]
+            mesh.layers = np.append(layers, np.repeat(layers[:1], len(mesh.xy) - len(corners)))
             try:
                 self._place(mesh, np.append(corners, np.full(len(mesh.xy) - len(corners), -1)), np.full(len(mesh), cell))
             except Refused:
@@ -131,25 +133,27 @@ class _Whole:
     def joined(self) -> Overlay:
         """The pieces of all chunks under numbers of the whole, rims left out."""
         known, many = len(self.subject.xy) + len(self.cutter.xy), 0
-        parts: list[tuple[np.ndarray, ...]] = [(np.zeros((0, 2)), *[np.zeros(0, np.int64)] * 4)]
+        parts: list[tuple[np.ndarray, ...]] = [(np.zeros((0, 3)), *[np.zeros(0, np.int64)] * 4)]
         for answer, numbers, lent in self.done:
             cells, fresh = lent[answer.parent_cells], numbers < 0
             own = cells >= 0
             numbers = np.where(fresh, known + many + np.cumsum(fresh) - 1, numbers)
             many += np.count_nonzero(fresh)
             corners = numbers[answer.nodes[np.repeat(own, answer.counts())]]
-            parts.append((answer.xy[fresh], corners, answer.counts()[own], answer.kinds[own], cells[own]))
+            points = np.column_stack([answer.xy, answer.layers])[fresh]
+            parts.append((points, corners, answer.counts()[own], answer.kinds[own], cells[own]))
         return self._listed(known, *(np.concatenate(p) for p in zip(*parts)))
 
     def _listed(self, known: int, points: np.ndarray, corners: np.ndarray, counts: np.ndarray, kinds: np.ndarray, cells: np.ndarray) -> Overlay:
-        """In the order of the subject's cells; added points of equal bits one node, those that no piece names left out."""
+        """In the order of the subject's cells; added points, x, y and layer, of equal bits one node, those that no piece names left out."""
         order = np.argsort(cells, kind='stable')
         corners = corners[entries(counts, order)]
         fresh = corners >= known
         used, numbers = np.unique(points[corners[fresh] - known], axis=0, return_inverse=True)
         corners[fresh] = known + numbers.reshape(-1)
-        found = Overlay(np.concatenate([self.subject.xy, self.cutter.xy, used]), corners, np.cumsum(counts[order]), kinds[order],
-                        self.subject.families[cells[order]], np.zeros(len(cells), np.uint32), cells[order])
+        layers = np.concatenate([self.subject.layers, self.cutter.layers, used[:, 2].astype(np.uint32)])
+        found = Overlay(np.concatenate([self.subject.xy, self.cutter.xy, used[:, :2]]), corners, np.cumsum(counts[order]), kinds[order],
+                        self.subject.families[cells[order]], np.zeros(len(cells), np.uint32), cells[order], layers)
         found.new_points = found.added_points = len(used)
         found.tolerance = max([tolerance(self.subject, self.settings.survey_grid), *(answer.tolerance for answer, _, _ in self.done)])
         found.parted = self.subject.families[np.array(self.parted, np.int64)]

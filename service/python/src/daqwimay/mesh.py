@@ -25,7 +25,7 @@ class Kind(IntEnum):
 
 
 class Mesh:
-    """Five lists. Arrays of the right type that are contiguous are lent to the library as they are; others are copied once, here.
+    """Six lists. Arrays of the right type that are contiguous are lent to the library as they are; others are copied once, here.
 
     Any content may be handed to `overlay`: what is no mesh is refused. `Mesh.from_cells` makes these lists from cells as files have
     them.
@@ -36,24 +36,30 @@ class Mesh:
     ends: np.ndarray                    #: uint32: where each cell's corners end
     kinds: np.ndarray                   #: uint8: see `Kind`
     families: np.ndarray                #: uint32: one for each cell, carried on to its pieces
+    layers: np.ndarray                  #: uint32: one for each node; nodes at one place of two meshes are made one only in one layer
     order: Optional[np.ndarray] = None      #: from_cells: cell i was the caller's cell order[i]
     turned: Optional[np.ndarray] = None     #: from_cells: whether cell i was clockwise
 
-    def __init__(self, xy: ArrayLike, nodes: ArrayLike, ends: ArrayLike, kinds: ArrayLike, families: ArrayLike) -> None:
-        for record, values in zip(MESH_LISTS, (xy, nodes, ends, kinds, families)):
-            lent = lendable(values, record.dtype, record.name)
+    def __init__(self, xy: ArrayLike, nodes: ArrayLike, ends: ArrayLike, kinds: ArrayLike, families: ArrayLike, layers: ArrayLike = 0) -> None:
+        """`layers` are one for each node, or one number for all."""
+        given = {'xy': xy, 'layers': layers, 'nodes': nodes, 'ends': ends, 'kinds': kinds, 'families': families}
+        for record in MESH_LISTS:
+            lent = lendable(given[record.name], record.dtype, record.name)
             setattr(self, record.name, lent if record.width > 1 or lent.ndim == 1 else lent.reshape(-1))
         self.xy = _pairs(self.xy)
+        if np.ndim(layers) == 0:
+            self.layers = np.repeat(self.layers, len(self.xy))
 
     def __repr__(self) -> str:
         return f'<{type(self).__name__}: {len(self):,} cells, {len(self.xy):,} nodes>'
 
     @classmethod
-    def from_cells(cls, xy: ArrayLike, cells: Any, families: Optional[ArrayLike] = None, kinds: Optional[ArrayLike] = None) -> Mesh:
+    def from_cells(cls, xy: ArrayLike, cells: Any, families: Optional[ArrayLike] = None, kinds: Optional[ArrayLike] = None,
+                   layers: ArrayLike = 0) -> Mesh:
         """A mesh of cells as lists of node numbers (from 0), or as an array n x k.
 
         Cells are sorted by kind, clockwise ones turned, a closing corner dropped, -0.0 made 0.0. Families are the cells' places in
-        `cells`, unless given. Kinds go by the count of corners, unless given, one for all or one for each.
+        `cells`, unless given. Kinds go by the count of corners, unless given, one for all or one for each. So for layers, of nodes: 0 unless given.
         """
         xy = _without_negative_zeros(_pairs(lendable(xy, np.dtype(np.float64), 'xy')))
         flat, counts = _opened(*_flat(cells))
@@ -64,7 +70,7 @@ class Mesh:
         if families.shape != counts.shape:
             raise ValueError(f'families: {len(counts)} are needed, one for each cell; these are {families.size}')
         order = np.argsort(kinds, kind='stable')
-        mesh = cls(xy, flat[entries(counts, order, clockwise)], np.cumsum(counts[order]), kinds[order], families[order])
+        mesh = cls(xy, flat[entries(counts, order, clockwise)], np.cumsum(counts[order]), kinds[order], families[order], layers)
         mesh.order, mesh.turned = order, clockwise[order]
         return mesh
 
@@ -78,7 +84,8 @@ class Mesh:
     def check(self) -> None:
         """Raises `Refused` 2 or 5 where the lists do not fit together, so that the methods below can read them. Sizes are not looked at."""
         counts = self.counts()
-        if not len(self.ends) == len(self.kinds) == len(self.families) or np.any(counts <= 0) or counts.sum() != len(self.nodes):
+        cells, nodes = len(self.ends) == len(self.kinds) == len(self.families), len(self.layers) == len(self.xy)
+        if not (cells and nodes) or np.any(counts <= 0) or counts.sum() != len(self.nodes):
             raise Refused(2)
         _check_nodes(self.nodes, counts, len(self.xy))
 
@@ -106,7 +113,15 @@ class Mesh:
         counts = self.counts()
         corners = self.nodes[entries(counts, cells)]
         used, numbers = np.unique(corners, return_inverse=True)
-        return Mesh(self.xy[used], numbers, np.cumsum(counts[cells]), self.kinds[cells], self.families[cells]), used
+        return Mesh(self.xy[used], numbers, np.cumsum(counts[cells]), self.kinds[cells], self.families[cells], self.layers[used]), used
+
+
+def layers_at(mesh: Mesh, xy: np.ndarray) -> np.ndarray:
+    """For each place the layer of the mesh's first node there; that of its first node of all where it has none there."""
+    if not mesh.layers.any():
+        return np.zeros(len(xy), np.uint32)
+    at = {tuple(p): i for i, p in reversed(list(enumerate(mesh.xy.tolist())))}
+    return mesh.layers[np.array([at.get(tuple(p), 0) for p in xy.tolist()], np.int64)]
 
 
 def _pairs(xy: np.ndarray) -> np.ndarray:

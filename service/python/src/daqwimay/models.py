@@ -54,14 +54,24 @@ def read_model(path: Union[str, Path], crs: Optional[str] = None, layer: Optiona
 
 
 def _weld(model: Model) -> None:
-    """Nodes of equal coordinates are made one: some files give each cell nodes of its own, and neighbours have to share theirs."""
+    """Nodes of equal coordinates and one layer are made one: some files give each cell nodes of its own, and neighbours have to share theirs."""
     mesh, used = model.mesh, np.unique(model.mesh.nodes)
-    _, first, numbers = np.unique(mesh.xy[used], axis=0, return_index=True, return_inverse=True)
+    _, first, numbers = np.unique(np.column_stack([mesh.xy, mesh.layers])[used], axis=0, return_index=True, return_inverse=True)
     if len(first) < len(used):
         one = np.arange(len(mesh.xy))
         one[used] = used[first[numbers.reshape(-1)]]
         mesh.nodes = one[mesh.nodes].astype(np.uint32)
         model.notes += (f'{len(used) - len(first):,} nodes made one with others of equal coordinates',)
+
+
+def _layers(values: Any, many: int, source: str) -> Any:
+    """A file's layers of nodes, 0 where it has none."""
+    if values is None:
+        return 0
+    layers = np.asarray(values)
+    if layers.shape != (many,) or not np.all((layers >= 0) & (layers < 2 ** 32) & (layers % 1 == 0)):
+        raise InputError(f'{source}: "layer" of the nodes is a whole number from 0 to 4,294,967,295 for each')
+    return layers.astype(np.uint32)
 
 
 def _reader(path: Path) -> Callable[[Path], Model]:
@@ -149,7 +159,7 @@ def _placed(xy: np.ndarray, options: dict[str, _Line]) -> tuple[np.ndarray, tupl
 
 
 def read_meshio(path: Path) -> Model:
-    """Triangles, quadrilaterals and polygons of a mesh file; z is left out."""
+    """Triangles, quadrilaterals and polygons of a mesh file; z is left out, point data "layer" are the nodes' layers."""
     meshio = extra('meshio', 'files')
     try:
         mesh = meshio.read(path)
@@ -161,7 +171,8 @@ def read_meshio(path: Path) -> Model:
     cells = [cell for b in mesh.cells if b.type in _FLAT for cell in b.data]
     skipped = sum(len(b.data) for b in mesh.cells if b.type in _SKIPPED)
     notes = (f'{skipped} lines and points left out',) if skipped else ()
-    return Model(Mesh.from_cells(mesh.points[:, :2], cells), str(path), None, 0, notes)
+    layers = _layers(mesh.point_data.get('layer'), len(mesh.points), str(path))
+    return Model(Mesh.from_cells(mesh.points[:, :2], cells, layers=layers), str(path), None, 0, notes)
 
 
 def read_polygons(path: Path, layer: Optional[str] = None) -> Model:
@@ -177,7 +188,7 @@ def read_polygons(path: Path, layer: Optional[str] = None) -> Model:
 
 
 def read_ugrid(path: Path) -> Model:
-    """The faces of a UGRID mesh (netCDF)."""
+    """The faces of a UGRID mesh (netCDF); a variable "layer" of its nodes is their layers."""
     with _dataset(path) as data:
         topology = [v for v in data.variables.values()
                     if getattr(v, 'cf_role', '') == 'mesh_topology' and int(getattr(v, 'topology_dimension', 0)) == 2]
@@ -188,8 +199,11 @@ def read_ugrid(path: Path) -> Model:
         faces = data[topology[0].face_node_connectivity]
         start = int(getattr(faces, 'start_index', 0))
         rows = np.ma.filled(np.ma.masked_less(np.ma.asarray(faces[:]), start), -1).astype(np.int64)
+        layer = data.variables.get('layer')
+        at_nodes = layer is not None and layer.dimensions == data[names[0]].dimensions
+        layers = _layers(layer[:] if at_nodes else None, len(xy), str(path))
         crs = _grid_mapping(data, str(path))
-    return Model(Mesh.from_cells(xy, [row[row >= 0] - start for row in rows]), str(path), crs)
+    return Model(Mesh.from_cells(xy, [row[row >= 0] - start for row in rows], layers=layers), str(path), crs)
 
 
 def _dataset(path: Path) -> Any:

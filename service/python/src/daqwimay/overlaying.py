@@ -31,6 +31,7 @@ class Operation(IntEnum):
 
 class Overlay(Mesh):
     """The pieces as a mesh: the subject's nodes, the cutter's, then all points added where edges meet; each piece has its cell's family.
+    Lent nodes keep their layers; an added point has that of its subject edge's first node.
 
     The cell that a piece was cut from, its parent, is `parent_cells` of the mesh `parent_meshes`, counted as in the mesh that was given.
     """
@@ -44,15 +45,15 @@ class Overlay(Mesh):
     parted: Optional[np.ndarray] = None     #: overlay_in_chunks: the families of cells that were cut in triangles first
 
     def __init__(self, xy: ArrayLike, nodes: ArrayLike, ends: ArrayLike, kinds: ArrayLike, families: ArrayLike,
-                 parent_meshes: ArrayLike, parent_cells: ArrayLike) -> None:
-        super().__init__(xy, nodes, ends, kinds, families)
+                 parent_meshes: ArrayLike, parent_cells: ArrayLike, layers: ArrayLike = 0) -> None:
+        super().__init__(xy, nodes, ends, kinds, families, layers)
         self.parent_meshes = lendable(parent_meshes, np.dtype(np.uint32), 'parent_meshes')
         self.parent_cells = lendable(parent_cells, np.dtype(np.uint32), 'parent_cells')
 
     def take(self, cells: np.ndarray) -> tuple[Overlay, np.ndarray]:
         """Some of the pieces, in the order given, with their parents, and which nodes these have: of the added points those that they name."""
         part, nodes = super().take(cells)
-        found = Overlay(*part.lists(), self.parent_meshes[cells], self.parent_cells[cells])
+        found = Overlay(part.xy, part.nodes, part.ends, part.kinds, part.families, self.parent_meshes[cells], self.parent_cells[cells], part.layers)
         found.new_points = found.added_points = int(np.count_nonzero(nodes >= len(self.xy) - self.added_points))
         found.tolerance = self.tolerance
         return found, nodes
@@ -68,6 +69,8 @@ def overlay(subject: Mesh, cutter: Mesh, operation: Union[Operation, str, int] =
 
     With `survey_grid` K, from 0 to 10, each coordinate of a new point goes to the nearest multiple of 1/2^K metre, halfway to the even one;
     no other node moves. Points that come nearer to each other than that, or to a corner, may give wrong pieces: `cut` checks them.
+
+    Nodes of the two meshes that lie at one place, nearer than 1e-12, are made one where their layers are equal; edges meet whatever their layers.
 
     For recharge by soils the model is the subject and the soils are the cutter, with the operation "imprint".
     """

@@ -19,7 +19,7 @@ MOST_ENTRIES = 2_048
 WORK = 16_384                               # numbers in its working list
 ROOM = (2_048, 8_192, 2_048)                # nodes, corners and pieces in its output lists
 _DECIMAL = r'(0|[1-9][0-9]*)'
-_NODE = re.compile(r'\(node ([0-9a-f]{16}) ([0-9a-f]{16})\)')
+_NODE = re.compile(rf'\(node ([0-9a-f]{{16}}) ([0-9a-f]{{16}}) {_DECIMAL}\)')
 _CELL = re.compile(rf'\(cell {_DECIMAL} {_DECIMAL}((?: {_DECIMAL})*)\)')
 _HEAD = re.compile(rf'\(overlay {_DECIMAL} {_DECIMAL}(?: {_DECIMAL})?')
 _HINTS = (
@@ -28,7 +28,9 @@ _HINTS = (
     (re.compile(r'[^ -~]'), 'it has a tab, or a character beyond plain ASCII'),
     (re.compile(r'^ | $|  | \)'), 'it has a space too many'),
     (re.compile(r'^\(node .*[A-F]'), 'hexadecimal letters are small'),
-    (re.compile(r'^\(node '), 'a node is x and y as the bits of f64, 16 hexadecimal digits each, and stands before the cells'),
+    (re.compile(r'^\(node \w{16} \w{16}\)$'), 'a node has a layer behind y, 0 where there is one layer alone'),
+    (re.compile(r'^\(node \w{16} \w{16} [0+-][0-9]'), 'a number has a sign or a leading zero'),
+    (re.compile(r'^\(node '), 'a node is x and y as the bits of f64, 16 hexadecimal digits each, and its layer in decimal, and stands before the cells'),
     (re.compile(r' [0+-][0-9]'), 'a number has a sign or a leading zero'),
 )
 
@@ -83,10 +85,11 @@ class _Reader:
         xy: list[list[float]] = []
         corners: list[int] = []
         ends: list[int] = []
-        kinds, families = [], []
+        kinds, families, layers = [], [], []
         while m := self.match(_NODE):
             self._room(len(xy), MOST_NODES, 'nodes')
-            xy.append([struct.unpack('>d', bytes.fromhex(h))[0] for h in m.groups()])
+            xy.append([struct.unpack('>d', bytes.fromhex(h))[0] for h in m.groups()[:2]])
+            layers.append(self.number(m[3], 2 ** 32 - 1))
         while m := self.match(_CELL):
             self._room(len(ends), MOST_CELLS, 'cells')
             kinds.append(self.number(m[1], 255))
@@ -95,7 +98,7 @@ class _Reader:
             self._room(len(corners) - 1, MOST_ENTRIES, 'corners')
             ends.append(len(corners))
         self.need(re.compile(r'\)'), 'a cell or `)`' if ends else 'a node, a cell or `)`')
-        return Mesh(xy, corners, ends, kinds, families)
+        return Mesh(xy, corners, ends, kinds, families, layers)
 
     def _room(self, have: int, most: int, what: str) -> None:
         if have >= most:
@@ -133,7 +136,8 @@ def answer(data: bytes) -> str:
 def listing(overlay: Overlay) -> str:
     """An answer as the program prints it."""
     lines = ['(overlay']
-    lines += [f'(node {struct.pack(">d", x).hex()} {struct.pack(">d", y).hex()})' for x, y in overlay.xy.tolist()]
+    nodes = zip(overlay.xy.tolist(), overlay.layers.tolist())
+    lines += [f'(node {struct.pack(">d", x).hex()} {struct.pack(">d", y).hex()} {layer})' for (x, y), layer in nodes]
     pieces = zip(overlay.kinds, overlay.families, overlay.parent_meshes, overlay.parent_cells, overlay.cells())
     lines += [f'(cell {" ".join(map(str, [*numbers, *corners.tolist()]))})' for *numbers, corners in pieces]
     lines += [f'(count {len(overlay)} {overlay.new_points} {overlay.doubled_cells})', ')', '']

@@ -18,7 +18,8 @@ _ROWS = (
     Refusal(1, 'bad operation', 'the operation is above 5, or the meeting limit is not from 1 to 65,536',
             ('a number in the place of an operation\'s name',), 'take an Operation or its name; leave the limit as it is'),
     Refusal(2, 'bad shape', 'the lists of a mesh do not fit together, or the mesh has over 16,384 nodes, 16,384 cells or 65,536 corners',
-            ('a model or a map that is too large for one call', 'ends that do not rise to the count of corners', 'a cell without corners'),
+            ('a model or a map that is too large for one call', 'ends that do not rise to the count of corners', 'a cell without corners',
+             'layers, but not one for each node'),
             'large models: overlay_in_chunks, or the command, which does it by itself; otherwise Mesh.from_cells makes the lists'),
     Refusal(3, 'bad coordinate', 'a coordinate is not finite, above 2^40 in size, or -0.0',
             ('NaN or infinity for a node without a place', '-0.0, which arises from -1 * 0.0 or from rounding',
@@ -58,7 +59,8 @@ _ROWS = (
     Refusal(19, 'folded cell', 'a cell\'s outline, as cut, runs along itself: it passes between the same two nodes twice, or from a node to itself',
             ('two corners of one outline so close (under 1e-12) to a node of the other mesh that both become that node',
              'a spike or a sliver whose sides are nearer to each other than some 1e-7 of their length, with a corner of the other mesh in it',
-             'Union or the symmetric difference of two maps whose corners lie beside each other by less than some 1e-7 of their sides',
+             'Union or the symmetric difference of two maps whose corners lie beside each other by less than some 1e-7 of their sides, or at one '
+             'place in different layers',
              'on a survey grid, a new point that comes beside a node of its side at which two outlines meet'),
             'merge the corners that are nearly one and remove the spike: --grid does so in a soil map; of a model the command and '
             'overlay_in_chunks name the cell; on a survey grid a larger K'),

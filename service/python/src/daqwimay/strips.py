@@ -8,7 +8,7 @@ import numpy as np
 
 from .chunks import overlay_in_chunks
 from .errors import InputError, NotClean
-from .mesh import Mesh
+from .mesh import Mesh, layers_at
 from .models import Model
 from .overlaying import Operation, Overlay, settings_of
 from .refusals import Refused
@@ -90,7 +90,7 @@ def _on_grid(model: Model, grid: float) -> tuple[Model, str]:
     mesh, step = model.mesh, step_of(grid)
     xy = rounded(mesh.xy, step)
     far = float(np.hypot(*(xy - mesh.xy).T).max())
-    moved = Mesh(xy, mesh.nodes, mesh.ends, mesh.kinds, mesh.families)
+    moved = Mesh(xy, mesh.nodes, mesh.ends, mesh.kinds, mesh.families, mesh.layers)
     change = f'soils run along the model\'s sides: its nodes are put on the grid of {step_said(step)} too, moved by at most {far:.3g}'
     return replace(model, mesh=moved), change
 
@@ -114,6 +114,7 @@ class _Given(NamedTuple):
 def _cut(model: Model, given: _Given) -> Strips:
     from .checks import checked
     mesh, names, changes = _cutter(model, given.soils, given.grid, given.background)
+    mesh.layers = layers_at(model.mesh, mesh.xy)        # a map has none: its corners are of the layer of the model's node that they lie on
     try:
         pieces = overlay_in_chunks(model.mesh, mesh, Operation.IMPRINT, survey_grid=given.survey_grid, parts=True,
                                    progress=lambda done, of: given.told('cells cut', done, of))

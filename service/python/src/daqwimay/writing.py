@@ -2,6 +2,7 @@
 from __future__ import annotations
 
 import csv
+import itertools
 from pathlib import Path
 from typing import Any, Mapping, Optional, TextIO, Union
 
@@ -44,11 +45,12 @@ def check_ending(path: Union[str, Path]) -> None:
 def write_mesh(path: Union[str, Path], mesh: Mesh, columns: Optional[Columns] = None, crs: Any = None) -> list[str]:
     """A mesh by the file's ending: .disv, .nc (UGRID), a map of polygons, otherwise meshio. Answers the files written.
 
-    Nodes that no cell names are left out. A format that cannot name a reference system gets one beside it, NAME.prj.
+    Nodes that no cell names are left out. A format that cannot name a reference system gets one beside it, NAME.prj. Layers of nodes, where there are
+    others than 0, are point data "layer" in meshio's formats and UGRID, NAME.vertices.csv beside DISV; maps of polygons have no nodes to hold them.
     """
     path, columns = Path(path), columns or {}
     used, numbers = np.unique(mesh.nodes, return_inverse=True)
-    mesh = Mesh(mesh.xy[used], numbers.reshape(-1), mesh.ends, mesh.kinds, mesh.families)
+    mesh = Mesh(mesh.xy[used], numbers.reshape(-1), mesh.ends, mesh.kinds, mesh.families, mesh.layers[used])
     ending = path.suffix.lower()
     if ending in MAPS:
         _write_map(path, mesh, columns, crs)
@@ -81,8 +83,9 @@ def _write_meshio(path: Path, mesh: Mesh, columns: Columns) -> None:
     names = {3: 'triangle', 4: 'quad'}
     blocks = [(names.get(int(counts[g[0]]), 'polygon'), np.array([cells[i] for i in g], np.int64)) for g in groups]
     points = np.column_stack([mesh.xy, np.zeros(len(mesh.xy))])
+    told = {'cell_data': {k: [np.asarray(v)[g] for g in groups] for k, v in columns.items()}, 'point_data': {'layer': mesh.layers} if mesh.layers.any() else {}}
     try:
-        meshio.Mesh(points, blocks, cell_data={k: [np.asarray(v)[g] for g in groups] for k, v in columns.items()}).write(path)
+        meshio.Mesh(points, blocks, **told).write(path)
         whole = path.suffix.lower() in _POLYGONS or sum(len(b.data) for b in meshio.read(path).cells) == len(mesh)
     except (meshio.WriteError, meshio.ReadError, SystemExit, KeyError, ValueError):
         whole = False
@@ -92,7 +95,7 @@ def _write_meshio(path: Path, mesh: Mesh, columns: Columns) -> None:
 
 
 def _write_disv(path: Path, mesh: Mesh, columns: Columns) -> list[Path]:
-    """The vertices and cells of a MODFLOW 6 DISV package, clockwise as it asks, and the columns in NAME.cells.csv; answers what is beside it."""
+    """The vertices and cells of a MODFLOW 6 DISV package, clockwise as it asks; layers and columns in files beside it, which are answered."""
     lines = ['BEGIN DIMENSIONS', '  NLAY 1', f'  NCPL {len(mesh)}', f'  NVERT {len(mesh.xy)}', 'END DIMENSIONS', '', 'BEGIN VERTICES']
     lines += [f'  {i} {x!r} {y!r}' for i, (x, y) in enumerate(mesh.xy.tolist(), 1)]
     lines += ['END VERTICES', '', 'BEGIN CELL2D']
@@ -100,12 +103,16 @@ def _write_disv(path: Path, mesh: Mesh, columns: Columns) -> list[Path]:
         x, y = mesh.xy[corners].mean(axis=0).tolist()
         lines.append(f'  {i} {x!r} {y!r} {len(corners)} {" ".join(str(n + 1) for n in corners[::-1])}')
     path.write_text('\n'.join([*lines, 'END CELL2D', '']))
-    if not columns:
-        return []
-    with open(path.with_suffix('.cells.csv'), 'w', newline='') as f:
-        rows = zip(range(1, len(mesh) + 1), *(np.asarray(v).tolist() for v in columns.values()))
-        csv.writer(f, lineterminator='\n').writerows([('icell2d', *columns), *rows])
-    return [path.with_suffix('.cells.csv')]
+    beside = [_beside(path, '.vertices.csv', 'iv', {'layer': mesh.layers})] if mesh.layers.any() else []
+    return beside + ([_beside(path, '.cells.csv', 'icell2d', columns)] if columns else [])
+
+
+def _beside(path: Path, ending: str, number: str, columns: Columns) -> Path:
+    """Columns under a number that counts from 1, in a file of its own."""
+    rows = zip(itertools.count(1), *(np.asarray(v).tolist() for v in columns.values()))
+    with open(path.with_suffix(ending), 'w', newline='') as f:
+        csv.writer(f, lineterminator='\n').writerows([(number, *columns), *rows])
+    return path.with_suffix(ending)
 
 
 def _write_ugrid(path: Path, mesh: Mesh, columns: Columns, crs: Any) -> None:
@@ -120,6 +127,8 @@ def _write_ugrid(path: Path, mesh: Mesh, columns: Columns, crs: Any) -> None:
              node_coordinates='node_x node_y', face_node_connectivity='face_nodes')
         for name, values in zip(('node_x', 'node_y'), mesh.xy.T):
             _put(data, name, values, ('node',), standard_name=f'projection_{name[-1]}_coordinate')
+        if mesh.layers.any():
+            _put(data, 'layer', mesh.layers, ('node',), mesh='mesh2d', location='node')
         _put(data, 'face_nodes', faces, ('face', 'corner'), -1, cf_role='face_node_connectivity', start_index=np.int32(0))
         for name, values in columns.items():
             _put(data, name, np.asarray(values), ('face',), mesh='mesh2d', location='face')
@@ -142,7 +151,11 @@ def write_table(file: TextIO, strips: Strips) -> int:
 
 
 def write_stakes(file: TextIO, pieces: Overlay) -> int:
-    """x, y and tolerance of each new point as CSV, in metres; answers the count of rows."""
-    rows = [(x, y, pieces.tolerance) for x, y in pieces.xy[pieces.stakes()].tolist()]
-    csv.writer(file, lineterminator='\n').writerows([('x', 'y', 'tolerance'), *rows])
+    """x, y and tolerance of each new point as CSV, in metres, and its layer where there are others than 0; answers the count of rows."""
+    stakes = pieces.stakes()
+    rows = [(x, y, pieces.tolerance) for x, y in pieces.xy[stakes].tolist()]
+    head = ('x', 'y', 'tolerance')
+    if pieces.layers.any():
+        head, rows = (*head, 'layer'), [(*row, layer) for row, layer in zip(rows, pieces.layers[stakes].tolist())]
+    csv.writer(file, lineterminator='\n').writerows([head, *rows])
     return len(rows)
