@@ -305,7 +305,7 @@ def inwards(a, p, b):
     u, v, x, y = u / before, v / before, x / behind, y / behind
     # half the angle at p, to the left of the way to b, and so far that the number clears both sides
     half = (math.atan2(v, u) - math.atan2(y, x)) % (-2 * math.pi) / 2 or -math.pi / 2
-    far = ROOM / max(math.sin(-half), 0.3)
+    far = ROOM / max(math.sin(-half), 0.2)
     return far * (x * math.cos(half) - y * math.sin(half)), far * (x * math.sin(half) + y * math.cos(half))
 
 
