@@ -271,7 +271,8 @@ def test_threads_get_the_same_answers():
 
 
 @pytest.mark.parametrize('text, line, why', [
-    ('', 1, 'the text ends'), ('(overlay 0 9\r\n', 1, 'Windows'), ('(overlay 0 9 03\n', 1, 'leading zero'), ('(overlay 0 9 \n', 1, 'a space too many'), ('(overlay 0 9\n(mesh\n(node 0.5 1)\n', 3, '16 hexadecimal'),
+    ('', 1, 'the text ends'), ('(overlay 0 9\r\n', 1, 'Windows'), ('(overlay 0 9 03\n', 1, 'leading zero'), ('(overlay 0 9 \n', 1, 'a space too many'),
+    ('(overlay 0 9\n(mesh\n(node 0.5 1)\n', 3, '16 hexadecimal'),
     ('(overlay 0 9\n(mesh\n(cell 8 07 1)\n', 3, 'leading zero'), ('(overlay 0 9\n(mesh\n)\n(mesh\n)\n)', 6, 'without a newline'),
     ('(overlay 0 9\n(mesh\n)\n(mesh\n)\n)\n\n', 7, 'after the end'), ('(overlay 0 9\n(mesh\n(cell 8 7 0 1 2 3)\n(node', 4, 'the text ends'),
     ('(overlay 0 9\n(mesh\n(cell 300 7 0)\n', 3, 'above 255'), ('(overlay 0 9\n(mesh\n' + 513 * '(node 0000000000000000 0000000000000000 0)\n', 515, '512 nodes')])

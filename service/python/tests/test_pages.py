@@ -79,7 +79,8 @@ def drawn(*words):
 
 
 @pytest.mark.parametrize('name, picture, title, options', [
-    ('k1', 'k1', '', []), ('soil', 'soil', '', []), ('model', 'parents', '', ['--by', 'parent']), ('points', 'points', 'Difference=', []), ('ditch', 'ditch', '', [])])
+    ('k1', 'k1', '', []), ('soil', 'soil', '', []), ('model', 'parents', '', ['--by', 'parent']), ('points', 'points', 'Difference=', []), ('ditch', 'ditch', '', []),
+    ('layers', 'layers', '', [])])
 def test_pictures_of_listings(tmp_path, name, picture, title, options):
     """As the README draws them. By itself an answer doesn't tell added points that no piece names from lent nodes: no rings."""
     given, out = ROOT / 'examples' / f'{name}.in', tmp_path / 'answer.out'
@@ -88,6 +89,16 @@ def test_pictures_of_listings(tmp_path, name, picture, title, options):
     assert both == (ROOT / 'docs' / 'pictures' / f'{picture}.svg').read_text()
     alone, dot, ring = drawn(*options, out), 'r="2.6" fill="#c8322b"/>', 'r="2.6" fill="#ffffff" '
     assert alone.count(dot) == both.count(dot) and ring not in alone and (ring in both) == (name == 'points')
+
+
+@pytest.mark.parametrize('layer', ['', ' 7'])
+def test_pictures_of_one_layer_and_of_none(tmp_path, layer):
+    """Whatever its number, and of texts from before W7: no corner's layer stands in them."""
+    given, out = tmp_path / 'soil.in', tmp_path / 'soil.out'
+    text = (ROOT / 'examples' / 'soil.in').read_text()
+    for path, content in ((given, text), (out, answer(text.encode()))):
+        path.write_text(re.sub(r'^(\(node .*) 0\)$', rf'\1{layer})', content, flags=re.M))
+    assert drawn(given, out) == (ROOT / 'docs' / 'pictures' / 'soil.svg').read_text()
 
 
 def test_the_picture_of_a_survey_grid(tmp_path):

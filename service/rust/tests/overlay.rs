@@ -145,6 +145,84 @@ fn parents_of_lists_that_grow() {
     }
 }
 
+fn in_layers(mut m: Mesh, layers: &[u32]) -> Mesh {
+    m.layers = layers.to_vec();
+    m
+}
+
+/// Lent nodes keep theirs; a new point has that of its side's first node.
+#[test]
+fn every_node_has_its_layer() {
+    let (s, c) = k1();
+    let (s, c) = (in_layers(s, &[4, 3, 2, 1]), in_layers(c, &[9, 8, 7, u32::MAX]));
+    for op in [Operation::Imprint, Operation::Union, Operation::Intersection, Operation::Difference, Operation::SymmetricDifference] {
+        let o = overlay(op, &s, &c).unwrap();
+        assert_eq!(o.mesh.layers, [4, 3, 2, 1, 9, 8, 7, u32::MAX, 4, 2], "{op:?}");
+        assert_eq!((o.mesh.layer(7), o.mesh.layer(9), o.mesh.layer(10)), (Some(u32::MAX), Some(2), None));
+    }
+}
+
+/// A common side has the direction of the first cell that has it.
+#[test]
+fn the_first_node_of_a_common_side() {
+    let cut = line([-1.0, 1.0], [5.0, 1.0]);
+    for (first, second, want) in [([0, 1, 4, 3], [1, 2, 5, 4], 5), ([1, 2, 5, 4], [0, 1, 4, 3], 6)] {
+        let mut m = Mesh::default();
+        for (layer, x, y) in [(0, 0.0, 0.0), (5, 2.0, 0.0), (1, 4.0, 0.0), (2, 0.0, 2.0), (6, 2.0, 2.0), (3, 4.0, 2.0)] {
+            m.add_node_of(layer, x, y);
+        }
+        m.add_cell(Kind::Quad4, 0, &first);
+        m.add_cell(Kind::Quad4, 1, &second);
+        let o = overlay(Operation::Lines, &m, &cut).unwrap();
+        let common = (8..11).find(|n| o.mesh.node(*n) == Some([2.0, 1.0])).unwrap();
+        assert_eq!(o.mesh.layer(common), Some(want));
+    }
+}
+
+/// A triangle that touches the square's third corner: in one layer they share the node, in two the outline runs to the square's and back.
+#[test]
+fn nodes_at_one_place_are_one_in_one_layer() {
+    let (s, touching) = (k1().0, triangle([[2.0, 2.0], [4.0, 1.0], [3.0, 4.0]]));
+    for (layer, corner) in [(0, 0), (1, 1), (u32::MAX, u32::MAX), (0, 1), (u32::MAX, 1)] {
+        let o = overlay(Operation::Union, &in_layers(s.clone(), &[layer; 4]), &in_layers(touching.clone(), &[corner, 5, 5]));
+        match o {
+            Ok(o) => assert!(layer == corner && o.mesh.cells().all(|p| p.nodes.contains(&2)) && !o.mesh.nodes.contains(&4)),
+            Err(r) => assert!(layer != corner && r == Refusal::FoldedCell),
+        }
+    }
+}
+
+/// No list of layers is layer 0 throughout, in either mesh; what is answered lists them all. Lists of any other length are refused.
+#[test]
+fn a_mesh_without_layers() {
+    let (s, c) = two_soils();
+    let want = overlay(Operation::Union, &s, &c).unwrap();
+    assert_eq!((s.layers.len(), want.mesh.layers.as_slice()), (4, &[0; 14][..]));
+    let none = |m: &Mesh| in_layers(m.clone(), &[]);
+    assert_eq!((none(&s).layer(3), none(&s).layer(4)), (Some(0), None));
+    for (a, b) in [(none(&s), c.clone()), (s.clone(), none(&c)), (none(&s), none(&c))] {
+        assert_eq!(overlay(Operation::Union, &a, &b).as_ref(), Ok(&want));
+    }
+    for (a, b) in [(in_layers(s.clone(), &[0; 3]), none(&c)), (none(&s), in_layers(c.clone(), &[0; 7]))] {
+        assert_eq!(overlay(Operation::Union, &a, &b), Err(Refusal::BadShape));
+    }
+    let seven = overlay(Operation::Union, &in_layers(s, &[7; 4]), &in_layers(c, &[7; 6])).unwrap();
+    assert_eq!((seven.mesh.layers.as_slice(), &seven.mesh.nodes, &seven.mesh.coords), (&[7; 14][..], &want.mesh.nodes, &want.mesh.coords));
+    let mut late = none(&k1().0);
+    assert_eq!((late.add_node_of(3, 9.0, 9.0), late.layers.as_slice()), (4, &[0, 0, 0, 0, 3][..]));
+}
+
+/// The largest call first, so that lists used again have places behind what is asked for.
+#[test]
+fn lists_used_again_with_layers() {
+    let mut lists = Overlayer::default();
+    let (s, c) = (strips(18, true), strips(18, false));
+    lists.overlay(Operation::Imprint, MOST_MEETINGS, &in_layers(s, &[5; 38]), &c).unwrap();
+    let (a, b) = k1();
+    let small = lists.overlay(Operation::Imprint, 9, &in_layers(a, &[]), &in_layers(b, &[1; 4])).unwrap();
+    assert_eq!(small.mesh.layers, [0, 0, 0, 0, 1, 1, 1, 1, 0, 0]);
+}
+
 #[test]
 fn lists_grow() {
     // 324 pieces of four corners each: more than the first guess has room for
