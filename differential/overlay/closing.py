@@ -14,7 +14,9 @@ import struct
 Told = collections.namedtuple('Told', 'copied slots doubled repeats outline')
 CUTTER = 1 << 31
 BOTH_CUT = ('1', '4')
-NODE = re.compile(r'^\(node (\w+) (\w+)\)$', re.M)
+# a node's line; the published Rust lists no layers
+NODE = re.compile(r'^\(node (\w+) (\w+)(?: \d+)?\)$', re.M)
+LAYER = re.compile(r'^(\(node \w+ \w+) (\d+)\)$', re.M)
 CELL = re.compile(r'^\(cell \d+ (\d+) ([\d ]+)\)$', re.M)
 PIECE = re.compile(r'^(\(cell \d+ (\d+)) (\d+) (\d+)( [\d ]+\))$', re.M)
 
@@ -44,8 +46,18 @@ def with_all_pieces(form):
 
 
 def bare(answer):
-    """An answer without the parents, as the Rust lists it."""
+    """An answer without the parents, as the copy of the Rust lists it."""
     return PIECE.sub(r'\1\5', answer)
+
+
+def flat(answer):
+    """An answer without the layers, as the published Rust lists it."""
+    return LAYER.sub(r'\1)', answer)
+
+
+def layers(text):
+    """The layer of each node of a form or an answer."""
+    return [int(layer) for _, layer in LAYER.findall(text)]
 
 
 def parents(answer):
@@ -146,15 +158,15 @@ def faults(form, answer, cells):
 
 K10 = '''(overlay 5 9
 (mesh
-(node 0000000000000000 0000000000000000)
-(node 4000000000000000 0000000000000000)
-(node 4000000000000000 4000000000000000)
-(node 0000000000000000 4000000000000000)
+(node 0000000000000000 0000000000000000 0)
+(node 4000000000000000 0000000000000000 0)
+(node 4000000000000000 4000000000000000 0)
+(node 0000000000000000 4000000000000000 0)
 (cell 8 7 0 1 2 3)
 )
 (mesh
-(node 3ff0000000000000 bff0000000000000)
-(node 3ff0000000000000 3ff0000000000000)
+(node 3ff0000000000000 bff0000000000000 0)
+(node 3ff0000000000000 3ff0000000000000 0)
 (cell 1 0 0 1)
 )
 )
@@ -171,7 +183,7 @@ def selftest():
 
     def k10(corners, y='0000000000000000', doubled=False, cell='0 0'):
         cells = [Told(False, 14, doubled, False, [(0, 6), (6, 1), (1, 2), (2, 3), (3, 0)])]
-        return told(K10, cells, ['%s %s' % (cell, c) for c in corners], '(node 3ff0000000000000 %s)\n' % y)
+        return told(K10, cells, ['%s %s' % (cell, c) for c in corners], '(node 3ff0000000000000 %s 0)\n' % y)
     whole_way = '3 0 6 5 6 1 2'
     assert not k10([whole_way])
     assert not k10(['3 0 6 1 2'])

@@ -1,7 +1,7 @@
 """Made inputs for the differential run: pairs of meshes in many families, from a seed.
 
 A mesh is a list of nodes and a list of cells (kind, family, node numbers). Each family is a method that answers an operation (or None:
-any of 0 to 4), a subject and a cutter; `one` then scales and renumbers them and gives some a grid, `text` prints them."""
+any of 0 to 4), a subject and a cutter; `one` then scales and renumbers them, gives some a grid and each node its layer, `text` prints them."""
 import math
 import random
 import struct
@@ -12,6 +12,9 @@ NEAR = [0.0, 1e-16, 3e-13, 7e-13, 9.9e-13, 1e-12, 1.01e-12, 2e-12, 1e-11, 1e-10,
 SCALES = [(1.0, 'unit'), (2.0 ** -1060, 'subnormal'), (2.0 ** -1030, 'subnormal'), (2.0 ** -520, 'underflow'), (2.0 ** -300, 'tiny'),
           (2.0 ** -40, 'tiny'), (1e-9, 'tiny'), (1e-3, 'milli'), (1e6, 'far'), (2.0 ** 30, 'huge'), (2.0 ** 36, 'huge')]
 LARGEST = 2.0 ** 40
+LAST_LAYER = 2 ** 32 - 1
+# How far copies of cells are moved where there are layers, by both coordinates: at one place, under 1e-12 apart, and just over it.
+ABOVE = [(0.0, 0.0), (0.0, 0.0), (2e-13, 0.0), (0.0, -4e-13), (6e-13, 6e-13), (-9.5e-13, 0.0), (1.5e-12, 0.0)]
 
 
 def bits(x):
@@ -22,6 +25,8 @@ class Mesh:
     def __init__(self):
         self.nodes = []
         self.cells = []
+        # of each node, once given
+        self.layers = []
 
     def node(self, x, y):
         self.nodes.append((x, y))
@@ -39,7 +44,7 @@ def text(op, limit, *meshes, grid=None):
     out = ['(overlay %d %d' % (op, limit) + ('' if grid is None else ' %d' % grid)]
     for m in meshes:
         out.append('(mesh')
-        out += ['(node %s %s)' % (bits(x), bits(y)) for x, y in m.nodes]
+        out += ['(node %s %s %d)' % (bits(x), bits(y), layer) for (x, y), layer in zip(m.nodes, m.layers or [0] * len(m.nodes))]
         out += ['(cell %d %d %s)' % (k, f, ' '.join(map(str, c))) for k, f, c in m.cells]
         out.append(')')
     out.append(')\n')
@@ -47,17 +52,20 @@ def text(op, limit, *meshes, grid=None):
 
 
 class Made:
-    def __init__(self, seed, only='', on_grid=False):
-        """`only`: the families whose names start so. `on_grid`: each overlay has a grid."""
-        self.r = random.Random('grids %d' % seed if on_grid else seed)
-        self.on_grid = on_grid
+    def __init__(self, seed, only='', on_grid=False, layered=False):
+        """`only`: the families whose names start so. `on_grid`: each overlay has a grid. `layered`: nodes of 2 to 4 layers, and every fifth overlay has a
+        grid; else each overlay has one layer, of which the rest of it doesn't depend."""
+        self.r = random.Random('layers %d' % seed if layered else 'grids %d' % seed if on_grid else seed)
+        self.one_layer = random.Random('one layer %d' % seed)
+        self.on_grid, self.layered = on_grid, layered
         families = [
             (self.grids, 12), (self.turned_grids, 10), (self.lattice, 14), (self.near_nodes, 14), (self.t_junctions, 8), (self.colinear, 8),
             (self.concave, 7), (self.touching, 6), (self.twice, 6), (self.collapsing, 5), (self.islands, 4), (self.unmerged, 8),
             (self.lines, 16), (self.ditches, 8), (self.repeated_lines, 6), (self.fans, 5), (self.mixed, 5), (self.empty, 1),
             (self.large, 1), (self.crowded, 1), (self.traced_banks, 4), (self.traced_lines, 4), (self.traced_cells, 3), (self.traced_hair, 3),
             (self.traced_sides, 2), (self.traced_folds, 2)]
-        self.families = [(f, w) for f, w in families if f.__name__.startswith(only)]
+        more = {'near_nodes': 3, 'unmerged': 2, 'collapsing': 2} if layered else {}
+        self.families = [(f, w * more.get(f.__name__, 1)) for f, w in families if f.__name__.startswith(only)]
 
     # ---- parts
 
@@ -678,16 +686,72 @@ class Made:
             m.nodes = [((x + dx) * side, (y + dy) * side) for x, y in m.nodes]
         return 'by steps'
 
+    # ---- layers
+
+    def stacked(self, m):
+        """Some of the mesh's cells once or twice more, with nodes of their own above or beside theirs."""
+        cells = self.r.sample(m.cells, min(len(m.cells), self.r.randint(1, 4)))
+        for _ in range(self.r.randint(1, 2)):
+            dx, dy = self.r.choice(ABOVE)
+            new = {}
+            for k, f, c in cells:
+                for n in c:
+                    if n not in new:
+                        x, y = m.nodes[n]
+                        new[n] = m.node(x + dx, y + dy)
+                m.cells.append((k, f, [new[n] for n in c]))
+
+    def nearest(self, s, p):
+        """The subject's node nearest to a place, if it is about as near as welding wants."""
+        d, n = min((max(abs(x - p[0]), abs(y - p[1])), n) for n, (x, y) in enumerate(s.nodes)) if s.nodes else (1.0, 0)
+        return n if d < 1e-11 else None
+
+    def layers_of(self, m, names, s):
+        """A layer for each node: each its own, a cell's nodes one, nearly all one, or that of the subject's node there."""
+        way = self.r.choice(['nodes', 'nodes', 'cells', 'cells', 'mostly', 'there'])
+        if way == 'mostly':
+            return [names[0] if self.r.random() < 0.85 else self.r.choice(names) for _ in m.nodes]
+        out = [self.r.choice(names) for _ in m.nodes]
+        if way == 'cells':
+            for _, _, c in m.cells:
+                layer = self.r.choice(names)
+                for n in c:
+                    out[n] = layer
+        if way == 'there' and s is not m and len(s.nodes) * len(m.nodes) < 10000:
+            for n, p in enumerate(m.nodes):
+                there = self.nearest(s, p)
+                if there is not None and self.r.random() < 0.8:
+                    out[n] = s.layers[there]
+        return out
+
+    def on_layers(self, s, c):
+        if not self.layered:
+            layer = self.one_layer.choice([0, 1, LAST_LAYER, self.one_layer.randint(0, LAST_LAYER)])
+            s.layers, c.layers = ([layer] * len(m.nodes) for m in (s, c))
+            return
+        names = self.r.sample([0, 1, 2, 3, 7, 4294967294, LAST_LAYER, self.r.randint(8, 2 ** 31)], self.r.randint(2, 4))
+        for m in (s, c):
+            m.layers = self.layers_of(m, names, s)
+
     def one(self):
         """Family, scale, operation, limit, grid, subject, cutter."""
         way = self.r.choices([f for f, _ in self.families], [w for _, w in self.families])[0]
         op, s, c = way()
         if op is None:
             op = self.r.choice([0, 0, 1, 2, 3, 4])
-        grid = self.r.randint(0, 10) if self.on_grid else None
-        scale = self.by_steps(s, c, grid) if self.on_grid and self.r.random() < 0.7 else self.scaled(s, c)
+        grid = self.r.randint(0, 10) if self.on_grid or self.layered and self.r.random() < 0.2 else None
+        if self.layered:
+            for m in (s, c):
+                if self.r.random() < 0.3:
+                    self.stacked(m)
+        if grid is not None and self.r.random() < 0.7:
+            scale = self.by_steps(s, c, grid)
+        else:
+            # welding goes by a distance that doesn't scale
+            scale = 'unit' if self.layered and self.r.random() < 0.7 else self.scaled(s, c)
         for m in (s, c):
             self.finished(m)
+        self.on_layers(s, c)
         # refusal 8 now and then; otherwise no made pair meets so often
         limit = self.r.randint(1, 12) if self.r.random() < 0.01 else 4000
         return way.__name__, scale, op, limit, grid, s, c

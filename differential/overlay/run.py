@@ -1,7 +1,7 @@
 #!/usr/bin/env python3
 """The whole overlay against the published Rust, bit for bit. No network.
 
-    python3 differential/overlay/run.py [--overlays N] [--seed S] [--only NAME] [--grids N] [--replay DIR]... [--show K] [--eighths E] [--built DIR] [--later DIR] [--driver FILE]
+    python3 differential/overlay/run.py [--overlays N] [--seed S] [--only NAME] [--grids N] [--layers N] [--replay DIR]... [--show K] [--eighths E] [--built DIR] [--later DIR] [--driver FILE]
 
 Builds the oracle (differential/oracle) into target/oracle, its copy that goes on as document 02 says and counts into target/oracle-02 and
 the driver over the proved library into target/overlays (or takes those given), asks all sides N made overlays (by default 120,000; of the
@@ -12,8 +12,10 @@ answers are compared without them; the parents are held to the copy's families w
 operations 0 and 5 to the list of parents that the copy keeps. The Rust's count of new points is our fourth, and our second must be how many of
 them the copy's pieces name. Then come overlays with a grid (W6), by default a quarter as many: the published Rust has none, so the copy alone is
 the measure there, and the new points must be those of the published Rust without a grid, booked (booked.py). Each new point of an accepted
-overlay is held to the bound of W11 by its meeting's subject edge (near_edge.py); --eighths makes it smaller. The last line has the counts; the exit
-status is 1 where one is unexplained."""
+overlay is held to the bound of W11 by its meeting's subject edge (near_edge.py); --eighths makes it smaller. These overlays have one layer each. Last come
+overlays with two to four layers (W7), by default a sixth as many: the copy welds by the published `duplicates_from`, once for each layer. Where that gives
+what it gives without layers, the published Rust is the measure as before; where layers keep nodes apart it is the copy. The layers of every accepted answer
+are held to what is lent (layered.py). The last line has the counts; the exit status is 1 where one is unexplained."""
 import argparse
 import collections
 import glob
@@ -30,9 +32,10 @@ sys.path.insert(0, HERE)
 sys.dont_write_bytecode = True
 
 import booked
+import layered
 import near_edge
 from booked import grid, without_grid
-from closing import (BOTH_CUT, Told, bare, faults, in_the_family, looked_at, named_points, numbered, operation, parents, parents_of_rust,
+from closing import (BOTH_CUT, Told, bare, faults, flat, in_the_family, looked_at, named_points, numbered, operation, parents, parents_of_rust,
                      pieces, pieces_of_rust, with_all_pieces)
 from limits import known
 from made import Made, text
@@ -40,7 +43,7 @@ from made import Made, text
 BATCH = 4000
 ANSWER = re.compile(r'\(overlay\n.*?\n\)\n|\([^\n]*\)\n', re.S)
 # What the program reads; the driver and the oracle also read other layouts, and several forms.
-FORM = re.compile(r'\(overlay \d+ \d+( \d+)?\n(\(mesh\n(\(node \w+ \w+\)\n)*(\(cell( \d+)+\)\n)*\)\n){2}\)\n')
+FORM = re.compile(r'\(overlay \d+ \d+( \d+)?\n(\(mesh\n(\(node \w+ \w+ \d+\)\n)*(\(cell( \d+)+\)\n)*\)\n){2}\)\n')
 COUNT = re.compile(r'^\(count (\d+) (\d+)\)$', re.M)
 STOPPED = '(panic no next dart)\n'
 ORDER, ANGLES, BOTH = 'map order at equal projections', 'rounded angles', 'map order and rounded angles'
@@ -48,17 +51,19 @@ CAUSES = [ORDER, ANGLES, BOTH]
 TURNED, ALIKE = 'turns back and closes up, where the Rust stops', 'stops alike (11)'
 DOUBLED, DOUBLED_11 = "doubled in the Rust's table; the copy's answer, and closes up", "doubled in the Rust's table; the copy stops alike (11)"
 ON_GRID = "with a grid; the copy's answer, booked, and closes up"
+APART, APART_11 = "layers keep nodes apart; the copy's answer, and closes up", 'layers keep nodes apart; the copy stops alike (11)'
 MOST = 65536
 # The operations that drop no piece of the subject, on whose edges all new points are.
 ALL_NAMED = '015'
 # What the copy of the Rust writes of an overlay, and of each of its cells.
-OVERLAY = re.compile(r'((?:point [\w ]+\n)*)meetings (\d+) collected (\d+)\n((?:(?:copied )?cell \d+(?: doubled)?(?: repeats)?\noutline[\d ]*\n)*)(?:parents([\d ]*)\n)?')
+OVERLAY = re.compile(r'weld([\d ]*)\nwhole([\d ]*)\n((?:point [\w ]+\n)*)meetings (\d+) collected (\d+)\n((?:(?:copied )?cell \d+(?: doubled)?(?: repeats)?\noutline[\d ]*\n)*)(?:parents([\d ]*)\n)?')
 CELL = re.compile(r'(copied )?cell (\d+)( doubled)?( repeats)?\noutline([\d ]*)\n')
 REFUSED = {8: "refused 8: more meetings in the Rust's count, explained at a higher limit", 9: "refused 9: over 256 nodes under a key of the Rust's",
            10: "refused 10: over 1,024 slots in the copy's table", 19: 'refused 19: the outline as cut repeats in the copy'}
-# An overlay as the copy tells of it: its answer, the new points before they are booked, the ends of the meeting of each, the count of meetings, the
-# most nodes collected under one key, its cells in order, and the cell of each piece, where it keeps a list of parents.
-Later = collections.namedtuple('Later', 'answer points ends meetings collected cells parents')
+# An overlay as the copy tells of it: its answer, the cutter's nodes that take a number of the subject's, and those that would if layers were ignored, the new
+# points before they are booked, the ends of the meeting of each, the count of meetings, the most nodes collected under one key, its cells in order, and the cell
+# of each piece, where it keeps a list of parents.
+Later = collections.namedtuple('Later', 'answer weld whole points ends meetings collected cells parents')
 
 
 class Sides:
@@ -69,8 +74,11 @@ class Sides:
         for n in ('oracle', 'oracle-law', 'oracle-seq', 'oracle-angle'):
             self.commands[n] = [os.path.join(built, 'release', n), 'count']
         self.commands['later'] = [os.path.join(later, 'release', 'oracle-law'), 'count']
-        self.without, self.on_grid, self.booked = (collections.Counter() for _ in range(3))
         self.eighths, self.furthest = eighths, {}
+        self.afresh()
+
+    def afresh(self):
+        self.without, self.on_grid, self.booked, self.layers = (collections.Counter() for _ in range(4))
 
     def tally(self, form):
         """What is counted of overlays with a grid, or of those without."""
@@ -109,10 +117,20 @@ class Sides:
 
 
 def later_of(answer, told):
-    points, meetings, collected, cells, parents = told
+    weld, whole, points, meetings, collected, cells, parents = told
     points = near_edge.POINT.findall(points)
-    return Later(answer, [p[:2] for p in points], [p[2].split() for p in points], int(meetings), int(collected), [cell(*c) for c in CELL.findall(cells)],
-                 list(map(int, parents.split())))
+    return Later(answer, numbers(weld), numbers(whole), [p[:2] for p in points], [p[2].split() for p in points], int(meetings), int(collected),
+                 [cell(*c) for c in CELL.findall(cells)], list(map(int, parents.split())))
+
+
+def numbers(pairs):
+    pairs = list(map(int, pairs.split()))
+    return dict(zip(pairs[::2], pairs[1::2]))
+
+
+def apart(told):
+    """Whether layers give other numbers than a weld without them: then the published Rust, which has none, isn't the measure."""
+    return told.weld != told.whole
 
 
 def cell(copied, slots, doubled, repeats, outline):
@@ -188,7 +206,7 @@ def closed(sides, forms, answers, told):
             sides.tally(q)['cells of these'] += 1
             sides.tally(q)['of these doubled in the Rust'] += c.doubled
         good[i] = good[i] and not faults(q, a, told[i].cells)
-    beside = [row for row in looked if grid(row[1]) is None and any(c.doubled for c in told[row[0]].cells)]
+    beside = [row for row in looked if grid(row[1]) is None and not apart(told[row[0]]) and any(c.doubled for c in told[row[0]].cells)]
     for (i, q, answer), law in zip(beside, sides.ask('oracle-law', [numbered(q, operation(q)) for _, q, _ in beside])):
         if law != STOPPED:
             a, b = pieces(answer), pieces_of_rust(law)
@@ -200,8 +218,10 @@ def closed(sides, forms, answers, told):
 
 def on_their_grids(sides, forms, answers, rust, told):
     """Of each form, its answer, the published Rust's without a grid and what the copy tells, whether the answer's new points are those of the
-    same overlay without a grid, booked. Where the published Rust stops, the copy lists them; where that stops too, it still tells them."""
+    same overlay without a grid, booked. Where the published Rust stops, or layers keep nodes apart, the copy lists them; where that stops too, it still
+    tells them."""
     rows = [i for i, form in enumerate(forms) if grid(form) is not None]
+    rust = ['' if apart(t) else r for r, t in zip(rust, told)]
     stopped = [i for i in rows if not rust[i].startswith('(overlay')]
     turned = dict(zip(stopped, sides.ask('later', [without_grid(forms[i]) for i in stopped])))
     good = [True] * len(forms)
@@ -224,6 +244,15 @@ def near_their_edges(sides, forms, answers, told):
         sides.tally(form)['new points held to the bound'] += len(sizes)
         sides.furthest[grid(form)] = max(sides.furthest.get(grid(form), 0.0), *sizes, 0.0)
         good.append(not faults)
+    return good
+
+
+def on_their_layers(sides, forms, answers, told):
+    """Of each form, its answer and what the copy tells of it, whether the layers are right, and the copy's weld that of Python's floats."""
+    good = []
+    for form, answer, later in zip(forms, answers, told):
+        good.append(later.weld == layered.weld(form) and not layered.faults(form, answer, later.ends))
+        sides.layers.update(layered.reached(form, answer, later.ends))
     return good
 
 
@@ -260,8 +289,8 @@ def points_right(form, answer, points, copy):
 
 
 def counted(sides, forms, later, ours, rust, beside):
-    """For each form what the copy says of our answer and its second and third counts: a refusal explained, that it has a grid, that the published
-    table is doubled, that it is unexplained, or nothing: then the published Rust is the measure as well."""
+    """For each form what the copy says of our answer and its second and third counts: a refusal explained, that it has a grid, that layers keep nodes
+    apart, that the published table is doubled, that it is unexplained, or nothing: then the published Rust is the measure as well."""
     out = []
     for form, told, a, r, (points, third) in zip(forms, later, ours, rust, beside):
         want, got = wanted(form, told), code(a)
@@ -282,37 +311,43 @@ def counted(sides, forms, later, ours, rust, beside):
             tally['accepted with a doubled cell'] += doubled > 0
             tally['doubled, cut'] += sum(c.doubled and not c.copied for c in told.cells)
             tally['doubled, copied'] += sum(c.doubled and c.copied for c in told.cells)
-            tally['accepted with a doubled cell, the Rust lists the same'] += grid(form) is None and doubled > 0 and a == r
-        if grid(form) is None:
-            out.append(REFUSED.get(got) or ((DOUBLED_11 if got else DOUBLED) if doubled else None))
-        else:
-            out.append(REFUSED.get(got, 'unexplained' if got else ON_GRID))
+            tally['accepted with a doubled cell, the Rust lists the same'] += grid(form) is None and doubled > 0 and flat(a) == r
+        out.append(REFUSED.get(got) or by_the_copy(form, told, got, doubled))
     return out
+
+
+def by_the_copy(form, told, got, doubled):
+    """The verdict where the copy is the measure, by our refusal, if any, and how many cells the Rust doubles; nothing where the published Rust is."""
+    if grid(form) is not None:
+        return 'unexplained' if got else ON_GRID
+    if apart(told):
+        return APART_11 if got else APART
+    return (DOUBLED_11 if got else DOUBLED) if doubled else None
 
 
 def compared(sides, forms):
     """Each form, our answer, the Rust's without a grid, the verdict and our second count. The verdict: equal, stops alike, turns back, a cause,
-    doubled, with a grid, a refusal with its explanation, or unexplained."""
+    doubled, with a grid, layers apart, a refusal with its explanation, or unexplained."""
     jobs = sides.start('oracle', list(map(without_grid, forms))), sides.start('ours', forms)
     (rust, _), (listed, beside) = map(sides.take, jobs)
     beside = [tuple(map(int, line.split())) for line in beside.splitlines()]
     ours = list(map(bare, listed))
     later = sides.later(forms)
     verdict = counted(sides, forms, later, ours, rust, beside)
-    verdict = [v or ('equal' if a == b else None) for v, a, b in zip(verdict, ours, rust)]
+    verdict = [v or ('equal' if flat(a) == b else None) for v, a, b in zip(verdict, ours, rust)]
     # beyond the limit of meetings: with the largest limit the answer must be explained as well
     over = [i for i, v in enumerate(verdict) if v == REFUSED[8]]
     if over:
         for i, row in zip(over, compared(sides, [raised(forms[i]) for i in over])):
             verdict[i] = 'unexplained' if row[3] in ('unexplained', REFUSED[8]) else REFUSED[8]
     left = [i for i, v in enumerate(verdict) if v is None]
-    rows = ([r[i] for i in left] for r in (forms, ours, rust, [told.answer for told in later]))
+    rows = ([r[i] for i in left] for r in (forms, list(map(flat, ours)), rust, [flat(told.answer) for told in later]))
     for i, why in zip(left, explained(sides, *rows)):
         verdict[i] = why
     accepted = [i for i, v in enumerate(verdict) if v != 'unexplained' and not code(ours[i])]
     form, answer, alone, told = ([r[i] for i in accepted] for r in (forms, listed, rust, later))
     held = (closed(sides, form, answer, told), descended(sides, form, answer, told), on_their_grids(sides, form, answer, alone, told),
-            near_their_edges(sides, form, answer, told))
+            near_their_edges(sides, form, answer, told), on_their_layers(sides, form, answer, told))
     for i, *good in zip(accepted, *held):
         verdict[i] = verdict[i] if all(good) else 'unexplained'
     return list(zip(forms, listed, rust, verdict, [points for points, _ in beside]))
@@ -425,6 +460,7 @@ def options():
     p.add_argument('--seed', type=int, default=1)
     p.add_argument('--only', default='')
     p.add_argument('--grids', type=int)
+    p.add_argument('--layers', type=int)
     p.add_argument('--replay', action='append', default=[])
     p.add_argument('--show', type=int, default=3)
     p.add_argument('--eighths', type=int, default=near_edge.off.EIGHTHS)
@@ -433,6 +469,7 @@ def options():
     p.add_argument('--driver')
     a = p.parse_args()
     a.grids = a.overlays // 4 if a.grids is None else a.grids
+    a.layers = a.overlays // 6 if a.layers is None else a.layers
     return a
 
 
@@ -442,12 +479,19 @@ def main():
     shown = []
     start = time.time()
     n = made_overlays(sides, Made(a.seed, a.only), a.overlays, a.show, shown)
-    print('counted in the Rust: ' + ', '.join('%s %d' % s for s in sides.without.items()))
+    print('counted in the Rust: ' + in_words(sides.without))
     between = time.time()
     print('\nwith a grid')
     m = made_overlays(sides, Made(a.seed, a.only, True), a.grids, a.show, shown)
-    print('counted in the copy: ' + ', '.join('%s %d' % s for s in sides.on_grid.items()))
-    print('booked: ' + ', '.join('%s %d' % s for s in sides.booked.items()))
+    print('counted in the copy: ' + in_words(sides.on_grid))
+    print('booked: ' + in_words(sides.booked))
+    print('one layer: ' + in_words(sides.layers))
+    later = time.time()
+    sides.afresh()
+    print('\nwith two to four layers')
+    l = made_overlays(sides, Made(a.seed, a.only, layered=True), a.layers, a.show, shown)
+    for name, tally in ('in the copy', sides.without), ('of these with a grid', sides.on_grid), ('layers', sides.layers):
+        print('%s: %s' % (name, in_words(tally)))
     print('furthest off, in M × 2^-53, on a grid beyond half a step: ' + ', '.join(
         '%s %.4f' % ('no grid' if k is None else 'k %d' % k, most) for k, most in sorted(sides.furthest.items(), key=lambda row: -1 if row[0] is None else row[0])) + '\n')
     end = time.time()
@@ -457,13 +501,18 @@ def main():
     print('named inputs: ' + ', '.join('%s %d' % c for c in sorted(named.items())))
     for title, row in shown:
         show(title, row, sides)
-    left = n['unexplained'] + m['unexplained'] + bad + named['unexplained']
+    left = n['unexplained'] + m['unexplained'] + l['unexplained'] + bad + named['unexplained']
     print('%d made overlays in %.0f s, %d equal, %d turn back and close up, %d stop alike (11), %s, %d doubled in the Rust, %d of them 11, %s; ' % (
         a.overlays, between - start, n['equal'], n[TURNED], n[ALIKE], ', '.join('%d %s' % (n[c], c) for c in CAUSES), n[DOUBLED] + n[DOUBLED_11],
         n[DOUBLED_11], refusals(n)), end='')
-    print('%d with a grid in %.0f s, %d booked and close up, %s; %d known refusals and limits, %d named inputs, %d unexplained' % (
-        a.grids, end - between, m[ON_GRID], refusals(m), sum(codes.values()), sum(named.values()), left))
+    print('%d with a grid in %.0f s, %d booked and close up, %s; ' % (a.grids, later - between, m[ON_GRID], refusals(m)), end='')
+    print('%d with layers in %.0f s, %d kept apart by them, %d of these 11, %d with a grid, %s; %d known refusals and limits, %d named inputs, %d unexplained' % (
+        a.layers, end - later, l[APART] + l[APART_11], l[APART_11], l[ON_GRID], refusals(l), sum(codes.values()), sum(named.values()), left))
     return 1 if left else 0
+
+
+def in_words(tally):
+    return ', '.join('%s %d' % s for s in tally.items())
 
 
 def refusals(n):
