@@ -260,7 +260,8 @@ module _ (o : Settings) (s c : Mesh) (l : Lists) (points room : ℕ) (most_point
         → list' ≡ front list (map part (listing o s c))
     by_tags list list' by part say e = e ∙ ap (λ (ts : List ℕ). front list (map by ts)) read_is ∙ ap (front list) say
 
-    pub answer_is : length oc ≡ length (take (2 * points) l.coords) → length ol ≡ length (take points l.layers) → (ok fs om oi : List ℕ) → ok ≡ front l.kinds (map (kind_by s.kinds c.kinds) (take k.pieces (ot ++ drop room l.families)))
+    pub answer_is : length oc ≡ length (take (2 * points) l.coords) → length ol ≡ length (take points l.layers) → (ok fs om oi : List ℕ)
+        → ok ≡ front l.kinds (map (kind_by s.kinds c.kinds) (take k.pieces (ot ++ drop room l.families)))
         → fs ≡ map (family_by s.families c.families) (take k.pieces (ot ++ drop room l.families))
         → (om ≡ front l.meshes (map (mesh_by (length s.ends)) (take k.pieces (ot ++ drop room l.families))))
         × (oi ≡ front l.cells (map (cell_by (length s.ends)) (take k.pieces (ot ++ drop room l.families))))
