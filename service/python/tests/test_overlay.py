@@ -175,7 +175,7 @@ def test_nodes_at_one_place_are_one_in_one_layer(square, corner):
     subject = Mesh(SQUARE.xy, SQUARE.nodes, SQUARE.ends, SQUARE.kinds, [7], square)
     if square == corner:
         pieces = overlay(subject, touching, 'union')
-        assert [c.tolist() for c in pieces.cells()] == [[0, 1, 2, 3], [2, 5, 6]] and pieces.layers.tolist() == [square] * 4 + [corner, 5, 5]
+        assert [c.tolist() for c in pieces.cells()] == [[3, 0, 1, 2], [6, 2, 5]] and pieces.layers.tolist() == [square] * 4 + [corner, 5, 5]
     else:
         with pytest.raises(Refused, match='at one place in different layers'):
             overlay(subject, touching, 'union')
