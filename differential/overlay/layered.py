@@ -71,7 +71,7 @@ def of_edges(form):
 
 
 def faults(form, answer, ends):
-    """Of the answer to a form, and the ends of each new point's meeting: what isn't right, a line each."""
+    """Of the answer to a form, without parents, and the ends of each new point's meeting: what isn't right, a line each."""
     lent, listed = layers(form), layers(answer)
     if len(listed) != len(NODE.findall(answer)) or len(listed) != len(lent) + len(ends):
         return ['%d layers of %d nodes, %d of them new' % (len(listed), len(NODE.findall(answer)), len(ends))]
@@ -82,11 +82,11 @@ def faults(form, answer, ends):
             out.append("new point %d: not the layer of its edge's first node" % i)
     base = len(meshes(form)[0][0])
     own = {base + n for n in weld(form)}
-    return out + ['node %d: named by a piece, and welded' % n for n in named(cells(re.sub(r'(?m)^(\(cell \d+ \d+) \d+ \d+', r'\1', answer))) if n in own]
+    return out + ['node %d: named by a piece, and welded' % n for n in named(cells(answer)) if n in own]
 
 
-def reached(form, answer, ends):
-    """What an answer has come to."""
+def reached(form, ends):
+    """What an answer that is right has come to."""
     nodes, on, subject = meshes(form)[0]
     first = {nodes[a] + nodes[b]: (on[a], on[b]) for a, b in kept_edges(subject)}
     by, whole = weld(form), weld(form, False)
@@ -127,7 +127,7 @@ def selftest():
     for layer in 5, 6:
         form = SQUARE % layer
         assert weld(form) == ({1: 1} if layer == 6 else {}) and weld(form, False) == {1: 1}
-        right, pieces = layers(form) + [5, 7], '(cell 11 7 0 0 3 0 7 8)\n(cell 11 7 0 0 8 7 %d 2)\n' % (1 if layer == 6 else 5)
+        right, pieces = layers(form) + [5, 7], '(cell 11 7 3 0 7 8)\n(cell 11 7 8 7 %d 2)\n' % (1 if layer == 6 else 5)
 
         def answer(on, pieces=pieces):
             nodes = NODE.findall(form) + [('3ff' + '0' * 13, '0' * 16), ('3ff' + '0' * 13, '4' + '0' * 15)]

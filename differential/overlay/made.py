@@ -701,6 +701,11 @@ class Made:
                         new[n] = m.node(x + dx, y + dy)
                 m.cells.append((k, f, [new[n] for n in c]))
 
+    def brought(self, s, c):
+        """The cutter moved so that one of its nodes stands at or beside one of the subject's."""
+        (x, y), (u, v), (dx, dy) = self.r.choice(s.nodes), self.r.choice(c.nodes), self.r.choice(ABOVE)
+        c.nodes = [(a + (x - u) + dx, b + (y - v) + dy) for a, b in c.nodes]
+
     def nearest(self, s, p):
         """The subject's node nearest to a place, if it is about as near as welding wants."""
         d, n = min((max(abs(x - p[0]), abs(y - p[1])), n) for n, (x, y) in enumerate(s.nodes)) if s.nodes else (1.0, 0)
@@ -741,6 +746,8 @@ class Made:
             op = self.r.choice([0, 0, 1, 2, 3, 4])
         grid = self.r.randint(0, 10) if self.on_grid or self.layered and self.r.random() < 0.2 else None
         if self.layered:
+            if s.nodes and c.nodes and self.r.random() < 0.5:
+                self.brought(s, c)
             for m in (s, c):
                 if self.r.random() < 0.3:
                     self.stacked(m)

@@ -251,8 +251,8 @@ def on_their_layers(sides, forms, answers, told):
     """Of each form, its answer and what the copy tells of it, whether the layers are right, and the copy's weld that of Python's floats."""
     good = []
     for form, answer, later in zip(forms, answers, told):
-        good.append(later.weld == layered.weld(form) and not layered.faults(form, answer, later.ends))
-        sides.layers.update(layered.reached(form, answer, later.ends))
+        good.append(later.weld == layered.weld(form) and not layered.faults(form, bare(answer), later.ends))
+        sides.layers.update(layered.reached(form, later.ends))
     return good
 
 

@@ -9,11 +9,11 @@ use mefikit::tools::{OverlayOperation, Overlayable, spatial_index};
 unsafe extern "C" {
     fn daqwimay_overlay(
         op: u32, m: u32, grid: u32,
-        sc: *const f64, sc_len: usize, sn: *const u32, sn_len: usize, se: *const u32, se_len: usize,
+        sc: *const f64, sc_len: usize, sl: *const u32, sl_len: usize, sn: *const u32, sn_len: usize, se: *const u32, se_len: usize,
         sk: *const u8, sk_len: usize, sf: *const u32, sf_len: usize,
-        cc: *const f64, cc_len: usize, cn: *const u32, cn_len: usize, ce: *const u32, ce_len: usize,
+        cc: *const f64, cc_len: usize, cl: *const u32, cl_len: usize, cn: *const u32, cn_len: usize, ce: *const u32, ce_len: usize,
         ck: *const u8, ck_len: usize, cf: *const u32, cf_len: usize,
-        oc: *mut f64, oc_len: usize, on: *mut u32, on_len: usize, oe: *mut u32, oe_len: usize,
+        oc: *mut f64, oc_len: usize, ol: *mut u32, ol_len: usize, on: *mut u32, on_len: usize, oe: *mut u32, oe_len: usize,
         ok: *mut u8, ok_len: usize, of: *mut u32, of_len: usize, om: *mut u32, om_len: usize, oi: *mut u32, oi_len: usize,
         work: *mut u32, work_len: usize, counts: *mut u32, counts_len: usize,
     ) -> u32;
@@ -26,6 +26,8 @@ const NO_GRID: u32 = u32::MAX;
 #[derive(Default)]
 struct Mesh {
     coords: Vec<f64>,
+    /// Those that are lent are all 0: the Rust has none.
+    layers: Vec<u32>,
     nodes: Vec<u32>,
     ends: Vec<u32>,
     kinds: Vec<u8>,
@@ -43,6 +45,7 @@ fn grid(n: usize, side: f64, kind: u8, angle: f64, at: [f64; 2]) -> Mesh {
             m.coords.push(at[1] + (s * x + c * y));
         }
     }
+    m.layers = vec![0; m.coords.len() / 2];
     for j in 0..n {
         for i in 0..n {
             let a = (j * (n + 1) + i) as u32;
@@ -76,6 +79,7 @@ fn lists(s: &Mesh, c: &Mesh) -> Lists {
     Lists {
         out: Mesh {
             coords: vec![0.0; 2 * (given + M as usize)],
+            layers: vec![0; given + M as usize],
             nodes: vec![0; 8 * pieces],
             ends: vec![0; pieces],
             kinds: vec![0; pieces],
@@ -94,11 +98,11 @@ fn ours(op: u32, grid: u32, s: &Mesh, c: &Mesh, l: &mut Lists) -> u32 {
     unsafe {
         daqwimay_overlay(
             op, M, grid,
-            s.coords.as_ptr(), s.coords.len(), s.nodes.as_ptr(), s.nodes.len(), s.ends.as_ptr(), s.ends.len(),
+            s.coords.as_ptr(), s.coords.len(), s.layers.as_ptr(), s.layers.len(), s.nodes.as_ptr(), s.nodes.len(), s.ends.as_ptr(), s.ends.len(),
             s.kinds.as_ptr(), s.kinds.len(), s.families.as_ptr(), s.families.len(),
-            c.coords.as_ptr(), c.coords.len(), c.nodes.as_ptr(), c.nodes.len(), c.ends.as_ptr(), c.ends.len(),
+            c.coords.as_ptr(), c.coords.len(), c.layers.as_ptr(), c.layers.len(), c.nodes.as_ptr(), c.nodes.len(), c.ends.as_ptr(), c.ends.len(),
             c.kinds.as_ptr(), c.kinds.len(), c.families.as_ptr(), c.families.len(),
-            o.coords.as_mut_ptr(), o.coords.len(), o.nodes.as_mut_ptr(), o.nodes.len(),
+            o.coords.as_mut_ptr(), o.coords.len(), o.layers.as_mut_ptr(), o.layers.len(), o.nodes.as_mut_ptr(), o.nodes.len(),
             o.ends.as_mut_ptr(), o.ends.len(), o.kinds.as_mut_ptr(), o.kinds.len(),
             o.families.as_mut_ptr(), o.families.len(),
             l.meshes.as_mut_ptr(), l.meshes.len(), l.cells.as_mut_ptr(), l.cells.len(),
@@ -275,6 +279,7 @@ fn comb(teeth: usize, folded: bool) -> Mesh {
         }
     }
     m.nodes.extend(0..(m.coords.len() / 2) as u32);
+    m.layers = vec![0; m.nodes.len()];
     m.ends.push(m.nodes.len() as u32);
     m.kinds.push(11);
     m.families.push(1);
@@ -289,6 +294,7 @@ fn bars(teeth: usize, n: usize) -> Mesh {
         let (left, right) = (-1.0, 2.0 * teeth as f64 + 1.0);
         let at = m.coords.len() as u32 / 2;
         m.coords.extend([left, low, 1.0, low, right, low, right, high, 1.0, high, left, high]);
+        m.layers.extend([0; 6]);
         m.nodes.extend(at..at + 6);
         m.ends.push(m.nodes.len() as u32);
         m.kinds.push(11);
