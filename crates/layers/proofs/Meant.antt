@@ -25,7 +25,7 @@ use Rattle.rules.specs.Layers.{layer_added}
 use Rattle.rules.proofs.EdgePairs.{next_node, PairKeeps, meetings_keep}
 use Rattle.meetings.specs.InNumbers.{five_numbers, in_numbers}
 use Rattle.meetings.proofs.Reading.{length_in_numbers}
-use Rattle.layers.specs.Written.{layers_to}
+use Rattle.layers.specs.Written.{layer_at, layers_to}
 
 -- ---- one meeting more
 
@@ -37,7 +37,7 @@ before (suc k) ss cs es xs ys h =
     let first = get_or-append xs ys 0 (5 * k) (omega arith) in
     let node = get_or-append xs ys 0 (5 * k + 3) (omega arith) in
     let same = before k ss cs es xs ys (omega arith) in
-    λ i. cond (eqb (node i) (length (same i))) (same i ++ get_or ss (get_or es (2 * first i) 0) 0 ∷ []) (same i)
+    λ i. cond (eqb (node i) (length (same i))) (same i ++ layer_at ss es (first i) ∷ []) (same i)
 
 module _ (ls cs es : List ℕ) where
   abbrev written : List Met → List ℕ
@@ -48,7 +48,7 @@ module _ (ls cs es : List ℕ) where
     number j =
         ap (λ (k : ℕ). get_or (in_numbers ms ++ five_numbers m) (k + j) 0) (sym (length_in_numbers ms)) ∙ get_or-append-add (in_numbers ms) (five_numbers m) j 0
 
-    one_more : written (ms ++ m ∷ []) ≡ cond (eqb (get_or m.nodes 0 0) (length (written ms))) (written ms ++ get_or ls (get_or es (2 * m.subject_edge) 0) 0 ∷ []) (written ms)
+    one_more : written (ms ++ m ∷ []) ≡ cond (eqb (get_or m.nodes 0 0) (length (written ms))) (written ms ++ layer_at ls es m.subject_edge ∷ []) (written ms)
     unfolding layers_to
     one_more =
         let many : length (ms ++ m ∷ []) ≡ suc (length ms) = omega (arith, length-append ms (m ∷ [])) in
@@ -57,7 +57,7 @@ module _ (ls cs es : List ℕ) where
         let node = number 3 in
         let same = before (length ms) ls cs es (in_numbers ms) (five_numbers m) (omega (arith, length_in_numbers ms)) in
         (λ i. layers_to (many i) ls cs es (joined_snoc five_numbers ms m i))
-        ∙ (λ i. cond (eqb (node i) (length (same i))) (same i ++ get_or ls (get_or es (2 * first i) 0) 0 ∷ []) (same i))
+        ∙ (λ i. cond (eqb (node i) (length (same i))) (same i ++ layer_at ls es (first i) ∷ []) (same i))
 
 -- ---- what each edge pair keeps
 
@@ -104,7 +104,7 @@ module _ (g : Grid) (coords : List Float) (s c : Net) (ls cs : List ℕ) (n : �
       record {
         layers =
             one_more ls cs (flat_edges s.edges) ms m
-            ∙ ap (λ (t : Bool). cond t (so_far ms ++ get_or ls (get_or (flat_edges s.edges) (2 * i) 0) 0 ∷ []) (so_far ms)) other
+            ∙ ap (λ (t : Bool). cond t (so_far ms ++ layer_at ls (flat_edges s.edges) i ∷ []) (so_far ms)) other
             ∙ h.layers ∙ ap (λ (v : List ℕ). ls ++ (cs ++ v)) (sym none);
         points = ap length points ∙ h.points ∙ ap (λ (v : List ℕ). 2 * length v) (sym none);
       }
@@ -122,7 +122,7 @@ module _ (g : Grid) (coords : List Float) (s c : Net) (ls cs : List ℕ) (n : �
       record {
         layers =
             one_more ls cs (flat_edges s.edges) ms m
-            ∙ ap (λ (t : Bool). cond t (so_far ms ++ get_or ls (get_or (flat_edges s.edges) (2 * i) 0) 0 ∷ []) (so_far ms)) this
+            ∙ ap (λ (t : Bool). cond t (so_far ms ++ layer_at ls (flat_edges s.edges) i ∷ []) (so_far ms)) this
             ∙ (λ k. h.layers k ++ get_or ls (first_read s.edges i here k) 0 ∷ [])
             ∙ append_assoc ls (cs ++ added ms) (layer ∷ []) ∙ ap (λ (v : List ℕ). ls ++ v) (append_assoc cs (added ms) (layer ∷ []))
             ∙ ap (λ (v : List ℕ). ls ++ (cs ++ v)) (sym one);

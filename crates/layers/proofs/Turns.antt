@@ -12,7 +12,7 @@ use Rattle.std.specs.Simd.{first_chunks}
 use borrow.Author.Tests.{eqb-true, eqb-false, eq-eqb, ne_eqb}
 use Rattle.lists.specs.Regions.{front, put, copied}
 use Rattle.lists.proofs.Regions.{length_front, front_put, front_store, copied_fits, put_append, length_put}
-use Rattle.layers.specs.Written.{layers_to}
+use Rattle.layers.specs.Written.{layer_at, layers_to}
 
 -- ---- what one meeting adds
 
@@ -20,16 +20,12 @@ module _ (ss cs es met : List ℕ) where
   abbrev to : ℕ → List ℕ
   to k = layers_to k ss cs es met
 
-  -- the layer of the first node of meeting k's subject edge
+  -- that of meeting k's subject edge
   abbrev layer : ℕ → ℕ
-  layer k = get_or ss (get_or es (2 * get_or met (5 * k) 0) 0) 0
-
-  pub to_none : layers_to 0 ss cs es met ≡ ss ++ cs
-  unfolding layers_to
-  to_none = refl
+  layer k = layer_at ss es (get_or met (5 * k) 0)
 
   pub to_new : (k : ℕ) → get_or met (5 * k + 3) 0 ≡ length (layers_to k ss cs es met)
-      → layers_to (k + 1) ss cs es met ≡ layers_to k ss cs es met ++ get_or ss (get_or es (2 * get_or met (5 * k) 0) 0) 0 ∷ []
+      → layers_to (k + 1) ss cs es met ≡ layers_to k ss cs es met ++ layer_at ss es (get_or met (5 * k) 0) ∷ []
   unfolding layers_to
   to_new k e = rw (add-one, eq-eqb (get_or met (5 * k + 3) 0) (length (to k)) e)
 
@@ -78,7 +74,7 @@ module _ (ss cs es met : List ℕ) where
         pub place : next < length w
         place = omega (arith, next_in, ap length held.0, length_front old (to k) (in_room k (omega arith)))
 
-        pub taken : (set w next (get_or ss (get_or es (2 * get_or met (5 * k) 0) 0) 0) ≡ front old (layers_to (k + 1) ss cs es met))
+        pub taken : (set w next (layer_at ss es (get_or met (5 * k) 0)) ≡ front old (layers_to (k + 1) ss cs es met))
             × (next + 1 ≡ length (layers_to (k + 1) ss cs es met))
         taken = (front_store old w (to k) next (layer k) 0 (sym held.1) next_in held.0 ∙ ap (front old) (sym (to_new k (new ∙ held.1))), sym longer)
 
@@ -114,14 +110,12 @@ module _ (ss cs es met old : List ℕ) (room : length (layers_to (length met / 5
   pub place_at : get_or (get_or chunks i d) 3 0 ≡ next → next < length w
   place_at e = place ss cs es met old (length met / 5) room i h w next held (sym node ∙ e)
 
-  pub turn_new : get_or (get_or chunks i d) 3 0 ≡ next → (first layer : ℕ) → first ≡ get_or es (2 * get_or (get_or chunks i d) 0 0) 0 → layer ≡ get_or ss first 0
+  pub turn_new : get_or (get_or chunks i d) 3 0 ≡ next → (layer : ℕ) → layer ≡ layer_at ss es (get_or (get_or chunks i d) 0 0)
       → (w' : List ℕ) (next' : ℕ) → w' ≡ set w next layer → next' ≡ next + 1
       → (w' ≡ front old (layers_to (i + 1) ss cs es met)) × (next' ≡ length (layers_to (i + 1) ss cs es met))
-  turn_new e first layer a b w' next' ew en =
+  turn_new e layer is w' next' ew en =
       let t = taken ss cs es met old (length met / 5) room i h w next held (sym node ∙ e) in
-      let is : layer ≡ get_or ss (get_or es (2 * get_or met (5 * i) 0) 0) 0 =
-      b ∙ ap (λ (k : ℕ). get_or ss k 0) (a ∙ ap (λ (k : ℕ). get_or es (2 * k) 0) (first_is met chunks i d parted h)) in
-      (ew ∙ ap (set w next) is ∙ t.0, en ∙ t.1)
+      (ew ∙ ap (set w next) (is ∙ ap (layer_at ss es) (first_is met chunks i d parted h)) ∙ t.0, en ∙ t.1)
 
   pub turn_known : (get_or (get_or chunks i d) 3 0 ≡ next → ⊥) → (w' : List ℕ) (next' : ℕ) → w' ≡ w → next' ≡ next
       → (w' ≡ front old (layers_to (i + 1) ss cs es met)) × (next' ≡ length (layers_to (i + 1) ss cs es met))

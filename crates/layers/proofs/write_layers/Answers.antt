@@ -1,5 +1,5 @@
 -- `layers::write_layers` meets its contract. Assumes nothing.
-use Rattle.std.proofs.Common.{ap, ◌∙◌, arith, ℕ}
+use Rattle.std.proofs.Common.{ap, ◌∙◌, arith, ℕ, get_or}
 use Rattle.lists.specs.Regions.{front}
 use Rattle.layers.specs.Written.{layers_to}
 use Rattle.layers.proofs.Turns.{start, place_at, turn_new, turn_known}
@@ -16,8 +16,8 @@ pub loop-edge-preserved : goal.loop-edge-preserved
 loop-edge-preserved c =
     elim c.if-node-next.branch [
       | then-node-next w ↦
-          turn_new _ _ _ _ _ c.requires _ c.as_chunks.ensures.front _ (omega arith) _ _ c.loop-edge.invariant _ w.if-node-next.true _ _
-          w.number_at-first.ensures w.number_at.ensures _ _ w.layers-is w.next-is
+          turn_new _ _ _ _ _ c.requires _ c.as_chunks.ensures.front _ (omega arith) _ _ c.loop-edge.invariant _ w.if-node-next.true _
+          (w.number_at.ensures ∙ ap (λ (n : ℕ). get_or c.args.subject.now n 0) w.number_at-first.ensures) _ _ w.layers-is w.next-is
       | else-node-next w ↦
           turn_known _ _ _ _ _ c.requires _ c.as_chunks.ensures.front _ (omega arith) _ _ c.loop-edge.invariant _ w.if-node-next.false _ _ w.layers-is w.next-is
     ]
