@@ -216,7 +216,7 @@ def test_layers_of_nodes_are_written_and_read(tmp_path):
     for name in 'm.vtu', 'm.nc':
         write_mesh(tmp_path / name, two)
         model = read_model(tmp_path / name)
-        assert model.mesh.layers.tolist() == [1] * 4 + [4_294_967_295] * 4 and model.notes == () and len(np.unique(model.mesh.nodes)) == 8, name
+        assert model.mesh.layers.tolist() == [1] * 4 + [4_294_967_295] * 4 and model.notes == ('layers of nodes: 1, 4294967295',) and len(np.unique(model.mesh.nodes)) == 8, name
         write_mesh(tmp_path / name, Mesh(two.xy, two.nodes, two.ends, two.kinds, two.families))
         model = read_model(tmp_path / name)
         assert not model.mesh.layers.any() and model.notes == ('2 nodes made one with others of equal coordinates',)

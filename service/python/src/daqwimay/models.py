@@ -14,6 +14,7 @@ from .mesh import Mesh, mesh_of_rings
 MAPS = ('.geojson', '.json', '.gpkg', '.shp', '.fgb', '.gml')
 _FLAT = ('triangle', 'quad', 'polygon')
 _SKIPPED = ('vertex', 'line')
+_NAMED = 5              # layers in a note
 
 
 @dataclass
@@ -47,6 +48,9 @@ def read_model(path: Union[str, Path], crs: Optional[str] = None, layer: Optiona
     if not len(model.mesh):
         raise InputError(f'{path}: no cells')
     _weld(model)
+    if model.mesh.layers.any():
+        layers = np.unique(model.mesh.layers)
+        model.notes += (f'layers of nodes: {", ".join(map(str, layers[:_NAMED]))}' + (' ..' if len(layers) > _NAMED else ''),)
     beside = path.with_suffix('.prj')
     if crs or (model.crs is None and beside.is_file()):
         model.crs = crs_of(crs or beside.read_text(), str(path))

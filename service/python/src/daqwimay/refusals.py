@@ -59,8 +59,8 @@ _ROWS = (
     Refusal(19, 'folded cell', 'a cell\'s outline, as cut, runs along itself: it passes between the same two nodes twice, or from a node to itself',
             ('two corners of one outline so close (under 1e-12) to a node of the other mesh that both become that node',
              'a spike or a sliver whose sides are nearer to each other than some 1e-7 of their length, with a corner of the other mesh in it',
-             'Union or the symmetric difference of two maps whose corners lie beside each other by less than some 1e-7 of their sides, or at one '
-             'place in different layers',
+             'Union or the symmetric difference of two maps whose corners lie beside each other by less than some 1e-7 of their sides',
+             'corners of the two meshes at one place in different layers, in Union and the symmetric difference above all',
              'on a survey grid, a new point that comes beside a node of its side at which two outlines meet'),
             'merge the corners that are nearly one and remove the spike: --grid does so in a soil map; of a model the command and '
             'overlay_in_chunks name the cell; on a survey grid a larger K'),
