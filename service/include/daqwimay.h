@@ -60,8 +60,8 @@ enum {
  * among the coordinates of the edge's ends, and on a grid within 2^-(k+1), half a step, more: docs/TOLERANCE.md. Each list is an address and a
  * count of numbers:
  *   coords    x and y of each node
- *   layers    one for each node, any number: nodes less than 1e-12 apart become one only where they are of the same layer. With 0 for all
- *             nodes of both meshes every answer is that without layers
+ *   layers    one for each node, any number: a node of the cutter that lies less than 1e-12 from one of the subject becomes that node only
+ *             where their layers are equal. With 0 for all nodes of both meshes every answer is that without layers
  *   nodes     the cells' node numbers, one cell after the other
  *   ends      where each cell's node numbers end
  *   kinds, families   one for each cell
