@@ -169,6 +169,9 @@ def test_a_crowded_cell_in_parts():
     inside = overlay_in_chunks(model, disc, 'intersection', parts=True)
     assert inside.areas().sum() == pytest.approx(Polygon(xy[:2000]).area)
     booked = overlay_in_chunks(model, disc, parts=True, survey_grid=10)
+    layered = Mesh(model.xy, model.nodes, model.ends, model.kinds, model.families, 5)
+    of_layers = overlay_in_chunks(layered, Mesh(disc.xy, disc.nodes, disc.ends, disc.kinds, disc.families, 6), parts=True)
+    assert places(of_layers)[0] == places(pieces)[0] and {*of_layers.layers[len(model.xy) + len(xy):].tolist()} == {5}
     added = booked.xy[len(model.xy) + len(xy):] * 1024
     assert np.array_equal(added, np.round(added)) and len(booked) == len(pieces) and np.allclose(booked.areas(), pieces.areas(), atol=0.02)
 

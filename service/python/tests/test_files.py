@@ -1,5 +1,6 @@
 """Readers and writers: what is written is read again, reference systems are kept."""
 import csv
+import itertools
 import json
 
 import meshio
@@ -11,6 +12,7 @@ from shapely.geometry import LineString, MultiPolygon, box
 
 import maps
 from daqwimay import InputError, Mesh, Model, cut, read_model, read_soils, write_mesh, write_stakes, write_strips
+from daqwimay.strips import _on_grid
 
 RD = pyproj.CRS('EPSG:28992')
 MIXED = Mesh.from_cells([[0, 0], [2, 0], [2, 2], [0, 2], [3, 1], [1.2, 3.3], [0.1, 3.1]], [[0, 1, 2, 3], [1, 4, 2], [3, 2, 5, 6], [4, 5, 2]])
@@ -212,7 +214,8 @@ def test_columns_of_disv_and_ugrid_are_not_lost(tmp_path):
 def test_layers_of_nodes_are_written_and_read(tmp_path):
     """Nodes at one place in different layers stay two; without layers nothing is written of them."""
     square = [[0, 0], [1, 0], [1, 1], [0, 1]]
-    two = Mesh.from_cells(square + [[1, 0], [2, 0], [2, 1], [1, 1]] + [[9, 9]], [[0, 1, 2, 3], [4, 5, 6, 7]], layers=[1] * 4 + [4_294_967_295] * 4 + [5])
+    xy = [[9, 9]] + square + [[1, 0], [2, 0], [2, 1], [1, 1]]
+    two = Mesh.from_cells(xy, [[1, 2, 3, 4], [5, 6, 7, 8]], layers=[5] + [1] * 4 + [4_294_967_295] * 4)
     for name in 'm.vtu', 'm.nc':
         write_mesh(tmp_path / name, two)
         model = read_model(tmp_path / name)
@@ -233,12 +236,12 @@ def test_layers_of_nodes_are_written_and_read(tmp_path):
 def test_a_map_takes_the_layers_of_the_nodes_that_it_lies_on(tmp_path):
     """Strips of a model in layers are those without; the stakes have theirs."""
     made, shapes = maps.along(3, maps.voronoi(3)), maps.voronoi(3)
-    plain = cut(made, maps.soil_map(shapes))
-    for layers in (np.full(len(made.mesh.xy), 7), 1 + np.arange(len(made.mesh.xy)) % 3):
-        mesh = made.mesh
+    mesh, plain = made.mesh, {grid: cut(made, maps.soil_map(shapes), grid=grid) for grid in (None, 0.001)}
+    for layers, grid in itertools.product((np.full(len(mesh.xy), 7), 1 + np.arange(len(mesh.xy)) % 3), plain):
         layered = Model(Mesh(mesh.xy, mesh.nodes, mesh.ends, mesh.kinds, mesh.families, layers))
-        strips = cut(layered, maps.soil_map(shapes))
-        assert np.array_equal(strips.pieces.nodes, plain.pieces.nodes) and np.array_equal(strips.pieces.xy, plain.pieces.xy)
+        assert np.array_equal(_on_grid(layered, 0.001)[0].mesh.layers, layers)
+        strips = cut(layered, maps.soil_map(shapes), grid=grid)
+        assert np.array_equal(strips.pieces.nodes, plain[grid].pieces.nodes) and np.array_equal(strips.pieces.xy, plain[grid].pieces.xy)
         assert np.array_equal(strips.pieces.layers[:len(mesh.xy)], layers) and strips.pieces.layers.all()
         with open(tmp_path / 'stakes.csv', 'w', newline='') as f:
             write_stakes(f, strips.pieces)
