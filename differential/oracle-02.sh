@@ -1,18 +1,17 @@
 #!/bin/sh
-# oracle-02.sh OUT: builds OUT/release/oracle-law as oracle.sh does, from a copy of the published Rust that goes on as document 02 says
-# (W1: where no other slot is free the walk turns back, if the reverse is unmarked; W14: an edge that the cell's table has, either way
-# round, isn't added again, and none from a node to itself; W6: a third number on a form's first line is k, and new points are booked on the
-# grid of 1/2^k; W7: near nodes share a number where they have one layer, found by the published `duplicates_from`, once for each layer over meshes of
-# that layer's nodes alone; node lines are listed with the layer) and that also counts. To standard error it writes for each overlay `weld` with each
-# of the cutter's nodes that takes a subject node's number, and that one, and `whole` with those that would if layers were ignored, then `point` with the
-# coordinates of each new point before it is
-# booked, `of` and those of P1 to P4 of its meeting, then `meetings N collected N`, the second the most nodes collected under one edge key, and
-# then for each cell that it comes to `cell SLOTS` of W14's table, with ` doubled` where the table that the published function makes names a neighbour
-# twice at some node, and ` repeats` where the outline as cut passes between the same two nodes twice or from a node to itself (the copy goes
-# on there), and `outline` with the two nodes of each of its outline darts. A cell that is copied has no table in the Rust: its line starts
-# with `copied ` and tells of what the Rust's `build_cell_dart_map` makes of the cell's own edges. Of operations 0 and 5 it writes at last
-# `parents` with the number of each listed piece's cell: the list that the published `cut_cells_all` fills where it is asked to, which the
-# published overlay doesn't.
+# oracle-02.sh OUT: builds OUT/release/oracle-law as oracle.sh does, from a copy of the published Rust that goes on as document 02 says (W1:
+# where no other slot is free the walk turns back, if the reverse is unmarked; W14: an edge that the cell's table has, either way round, isn't
+# added again, and none from a node to itself; W6: a third number on a form's first line is k, and new points are booked on the grid of 1/2^k;
+# W7: near nodes share a number where they have one layer, found by the published `duplicates_from`, once for each layer over meshes of that
+# layer's nodes alone; node lines are listed with the layer) and that also counts. To standard error it writes for each overlay `weld` with
+# each of the cutter's nodes that takes a subject node's number, and that one, and `whole` with those that would if layers were ignored, then
+# `point` with the coordinates of each new point before it is booked, `of` and those of P1 to P4 of its meeting, then
+# `meetings N collected N`, the second the most nodes collected under one edge key, and then for each cell that it comes to `cell SLOTS` of
+# W14's table, with ` doubled` where the table that the published function makes names a neighbour twice at some node, and ` repeats` where
+# the outline as cut passes between the same two nodes twice or from a node to itself (the copy goes on there), and `outline` with the two nodes of each of its
+# outline darts. A cell that is copied has no table in the Rust: its line starts with `copied ` and tells of what the Rust's
+# `build_cell_dart_map` makes of the cell's own edges. Of operations 0 and 5 it writes at last `parents` with the number of each listed
+# piece's cell: the list that the published `cut_cells_all` fills where it is asked to, which the published overlay doesn't.
 set -eu
 mkdir -p "$1/copy"
 out=$(cd "$1" && pwd)
