@@ -58,7 +58,7 @@ data Row : Type 0 where
 
 -- ---- numbers, meshes and lists of the rows
 
--- coordinates by their bits: 0, 1, 2, 3, 4, -1, 3/2, the next above 1, 1/2, 1/4
+-- coordinates by their bits: 0, 1, 2, 3, 4, 5, -1, 3/2, the next above 1, 1/2, 1/4
 abbrev o : ℕ
 o = 0
 
@@ -73,6 +73,9 @@ iii = 0x4008_0000_0000_0000
 
 abbrev iv : ℕ
 iv = 0x4010_0000_0000_0000
+
+abbrev v : ℕ
+v = 0x4014_0000_0000_0000
 
 abbrev -i : ℕ
 -i = 0xbff0_0000_0000_0000
@@ -163,6 +166,17 @@ nearby = lent (0x3d71_9799_812d_ea11 ∷ o ∷ 0x3d61_9799_812d_ea11 ∷ o ∷ i
 -- a triangle with two nodes at 5e-13 from it
 abbrev welded : Mesh
 welded = lent (0x3d61_9799_812d_ea11 ∷ o ∷ o ∷ 0x3d61_9799_812d_ea11 ∷ i ∷ i ∷ []) (0 ∷ 1 ∷ 2 ∷ []) (3 ∷ []) (5 ∷ []) (3 ∷ [])
+
+-- a triangle with two nodes at one place
+abbrev stacked : Mesh
+stacked = lent (o ∷ o ∷ o ∷ o ∷ i ∷ i ∷ []) (0 ∷ 1 ∷ 2 ∷ []) (3 ∷ []) (5 ∷ []) (0 ∷ [])
+
+-- the two squares, the right one first; a line across both, with a node that it doesn't name
+abbrev right_first : Mesh
+right_first = lent (o ∷ o ∷ ii ∷ o ∷ iv ∷ o ∷ iv ∷ ii ∷ ii ∷ ii ∷ o ∷ ii ∷ []) (1 ∷ 2 ∷ 3 ∷ 4 ∷ 0 ∷ 1 ∷ 4 ∷ 5 ∷ []) (4 ∷ 8 ∷ []) (8 ∷ 8 ∷ []) (7 ∷ 9 ∷ [])
+
+abbrev level : Mesh
+level = lent (-i ∷ i ∷ v ∷ i ∷ o ∷ o ∷ []) (0 ∷ 1 ∷ []) (2 ∷ []) (1 ∷ []) (0 ∷ [])
 
 -- a triangle, and a node that it doesn't name, at the square's first
 abbrev unnamed : Mesh
@@ -259,10 +273,18 @@ rows =
     ∷ weld_of (layered (3 ∷ 0 ∷ 0 ∷ 0 ∷ []) square) (layered (3 ∷ 3 ∷ 3 ∷ []) nearby) (4 ∷ 0 ∷ 6 ∷ [])
     ∷ weld_of nearby nearby (0 ∷ 1 ∷ 2 ∷ [])
     ∷ weld_of (layered (1 ∷ 0 ∷ 0 ∷ []) nearby) nearby (1 ∷ 1 ∷ 2 ∷ [])
+    -- nodes above one another are each welded to that of their layer
+    ∷ weld_of (layered (1 ∷ 2 ∷ 1 ∷ []) stacked) (layered (2 ∷ 1 ∷ 3 ∷ []) stacked) (1 ∷ 0 ∷ 5 ∷ [])
     -- edges of different layers meet; a new point takes the layer of the subject edge's first node, and each node's layer is listed
     ∷ overlay (case 0 2 (layered (7 ∷ 8 ∷ 9 ∷ 6 ∷ []) square) (layered (1 ∷ 2 ∷ 3 ∷ 4294967295 ∷ []) strip) (with_layers (replicate 11 5) (fives 20 8 2 2 2 2 2 352))
     (result_of 0 2 2 0 2 (with_layers (7 ∷ 8 ∷ 9 ∷ 6 ∷ 1 ∷ 2 ∷ 3 ∷ 4294967295 ∷ 7 ∷ 9 ∷ 5 ∷ [])
     (on_lists cut_coords (3 ∷ 0 ∷ 8 ∷ 9 ∷ 9 ∷ 8 ∷ 1 ∷ 2 ∷ []) (4 ∷ 8 ∷ []) (11 ∷ 11 ∷ []) (7 ∷ 7 ∷ []) (0 ∷ 0 ∷ []) (0 ∷ 0 ∷ []) (replicate 352 0)))))
+    -- the first node isn't that of the lower number, nor that of the side's second cell
+    ∷ overlay (case 5 3 (layered (1 ∷ 2 ∷ 3 ∷ 4 ∷ 5 ∷ 4294967295 ∷ []) right_first) (layered (6 ∷ 7 ∷ 8 ∷ []) level) (fives 24 16 4 4 4 4 4 416) (result_of 0 4 3 0 3
+    (with_layers (1 ∷ 2 ∷ 3 ∷ 4 ∷ 5 ∷ 4294967295 ∷ 6 ∷ 7 ∷ 8 ∷ 3 ∷ 5 ∷ 4294967295 ∷ []) (on_lists
+    (o ∷ o ∷ ii ∷ o ∷ iv ∷ o ∷ iv ∷ ii ∷ ii ∷ ii ∷ o ∷ ii ∷ -i ∷ i ∷ v ∷ i ∷ o ∷ o ∷ iv ∷ i ∷ ii ∷ i ∷ o ∷ i ∷ [])
+    (4 ∷ 10 ∷ 9 ∷ 3 ∷ 9 ∷ 10 ∷ 1 ∷ 2 ∷ 5 ∷ 11 ∷ 10 ∷ 4 ∷ 10 ∷ 11 ∷ 0 ∷ 1 ∷ []) (4 ∷ 8 ∷ 12 ∷ 16 ∷ []) (11 ∷ 11 ∷ 11 ∷ 11 ∷ []) (7 ∷ 7 ∷ 9 ∷ 9 ∷ [])
+    (0 ∷ 0 ∷ 0 ∷ 0 ∷ []) (0 ∷ 0 ∷ 1 ∷ 1 ∷ []) (replicate 416 0)))))
     -- a layer less than there are nodes is refused, and so is an output with a place less; before W7 there were no layers
     ∷ overlay (case 0 2 (layered (0 ∷ 0 ∷ 0 ∷ []) square) strip (fives 20 8 2 2 2 2 2 352) (refused 2 (fives 20 8 2 2 2 2 2 352)))
     ∷ overlay (case 0 2 square strip (with_layers (replicate 9 5) (fives 20 8 2 2 2 2 2 352)) (refused 12 (with_layers (replicate 9 0) (noughts 20 8 2 2 2 2 2 352))))
