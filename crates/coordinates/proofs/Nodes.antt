@@ -113,7 +113,7 @@ StandAll k m = Each (Stands k) m.nodes
 stand_more : (k l : ℕ) (ms : List Met) → k ≤ l → Each (StandAll k) ms → Each (StandAll l) ms
 stand_more k l ms h a m i x j = let b : 2 * x + 1 < k = a m i x j in omega arith
 
-end_under : (n : ℕ) (e f : Edge) (p : PointId) → Both n e → Both n f → node_of e f p < n
+pub end_under : (n : ℕ) (e f : Edge) (p : PointId) → Both n e → Both n f → node_of e f p < n
 end_under n e f P1 a b = a.0
 end_under n e f P2 a b = a.1
 end_under n e f P3 a b = b.0

@@ -10,9 +10,8 @@ use lib.Seq.{get_or-append-add}
 use lib.Ieee.{Float}
 use borrow.Author.Tests.{eq-eqb, ne_eqb}
 use Rattle.lists.specs.Gather.{joined}
-use Rattle.lists.proofs.Gather.{joined_snoc}
+use Rattle.lists.proofs.Gather.{joined_snoc, in_list}
 use Rattle.segments.specs.declared.PointId.{PointId}
-use Rattle.segments.specs.declared.PointId.TheVariants.{P1, P2, P3, P4}
 use Rattle.segments.specs.declared.Meeting.{Meeting}
 use Rattle.segments.specs.declared.Meeting.TheVariants.{Apart, Existing, New, Overlap}
 use Rattle.cutting.specs.Edges.{Edge, edge_at}
@@ -25,6 +24,8 @@ use Rattle.rules.specs.Layers.{layer_added}
 use Rattle.rules.proofs.EdgePairs.{next_node, PairKeeps, meetings_keep}
 use Rattle.meetings.specs.InNumbers.{five_numbers, in_numbers}
 use Rattle.meetings.proofs.Reading.{length_in_numbers}
+use Rattle.coordinates.proofs.Points.{Each, Both}
+use Rattle.coordinates.proofs.Nodes.{end_under}
 use Rattle.layers.specs.Written.{layer_at, layers_to}
 
 -- ---- one meeting more
@@ -66,19 +67,9 @@ first_read : (es : List Edge) (i : ℕ) → i < length es → get_or (flat_edges
 first_read es i h =
     sym (ap (λ (e : Edge). e.0) (pairs_at (flat_edges es) i (omega (arith, ends_length es)))) ∙ ap (λ (fs : List Edge). (edge_at fs i).0) (pairs_ends es)
 
--- an edge between nodes below n
-abbrev Low : ℕ → Edge → Type 0
-Low n e = (e.0 < n) × (e.1 < n)
-
-end_low : (n : ℕ) (e f : Edge) (p : PointId) → Low n e → Low n f → node_of e f p < n
-end_low n e f P1 a b = a.0
-end_low n e f P2 a b = a.1
-end_low n e f P3 a b = b.0
-end_low n e f P4 a b = b.1
-
 -- s and c have edges between the first n nodes, which are those lent
 module _ (g : Grid) (coords : List Float) (s c : Net) (ls cs : List ℕ) (n : ℕ) (two : length coords ≡ 2 * n) (lent : length ls + length cs ≡ n)
-    (sub : (i : ℕ) → i < length s.edges → Low n (edge_at s.edges i)) (cut : (j : ℕ) → j < length c.edges → Low n (edge_at c.edges j)) where
+    (sub : Each (Both n) s.edges) (cut : Each (Both n) c.edges) where
   abbrev added : List Met → List ℕ
   added ms = joined (layer_added ls s.edges) ms
 
@@ -132,16 +123,20 @@ module _ (g : Grid) (coords : List Float) (s c : Net) (ls cs : List ℕ) (n : �
   kept : PairKeeps g coords s c Meant
   kept i j ms r k e h = go r
     where
-      ends : Low n (edge_at s.edges i)
-      ends = sub i k.subject
+      e₁ : Edge
+      e₁ = edge_at s.edges i
 
-      go : (q : Meeting) → Meant (ms ++ recorded i j (next_node g coords s c ms) (edge_at s.edges i) (edge_at c.edges j) q)
+      e₂ : Edge
+      e₂ = edge_at c.edges j
+
+      under : (p : PointId) → node_of e₁ e₂ p < n
+      under p = end_under n e₁ e₂ p (sub e₁ (in_list s.edges i k.subject (0, 0))) (cut e₂ (in_list c.edges j k.cutter (0, 0)))
+
+      go : (q : Meeting) → Meant (ms ++ recorded i j (next_node g coords s c ms) e₁ e₂ q)
       go Apart = subst Meant (sym (append-nil ms)) h
-      go (Existing p) = known ms i j (node_of (edge_at s.edges i) (edge_at c.edges j) p) [] (end_low n (edge_at s.edges i) (edge_at c.edges j) p ends (cut j k.cutter)) h
+      go (Existing p) = known ms i j (node_of e₁ e₂ p) [] (under p) h
       go (New x y) = new ms i j x y k.subject h
-      go (Overlap p q) =
-          known ms i j (node_of (edge_at s.edges i) (edge_at c.edges j) p) (node_of (edge_at s.edges i) (edge_at c.edges j) q ∷ [])
-          (end_low n (edge_at s.edges i) (edge_at c.edges j) p ends (cut j k.cutter)) h
+      go (Overlap p q) = known ms i j (node_of e₁ e₂ p) (node_of e₁ e₂ q ∷ []) (under p) h
 
   none : Meant []
   unfolding layers_to joined

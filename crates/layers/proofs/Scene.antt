@@ -5,8 +5,6 @@ use Prim.Native.Nat.{ℕ, ◌+◌}
 use native.Mathlib.Omega.{arith}
 use lib.Dec.{eqb}
 use lib.ListN.{length}
-use Rattle.lists.proofs.Gather.{in_list}
-use Rattle.cutting.specs.Edges.{edge_at}
 use Rattle.cutting.specs.Lent.{flat_edges}
 use Rattle.settings.specs.declared.Settings.{Settings}
 use Rattle.entry.specs.Mesh.{Mesh, node_count}
@@ -27,8 +25,5 @@ pub layers_met : (o : Settings) (s c : Mesh) (w : ℕ) → entry_of o s c w ≡ 
 unfolding scene_of layers_of
 layers_met o s c w pass =
     let ok = passed o s c w pass in
-    let fs = (cutter_net (eqb o.op 5) s c).edges in
     layers_meant o.grid (s.coords ++ c.coords) (subject_net s) (cutter_net (eqb o.op 5) s c) s.layers c.layers (node_count s + node_count c) (lent_even o s c w pass)
-    (omega (arith, ok.subject.layers_long, ok.cutter.layers_long))
-    (λ i h. subject_all o s c w pass (edge_at (subject_net s).edges i) (in_list (subject_net s).edges i h (0, 0)))
-    (λ j h. cutter_all o s c w pass (edge_at fs j) (in_list fs j h (0, 0)))
+    (omega (arith, ok.subject.layers_long, ok.cutter.layers_long)) (subject_all o s c w pass) (cutter_all o s c w pass)
