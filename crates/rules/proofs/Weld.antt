@@ -1,4 +1,4 @@
--- What `weld` gives: a node is welded to one of its own layer; with one layer throughout, layers make no difference (W7). Assumes nothing.
+-- What `weld` gives: a node is welded to one of its own layer; with one layer throughout the weld is document 01's (W7). Assumes nothing.
 use mathlib.Core.Path.{◌≡◌, refl, sym, ap, ap₂, ◌∙◌, subst}
 use mathlib.Core.Bool.{Bool, true, false, not, cond, true≢false}
 use mathlib.Core.List.{List, ◌++◌}
@@ -12,16 +12,16 @@ use Rattle.std.specs.Prelude.{Option, None, Some, IfSome}
 use lib.Ieee.{Float, lt}
 use borrow.Author.Tests.{eqb-true, eq-eqb, ltb-true, lt-ltb}
 use Rattle.lists.specs.Search.{many, named}
-use Rattle.lists.specs.Gather.{tally, joined}
+use Rattle.lists.specs.Gather.{each, tally, joined}
 use Rattle.lists.specs.Sort.{sorted}
 use Rattle.lists.specs.Regions.{zeros}
 use Rattle.lists.proofs.Search.{many_has, many_some}
 use Rattle.lists.proofs.Gather.{get_or_each, each_ext, each_get_or, tally_each, places_at}
 use Rattle.lists.proofs.Sort.{sorted_tally}
 use Rattle.plane.specs.declared.Point.{Point}
-use Rattle.plane.specs.Plane.{point_at}
+use Rattle.plane.specs.Plane.{◌⊗◌, point_at}
 use Rattle.entry.specs.Mesh.{Mesh, mesh, node_count}
-use Rattle.rules.specs.Snap.{precedes, used_nodes, sorted_indices_for, distance2, nearer, nearest_to, closest_within, or_shifted, number_of, weld}
+use Rattle.rules.specs.Snap.{weld_eps, precedes, used_nodes, sorted_indices_for, distance2, nearer, nearest_to, closest_within, or_shifted, number_of, weld}
 use Rattle.rules.specs.Meetings.{Scene}
 use Rattle.rules.specs.Layers.{layer_added, layers_of, InLayer}
 use Rattle.rules.specs.declared.Nearest.{Nearest}
@@ -81,6 +81,11 @@ module _ (coords : List Float) (layers order : List ℕ) (sought : ℕ) (p : Poi
       go true false e ih = ih
       go false u e ih = ih
 
+-- a node of the subject keeps its number, and is listed with its layer
+pub subject_layer_kept : (sc : Scene) (s c : Mesh) (n : ℕ) → n < length s.layers → get_or (layers_of sc s c) n 0 ≡ get_or s.layers n 0
+unfolding layers_of
+subject_layer_kept sc s c n h = get_or-append s.layers (c.layers ++ joined (layer_added s.layers sc.subject.edges) sc.met) 0 n h
+
 module _ (s c : Mesh) (j : ℕ) (h : j < node_count c) where
   -- a node of the cutter is welded to one of the subject, which has its layer, or has a number of its own
   pub data Welded (n : ℕ) : Type 0 where
@@ -122,31 +127,38 @@ module _ (s c : Mesh) (j : ℕ) (h : j < node_count c) where
       more = joined (layer_added s.layers sc.subject.edges) sc.met
 
       go : (n : ℕ) → Welded n → get_or (s.layers ++ (c.layers ++ more)) n 0 ≡ get_or c.layers j 0
-      go n (to_one a e) = get_or-append s.layers (c.layers ++ more) 0 n (omega (arith, a, es)) ∙ e
+      go n (to_one a e) = subject_layer_kept sc s c n (omega (arith, a, es)) ∙ e
       go n (own e) =
           let at : n ≡ length s.layers + j = omega (arith, e, es) in
           ap (λ (i : ℕ). get_or (s.layers ++ (c.layers ++ more)) i 0) at ∙ get_or-append-add s.layers (c.layers ++ more) j 0
           ∙ get_or-append c.layers more 0 j (omega (arith, h, ec))
 
--- ---- W7: where the test of layers comes to the same for each node looked at, so does the nearest
+-- ---- W7: where all nodes looked at are of the layer sought, the nearest is document 01's, which has no layers
 
-module _ (coords : List Float) (p : Point) (ls ms order : List ℕ) (a b : ℕ)
-    (same : (i : ℕ) → i < length order → eqb (get_or ls (get_or order i 0) 0) a ≡ eqb (get_or ms (get_or order i 0) 0) b) where
-  nearest_same : (k : ℕ) → k ≤ length order → nearest_to k coords ls order a p ≡ nearest_to k coords ms order b p
-  unfolding nearest_to
-  nearest_same zero h = refl
-  nearest_same (suc k) h =
+-- among the first k of the nodes `order`
+unfoldable pub nearest_of_all : ℕ → List Float → (order : List ℕ) → Point → Nearest
+nearest_of_all zero coords order p = record { dist2 = weld_eps ⊗ weld_eps; node = None }
+nearest_of_all (suc k) coords order p = let n = get_or order k 0 in nearer (distance2 p (point_at coords n)) n (nearest_of_all k coords order p)
+
+module _ (coords : List Float) (p : Point) (ls order : List ℕ) (sought : ℕ) (all : (i : ℕ) → i < length order → get_or ls (get_or order i 0) 0 ≡ sought) where
+  pub nearest_in_one : (k : ℕ) → k ≤ length order → nearest_to k coords ls order sought p ≡ nearest_of_all k coords order p
+  unfolding nearest_to nearest_of_all
+  nearest_in_one zero h = refl
+  nearest_in_one (suc k) h =
       ap₂ (λ (t : Bool) (best : Nearest). cond t (nearer (distance2 p (point_at coords (get_or order k 0))) (get_or order k 0) best) best)
-      (same k (omega arith)) (nearest_same k (omega arith))
+      (eq-eqb (get_or ls (get_or order k 0) 0) sought (all k (omega arith))) (nearest_in_one k (omega arith))
 
--- meshes like these, all in layer 0
-abbrev pub unlayered : Mesh → Mesh
-unlayered m = mesh m.coords (zeros (node_count m)) m.nodes m.ends m.kinds m.families
+-- the numbers of the cutter's nodes by that
+abbrev pub weld_of_all : Mesh → Mesh → List ℕ
+weld_of_all s c =
+    let order = sorted_indices_for s in
+    each (node_count c) (λ j. let shifted = j + node_count s in
+    cond (named c.nodes j) (or_shifted shifted (nearest_of_all (length order) s.coords order (point_at c.coords j)).node) shifted)
 
--- With one layer throughout the weld is that of all nodes in layer 0.
-pub weld_unlayered : (k : ℕ) (s c : Mesh) → InLayer k s → InLayer k c → weld s c ≡ weld (unlayered s) (unlayered c)
-unfolding weld closest_within sorted_indices_for used_nodes
-weld_unlayered k s c es ec = each_ext (node_count c) _ _ (λ j h. go (named c.nodes j) j h)
+-- With one layer throughout the weld is document 01's.
+pub weld_in_one : (k : ℕ) (s c : Mesh) → InLayer k s → InLayer k c → weld s c ≡ weld_of_all s c
+unfolding weld closest_within
+weld_in_one k s c es ec = each_ext (node_count c) _ _ (λ j h. ap (λ (x : Nearest). cond (named c.nodes j) (or_shifted (j + node_count s) x.node) (j + node_count s)) (near j h))
   where
     order : List ℕ
     order = sorted_indices_for s
@@ -154,24 +166,15 @@ weld_unlayered k s c es ec = each_ext (node_count c) _ _ (λ j h. go (named c.no
     layer_in : (m : Mesh) → InLayer k m → (n : ℕ) → n < node_count m → get_or m.layers n 0 ≡ k
     layer_in m e n h = ap (λ (ls : List ℕ). get_or ls n 0) e ∙ get_or-replicate (node_count m) n k 0 h
 
-    zero_in : (m : Mesh) (n : ℕ) → n < node_count m → get_or (zeros (node_count m)) n 0 ≡ 0
-    zero_in m n h = get_or-replicate (node_count m) n 0 0 h
-
-    same : (j : ℕ) → j < node_count c → (i : ℕ) → i < length order
-        → eqb (get_or s.layers (get_or order i 0) 0) (get_or c.layers j 0) ≡ eqb (get_or (zeros (node_count s)) (get_or order i 0) 0) (get_or (zeros (node_count c)) j 0)
-    same j h i l =
-        let n = get_or order i 0 in
-        let below = order_below s i l in
-        eq-eqb (get_or s.layers n 0) (get_or c.layers j 0) (layer_in s es n below ∙ sym (layer_in c ec j h))
-        ∙ sym (eq-eqb (get_or (zeros (node_count s)) n 0) (get_or (zeros (node_count c)) j 0) (zero_in s n below ∙ sym (zero_in c j h)))
-
     near : (j : ℕ) → j < node_count c → nearest_to (length order) s.coords s.layers order (get_or c.layers j 0) (point_at c.coords j)
-        ≡ nearest_to (length order) s.coords (zeros (node_count s)) order (get_or (zeros (node_count c)) j 0) (point_at c.coords j)
-    near j h = nearest_same s.coords (point_at c.coords j) s.layers (zeros (node_count s)) order (get_or c.layers j 0) (get_or (zeros (node_count c)) j 0) (same j h)
-        (length order) (le_refl (length order))
+        ≡ nearest_of_all (length order) s.coords order (point_at c.coords j)
+    near j h = nearest_in_one s.coords (point_at c.coords j) s.layers order (get_or c.layers j 0)
+        (λ i l. layer_in s es (get_or order i 0) (order_below s i l) ∙ sym (layer_in c ec j h)) (length order) (le_refl (length order))
 
-    go : (t : Bool) (j : ℕ) → j < node_count c → let shifted = j + node_count s in
-        cond t (or_shifted shifted (nearest_to (length order) s.coords s.layers order (get_or c.layers j 0) (point_at c.coords j)).node) shifted
-        ≡ cond t (or_shifted shifted (nearest_to (length order) s.coords (zeros (node_count s)) order (get_or (zeros (node_count c)) j 0) (point_at c.coords j)).node) shifted
-    go true j h = ap (λ (x : Nearest). or_shifted (j + node_count s) x.node) (near j h)
-    go false j h = refl
+-- meshes like these, all in layer 0
+abbrev pub unlayered : Mesh → Mesh
+unlayered m = mesh m.coords (zeros (node_count m)) m.nodes m.ends m.kinds m.families
+
+pub weld_unlayered : (k : ℕ) (s c : Mesh) → InLayer k s → InLayer k c → weld s c ≡ weld (unlayered s) (unlayered c)
+unfolding sorted_indices_for used_nodes
+weld_unlayered k s c es ec = weld_in_one k s c es ec ∙ sym (weld_in_one 0 (unlayered s) (unlayered c) refl refl)
