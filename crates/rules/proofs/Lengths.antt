@@ -130,15 +130,15 @@ takes_cell (pieces qs) ps h = takes_pieces ps
 
 -- ---- the points that meetings add: each two coordinates or none
 
-abbrev Pairs : List Met → Type 0
+abbrev pub Pairs : List Met → Type 0
 Pairs [] = Unit {0}
 Pairs (m ∷ ms) = (length m.point ≡ 2 * (length m.point / 2)) × Pairs ms
 
-pairs_append : (ms ns : List Met) → Pairs ms → Pairs ns → Pairs (ms ++ ns)
+pub pairs_append : (ms ns : List Met) → Pairs ms → Pairs ns → Pairs (ms ++ ns)
 pairs_append [] ns h k = k
 pairs_append (m ∷ ms) ns h k = (h.0, pairs_append ms ns h.1 k)
 
-pairs_recorded : (i j next : ℕ) (e f : Edge) (x : Meeting) → Pairs (recorded i j next e f x)
+pub pairs_recorded : (i j next : ℕ) (e f : Edge) (x : Meeting) → Pairs (recorded i j next e f x)
 pairs_recorded i j next e f Apart = tt
 pairs_recorded i j next e f (Existing p) = (refl, tt)
 pairs_recorded i j next e f (New x y) = (refl, tt)
@@ -285,7 +285,7 @@ scene_pairs g lines s c = pairs_met g (s.coords ++ c.coords) (subject_net s) (cu
 
 -- ---- W7: a layer for each of the points that meetings add
 
-layers_added : (ls : List ℕ) (es : List Edge) (ms : List Met) → Pairs ms → 2 * length (joined (layer_added ls es) ms) ≡ length (added_by ms)
+pub layers_added : (ls : List ℕ) (es : List Edge) (ms : List Met) → Pairs ms → 2 * length (joined (layer_added ls es) ms) ≡ length (added_by ms)
 unfolding joined
 layers_added ls es [] h = refl
 layers_added ls es (m ∷ ms) h =

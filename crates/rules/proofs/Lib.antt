@@ -15,6 +15,7 @@ pub mod Demand3
 pub mod Points
 pub mod Editions
 pub mod OneLayer
+pub mod PointLayers
 pub mod Kept
 pub mod Rounds
 pub mod NeverEleven
