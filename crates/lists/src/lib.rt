@@ -1,4 +1,4 @@
-// What every layer does with lent lists: a number read, one copied into another, an element put in, one cut into runs, and the nodes that one names marked.
+// What crates do with lent lists: a number read, one copied into another, an element put in, one cut into runs, and the nodes that one names marked.
 #![tactic(auto)]
 
 ghost use Rattle.std.specs.Prelude.{◌≡◌, ◌&&◌, ◌+◌, length, get_or, leb, ltb};

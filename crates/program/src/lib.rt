@@ -110,7 +110,7 @@ fn cut(
     printing::print_answer(out, told(nodes, answer), &listing(&pieces))
 }
 
-// The answer to the text s, from the first place of `out` on. The lists stand one by one, of fixed length: a struct of a mesh's five arrays with a method that lends
+// The answer to the text s, from the first place of `out` on. The lists stand one by one, of fixed length: a struct of a mesh's six arrays with a method that lends
 // them as `MeshLists` is no shorter, and is copied whole where it is made.
 #[tactic(auto, unfolding(printing::specs::Told::told), using(crate::proofs::Answers::unread_answer))]
 pub fn answer(s: &[u8], out: &mut [u8]) -> Result<usize, Full>
