@@ -323,7 +323,8 @@ module _ (o : Settings) (s c : Mesh) (l : Lists) where
     pub result_kept : length (doubled_cells o s c) ≡ 0 → ((overlay_with base o s c l).code ≡ 11 → ⊥) → but_layers (overlay_of o s c l) ≡ but_layers (overlay_with base o s c l)
     result_kept single h = ap but_layers (result_before none single (λ e. h (sym (ap (λ (r : Result). r.code) one_layer) ∙ e))) ∙ one_layer
 
-    -- So an overlay without a grid that document 01 by itself accepts with the third count 0 keeps its answer, whole; the second count is W5's on both sides.
+    -- So an overlay without a grid that document 01 by itself accepts with the third count 0 keeps its answer, whole but for the layers, of which document
+    -- 01 has none; the second count is W5's on both sides.
     pub accepted_kept : AcceptedWith base o s c l → (overlay_with base o s c l).doubled ≡ 0 → but_layers (overlay_of o s c l) ≡ but_layers (overlay_with base o s c l)
     unfolding answered_with
     accepted_kept h d =
