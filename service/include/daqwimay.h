@@ -61,7 +61,7 @@ enum {
  * count of numbers:
  *   coords    x and y of each node
  *   layers    one for each node, any number: a node of the cutter that lies less than 1e-12 from one of the subject becomes that node only
- *             where their layers are equal. With 0 for all nodes of both meshes every answer is that without layers
+ *             where their layers are equal. With one number for all nodes of both meshes every answer is that without layers
  *   nodes     the cells' node numbers, one cell after the other
  *   ends      where each cell's node numbers end
  *   kinds, families   one for each cell
@@ -70,7 +70,7 @@ enum {
  *   parent_cells    the index of the cell in that mesh, from 0
  * The output's coordinates are those of the subject, of the cutter, then of all points added where edges meet, pieces name them or not:
  * 2 x (nodes + added points) numbers. 2 x (nodes + limit) always suffice. Its layers are those of the same nodes, half as many numbers: an
- * added point has that of its subject edge's first node. Where edges meet doesn't hang on layers.
+ * added point has that of its subject edge's first node, in the direction of the first cell with this edge. Edges meet whatever their layers.
  * A piece takes its node numbers and a place in each of ends, kinds, families, parent_meshes and parent_cells. Places behind the answer
  * are kept.
  * counts: as many of these four as it has places, all 0 at a refusal; places behind them are kept.
