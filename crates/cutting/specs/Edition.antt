@@ -11,7 +11,7 @@ pub record Edition : Type 0 where
   -- W7: nodes have layers
   pub layers : Bool
 
--- document 01 by itself, but for what W2 and W5 added to the answer
+-- document 01 by itself, but for what W2, W5 and W7 added to the answer
 abbrev pub base : Edition
 base = record { turning = false; once = false; grids = false; layers = false }
 

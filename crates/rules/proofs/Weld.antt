@@ -1,5 +1,5 @@
--- What `weld` gives: a node is welded to one of its own layer; with one layer throughout the weld is document 01's (W7). Assumes nothing.
-use mathlib.Core.Path.{◌≡◌, refl, sym, ap, ap₂, ◌∙◌, subst}
+-- What `weld` gives: a node is welded to one of its own layer; with one layer throughout, layers make no difference (W7). Assumes nothing.
+use mathlib.Core.Path.{◌≡◌, refl, sym, ap, ◌∙◌, subst}
 use mathlib.Core.Bool.{Bool, true, false, not, cond, true≢false}
 use mathlib.Core.List.{List, ◌++◌}
 use Prim.Native.Nat.{ℕ, zero, suc, ◌+◌, ◌≤◌, ◌<◌}
@@ -12,16 +12,16 @@ use Rattle.std.specs.Prelude.{Option, None, Some, IfSome}
 use lib.Ieee.{Float, lt}
 use borrow.Author.Tests.{eqb-true, eq-eqb, ltb-true, lt-ltb}
 use Rattle.lists.specs.Search.{many, named}
-use Rattle.lists.specs.Gather.{each, tally, joined}
+use Rattle.lists.specs.Gather.{tally, joined}
 use Rattle.lists.specs.Sort.{sorted}
 use Rattle.lists.specs.Regions.{zeros}
 use Rattle.lists.proofs.Search.{many_has, many_some}
 use Rattle.lists.proofs.Gather.{get_or_each, each_ext, each_get_or, tally_each, places_at}
 use Rattle.lists.proofs.Sort.{sorted_tally}
 use Rattle.plane.specs.declared.Point.{Point}
-use Rattle.plane.specs.Plane.{◌⊗◌, point_at}
+use Rattle.plane.specs.Plane.{point_at}
 use Rattle.entry.specs.Mesh.{Mesh, mesh, node_count}
-use Rattle.rules.specs.Snap.{weld_eps, precedes, used_nodes, sorted_indices_for, distance2, nearer, nearest_to, closest_within, or_shifted, number_of, weld}
+use Rattle.rules.specs.Snap.{precedes, used_nodes, sorted_indices_for, distance2, nearer, nearest_to, closest_within, or_shifted, number_of, weld}
 use Rattle.rules.specs.Meetings.{Scene}
 use Rattle.rules.specs.Layers.{layer_added, layers_of, InLayer}
 use Rattle.rules.specs.declared.Nearest.{Nearest}
@@ -133,48 +133,55 @@ module _ (s c : Mesh) (j : ℕ) (h : j < node_count c) where
           ap (λ (i : ℕ). get_or (s.layers ++ (c.layers ++ more)) i 0) at ∙ get_or-append-add s.layers (c.layers ++ more) j 0
           ∙ get_or-append c.layers more 0 j (omega (arith, h, ec))
 
--- ---- W7: where all nodes looked at are of the layer sought, the nearest is document 01's, which has no layers
+-- ---- W7: in one layer
 
--- among the first k of the nodes `order`
-unfoldable pub nearest_of_all : ℕ → List Float → (order : List ℕ) → Point → Nearest
-nearest_of_all zero coords order p = record { dist2 = weld_eps ⊗ weld_eps; node = None }
-nearest_of_all (suc k) coords order p = let n = get_or order k 0 in nearer (distance2 p (point_at coords n)) n (nearest_of_all k coords order p)
+abbrev All : (ls order : List ℕ) → ℕ → Type 0
+All ls order k = (i : ℕ) → i < length order → get_or ls (get_or order i 0) 0 ≡ k
 
-module _ (coords : List Float) (p : Point) (ls order : List ℕ) (sought : ℕ) (all : (i : ℕ) → i < length order → get_or ls (get_or order i 0) 0 ≡ sought) where
-  pub nearest_in_one : (k : ℕ) → k ≤ length order → nearest_to k coords ls order sought p ≡ nearest_of_all k coords order p
-  unfolding nearest_to nearest_of_all
-  nearest_in_one zero h = refl
-  nearest_in_one (suc k) h =
-      ap₂ (λ (t : Bool) (best : Nearest). cond t (nearer (distance2 p (point_at coords (get_or order k 0))) (get_or order k 0) best) best)
-      (eq-eqb (get_or ls (get_or order k 0) 0) sought (all k (omega arith))) (nearest_in_one k (omega arith))
+-- Where all nodes looked at are of the layer sought, the test of layers passes none over: the next is compared with the nearest before, as document 01 has it.
+pub none_passed_over : (coords : List Float) (p : Point) (ls order : List ℕ) (sought : ℕ) → All ls order sought → (k : ℕ) → k < length order
+    → nearest_to (suc k) coords ls order sought p ≡ (let n = get_or order k 0 in nearer (distance2 p (point_at coords n)) n (nearest_to k coords ls order sought p))
+unfolding nearest_to
+none_passed_over coords p ls order sought all k h =
+    let n = get_or order k 0 in
+    let best = nearest_to k coords ls order sought p in
+    ap (λ (t : Bool). cond t (nearer (distance2 p (point_at coords n)) n best) best) (eq-eqb (get_or ls n 0) sought (all k h))
 
--- the numbers of the cutter's nodes by that
-abbrev pub weld_of_all : Mesh → Mesh → List ℕ
-weld_of_all s c =
-    let order = sorted_indices_for s in
-    each (node_count c) (λ j. let shifted = j + node_count s in
-    cond (named c.nodes j) (or_shifted shifted (nearest_of_all (length order) s.coords order (point_at c.coords j)).node) shifted)
-
--- With one layer throughout the weld is document 01's.
-pub weld_in_one : (k : ℕ) (s c : Mesh) → InLayer k s → InLayer k c → weld s c ≡ weld_of_all s c
-unfolding weld closest_within
-weld_in_one k s c es ec = each_ext (node_count c) _ _ (λ j h. ap (λ (x : Nearest). cond (named c.nodes j) (or_shifted (j + node_count s) x.node) (j + node_count s)) (near j h))
-  where
-    order : List ℕ
-    order = sorted_indices_for s
-
-    layer_in : (m : Mesh) → InLayer k m → (n : ℕ) → n < node_count m → get_or m.layers n 0 ≡ k
-    layer_in m e n h = ap (λ (ls : List ℕ). get_or ls n 0) e ∙ get_or-replicate (node_count m) n k 0 h
-
-    near : (j : ℕ) → j < node_count c → nearest_to (length order) s.coords s.layers order (get_or c.layers j 0) (point_at c.coords j)
-        ≡ nearest_of_all (length order) s.coords order (point_at c.coords j)
-    near j h = nearest_in_one s.coords (point_at c.coords j) s.layers order (get_or c.layers j 0)
-        (λ i l. layer_in s es (get_or order i 0) (order_below s i l) ∙ sym (layer_in c ec j h)) (length order) (le_refl (length order))
+-- so of which layer they are makes no difference
+nearest_same : (coords : List Float) (p : Point) (ls ms order : List ℕ) (a b : ℕ) → All ls order a → All ms order b → (k : ℕ) → k ≤ length order
+    → nearest_to k coords ls order a p ≡ nearest_to k coords ms order b p
+unfolding nearest_to
+nearest_same coords p ls ms order a b one other zero h = refl
+nearest_same coords p ls ms order a b one other (suc k) h =
+    let n = get_or order k 0 in
+    none_passed_over coords p ls order a one k (omega arith)
+    ∙ ap (nearer (distance2 p (point_at coords n)) n) (nearest_same coords p ls ms order a b one other k (omega arith))
+    ∙ sym (none_passed_over coords p ms order b other k (omega arith))
 
 -- meshes like these, all in layer 0
 abbrev pub unlayered : Mesh → Mesh
 unlayered m = mesh m.coords (zeros (node_count m)) m.nodes m.ends m.kinds m.families
 
+-- With one layer throughout the weld is that of all nodes in layer 0.
 pub weld_unlayered : (k : ℕ) (s c : Mesh) → InLayer k s → InLayer k c → weld s c ≡ weld (unlayered s) (unlayered c)
-unfolding sorted_indices_for used_nodes
-weld_unlayered k s c es ec = weld_in_one k s c es ec ∙ sym (weld_in_one 0 (unlayered s) (unlayered c) refl refl)
+unfolding weld closest_within sorted_indices_for used_nodes
+weld_unlayered k s c es ec =
+    each_ext (node_count c) _ _ (λ j h. ap (λ (x : Nearest). cond (named c.nodes j) (or_shifted (j + node_count s) x.node) (j + node_count s)) (near j h))
+  where
+    order : List ℕ
+    order = sorted_indices_for s
+
+    in_layer : (m : Mesh) (k : ℕ) → InLayer k m → (n : ℕ) → n < node_count m → get_or m.layers n 0 ≡ k
+    in_layer m k e n h = ap (λ (ls : List ℕ). get_or ls n 0) e ∙ get_or-replicate (node_count m) n k 0 h
+
+    -- those of the subject are all of the layer of the cutter's node j
+    all_of : (i : ℕ) (s' c' : Mesh) → InLayer i s' → InLayer i c' → node_count s' ≡ node_count s → node_count c' ≡ node_count c
+        → (j : ℕ) → j < node_count c → All s'.layers order (get_or c'.layers j 0)
+    all_of i s' c' a b m n j h l o =
+        in_layer s' i a (get_or order l 0) (omega (arith, order_below s l o, m)) ∙ sym (in_layer c' i b j (omega (arith, h, n)))
+
+    near : (j : ℕ) → j < node_count c → nearest_to (length order) s.coords s.layers order (get_or c.layers j 0) (point_at c.coords j)
+        ≡ nearest_to (length order) s.coords (zeros (node_count s)) order (get_or (zeros (node_count c)) j 0) (point_at c.coords j)
+    near j h =
+        nearest_same s.coords (point_at c.coords j) s.layers (zeros (node_count s)) order (get_or c.layers j 0) (get_or (zeros (node_count c)) j 0)
+        (all_of k s c es ec refl refl j h) (all_of 0 (unlayered s) (unlayered c) refl refl refl refl j h) (length order) (le_refl (length order))
