@@ -4,7 +4,6 @@ use mathlib.Core.List.{List, [], ◌∷◌, ◌++◌, map, map-append}
 use Prim.Native.Nat.{ℕ, zero, suc, ◌+◌, ◌*◌, ◌≤◌, ◌<◌}
 use native.Mathlib.Omega.{arith}
 use lib.ListN.{length, get_or, take, drop}
-use lib.Ieee.{Float}
 use Rattle.lists.specs.Gather.{gathered, each}
 use Rattle.lists.specs.Regions.{run}
 use Rattle.lists.proofs.Gather.{each_ext, each_get_or}
@@ -12,7 +11,7 @@ use Rattle.lists.proofs.Regions.{get_or_run}
 use Rattle.cutting.specs.Edges.{edge_at}
 use Rattle.cutting.specs.Lent.{pairs}
 use Rattle.cutting.proofs.Pairs.{pairs_length, pairs_at}
-use Rattle.entry.specs.Mesh.{mesh, prior, cell_size}
+use Rattle.entry.specs.Mesh.{Mesh, mesh, prior, cell_size}
 use Rattle.rules.specs.Mesh.{cell_at, cells_of}
 use Rattle.rules.specs.Neighbours.{line_edges}
 
@@ -20,9 +19,9 @@ abbrev pub cells_in : List ℕ → List ℕ → List (List ℕ)
 cells_in nodes ends = cells_of (mesh [] [] nodes ends [] [])
 
 -- only node entries and ends count
-pub cells_lists : (coords : List Float) (layers nodes ends kinds families : List ℕ) → cells_of (mesh coords layers nodes ends kinds families) ≡ cells_in nodes ends
+pub cells_lists : (m : Mesh) → cells_of m ≡ cells_in m.nodes m.ends
 unfolding cells_of cell_at
-cells_lists coords layers nodes ends kinds families = refl
+cells_lists m = refl
 
 -- ---- other numbers
 

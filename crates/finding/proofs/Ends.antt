@@ -18,7 +18,7 @@ use Rattle.cutting.specs.Edges.{Edge}
 use Rattle.cutting.specs.Lent.{flat_edges, pairs}
 use Rattle.cutting.proofs.Pairs.{pairs_ends}
 use Rattle.settings.specs.declared.Settings.{Settings}
-use Rattle.entry.specs.Mesh.{Mesh, mesh}
+use Rattle.entry.specs.Mesh.{Mesh}
 use Rattle.refusals.specs.declared.Refusal.{Refusal}
 use Rattle.refusals.specs.Numbers.{number, by_number, refused_with}
 use Rattle.refusals.proofs.Numbers.{some_not_zero}
@@ -93,16 +93,10 @@ module _ (w : List ℕ) (g : Regions) (es fs ms : List ℕ) (is-es : es ≡ run_
 
 -- ---- `find`
 
-module _ (o : Settings) (sc : List Float) (sl sn se : List ℕ) (cc : List Float) (cl cn ce : List ℕ) (w₀ : List ℕ)
-    (ok : FindAsks o (mesh sc sl sn se [] []) (mesh cc cl cn ce [] []) (length w₀)) (oc : List Float) where
+module _ (o : Settings) (s c : Mesh) (w₀ : List ℕ)
+    (ok : FindAsks o s c (length w₀)) (oc : List Float) where
   abbrev lines : Bool
   lines = eqb o.op 5
-
-  abbrev s : Mesh
-  s = mesh sc sl sn se [] []
-
-  abbrev c : Mesh
-  c = mesh cc cl cn ce [] []
 
   abbrev fs : Fit false s
   fs = ok.subject
@@ -114,7 +108,7 @@ module _ (o : Settings) (sc : List Float) (sl sn se : List ℕ) (cc : List Float
   scene = scene_for o s c
 
   abbrev placed : ℕ
-  placed = length sc + length cc
+  placed = length s.coords + length c.coords
 
   abbrev subjects : List Edge
   subjects = (subject_net s).edges
@@ -123,10 +117,10 @@ module _ (o : Settings) (sc : List Float) (sl sn se : List ℕ) (cc : List Float
   cutters = (cutter_net lines s c).edges
 
   abbrev points : ℕ
-  points = length (sc ++ cc) / 2
+  points = length (s.coords ++ c.coords) / 2
 
-  len : length (sc ++ cc) ≡ placed
-  len = length-append sc cc
+  len : length (s.coords ++ c.coords) ≡ placed
+  len = length-append s.coords c.coords
 
   room₀ : NetRoom 0 s c (length w₀)
   room₀ = omega (arith, ok.room)
@@ -137,7 +131,7 @@ module _ (o : Settings) (sc : List Float) (sl sn se : List ℕ) (cc : List Float
   unfolding scene_of
   stored =
       numbers_stored scene.met (in_numbers scene.met) (length_in_numbers scene.met) (λ q i h l. in_numbers_at scene.met q i no_met h l)
-      (λ q h. (meetings_fit o.grid (sc ++ cc) (subject_net s) (cutter_net lines s c) q no_met h).3)
+      (λ q h. (meetings_fit o.grid (s.coords ++ c.coords) (subject_net s) (cutter_net lines s c) q no_met h).3)
 
   full_is : (es : List Edge) → has (crowded_at (pairs (flat_edges es)) (pairs (flat_edges subjects)) (pairs (flat_edges cutters)) (in_numbers scene.met))
       (length (flat_edges es) / 2) ≡ overfull scene es
@@ -181,19 +175,19 @@ module _ (o : Settings) (sc : List Float) (sl sn se : List ℕ) (cc : List Float
       (omega (arith, leb-false placed (length oc) (sym e ∙ not-true b t), len, fs.even, fc.even)) 0 0
 
   -- the coordinates that are lent to `nets`
-  pub coords_lent : (b₀ : Bool) (oc₁ : List Float) → (b₀ ≡ leb placed (length oc)) × (b₀ ≡ true → oc₁ ≡ front oc (sc ++ cc)) → not b₀ ≡ false → (length oc₁ ≡ length oc)
-      → (placed ≤ length oc₁) × (take placed oc₁ ≡ sc ++ cc)
+  pub coords_lent : (b₀ : Bool) (oc₁ : List Float) → (b₀ ≡ leb placed (length oc)) × (b₀ ≡ true → oc₁ ≡ front oc (s.coords ++ c.coords)) → not b₀ ≡ false → (length oc₁ ≡ length oc)
+      → (placed ≤ length oc₁) × (take placed oc₁ ≡ s.coords ++ c.coords)
   coords_lent b₀ oc₁ pe left same =
       let fits = leb-true placed (length oc) (sym pe.0 ∙ not-false b₀ left) in
-      (omega (arith, fits, same), ap (take placed) (pe.1 (not-false b₀ left)) ∙ take_front_of oc (sc ++ cc) placed len)
+      (omega (arith, fits, same), ap (take placed) (pe.1 (not-false b₀ left)) ∙ take_front_of oc (s.coords ++ c.coords) placed len)
 
   -- the coordinates are placed, and the nets stand in the working list
-  module _ (b₀ : Bool) (oc₁ : List Float) (pe : (b₀ ≡ leb placed (length oc)) × (b₀ ≡ true → oc₁ ≡ front oc (sc ++ cc))) (left : not b₀ ≡ false) (r : NetPlaces) (w₁ : List ℕ)
+  module _ (b₀ : Bool) (oc₁ : List Float) (pe : (b₀ ≡ leb placed (length oc)) × (b₀ ≡ true → oc₁ ≡ front oc (s.coords ++ c.coords))) (left : not b₀ ≡ false) (r : NetPlaces) (w₁ : List ℕ)
       (ne : (r ≡ nets_of lines s c) × (w₁ ≡ netted lines s c w₀)) where
     fits : placed ≤ length oc
     fits = leb-true placed (length oc) (sym pe.0 ∙ not-false b₀ left)
 
-    oe : oc₁ ≡ front oc (sc ++ cc)
+    oe : oc₁ ≡ front oc (s.coords ++ c.coords)
     oe = pe.1 (not-false b₀ left)
 
     re : r ≡ nets_of lines s c
@@ -203,16 +197,16 @@ module _ (o : Settings) (sc : List Float) (sl sn se : List ℕ) (cc : List Float
     we = ne.1
 
     length_placed : length oc₁ ≡ length oc
-    length_placed = ap length oe ∙ length_front oc (sc ++ cc) (omega (arith, fits, len))
+    length_placed = ap length oe ∙ length_front oc (s.coords ++ c.coords) (omega (arith, fits, len))
 
     length_work : length w₁ ≡ length w₀
-    length_work = ap length we ∙ length_held lines sc sl sn se cc cl cn ce fs fc w₀ room₀
+    length_work = ap length we ∙ length_held lines s c fs fc w₀ room₀
 
     asked_of : MeetingsRoom (nets_of lines s c) (length oc₁) (length w₁) placed o.m
     unfolding nets_of
     asked_of =
-        let a = subjects_before lines sc sl sn se cc cl cn ce fs fc w₀ room₀ in
-        let b = cutters_before lines sc sl sn se cc cl cn ce fs fc w₀ room₀ in
+        let a = subjects_before lines s c fs fc w₀ room₀ in
+        let b = cutters_before lines s c fs fc w₀ room₀ in
         record {
           placed_fits = omega (arith, fits, length_placed);
           placed_even = omega (arith, fs.even, fc.even);
@@ -234,26 +228,26 @@ module _ (o : Settings) (sc : List Float) (sl sn se : List ℕ) (cc : List Float
     unfolding nets_of
     subjects_read =
         ap (λ (w : List ℕ). run_in w (nets_of lines s c).subject.edges) we ∙ run_long (netted lines s c w₀) (subject_at s c) (2 * length subjects)
-        ∙ subjects_held lines sc sl sn se cc cl cn ce fs fc w₀ room₀
+        ∙ subjects_held lines s c fs fc w₀ room₀
 
     cutters_read : run_in w₁ (nets_of lines s c).cutter.edges ≡ flat_edges cutters
     unfolding nets_of
     cutters_read =
-        ap (λ (w : List ℕ). run_in w (nets_of lines s c).cutter.edges) we ∙ run_long (netted lines s c w₀) (cond lines (length cc / 2) (cutter_at s c)) (2 * length cutters)
-        ∙ cutters_held lines sc sl sn se cc cl cn ce fs fc w₀ room₀
+        ap (λ (w : List ℕ). run_in w (nets_of lines s c).cutter.edges) we ∙ run_long (netted lines s c w₀) (cond lines (length c.coords / 2) (cutter_at s c)) (2 * length cutters)
+        ∙ cutters_held lines s c fs fc w₀ room₀
 
-    coords_read : take placed oc₁ ≡ sc ++ cc
-    coords_read = ap (take placed) oe ∙ take_front_of oc (sc ++ cc) placed len
+    coords_read : take placed oc₁ ≡ s.coords ++ c.coords
+    coords_read = ap (take placed) oe ∙ take_front_of oc (s.coords ++ c.coords) placed len
 
     indexed_of : CutterIndexed (nets_of lines s c) (take placed oc₁) w₁
     unfolding nets_of
     indexed_of =
         record {
-          index = record { rises = omega arith; fits = index_fits_lem lines sc sl sn se cc cl cn ce fs fc w₀ room₀ };
+          index = record { rises = omega arith; fits = index_fits_lem lines s c fs fc w₀ room₀ };
           indexed =
               let w = netted lines s c w₀ in
-              rw (coords_read, we, run_long w (cond lines (length cc / 2) (cutter_at s c)) (2 * length cutters), run_long w (index_at s c) (index_size (length cutters)))
-              (cutters_indexed lines sc sl sn se cc cl cn ce fs fc w₀ room₀);
+              rw (coords_read, we, run_long w (cond lines (length c.coords / 2) (cutter_at s c)) (2 * length cutters), run_long w (index_at s c) (index_size (length cutters)))
+              (cutters_indexed lines s c fs fc w₀ room₀);
         }
 
     indexed : CutterIndexed r (take placed oc₁) w₁
@@ -268,8 +262,8 @@ module _ (o : Settings) (sc : List Float) (sl sn se : List ℕ) (cc : List Float
         ap (λ (x : NetPlaces). met_in o.grid x placed oc₁ w₁) re
         ∙ ap₂ (λ (es fs : List ℕ). meetings_of o.grid (take placed oc₁) es fs) subjects_read cutters_read
         ∙ ap (λ (l : List Float). meetings_of o.grid l (flat_edges subjects) (flat_edges cutters)) coords_read
-        ∙ ap₂ (λ (es fs : List Edge). meetings o.grid (sc ++ cc) (net_on es) (net_on fs)) (pairs_ends subjects) (pairs_ends cutters)
-        ∙ sym (by_edges o.grid (sc ++ cc) (subject_net s) (cutter_net lines s c))
+        ∙ ap₂ (λ (es fs : List Edge). meetings o.grid (s.coords ++ c.coords) (net_on es) (net_on fs)) (pairs_ends subjects) (pairs_ends cutters)
+        ∙ sym (by_edges o.grid (s.coords ++ c.coords) (subject_net s) (cutter_net lines s c))
 
     points_fit : points ≤ length oc / 2
     points_fit = omega (arith, fits, len)
@@ -325,8 +319,8 @@ module _ (o : Settings) (sc : List Float) (sl sn se : List ℕ) (cc : List Float
         unfolding nets_of
         link_asked_of h e =
             record {
-              subject = record { rises = omega arith; fits = omega (arith, (subjects_before lines sc sl sn se cc cl cn ce fs fc w₀ room₀).0) };
-              cutter = record { rises = omega arith; fits = omega (arith, (cutters_before lines sc sl sn se cc cl cn ce fs fc w₀ room₀).0) };
+              subject = record { rises = omega arith; fits = omega (arith, (subjects_before lines s c fs fc w₀ room₀).0) };
+              cutter = record { rises = omega arith; fits = omega (arith, (cutters_before lines s c fs fc w₀ room₀).0) };
               links_fit = omega (arith, e, ok.room, few, fs.even, fc.even);
               some = omega (arith, e);
               few = omega (arith, few, ok.most);
@@ -337,27 +331,27 @@ module _ (o : Settings) (sc : List Float) (sl sn se : List ℕ) (cc : List Float
         link_asked h e = rw (re, count, lw, length_work) (link_asked_of h e)
 
         -- the meetings, and nothing behind them yet
-        work_then : w₂ ≡ with o sc sl sn se cc cl cn ce fs fc w₀ room₀ []
+        work_then : w₂ ≡ with o s c fs fc w₀ room₀ []
         unfolding nets_of
         work_then =
             all.work ∙ ap₂ (λ (w : List ℕ) (ms : List Met). put w r.behind (in_numbers ms)) we met_are
             ∙ ap (λ (x : NetPlaces). put (netted lines s c w₀) x.behind (in_numbers scene.met)) re
             ∙ ap (put (netted lines s c w₀) (met_at s c)) (sym (append-nil (in_numbers scene.met)))
 
-        linked_is : linked_by (nets_of lines s c) (length scene.met) (chains s c) (with o sc sl sn se cc cl cn ce fs fc w₀ room₀ []) ≡ worked o s c w₀
+        linked_is : linked_by (nets_of lines s c) (length scene.met) (chains s c) (with o s c fs fc w₀ room₀ []) ≡ worked o s c w₀
         unfolding linked_by nets_of worked scene_of
         linked_is =
-            let w = with o sc sl sn se cc cl cn ce fs fc w₀ room₀ [] in
-            let base : met_at s c ≤ length (netted lines s c w₀) = omega (arith, ok.room, length_held lines sc sl sn se cc cl cn ce fs fc w₀ room₀) in
+            let w = with o s c fs fc w₀ room₀ [] in
+            let base : met_at s c ≤ length (netted lines s c w₀) = omega (arith, ok.room, length_held lines s c fs fc w₀ room₀) in
             let end : met_at s c + 5 * length scene.met ≡ met_at s c + length (in_numbers scene.met) = omega (arith, length_in_numbers scene.met) in
             let fit : met_at s c + length (in_numbers scene.met) ≤ length (netted lines s c w₀) = omega
-            (arith, length_in_numbers scene.met, few, ok.room, length_held lines sc sl sn se cc cl cn ce fs fc w₀ room₀) in
+            (arith, length_in_numbers scene.met, few, ok.room, length_held lines s c fs fc w₀ room₀) in
             ap₂ (λ (es fs : List ℕ). put w (met_at s c + 5 * length scene.met) (links_of (chains s c) (pairs es) (pairs fs) (run w (met_at s c) (5 * length scene.met))))
-            (run_long w (subject_at s c) (2 * length subjects) ∙ subjects_found o sc sl sn se cc cl cn ce fs fc w₀ room₀ [])
-            (run_long w (cond lines (length cc / 2) (cutter_at s c)) (2 * length cutters) ∙ cutters_found o sc sl sn se cc cl cn ce fs fc w₀ room₀ [])
+            (run_long w (subject_at s c) (2 * length subjects) ∙ subjects_found o s c fs fc w₀ room₀ [])
+            (run_long w (cond lines (length c.coords / 2) (cutter_at s c)) (2 * length cutters) ∙ cutters_found o s c fs fc w₀ room₀ [])
             ∙ ap₂ (λ (es fs : List Edge). put w (met_at s c + 5 * length scene.met) (links_of (chains s c) es fs (run w (met_at s c) (5 * length scene.met))))
             (pairs_ends subjects) (pairs_ends cutters)
-            ∙ ap₂ (λ (i : ℕ) (ms : List ℕ). put w i (links_of (chains s c) subjects cutters ms)) end (met_found o sc sl sn se cc cl cn ce fs fc w₀ room₀ [])
+            ∙ ap₂ (λ (i : ℕ) (ms : List ℕ). put w i (links_of (chains s c) subjects cutters ms)) end (met_found o s c fs fc w₀ room₀ [])
             ∙ ap (λ (v : List ℕ). put (put (netted lines s c w₀) (met_at s c) v) (met_at s c + length (in_numbers scene.met)) (links_in o s c)) (append-nil (in_numbers scene.met))
             ∙ put_append (netted lines s c w₀) (met_at s c) base (in_numbers scene.met) (links_in o s c) fit
 
@@ -374,10 +368,10 @@ module _ (o : Settings) (sc : List Float) (sl sn se : List ℕ) (cc : List Float
           work_is : w₃ ≡ worked o s c w₀
           work_is =
               le.1 ∙ ap₂ (λ (x : NetPlaces) (w : List ℕ). linked_by x f.met h w) re work_then
-              ∙ ap₂ (λ (i j : ℕ). linked_by (nets_of lines s c) i j (with o sc sl sn se cc cl cn ce fs fc w₀ room₀ [])) count chains_are ∙ linked_is
+              ∙ ap₂ (λ (i j : ℕ). linked_by (nets_of lines s c) i j (with o s c fs fc w₀ room₀ [])) count chains_are ∙ linked_is
 
           held : Holds o s c g w₃
-          held = rw (regions_are, work_is) (worked_holds o sc sl sn se cc cl cn ce fs fc w₀ room₀ ok.room few ok.most)
+          held = rw (regions_are, work_is) (worked_holds o s c fs fc w₀ room₀ ok.room few ok.most)
 
           -- what `crowded` asks
           crowded_asks : LinkedIn w₃ g
@@ -404,11 +398,19 @@ module _ (o : Settings) (sc : List Float) (sl sn se : List ℕ) (cc : List Float
             all_found : b ≡ false → leaves (Ok (record { regions = g; next = placed / 2 + f.points })) oc₂ w₃ ≡ found_of o s c oc w₀
             unfolding found_as scene_of
             all_found e =
-                let half : placed / 2 + f.points ≡ length (sc ++ cc ++ added_by scene.met) / 2 =
-                omega (arith, ap (λ (x : MeetFound). x.points) all.found, ap (λ (ms : List Met). length (added_by ms)) met_are, len, length-append (sc ++ cc) (added_by scene.met), fs.even, fc.even) in
+                let half : placed / 2 + f.points ≡ length (s.coords ++ c.coords ++ added_by scene.met) / 2 =
+                omega (
+                  arith,
+                  ap (λ (x : MeetFound). x.points) all.found,
+                  ap (λ (ms : List Met). length (added_by ms)) met_are,
+                  len,
+                  length-append (s.coords ++ c.coords) (added_by scene.met),
+                  fs.even,
+                  fc.even,
+                ) in
                 let coords : oc₂ ≡ front oc scene.coords =
                 all.coords ∙ ap₂ (λ (l : List Float) (ms : List Met). put l placed (added_by ms)) oe met_are
-                ∙ put_front placed oc (sc ++ cc) (added_by scene.met) len fits in
+                ∙ put_front placed oc (s.coords ++ c.coords) (added_by scene.met) len fits in
                 ap₂ (λ (x : Regions) (i : ℕ). leaves (Ok (record { regions = x; next = i })) oc₂ w₃) regions_are half
                 ∙ ap₂ (leaves (Ok (found_as o s c))) coords work_is
                 ∙ sym (all_left o s c oc w₀ (sym end_code ∙ ap (λ (u : Bool). cond u 9 0) e))

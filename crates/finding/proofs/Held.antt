@@ -1,19 +1,18 @@
 -- What the working list holds where nothing is refused: both nets, the meetings, and what is put behind these. Assumes nothing.
 use mathlib.Core.Path.{◌≡◌, refl, sym, ap, ◌∙◌}
 use mathlib.Core.Bool.{Bool, false, cond}
-use mathlib.Core.List.{List, [], ◌++◌, append_assoc}
+use mathlib.Core.List.{List, ◌++◌, append_assoc}
 use Prim.Native.Nat.{ℕ, ◌+◌, ◌*◌, ◌≤◌}
 use native.Mathlib.Omega.{arith}
 use lib.Dec.{eqb}
 use lib.ListN.{length, take, drop, length-append}
 use lib.Seq.{take_at, drop_at, drop-drop}
-use lib.Ieee.{Float}
 use Rattle.lists.specs.Regions.{run, front, put}
 use Rattle.lists.proofs.Regions.{length_put, drop_put, run_before}
 use Rattle.cutting.specs.Lent.{flat_edges}
 use Rattle.cutting.proofs.Pairs.{pairs_ends}
 use Rattle.settings.specs.declared.Settings.{Settings}
-use Rattle.entry.specs.Mesh.{Mesh, mesh, node_count}
+use Rattle.entry.specs.Mesh.{Mesh, node_count}
 use Rattle.rules.specs.Neighbours.{subject_net, cutter_net}
 use Rattle.rules.specs.Meetings.{Met, scene_of}
 use Rattle.rules.specs.Operations.{scene_for}
@@ -78,22 +77,16 @@ pub record Low (o : Settings) (s c : Mesh) (g : Regions) : Type 0 where
 
 -- ---- the regions, with zs behind the meetings
 
-module _ (o : Settings) (sc : List Float) (sl sn se : List ℕ) (cc : List Float) (cl cn ce : List ℕ) (fs : Fit false (mesh sc sl sn se [] [])) (fc : Fit (eqb o.op 5) (mesh cc cl cn ce [] []))
-    (w₀ : List ℕ) (room : NetRoom 0 (mesh sc sl sn se [] []) (mesh cc cl cn ce [] []) (length w₀)) where
+module _ (o : Settings) (s c : Mesh) (fs : Fit false s) (fc : Fit (eqb o.op 5) c)
+    (w₀ : List ℕ) (room : NetRoom 0 s c (length w₀)) where
   abbrev lines : Bool
   lines = eqb o.op 5
-
-  abbrev s : Mesh
-  s = mesh sc sl sn se [] []
-
-  abbrev c : Mesh
-  c = mesh cc cl cn ce [] []
 
   abbrev met : List Met
   met = (scene_for o s c).met
 
   base : met_at s c ≤ length (netted lines s c w₀)
-  base = omega (arith, room, length_held lines sc sl sn se cc cl cn ce fs fc w₀ room)
+  base = omega (arith, room, length_held lines s c fs fc w₀ room)
 
   abbrev pub with : List ℕ → List ℕ
   with zs = put (netted lines s c w₀) (met_at s c) (in_numbers met ++ zs)
@@ -102,21 +95,21 @@ module _ (o : Settings) (sc : List Float) (sl sn se : List ℕ) (cc : List Float
     before : (a n : ℕ) → a + n ≤ met_at s c → run (with zs) a n ≡ run (netted lines s c w₀) a n
     before a n h = run_before (netted lines s c w₀) (met_at s c) base (in_numbers met ++ zs) a n h
 
-    pub entries_found : run (with zs) (node_count c) (length cn) ≡ cutter_entries s c
-    entries_found = before (node_count c) (length cn) (omega arith) ∙ entries_held lines sc sl sn se cc cl cn ce fs fc w₀ room
+    pub entries_found : run (with zs) (node_count c) (length c.nodes) ≡ cutter_entries s c
+    entries_found = before (node_count c) (length c.nodes) (omega arith) ∙ entries_held lines s c fs fc w₀ room
 
-    pub copied_found : run (with zs) (copied_at s c) (length sn) ≡ sn
-    copied_found = before (copied_at s c) (length sn) (omega arith) ∙ copied_held lines sc sl sn se cc cl cn ce fs fc w₀ room
+    pub copied_found : run (with zs) (copied_at s c) (length s.nodes) ≡ s.nodes
+    copied_found = before (copied_at s c) (length s.nodes) (omega arith) ∙ copied_held lines s c fs fc w₀ room
 
     pub subjects_found : run (with zs) (subject_at s c) (2 * length (subject_net s).edges) ≡ flat_edges (subject_net s).edges
     subjects_found =
-        before (subject_at s c) (2 * length (subject_net s).edges) (omega (arith, (subjects_before lines sc sl sn se cc cl cn ce fs fc w₀ room).0))
-        ∙ subjects_held lines sc sl sn se cc cl cn ce fs fc w₀ room
+        before (subject_at s c) (2 * length (subject_net s).edges) (omega (arith, (subjects_before lines s c fs fc w₀ room).0))
+        ∙ subjects_held lines s c fs fc w₀ room
 
     pub cutters_found : run (with zs) (cond lines (node_count c) (cutter_at s c)) (2 * length (cutter_net lines s c).edges) ≡ flat_edges (cutter_net lines s c).edges
     cutters_found =
-        before (cond lines (node_count c) (cutter_at s c)) (2 * length (cutter_net lines s c).edges) (omega (arith, (cutters_before lines sc sl sn se cc cl cn ce fs fc w₀ room).0))
-        ∙ cutters_held lines sc sl sn se cc cl cn ce fs fc w₀ room
+        before (cond lines (node_count c) (cutter_at s c)) (2 * length (cutter_net lines s c).edges) (omega (arith, (cutters_before lines s c fs fc w₀ room).0))
+        ∙ cutters_held lines s c fs fc w₀ room
 
     pub met_found : run (with zs) (met_at s c) (5 * length met) ≡ in_numbers met
     met_found = run_first (netted lines s c w₀) (met_at s c) base (in_numbers met) zs (5 * length met) (length_in_numbers met)
@@ -132,7 +125,7 @@ module _ (o : Settings) (sc : List Float) (sl sn se : List ℕ) (cc : List Float
     pub length_worked : length (worked o s c w₀) ≡ length w₀
     unfolding worked
     length_worked =
-        let same = length_held lines sc sl sn se cc cl cn ce fs fc w₀ room in
+        let same = length_held lines s c fs fc w₀ room in
         length_put (netted lines s c w₀) (met_at s c) base (in_numbers met ++ links_in o s c)
         (omega (arith, more, few, same, length-append (in_numbers met) (links_in o s c), length_in_numbers met, links_long)) ∙ same
 
@@ -140,8 +133,8 @@ module _ (o : Settings) (sc : List Float) (sl sn se : List ℕ) (cc : List Float
     pub regions_lie : Lies (found_as o s c).regions (length w₀)
     unfolding found_as regions_by nets_of
     regions_lie =
-        let a = (subjects_before lines sc sl sn se cc cl cn ce fs fc w₀ room).0 in
-        let b = (cutters_before lines sc sl sn se cc cl cn ce fs fc w₀ room).0 in
+        let a = (subjects_before lines s c fs fc w₀ room).0 in
+        let b = (cutters_before lines s c fs fc w₀ room).0 in
         record {
           subject_edges = record { rises = omega arith; fits = omega (arith, more, a) };
           subject_entries = record { rises = omega arith; fits = omega (arith, more) };
@@ -154,8 +147,8 @@ module _ (o : Settings) (sc : List Float) (sl sn se : List ℕ) (cc : List Float
     pub regions_low : Low o s c (found_as o s c).regions
     unfolding found_as regions_by nets_of scene_of
     regions_low =
-        let a = subjects_before lines sc sl sn se cc cl cn ce fs fc w₀ room in
-        let b = cutters_before lines sc sl sn se cc cl cn ce fs fc w₀ room in
+        let a = subjects_before lines s c fs fc w₀ room in
+        let b = cutters_before lines s c fs fc w₀ room in
         record {
           lies = record {
             subject_edges = record { rises = omega arith; fits = omega (arith, a.0) };
@@ -179,9 +172,9 @@ module _ (o : Settings) (sc : List Float) (sl sn se : List ℕ) (cc : List Float
         record {
           lies = rw length_worked regions_lie;
           subject_edges_lem = run_long w (subject_at s c) (2 * length (subject_net s).edges) ∙ subjects_found zs;
-          subject_entries_lem = run_long w (copied_at s c) (length sn) ∙ copied_found zs;
+          subject_entries_lem = run_long w (copied_at s c) (length s.nodes) ∙ copied_found zs;
           cutter_edges_lem = run_long w (cond lines (node_count c) (cutter_at s c)) (2 * length (cutter_net lines s c).edges) ∙ cutters_found zs;
-          cutter_entries_lem = run_long w (node_count c) (length cn) ∙ entries_found zs;
+          cutter_entries_lem = run_long w (node_count c) (length c.nodes) ∙ entries_found zs;
           met = run_long w (met_at s c) (5 * length met) ∙ met_found zs;
           links = run_long w (met_at s c + 5 * length met) (2 * (chains s c + length met)) ∙ ap (run w (met_at s c + 5 * length met)) (sym links_long) ∙ behind_found zs;
           few = omega (arith, few, most);

@@ -11,7 +11,7 @@ use Rattle.lists.proofs.Regions.{length_put, run_before, run_put}
 use Rattle.cutting.specs.Edges.{Edge}
 use Rattle.cutting.specs.Lent.{flat_edges}
 use Rattle.cutting.proofs.Pairs.{ends_length}
-use Rattle.entry.specs.Mesh.{Mesh, mesh, node_count}
+use Rattle.entry.specs.Mesh.{Mesh, node_count}
 use Rattle.rules.specs.Neighbours.{subject_net, cutter_net}
 use Rattle.strips.specs.Things.{thing_count}
 use Rattle.strips.specs.Index.{index_size, index_of, Indexed}
@@ -26,14 +26,8 @@ use Rattle.indexing.proofs.Written.{Built}
 use Rattle.finding.specs.Nets.{Fit, NetRoom, cutter_entries, copied_at, subject_at, cutter_at, index_at, met_at, between, edges_of, nets_of, edged, netted}
 use Rattle.finding.proofs.Whole.{length_edged, entries_edged, copied_edged, subjects_edged, cutters_edged, subjects_before, cutters_before}
 
-module _ (lines : Bool) (sc : List Float) (sl sn se : List ℕ) (cc : List Float) (cl cn ce : List ℕ) (fs : Fit false (mesh sc sl sn se [] [])) (fc : Fit lines (mesh cc cl cn ce [] [])) (w₀ : List ℕ)
-    (room : NetRoom 0 (mesh sc sl sn se [] []) (mesh cc cl cn ce [] []) (length w₀)) where
-  abbrev s : Mesh
-  s = mesh sc sl sn se [] []
-
-  abbrev c : Mesh
-  c = mesh cc cl cn ce [] []
-
+module _ (lines : Bool) (s c : Mesh) (fs : Fit false s) (fc : Fit lines c) (w₀ : List ℕ)
+    (room : NetRoom 0 s c (length w₀)) where
   abbrev subjects : List Edge
   subjects = (subject_net s).edges
 
@@ -41,59 +35,59 @@ module _ (lines : Bool) (sc : List Float) (sl sn se : List ℕ) (cc : List Float
   cutters = (cutter_net lines s c).edges
 
   abbrev ix : List ℕ
-  ix = index_of (sc ++ cc) (flat_edges cutters) []
+  ix = index_of (s.coords ++ c.coords) (flat_edges cutters) []
 
   things : thing_count (flat_edges cutters) [] ≡ length cutters
   unfolding thing_count
   things = omega (arith, ends_length cutters)
 
   index_long : length ix ≡ index_size (length cutters)
-  index_long = length_index (sc ++ cc) (flat_edges cutters) [] ∙ ap index_size things
+  index_long = length_index (s.coords ++ c.coords) (flat_edges cutters) [] ∙ ap index_size things
 
   -- it has its place before the meetings
   pub index_fits_lem : index_at s c + index_size (length cutters) ≤ met_at s c
-  index_fits_lem = omega (arith, size_low (length cutters), (cutters_before lines sc sl sn se cc cl cn ce fs fc w₀ room).2)
+  index_fits_lem = omega (arith, size_low (length cutters), (cutters_before lines s c fs fc w₀ room).2)
 
   at_work : index_at s c ≤ length (edged lines s c w₀)
-  at_work = omega (arith, room, length_edged lines sc sl sn se cc cl cn ce fs fc w₀ room)
+  at_work = omega (arith, room, length_edged lines s c fs fc w₀ room)
 
   pub length_held : length (netted lines s c w₀) ≡ length w₀
   unfolding netted
   length_held =
-      let same = length_edged lines sc sl sn se cc cl cn ce fs fc w₀ room in
+      let same = length_edged lines s c fs fc w₀ room in
       length_put (edged lines s c w₀) (index_at s c) at_work ix (omega (arith, index_long, index_fits_lem, room, same)) ∙ same
 
   before : (a n : ℕ) → a + n ≤ index_at s c → run (netted lines s c w₀) a n ≡ run (edged lines s c w₀) a n
   unfolding netted
   before a n h = run_before (edged lines s c w₀) (index_at s c) at_work ix a n h
 
-  pub entries_held : run (netted lines s c w₀) (node_count c) (length cn) ≡ cutter_entries s c
-  entries_held = before (node_count c) (length cn) (omega arith) ∙ entries_edged lines sc sl sn se cc cl cn ce fs fc w₀ room
+  pub entries_held : run (netted lines s c w₀) (node_count c) (length c.nodes) ≡ cutter_entries s c
+  entries_held = before (node_count c) (length c.nodes) (omega arith) ∙ entries_edged lines s c fs fc w₀ room
 
-  pub copied_held : run (netted lines s c w₀) (copied_at s c) (length sn) ≡ sn
-  copied_held = before (copied_at s c) (length sn) (omega arith) ∙ copied_edged lines sc sl sn se cc cl cn ce fs fc w₀ room
+  pub copied_held : run (netted lines s c w₀) (copied_at s c) (length s.nodes) ≡ s.nodes
+  copied_held = before (copied_at s c) (length s.nodes) (omega arith) ∙ copied_edged lines s c fs fc w₀ room
 
   pub subjects_held : run (netted lines s c w₀) (subject_at s c) (2 * length subjects) ≡ flat_edges subjects
   subjects_held =
-      before (subject_at s c) (2 * length subjects) (subjects_before lines sc sl sn se cc cl cn ce fs fc w₀ room).0 ∙ subjects_edged lines sc sl sn se cc cl cn ce fs fc w₀ room
+      before (subject_at s c) (2 * length subjects) (subjects_before lines s c fs fc w₀ room).0 ∙ subjects_edged lines s c fs fc w₀ room
 
   pub cutters_held : run (netted lines s c w₀) (cond lines (node_count c) (cutter_at s c)) (2 * length cutters) ≡ flat_edges cutters
   cutters_held =
-      before (cond lines (node_count c) (cutter_at s c)) (2 * length cutters) (cutters_before lines sc sl sn se cc cl cn ce fs fc w₀ room).0
-      ∙ cutters_edged lines sc sl sn se cc cl cn ce fs fc w₀ room
+      before (cond lines (node_count c) (cutter_at s c)) (2 * length cutters) (cutters_before lines s c fs fc w₀ room).0
+      ∙ cutters_edged lines s c fs fc w₀ room
 
   index_held : run (netted lines s c w₀) (index_at s c) (index_size (length cutters)) ≡ ix
   unfolding netted
   index_held = run_put (edged lines s c w₀) (index_at s c) at_work ix (index_size (length cutters)) index_long
 
   -- it is the index of the cutter's edges as they stand there
-  pub cutters_indexed : Indexed (sc ++ cc) (run (netted lines s c w₀) (cond lines (node_count c) (cutter_at s c)) (2 * length cutters)) []
+  pub cutters_indexed : Indexed (s.coords ++ c.coords) (run (netted lines s c w₀) (cond lines (node_count c) (cutter_at s c)) (2 * length cutters)) []
       (run (netted lines s c w₀) (index_at s c) (index_size (length cutters)))
   cutters_indexed =
       record {
         rising = λ i h. absurd (omega (arith, h));
-        few = omega (arith, ap (λ (l : List ℕ). thing_count l []) cutters_held, things, (cutters_before lines sc sl sn se cc cl cn ce fs fc w₀ room).1);
-        is = index_held ∙ ap (λ (l : List ℕ). index_of (sc ++ cc) l []) (sym cutters_held);
+        few = omega (arith, ap (λ (l : List ℕ). thing_count l []) cutters_held, things, (cutters_before lines s c fs fc w₀ room).1);
+        is = index_held ∙ ap (λ (l : List ℕ). index_of (s.coords ++ c.coords) l []) (sym cutters_held);
       }
 
   -- ---- `nets`
@@ -103,7 +97,7 @@ module _ (lines : Bool) (sc : List Float) (sl sn se : List ℕ) (cc : List Float
     unfolding edges_of
     lent =
         ap₂ (λ (w : List ℕ) (x : NetPlaces). run_in w x.cutter.edges) got.1 got.0
-        ∙ run_long (edged lines s c w₀) (cond lines (node_count c) (cutter_at s c)) (2 * length cutters) ∙ cutters_edged lines sc sl sn se cc cl cn ce fs fc w₀ room
+        ∙ run_long (edged lines s c w₀) (cond lines (node_count c) (cutter_at s c)) (2 * length cutters) ∙ cutters_edged lines s c fs fc w₀ room
 
     count_lent : thing_count (run_in w₁ r.cutter.edges) [] ≡ length cutters
     count_lent = ap (λ (l : List ℕ). thing_count l []) lent ∙ things
@@ -114,7 +108,7 @@ module _ (lines : Bool) (sc : List Float) (sl sn se : List ℕ) (cc : List Float
 
     before_index : Within r.cutter.edges r.index.from
     unfolding edges_of
-    before_index = rw got.0 (record { rises = omega arith; fits = (cutters_before lines sc sl sn se cc cl cn ce fs fc w₀ room).0 })
+    before_index = rw got.0 (record { rises = omega arith; fits = (cutters_before lines s c fs fc w₀ room).0 })
 
     -- what `index_run` asks
     pub index_asked : RunAsks w₁ r.cutter.edges [] r.index.from
@@ -122,11 +116,11 @@ module _ (lines : Bool) (sc : List Float) (sl sn se : List ℕ) (cc : List Float
         record {
           lies = before_index;
           rising = λ i h. absurd (omega (arith, h));
-          few = omega (arith, count_lent, (cutters_before lines sc sl sn se cc cl cn ce fs fc w₀ room).1);
-          room = omega (arith, ap index_size count_lent, from_is, index_fits_lem, room, ap length got.1, length_edged lines sc sl sn se cc cl cn ce fs fc w₀ room);
+          few = omega (arith, count_lent, (cutters_before lines s c fs fc w₀ room).1);
+          room = omega (arith, ap index_size count_lent, from_is, index_fits_lem, room, ap length got.1, length_edged lines s c fs fc w₀ room);
         }
 
-    pub nets_end : (coords : List Float) → coords ≡ sc ++ cc → (x : Run) (w₂ : List ℕ) → Built coords w₁ r.cutter.edges [] r.index.from x w₂
+    pub nets_end : (coords : List Float) → coords ≡ s.coords ++ c.coords → (x : Run) (w₂ : List ℕ) → Built coords w₁ r.cutter.edges [] r.index.from x w₂
         → (record { subject = r.subject; cutter = r.cutter; index = x; behind = r.behind } ≡ nets_of lines s c) × (w₂ ≡ netted lines s c w₀)
     unfolding edges_of nets_of netted
     nets_end coords is x w₂ made =

@@ -74,24 +74,24 @@ module _ (o : Settings) (s c : Mesh) where
       pub found_lies : Lies (found_as o s c).regions (length w₀)
       found_lies =
           rw (found_bare o s c) at
-          (regions_lie o s.coords s.layers s.nodes s.ends c.coords c.layers c.nodes c.ends ok.subject ok.cutter w₀ room₀ ok.room few)
+          (regions_lie o (bare s) (bare c) ok.subject ok.cutter w₀ room₀ ok.room few)
 
       pub worked_long : length (worked o s c w₀) ≡ length w₀
       worked_long =
           rw (worked_bare o s c w₀) at
-          (length_worked o s.coords s.layers s.nodes s.ends c.coords c.layers c.nodes c.ends ok.subject ok.cutter w₀ room₀ ok.room few)
+          (length_worked o (bare s) (bare c) ok.subject ok.cutter w₀ room₀ ok.room few)
 
       pub found_low : Low o s c (found_as o s c).regions
       found_low =
           rw (found_bare o s c) at
-          (low_bare o s c _ (regions_low o s.coords s.layers s.nodes s.ends c.coords c.layers c.nodes c.ends ok.subject ok.cutter w₀ room₀ ok.room few))
+          (low_bare o s c _ (regions_low o (bare s) (bare c) ok.subject ok.cutter w₀ room₀ ok.room few))
 
       -- and hold both nets, the meetings and their links
       pub found_holds : Holds o s c (found_as o s c).regions (worked o s c w₀)
       found_holds =
           rw (found_bare o s c, worked_bare o s c w₀) at
           (holds_bare o s c _ _
-          (worked_holds o s.coords s.layers s.nodes s.ends c.coords c.layers c.nodes c.ends ok.subject ok.cutter w₀ room₀ ok.room few ok.most))
+          (worked_holds o (bare s) (bare c) ok.subject ok.cutter w₀ room₀ ok.room few ok.most))
 
   -- the contract of `find`, for the meshes without kinds and families as it has them
   module _ (w₀ : List ℕ) (ok : FindAsks o (bare s) (bare c) (length w₀)) (oc oc' : List Float) (w' : List ℕ) (r : Result Found Refusal)

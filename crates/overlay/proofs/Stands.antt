@@ -82,7 +82,7 @@ module _ (o : Settings) (s c : Mesh) (g : Regions) (w : List ℕ) (h : Holds o s
 
   renumbered_cells : renumbered (weld s c) (cells_of c) ≡ runs_of (run_in w g.cutter.entries) c.ends
   renumbered_cells =
-      ap (renumbered (weld s c)) (cells_lists c.coords c.layers c.nodes c.ends c.kinds c.families)
+      ap (renumbered (weld s c)) (cells_lists c)
       ∙ sym (cells_renumbered (λ k. get_or (weld s c) k 0) c.nodes c.ends) ∙ ap (λ (l : List ℕ). runs_of l c.ends) (sym h.cutter_entries_lem)
 
   cutter_cells_lem : sc.cutter.cells ≡ runs_of (run_in w g.cutter.entries) c.ends

@@ -19,10 +19,9 @@ use Rattle.rules.proofs.Weld.{order_below}
 use Rattle.snap.specs.Steps.{Below}
 
 -- only coordinates, layers and node numbers count
-pub weld_lists : (sc : List Float) (sl sn se sk sf : List ℕ) (cc : List Float) (cl cn ce ck cf : List ℕ)
-    → weld (mesh sc sl sn se sk sf) (mesh cc cl cn ce ck cf) ≡ weld (mesh sc sl sn [] [] []) (mesh cc cl cn [] [] [])
+pub weld_lists : (s c : Mesh) → weld s c ≡ weld (mesh s.coords s.layers s.nodes [] [] []) (mesh c.coords c.layers c.nodes [] [] [])
 unfolding weld used_nodes sorted_indices_for
-weld_lists sc sl sn se sk sf cc cl cn ce ck cf = refl
+weld_lists s c = refl
 
 -- ---- so each number is that of a node of one of the meshes
 
