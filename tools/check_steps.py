@@ -4,9 +4,10 @@ source and in the compiled libraries. Run by hand; it is no part of the gate.
 
 usage: python3 tools/check_steps.py [LIBRARY.a ..]      (default: makes liboverlay_c.a and libgeometry_c.a by `rt lib` and looks at both)
 
-Source: the steps and the functions that take one have neither `/` nor `%`, and nothing in the library takes a remainder by anything but a literal.
-Compiled: most of those functions are inlined, so every function of a library is disassembled. One that has a `div` or `idiv` must be one from which
-no call leads to a step. Exit status 1 where there is a fault, 2 where nothing can be looked at."""
+Source: the steps and the functions that take one have neither `/` nor `%`, and nothing in the library takes a remainder by anything but a literal (a
+constant's, by its name, too) or a power of two that is shifted there. Compiled: most of those functions are inlined, so every function of a library is
+disassembled. One that has a `div` or `idiv` must be one from which no call leads to a step; who makes an iterator calls its `next`, whatever walks it.
+Exit status 1 where there is a fault, 2 where nothing can be looked at."""
 import pathlib
 import re
 import subprocess
@@ -17,10 +18,13 @@ STEPS = {("corners", "after"), ("corners", "previous"), ("corners", "next_corner
 FUNCTION = re.compile(r'^( *)(?:pub(?:\(crate\))? )?(?:extern "C" )?fn (\w+)')
 CALL = re.compile(r"((?:\w+::)*)(\w+)\(")
 WHOLE_DIVISION = re.compile(r"i?div[bwlq]?$")  # not divsd, divpd: a division of floats
+ITERATOR = re.compile(r"^impl(?:<[^>]*>)? Iterator for (\w+)", re.M)
+NUMBER = re.compile(r"^(?:pub(?:\(crate\))? )?const (\w+): \w+ = (\d[\w.]*);", re.M)
+OTHER_REMAINDER = re.compile(r"%\s*(?!\(1u\d+ << \w+\))[^\s\d]")
 
 
 def functions_of(path):
-    """(name, body) of each function of a source file, without comments and contracts"""
+    """(name, what it gives, body) of each function of a source file, without comments and contracts"""
     lines = [re.sub(r"//.*", "", line).rstrip() for line in path.read_text().splitlines()]
     for start, line in enumerate(lines):
         found = FUNCTION.match(line)
@@ -29,17 +33,22 @@ def functions_of(path):
         indent = found.group(1)
         opening = next(at for at in range(start, len(lines)) if lines[at] == indent + "{" or re.match(rf"{indent}\S.*\)(?: -> .+)? {{$", lines[at]))
         closing = next(at for at in range(opening, len(lines)) if lines[at] == indent + "}")
-        yield found.group(2), "\n".join(lines[opening + 1:closing])
+        gives = re.search(r"-> (.+?)(?: {)?$", "\n".join(line for line in lines[start:opening + 1] if not re.match(r" *(?:requires|ensures)\b", line)), re.M)
+        yield found.group(2), gives.group(1) if gives else "", "\n".join(lines[opening + 1:closing])
 
 
 def read_source():
     """the bodies of all functions by (crate, name), and what each of them calls"""
-    bodies, named, imports = {}, {}, {}
+    bodies, named, imports, made, iterators = {}, {}, {}, {}, {}
     for path in sorted(ROOT.glob("crates/*/src/**/*.rt")):
         crate = path.relative_to(ROOT).parts[1]
+        numbers = dict(NUMBER.findall(path.read_text()))
+        iterators.setdefault(crate, set()).update(ITERATOR.findall(path.read_text()))
         brought = {name: way.split("::")[0] for way, names in re.findall(r"^use ([\w:]+)::(\w+|\{[\w\s,]*\});", path.read_text(), re.M) for name in re.findall(r"\w+", names)}
-        for name, body in functions_of(path):
+        for name, gives, body in functions_of(path):
+            body = re.sub(r"\w+", lambda word: numbers.get(word.group(), word.group()), body)
             bodies[crate, name] = bodies.get((crate, name), "") + body
+            made.setdefault((crate, name), set()).update(re.findall(r"\w+", gives), re.findall(r"(\w+) {", body))
             named.setdefault(name, set()).add((crate, name))
             imports.setdefault((crate, name), {}).update(brought)
     calls = {}
@@ -48,6 +57,8 @@ def read_source():
         for way, callee in CALL.findall(body):
             owner = way.split("::")[0] if way else imports[crate, name].get(callee, crate)
             calls[crate, name] |= {(owner, callee)} & bodies.keys() or named.get(callee, set())
+        if made[crate, name] & iterators[crate]:
+            calls[crate, name].add((crate, "next"))
     return bodies, calls
 
 
@@ -88,7 +99,7 @@ def check_source(bodies, calls):
     faults = [f"{crate}::{name}: no such function" for crate, name in sorted(STEPS - bodies.keys())]
     takers = {one for one in bodies if one in STEPS or calls[one] & STEPS}
     faults += [f"{crate}::{name}: a division or a remainder in the source" for crate, name in sorted(takers) if re.search(r"[/%]", bodies[crate, name])]
-    faults += [f"{crate}::{name}: a remainder by what is no literal" for crate, name in sorted(bodies) if re.search(r"%\s*[^\s\d]", bodies[crate, name])]
+    faults += [f"{crate}::{name}: a remainder by what is no literal" for crate, name in sorted(bodies) if OTHER_REMAINDER.search(bodies[crate, name])]
     print(f"source: {len(STEPS)} steps, {len(takers - STEPS)} functions that take one: " + ", ".join(f"{c}::{n}" for c, n in sorted(takers - STEPS)))
     return faults
 
