@@ -13,6 +13,7 @@ ghost use Rattle.dart_table.specs.Table.{Darts, darts, table_in, with_darts, wit
 use arrayvec::ArrayVec;
 use cutting::Slot;
 use keys::SortedKey;
+use lists::insert_at;
 use refusals::Refusal;
 use std::marker::Model;
 
@@ -106,14 +107,16 @@ impl DartTable {
         self.outline.as_slice()
     }
 
-    // Puts a slot in its place.
+    // Puts a slot in its place. Not by the library's `insert`: the rotation that it does calls memmove, which the C archive asks of nobody.
     #[tactic(auto, using(lists::proofs::InPlace::put_among))]
     fn insert(&mut self, coords: &[f64], slot: Slot)
         requires { length self.old.slots < 1024 }
         ensures { self.new ≡ darts (insert (stands_before coords.now) slot self.old.slots) self.old.outline }
     {
-        let k = place(coords, self.slots.as_slice(), slot).unwrap_or(self.slots.len());
-        self.slots.insert(k, slot);
+        let n = self.slots.len();
+        let k = place(coords, self.slots.as_slice(), slot).unwrap_or(n);
+        self.slots.push(slot);
+        insert_at(self.slots.as_mut_slice(), n, k, slot);
     }
 
     // Adds the slot from a to b, and the one from b to a, marked if `back` is true. An edge comes as its two nodes, here and below, which are looked at one by one: a

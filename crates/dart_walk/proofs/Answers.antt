@@ -1,10 +1,11 @@
 -- What a walk answers and writes. Assumes nothing.
 use mathlib.Core.Path.{◌≡◌, ap, ◌∙◌, subst}
-use mathlib.Core.List.{List, []}
+use mathlib.Core.List.{List, [], ◌++◌, append-nil}
 use Prim.Native.Nat.{ℕ, ◌≤◌}
 use native.Mathlib.Omega.{arith}
-use lib.ListN.{length}
-use Rattle.lists.specs.Regions.{zeros}
+use lib.ListN.{length, drop_of_length-le}
+use Rattle.lists.specs.Regions.{zeros, front, put, copied}
+use Rattle.lists.proofs.Regions.{copied_fits}
 use Rattle.cutting.specs.declared.Slot.{Slot}
 use Rattle.cutting.specs.Walk.{Next, walk_from, walk_with, walk, starts, srcs, dsts, marks_of}
 use Rattle.cutting.specs.Lent.{pairs}
@@ -16,6 +17,11 @@ use Rattle.std.proofs.Common.{true, false, Result, Ok, Err, is_ok}
 use Rattle.refusals.specs.declared.Refusal.{Refusal}
 use Rattle.refusals.specs.Numbers.{by_number}
 use Rattle.dart_walk.specs.declared.Counts.{Counts}
+
+-- a list as long as the slots, which all of them are copied into
+pub all_copied : (w t u : List Slot) → length w ≡ length t → u ≡ copied w 0 t → u ≡ t
+unfolding put front
+all_copied w t u e is = is ∙ copied_fits w 0 t (omega (arith, e)) ∙ ap (λ (l : List Slot). t ++ l) (drop_of_length-le w {i = length t} (omega (arith, e))) ∙ append-nil t
 
 -- ---- the walk of a copy of the slots t, from the heap that the outline's darts make
 

@@ -12,6 +12,7 @@ ghost use Rattle.dart_walk.specs.Answer.{Followed, reverse_in, Room, Written, an
 use arrayvec::ArrayVec;
 use cutting::Slot;
 use dart_table::find_slot;
+use lists::copy_at;
 use refusals::Refusal;
 
 // How many pieces a cell comes to, and corners in them.
@@ -48,19 +49,17 @@ fn next_open(slots: &[Slot], a: u32, r: usize) -> Option<usize>
         .or_else(|| if slots[r].marked { None } else { Some(r) })
 }
 
-// The heap that a walk begins with, its end first as the definition has it: the first slots of the outline's darts. The number of the slots stands for none,
-// as on the definition's heap, which is this list: a list of options would be another.
+// Puts onto an empty heap what a walk begins with, the heap's end first as the definition has it: the first slots of the outline's darts. The number of the slots
+// stands for none, as on the definition's heap, which is this list: a list of options would be another. The heap is lent, as all that is of some size.
 #[tactic(auto, using(cutting::proofs::Chunks::chunked, crate::proofs::Heaps::slot_le))]
-fn starts(slots: &[Slot], outline: &[u32]) -> ArrayVec<u32, 2048>
-    requires { (length slots.now ≤ 1024) × (length outline.now ≤ 4096) }
-    ensures { reverse result.items ≡ starts (length slots.now) (srcs slots.now) (dsts slots.now) (pairs outline.now) [] }
+fn fill_heap(slots: &[Slot], outline: &[u32], heap: &mut ArrayVec<u32, 2048>)
+    requires { (length slots.now ≤ 1024) × (length outline.now ≤ 4096) × (heap.old.items ≡ []) }
+    ensures { reverse heap.new.items ≡ starts (length slots.now) (srcs slots.now) (dsts slots.now) (pairs outline.now) [] }
 {
-    let mut heap = ArrayVec::new();
     for dart in outline.as_chunks::<2>().0 {
         let [a, b] = *dart;
         heap.push(find(slots, a, b).unwrap_or(slots.len()) as u32);
     }
-    heap
 }
 
 // Goes along slot i, which goes by its number, as on the heap: marks it, and puts its reverse onto the heap. Answers the node that it leads to, and the reverse.
@@ -135,8 +134,9 @@ fn walk_table(
 {
     let mut own = [Slot::default(); 1024];
     let own = &mut own[..slots.len()];
-    own.copy_from_slice(slots);
-    let mut heap = starts(slots, outline);
+    copy_at(own, 0, slots);
+    let mut heap = ArrayVec::new();
+    fill_heap(slots, outline, &mut heap);
     walk_on(own, &mut heap, nodes, stops)
 }
 

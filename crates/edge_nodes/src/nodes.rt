@@ -108,14 +108,16 @@ impl Nodes {
         self.items.as_slice()
     }
 
-    // Puts one in its place.
+    // Puts one in its place. No `ArrayVec::insert`: it rotates, and a rotation calls memmove, which the C archive asks of nobody.
     #[tactic(auto, using(lists::proofs::InPlace::put_among))]
     pub(crate) fn insert(&mut self, x: Placed)
         requires { length self.old < 257 }
         ensures { self.new ≡ insert stands_before x self.old }
     {
-        let k = position_of(self.items.as_slice(), x).unwrap_or(self.items.len());
-        self.items.insert(k, x);
+        let n = self.items.len();
+        let k = position_of(self.items.as_slice(), x).unwrap_or(n);
+        self.items.push(x);
+        lists::insert_at(self.items.as_mut_slice(), n, k, x);
     }
 
     // Puts nodes in their places along the key.

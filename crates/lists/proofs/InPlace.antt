@@ -1,16 +1,18 @@
 -- An element put in its place among those in order, where std's `position` finds the first that it stands before. Assumes nothing.
-use mathlib.Core.Path.{◌≡◌, refl, sym, ap, ◌∙◌}
+use mathlib.Core.Path.{◌≡◌, refl, sym, ap, ap₂, ◌∙◌}
 use mathlib.Core.Bool.{Bool, true, false, cond, not}
 use mathlib.Core.List.{List, [], ◌∷◌, ◌++◌}
 use Prim.Native.Nat.{ℕ, suc, ◌+◌, ◌≤◌}
 use native.Mathlib.Omega.{arith}
-use lib.ListN.{length, take, drop}
+use lib.ListN.{length, take, drop, length-append}
+use lib.Seq.{take_at}
 use borrow.Author.Tests.{ltb-false}
 use Rattle.std.proofs.Common.{Option, Some, None, unwrap_or, nat_lt}
-use Rattle.std.specs.List.{position, position_or_len}
-use Rattle.std.specs.List.{insert as put_at}
+use Rattle.std.specs.List.{position, position_or_len, refill}
 use Rattle.lists.specs.Sort.{insert}
-use Rattle.lists.specs.Regions.{put_in}
+use Rattle.lists.specs.Regions.{put_in, insert_at}
+use Rattle.lists.proofs.Insert.{insert_at_last}
+use Rattle.lists.proofs.Sort.{length_insert}
 
 one_more : (k : ℕ) → suc k ≡ 1 + k
 one_more k = omega arith
@@ -42,10 +44,12 @@ module _ {A : Type 0} where
       go true e = refl
       go false e = omega (arith, ltb-false (position_or_len p xs) (length xs) e, place_le p xs)
 
-  -- the library's `insert` at what `position` finds, or behind all, puts one in their order
-  pub put_among : (before : A → A → Bool) (x : A) (xs ys : List A) (k : ℕ) (p : Option ℕ) → p ≡ position (before x) xs → k ≡ unwrap_or p (length xs)
-      → ys ≡ put_at xs k x → ys ≡ insert before x xs
-  unfolding put_in
-  put_among before x xs ys k p p-is k-is e =
-      let at : k ≡ position_or_len (before x) xs = k-is ∙ ap (λ (q : Option ℕ). unwrap_or q (length xs)) p-is ∙ place_is (before x) xs in
-      e ∙ ap (λ (j : ℕ). put_at xs j x) at ∙ sym (insert_there before x xs)
+  -- one put behind all n, and then, in the slice that is lent, in the place that `position` finds, or left behind all: it is put in their order
+  pub put_among : (before : A → A → Bool) (x : A) (xs ys zs : List A) (n k : ℕ) (p : Option ℕ) → p ≡ position (before x) xs → n ≡ length xs → k ≡ unwrap_or p n
+      → ys ≡ xs ++ x ∷ [] → zs ≡ insert_at ys n k x → refill (length ys) ys zs ≡ insert before x xs
+  put_among before x xs ys zs n k p p-is n-is k-is more e =
+      let at : k ≡ position_or_len (before x) xs = k-is ∙ ap₂ unwrap_or p-is n-is ∙ place_is (before x) xs in
+      let done : zs ≡ insert before x xs = e ∙ ap₂ (λ (l : List A) (i : ℕ). insert_at l i k x) more n-is ∙ ap (λ (j : ℕ). insert_at (xs ++ x ∷ []) (length xs) j x) at
+      ∙ insert_at_last xs (position_or_len (before x) xs) x x (place_le (before x) xs) ∙ sym (insert_there before x xs) in
+      let long : length zs ≡ length ys = omega (arith, ap length done, length_insert before x xs, ap length more, length-append xs (x ∷ [])) in
+      take_at zs (drop (length zs) ys) (length ys) long ∙ done

@@ -1,17 +1,18 @@
--- A list with an element put in, at any element type: where the others stand then, and what turning the elements from k on by one comes to.
--- Assumes nothing.
+-- A list with an element put in, at any element type: the turns of a loop that moves the elements from k on up, from behind. Assumes nothing.
 use mathlib.Core.Path.{◌≡◌, refl, sym, ap, ap₂, ◌∙◌}
 use mathlib.Core.Logic.{◌⊎◌, inl, inr}
-use mathlib.Core.List.{List, [], ◌∷◌, ◌++◌, append_assoc}
+use mathlib.Core.Bool.{true, ◌&&◌}
+use mathlib.Core.List.{List, [], ◌∷◌, ◌++◌, append-nil, append_assoc}
 use Prim.Native.Nat.{ℕ, zero, suc, ◌+◌, ◌-◌, ◌≤◌, ◌<◌}
+use native.Mathlib.Numerals.{add-one}
 use native.Mathlib.Omega.{arith}
-use lib.ListN.{length, get_or, set, take, drop, length-append, length-drop}
-use lib.Seq.{get_or-take, length-take-le, take-take, drop-drop}
-use borrow.Rule.Slice.PartMut.{put_mid}
+use lib.Dec.{leb, ltb}
+use lib.ListN.{length, get_or, set, take, drop, length-append, length-drop, drop_of_length-le, get_or-append}
+use lib.Seq.{slice, slice_empty, slice-cons, split_at, set_at, take-suc, get_or-take, length-take-le, take_at, take-take}
 use borrow.Author.Tests.{le-leb, lt-leb, lt-ltb, le-ltb}
 use Rattle.lists.specs.Sort.{moved}
 use Rattle.lists.specs.Regions.{front, put_in, insert_at}
-use Rattle.lists.proofs.Regions.{front_in, drop_take}
+use Rattle.lists.proofs.Regions.{front_in}
 
 module _ {A : Type 0} where
   pub moved_below : (f : ℕ → A) (s : A) (k i : ℕ) → i < k → moved f s k i ≡ f i
@@ -81,32 +82,61 @@ module _ {A : Type 0} where
         ap (λ (v : List A). get_or v i d) (insert_at_fits h l) ∙ front_in w (put_in k x (take n w)) i d (omega arith) ∙ get_or_put_in k x (take n w) i d (omega arith)
         ∙ moved_ext (λ j. get_or (take n w) j d) (λ j. get_or w j d) x k i n h b (λ j m. get_or-take n w j d m)
 
-  -- ---- the elements from k to n, turned by one, with x in the place of the first
+  -- into all the elements but the last, which goes
+  pub insert_at_last : (xs : List A) (k : ℕ) (x y : A) → k ≤ length xs → insert_at (xs ++ y ∷ []) (length xs) k x ≡ put_in k x xs
+  unfolding front
+  insert_at_last xs k x y h =
+      let w : List A = xs ++ y ∷ [] in
+      let long : length w ≡ length xs + 1 = length-append xs (y ∷ []) in
+      let more : length (put_in k x xs) ≡ length xs + 1 = length_put_in k x xs h in
+      insert_at_fits w (length xs) k x h (omega (arith, long)) ∙ ap (λ (v : List A). front w (put_in k x v)) (take_at xs (y ∷ []) (length xs) refl)
+      ∙ ap (λ (v : List A). put_in k x xs ++ v) (drop_of_length-le w (omega (arith, long, more))) ∙ append-nil (put_in k x xs)
 
-  turned_head : (zs ts : List A) (x : A) → length zs ≡ 1 → set (zs ++ ts) 0 x ≡ x ∷ ts
-  turned_head [] ts x h = absurd (omega arith)
-  turned_head (z ∷ []) ts x h = refl
-  turned_head (z ∷ y ∷ zs) ts x h = absurd (omega arith)
+  -- ---- the turns
 
-  module _ (w : List A) (n k : ℕ) (x : A) (h : k ≤ n) (l : n < length w) where
-    abbrev part : List A
-    part = take (n + 1 - k) (drop k w)
+  -- w with its place n given up, and v in place i
+  unfoldable pub shifted : List A → ℕ → ℕ → A → List A
+  shifted w n i v = take i w ++ v ∷ (slice i n w ++ drop (n + 1) w)
 
-    pub turned : (ys : List A) → ys ≡ drop (length part - 1) part ++ take (length part - 1) part → put_mid k (n + 1 - k) w (set ys 0 x) ≡ insert_at w n k x
-    unfolding front put_in
-    turned ys e =
-        let long : length part ≡ n + 1 - k = length-take-le (n + 1 - k) (drop k w) (simp length-drop (omega arith)) in
-        let less : length part - 1 ≡ n - k = omega arith in
-        let one : length (drop (length part - 1) part) ≡ 1 = simp length-drop (omega arith) in
-        let kept : take (length part - 1) part ≡ drop k (take n w) =
-        ap (λ (j : ℕ). take j part) less ∙ take-take (n - k) (n + 1 - k) (drop k w) (omega arith) ∙ sym (drop_take w k n h (omega arith)) in
-        let up : set ys 0 x ≡ x ∷ drop k (take n w) =
-        ap (λ (zs : List A). set zs 0 x) e ∙ turned_head (drop (length part - 1) part) (take (length part - 1) part) x one ∙ ap (λ (ts : List A). x ∷ ts) kept in
-        let whole : k + (n + 1 - k) ≡ n + 1 = omega arith in
-        let rest : drop (n + 1 - k) (drop k w) ≡ drop (n + 1) w = drop-drop (n + 1 - k) k w ∙ ap (λ (j : ℕ). drop j w) whole in
+  module _ (d : A) (w : List A) (n : ℕ) (h : n < length w) where
+    pub shift_start : w ≡ shifted w n n (get_or w n d)
+    unfolding shifted
+    shift_start = split_at w n d h ∙ rw (slice_empty n w, add-one)
+
+    shift_set : (i : ℕ) (v u : A) → i ≤ n → set (shifted w n i v) i u ≡ shifted w n i u
+    unfolding shifted
+    shift_set i v u l = set_at (take i w) v (slice i n w ++ drop (n + 1) w) u i (length-take-le i w (omega arith))
+
+    shift_at : (i : ℕ) (v : A) (j : ℕ) → i ≤ n → j < i → get_or (shifted w n i v) j d ≡ get_or w j d
+    unfolding shifted
+    shift_at i v j l m =
+        let len = length-take-le i w (omega arith) in
+        get_or-append (take i w) (v ∷ (slice i n w ++ drop (n + 1) w)) d j (omega arith) ∙ get_or-take i w j d m
+
+    shift_down : (i : ℕ) → 0 < i → i ≤ n → shifted w n i (get_or w (i - 1) d) ≡ shifted w n (i - 1) (get_or w (i - 1) d)
+    unfolding shifted
+    shift_down i l m =
+        let up : i ≡ suc (i - 1) = omega arith in
+        let cut : take i w ≡ take (i - 1) w ++ get_or w (i - 1) d ∷ [] = ap (λ (j : ℕ). take j w) up ∙ take-suc w (i - 1) d (omega arith) in
+        let rest : slice (i - 1) n w ≡ get_or w (i - 1) d ∷ slice i n w = slice-cons (i - 1) n w d (omega arith) (omega arith) ∙ ap
+        (λ (j : ℕ). get_or w (i - 1) d ∷ slice j n w) (sym up) in
+        rw (cut, rest) (append_assoc (take (i - 1) w) (get_or w (i - 1) d ∷ []) _)
+
+    pub shift_turn : (ys : List A) (i : ℕ) (v : A) → ys ≡ shifted w n i v → 0 < i → i ≤ n → set ys i (get_or ys (i - 1) d) ≡ shifted w n (i - 1) (get_or w (i - 1) d)
+    shift_turn ys i v e l m =
+        ap (λ (zs : List A). set zs i (get_or zs (i - 1) d)) e ∙ shift_set i v (get_or (shifted w n i v) (i - 1) d) m
+        ∙ ap (shifted w n i) (shift_at i v (i - 1) m (omega arith)) ∙ shift_down i l m
+
+    shift_is : (k : ℕ) (x : A) → k ≤ n → shifted w n k x ≡ front w (put_in k x (take n w))
+    unfolding shifted front put_in
+    shift_is k x l =
         let tk : length (take n w) ≡ n = length-take-le n w (omega arith) in
-        let t : take k (take n w) ≡ take k w = take-take k n w h in
+        let t : take k (take n w) ≡ take k w = take-take k n w l in
         let m : length (put_in k x (take n w)) ≡ n + 1 = omega (arith, length_put_in k x (take n w) (omega arith)) in
-        ap₂ (λ (zs ts : List A). take k w ++ (zs ++ ts)) up rest
-        ∙ sym (append_assoc (take k w) (x ∷ drop k (take n w)) (drop (n + 1) w))
-        ∙ ap₂ (λ (p : List A) (j : ℕ). p ++ x ∷ drop k (take n w) ++ drop j w) (sym t) (sym m) ∙ sym (insert_at_fits w n k x h l)
+        sym (append_assoc (take k w) (x ∷ drop k (take n w)) (drop (n + 1) w)) ∙ ap₂ (λ (p : List A) (j : ℕ). p ++ x ∷ drop k (take n w) ++ drop j w) (sym t) (sym m)
+
+    pub shift_end : (ys : List A) (i k : ℕ) (v x : A) → ys ≡ shifted w n i v → i ≡ k → k ≤ n → (true ≡ (leb k n && ltb n (length w))) × (set ys i x ≡ insert_at w n k x)
+    shift_end ys i k v x e f m = (
+      rw (le-leb k n m, lt-ltb n (length w) h),
+      ap₂ (λ (zs : List A) (j : ℕ). set zs j x) (e ∙ ap (λ (j : ℕ). shifted w n j v) f) f ∙ shift_set k v x m ∙ shift_is k x m ∙ sym (insert_at_fits w n k x m h),
+    )

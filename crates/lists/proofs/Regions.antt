@@ -261,3 +261,6 @@ module _ {A : Type 0} where
           let one : take (i + 1) xs ≡ take i xs ++ (get_or xs i d ∷ []) = ap (λ (k : ℕ). take k xs) (add-one i) ∙ take-suc xs i d h in
           ap₂ (λ (u : List A) (k : ℕ). set u (b + k) (get_or xs i d)) e (sym n) ∙ put_store w b (omega arith) (take i xs) (get_or xs i d) d (omega arith)
           ∙ ap (put w b) (sym one)
+
+      pub copy_end : (v : List A) (i : ℕ) → length xs ≤ i → v ≡ put w b (take i xs) → v ≡ copied w b xs
+      copy_end v i m e = e ∙ ap (put w b) (take_all i xs m) ∙ sym (copied_fits fits)

@@ -27,7 +27,10 @@ pub fn copy_at<T: Copy>(dst: &mut [T], at: usize, src: &[T]) -> bool
     if dst.len() < src.len() || dst.len() - src.len() < at {
         return false;
     }
-    dst[at..at + src.len()].copy_from_slice(src);
+    // No `copy_from_slice`: it calls memmove, as a rotation does.
+    for i in 0..src.len() {
+        dst[at + i] = src[i];
+    }
     true
 }
 
@@ -40,8 +43,12 @@ pub fn insert_at<T: Copy>(xs: &mut [T], n: usize, k: usize, x: T) -> bool
     if n < k || xs.len() <= n {
         return false;
     }
-    let moved = &mut xs[k..=n];
-    moved.rotate_right(1);
-    moved[0] = x;
+    // No rotation: it calls memmove, which the C archive asks of nobody.
+    let mut i = n;
+    while i > k {
+        xs[i] = xs[i - 1];
+        i -= 1;
+    }
+    xs[i] = x;
     true
 }

@@ -10,12 +10,12 @@ use lib.ListN.{length, get_or, take, drop, length-append, take-append-drop, drop
 use lib.Seq.{length-take-le, take_all, take-append-le, drop-append-le}
 use lib.Ieee.{Float}
 use borrow.Author.Tests.{ne_eqb, eqb-false}
-use Rattle.std.specs.List.{insert as put_at}
 use Rattle.lists.specs.Gather.{gathered, places}
 use Rattle.lists.specs.Sort.{insert, sort_onto, sorted}
-use Rattle.lists.specs.Regions.{front, put_in}
+use Rattle.lists.specs.Regions.{front, put_in, insert_at}
 use Rattle.lists.proofs.Gather.{places_more, places_le}
 use Rattle.lists.proofs.Regions.{length_front, take_front_of, front_front, front_behind}
+use Rattle.lists.proofs.Insert.{insert_at_last}
 use Rattle.lists.proofs.Sort.{length_insert, insert_is, length_sorted, sorted_snoc}
 use Rattle.lists.proofs.Rising.{All, all_take, all_drop}
 use Rattle.lists.proofs.Merging.{sorted_both}
@@ -25,11 +25,13 @@ use Rattle.snap.proofs.Orders.{before_asym, before_through, marked_placed, sorte
 -- ---- one node put in
 
 module _ (coords : List Float) (marks block : List ℕ) (i : ℕ) where
-  pub put_in_lem : (r : ℕ) (t : List ℕ) → (get_or marks i 0 ≡ 0 → ⊥) → r ≡ place_of coords block i → t ≡ put_at block r i → t ≡ with_node coords marks block i
-  unfolding with_node place_of put_in
-  put_in_lem r t ne re te =
+  pub put_in_lem : (r n : ℕ) (w t : List ℕ) → (get_or marks i 0 ≡ 0 → ⊥) → r ≡ place_of coords block i → r ≤ length block → n ≡ length block
+      → w ≡ block ++ i ∷ [] → t ≡ insert_at w n r i → t ≡ with_node coords marks block i
+  unfolding with_node place_of
+  put_in_lem r n w t ne re rl size we te =
       let on : marked marks i ≡ true = ap not (ne_eqb (get_or marks i 0) 0 ne) in
-      rw on (te ∙ ap (λ (j : ℕ). put_in j i block) re ∙ sym (insert_is (before coords) i block 0))
+      let put : t ≡ put_in r i block = te ∙ ap₂ (λ (l : List ℕ) (m : ℕ). insert_at l m r i) we size ∙ insert_at_last block r i i rl in
+      rw on (put ∙ ap (λ (j : ℕ). put_in j i block) re ∙ sym (insert_is (before coords) i block 0))
 
   more_by_one : length (with_node coords marks block i) ≤ length block + 1
   unfolding with_node

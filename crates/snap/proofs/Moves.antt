@@ -1,33 +1,63 @@
--- The turns of `merge`, which puts nodes in order in among others. Assumes nothing.
+-- The turns of `move_up` and of `merge`, which puts nodes in order in among others. Assumes nothing.
 use mathlib.Core.Path.{◌≡◌, refl, sym, ap, ap₂, ◌∙◌, subst}
 use mathlib.Core.Bool.{Bool, true, false, true≢false}
 use mathlib.Core.List.{List, [], ◌∷◌, ◌++◌, append_assoc, append-nil}
 use Prim.Native.Nat.{ℕ, suc, ◌+◌, ◌-◌, ◌≤◌, ◌<◌}
+use native.Mathlib.Nat.{le_antisymm}
+use native.Mathlib.Numerals.{add-one}
 use native.Mathlib.Decide.{dec_lt}
 use native.Mathlib.Omega.{arith}
 use lib.ListN.{length, get_or, set, take, drop, length-take, length-set, take-append-drop, drop_of_length-le}
 use lib.Seq.{length-take-le, take-length, take-suc, drop-cons, drop_at, set_split, take-set-le, get_or-take, take-take, drop-drop}
 use lib.Ieee.{Float}
-use Rattle.std.specs.List.{copy_within}
 use Rattle.lists.specs.Sort.{sort_onto}
 use Rattle.lists.specs.Regions.{run, front, put}
 use Rattle.lists.proofs.Search.{first_hit, first_none}
 use Rattle.lists.proofs.Sort.{length_sort_onto}
-use Rattle.lists.proofs.Regions.{length_run, length_put, take_put, drop_put, drop_take}
+use Rattle.lists.proofs.Regions.{length_run, put_none, length_put, put_before, take_put, drop_put, drop_take}
 use Rattle.lists.proofs.Rising.{all_of}
 use Rattle.lists.proofs.Merging.{Ahead, onto_last}
 use Rattle.snap.specs.Steps.{NodePlaced, InOrder, before, place_of, merged}
 use Rattle.snap.proofs.Orders.{before_through}
 
--- what `copy_within` leaves is a region put over the list
-pub copied_within : {A : Type 0} (s : List A) (from end to : ℕ) → from ≤ end → end ≤ length s → copy_within s from end to ≡ put s to (run s from (end - from))
-unfolding put front run
-copied_within s from end to h k =
-    let size : length (take (end - from) (drop from s)) ≡ end - from = length_run s from (end - from) (omega arith) in
-    let tail : drop (length (take (end - from) (drop from s))) (drop to s) ≡ drop (to + (end - from)) s =
-    drop-drop (length (take (end - from) (drop from s))) to s ∙ ap (λ (n : ℕ). drop (to + n) s) size in
-    append_assoc (take to s) (take (end - from) (drop from s)) (drop (to + (end - from)) s)
-    ∙ sym (ap (λ (l : List _). take to s ++ (take (end - from) (drop from s) ++ l)) tail)
+module _ {A : Type 0} where
+  -- a region that grows at its front
+  put_cons : (w : List A) (b : ℕ) (x : A) (ys : List A) → b + 1 + length ys ≤ length w → set (put w (b + 1) ys) b x ≡ put w b (x ∷ ys)
+  unfolding put front
+  put_cons w b x ys h =
+      let l : List A = put w (b + 1) ys in
+      let left : take b l ≡ take b w = sym (take-take b (b + 1) l (omega arith)) ∙ ap (take b) (take_put w (b + 1) (omega arith) ys) ∙ take-take b (b + 1) w (omega arith) in
+      let tail : drop (length ys) (drop (b + 1) w) ≡ drop (suc (length ys)) (drop b w) =
+      drop-drop (length ys) (b + 1) w ∙ ap (λ (n : ℕ). drop n w) (let e : b + 1 + length ys ≡ b + suc (length ys) = omega arith in e) ∙ sym (drop-drop (suc (length ys)) b w) in
+      let right : drop (suc b) l ≡ ys ++ drop (suc (length ys)) (drop b w) =
+      ap (λ (n : ℕ). drop n l) (sym (add-one b)) ∙ drop_put w (b + 1) (omega arith) ys ∙ ap (λ (m : List A). ys ++ m) tail in
+      set_split l b x (omega (arith, length_put w (b + 1) (omega arith) ys h)) ∙ ap₂ (λ (m n : List A). m ++ x ∷ n) left right
+
+  module _ (s₀ : List A) (end by : ℕ) (fits : end + by ≤ length s₀) where
+    pub move_start : s₀ ≡ put s₀ (end + by) (run s₀ end (end - end))
+    unfolding run
+    move_start = sym (ap (λ (n : ℕ). put s₀ (end + by) (take n (drop end s₀))) (let e : end - end ≡ 0 = omega arith in e) ∙ put_none s₀ (end + by))
+
+    move_one : (s : List A) (i : ℕ) (d : A) → i < end → s ≡ put s₀ (i + 1 + by) (run s₀ (i + 1) (end - (i + 1)))
+        → set s (i + by) (get_or s i d) ≡ put s₀ (i + by) (run s₀ i (end - i))
+    unfolding run
+    move_one s i d h e =
+        let rest : List A = run s₀ (i + 1) (end - (i + 1)) in
+        let read : get_or s i d ≡ get_or s₀ i d = ap (λ (l : List A). get_or l i d) e ∙ put_before s₀ (i + 1 + by) (omega arith) rest i d (omega arith) in
+        let size : end - i ≡ suc (end - (i + 1)) = omega arith in
+        let all : get_or s₀ i d ∷ rest ≡ run s₀ i (end - i) =
+        sym (ap₂ (λ (n : ℕ) (l : List A). take n l) size (drop-cons s₀ i d (omega arith)) ∙ ap (λ (n : ℕ). get_or s₀ i d ∷ take (end - (i + 1)) (drop n s₀)) (sym (add-one i))) in
+        let len : length rest ≡ end - (i + 1) = length_run s₀ (i + 1) (end - (i + 1)) (omega arith) in
+        ap₂ (λ (l : List A) (x : A). set l (i + by) x) (e ∙ ap (λ (b : ℕ). put s₀ b rest) (let q : i + 1 + by ≡ i + by + 1 = omega arith in q)) read
+        ∙ put_cons s₀ (i + by) (get_or s₀ i d) rest (omega (arith, len)) ∙ ap (put s₀ (i + by)) all
+
+    pub move_turn : (s : List A) (i : ℕ) (d : A) → 0 < i → i ≤ end → s ≡ put s₀ (i + by) (run s₀ i (end - i))
+        → set s (i - 1 + by) (get_or s (i - 1) d) ≡ put s₀ (i - 1 + by) (run s₀ (i - 1) (end - (i - 1)))
+    move_turn s i d h k e =
+        move_one s (i - 1) d (omega arith) (e ∙ ap (λ (n : ℕ). put s₀ (n + by) (run s₀ n (end - n))) (let q : i ≡ i - 1 + 1 = omega arith in q))
+
+    pub move_end : (s : List A) (from i : ℕ) → from ≤ i → i ≤ from → s ≡ put s₀ (i + by) (run s₀ i (end - i)) → s ≡ put s₀ (from + by) (run s₀ from (end - from))
+    move_end s from i h k e = e ∙ ap (λ (n : ℕ). put s₀ (n + by) (run s₀ n (end - n))) (le_antisymm {n = i} {m = from} k h)
 
 -- ---- `merge`
 

@@ -1,16 +1,16 @@
 // Near nodes of the two meshes share a number (document 01, module 4), where they have one layer (W7).
 #![tactic(auto)]
 
-ghost use Rattle.std.specs.Prelude.{◌≡◌, [], ◌++◌, ◌+◌, ◌/◌, ◌≤◌, ◌<◌, length, get_or, take};
+ghost use Rattle.std.specs.Prelude.{◌≡◌, [], ◌++◌, ◌+◌, ◌-◌, ◌/◌, ◌≤◌, ◌<◌, length, get_or, take};
 ghost use Rattle.lists.specs.Gather.{each};
-ghost use Rattle.lists.specs.Regions.{front, zeros};
+ghost use Rattle.lists.specs.Regions.{run, front, put, zeros};
 ghost use Rattle.entry.specs.Mesh.{mesh};
 ghost use Rattle.rules.specs.Snap.{precedes, distance2, nearer, closest_within, weld};
 ghost use Rattle.snap.specs.Ways.{InOrder-prop};
 ghost use Rattle.snap.specs.Steps.{AllPlaced, InOrder, place_of, indices_in_order, with_node, merged, merged_full, not_merged, window_start, number_by};
 
 use arrayvec::ArrayVec;
-use lists::{mark_named, number_at};
+use lists::{insert_at, mark_named, number_at};
 use plane::{Point, point_at};
 use rules::Nearest;
 use views::MeshView;
@@ -46,7 +46,7 @@ impl<'a> Nodes<'a> {
 }
 
 // Node i is put in among those of the block, which are in order, if its mark isn't 0.
-#[tactic(auto, unfolding(crate::specs::Steps::with_node), using(crate::proofs::Blocks::put_in_lem))]
+#[tactic(auto, unfolding(crate::specs::Steps::with_node))]
 fn put_in_order(coords: &[f64], marks: &[u32], block: &mut ArrayVec<u32, 128>, i: usize)
     requires { (length block.old.items < 128) × (i < length marks.now) × (length marks.now ≤ 16384) × InOrder coords.now block.old.items }
     ensures { block.new.items ≡ with_node coords.now marks.now block.old.items i }
@@ -60,13 +60,27 @@ fn put_in_order(coords: &[f64], marks: &[u32], block: &mut ArrayVec<u32, 128>, i
         order: block.as_slice(),
     };
     let p = nodes.place(v);
-    block.insert(p, v);
+    let n = block.len();
+    // Not by `block.insert`: it rotates, and a rotation calls memmove, which the C archive asks of nobody.
+    block.push(v);
+    insert_at(block.as_mut_slice(), n, p, v);
+}
+
+// The entries from `from` to `end` move up by so many places.
+fn move_up(s: &mut [u32], from: usize, end: usize, by: usize)
+    requires { (from ≤ end) × (end + by ≤ length s.old) }
+    ensures { s.new ≡ put s.old (from + by) (run s.old from (end - from)) }
+{
+    // Not by `copy_within`: it calls memmove, which the C archive asks of nobody. The last goes first, since they may move over one another.
+    for i in (from..end).rev() {
+        s[i + by] = s[i];
+    }
 }
 
 // More nodes are put in among the first k of s, the caller's list, from the last down: each goes to its place, and what stands behind that moves up by as many
 // places as nodes are left. All are in order.
 // s and k are no struct: behind the first k stand the marks that are still read, and each contract would have to say that it is the same list.
-#[tactic(auto, using(crate::proofs::Moves::copied_within, crate::proofs::Moves::merge_start, crate::proofs::Moves::merge_room))]
+#[tactic(auto, using(crate::proofs::Moves::merge_start, crate::proofs::Moves::merge_room))]
 fn merge(more: &Nodes, s: &mut [u32], k: usize)
     requires { (k + length more.now.order.now ≤ length s.old) × InOrder more.now.coords.now (take k s.old) }
     ensures { s.new ≡ merged more.now.coords.now s.old k more.now.order.now }
@@ -80,7 +94,7 @@ fn merge(more: &Nodes, s: &mut [u32], k: usize)
             order: &s[..end],
         };
         let p = nodes.place(v);
-        s.copy_within(p..end, p + j + 1);
+        move_up(s, p, end, j + 1);
         s[p + j] = v;
         end = p;
     }

@@ -3,7 +3,7 @@ use native.Mathlib.Omega.{arith}
 use lib.ListN.{length}
 use Rattle.cutting.specs.Walk.{srcs, dsts}
 use Rattle.dart_walk.proofs.Heaps.{start_turn, start_end}
-use Rattle.dart_walk.proofs.starts.Goals as goal
+use Rattle.dart_walk.proofs.fill_heap.Goals as goal
 
 pub loop-dart-preserved : goal.loop-dart-preserved
 loop-dart-preserved c =
