@@ -190,7 +190,7 @@ impl<'a> Edges<'a> {
     {
         let e = edge_at(self.subject, i);
         let bounds = edge_bounds(self.cutter.things.coords, e.0, e.1);
-        for j in self.cutter.near(bounds) {
+        for j in self.cutter.near_many(bounds) {
             self.add_intersection(lists, i, j)?;
         }
         Ok(())

@@ -13,13 +13,13 @@ use borrow.Author.Tests.{ltb-true, ltb-false, eqb-false, eq-eqb, ne_eqb, lt-ltb,
 use Rattle.std.specs.List.Sorted.{IsBinarySearchResult}
 use Rattle.std.specs.Ordering.{nat_cmp}
 use Rattle.std.proofs.lemmas.List.Sorted.{searched}
-use Rattle.std.proofs.Common.{Ok, Err}
+use Rattle.std.proofs.Common.{Result, Ok, Err}
 use Rattle.lists.specs.Search.{seek, first}
 use Rattle.lists.specs.Regions.{front, put_in, insert_at, FrontIs}
 use Rattle.lists.proofs.Search.{first_le, first_turn, first_here, first_shift}
 use Rattle.lists.proofs.Insert.{insert_at_fits, length_put_in}
 use Rattle.lists.proofs.Regions.{front_take, front_front, length_front, take_front_of}
-use Rattle.strips.specs.Gathering.{Rises, Risen, put_rising}
+use Rattle.strips.specs.Gathering.{Rises, Risen, PlaceAmong, put_rising}
 
 -- ---- where it goes
 
@@ -55,22 +55,23 @@ module _ (xs : List ℕ) (v : ℕ) where
           let z : i ≡ j = omega (arith, a, h) in
           omega (arith, ap (λ (k : ℕ). get_or xs k 0) z)
 
--- ---- what a binary search among the first k says
+-- ---- where it is sought by halving
+
+pub halved_place : (xs : List ℕ) (v : ℕ) → Rises xs → (r : Result ℕ ℕ) → IsBinarySearchResult (λ y. nat_cmp y v) xs r → PlaceAmong xs v r
+halved_place xs v rise r h = searched xs v r h (risen xs v rise)
+
+-- ---- what that says among the first k
 
 module _ (found : List ℕ) (k v : ℕ) (rise : Rises (take k found)) where
-  found_there : (i : ℕ) → IsBinarySearchResult (λ y. nat_cmp y v) (take k found) (Ok i)
+  found_there : (i : ℕ) → PlaceAmong (take k found) v (Ok i)
       → (i ≡ first (λ j. leb v (get_or (take k found) j 0)) 0 (length (take k found)))
       × ((ltb i (length (take k found)) && eqb (get_or (take k found) i 0) v) ≡ true)
-  found_there i h =
-      let at = searched (take k found) v (Ok i) h (risen (take k found) v rise) in
-      place_there (take k found) v rise i at.0 at.1
+  found_there i at = place_there (take k found) v rise i at.0 at.1
 
-  found_new : (p : ℕ) → IsBinarySearchResult (λ y. nat_cmp y v) (take k found) (Err p)
+  found_new : (p : ℕ) → PlaceAmong (take k found) v (Err p)
       → (p ≡ first (λ j. leb v (get_or (take k found) j 0)) 0 (length (take k found)))
       × ((ltb p (length (take k found)) && eqb (get_or (take k found) p 0) v) ≡ false)
-  found_new p h =
-      let at = searched (take k found) v (Err p) h (risen (take k found) v rise) in
-      place_new (take k found) v p at.0 at.1 at.2
+  found_new p at = place_new (take k found) v p at.0 at.1 at.2
 
 -- ---- put in at its place
 
@@ -202,10 +203,10 @@ module _ (found : List ℕ) (k p v : ℕ) (low : k ≤ length found) (p-is : p �
 -- ---- what a binary search among the first k says of it
 
 module _ (found : List ℕ) (k v : ℕ) (risen : Risen k found) where
-  pub v_there : (i : ℕ) → IsBinarySearchResult (λ y. nat_cmp y v) (take k found) (Ok i) → FrontIs (take (length found) (put_rising v (take k found))) found k found
+  pub v_there : (i : ℕ) → PlaceAmong (take k found) v (Ok i) → FrontIs (take (length found) (put_rising v (take k found))) found k found
   v_there i h = let at = found_there found k v risen.rises i h in put_there found k i v risen.fits at.0 at.1
 
-  module _ (p : ℕ) (h : IsBinarySearchResult (λ y. nat_cmp y v) (take k found) (Err p)) where
+  module _ (p : ℕ) (h : PlaceAmong (take k found) v (Err p)) where
     at : (p ≡ first (λ j. leb v (get_or (take k found) j 0)) 0 (length (take k found))) × ((ltb p (length (take k found)) && eqb (get_or (take k found) p 0) v) ≡ false)
     at = found_new found k v risen.rises p h
 

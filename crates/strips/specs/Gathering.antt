@@ -1,5 +1,6 @@
 -- How `gather` goes over the chains, and puts in one thing after the other: what only inner functions' contracts cite. Assumes nothing.
-use Rattle.std.specs.Prelude.{◌≡◌, Bool, true, false, cond, ◌&&◌, List, [], ◌∷◌, ◌++◌, ℕ, zero, suc, ◌+◌, ◌-◌, ◌≤◌, ◌<◌, ltb, leb, eqb, length, take, get_or, Float}
+use Rattle.std.specs.Prelude.{◌≡◌, Result, MatchResult, Bool, true, false, cond, ◌&&◌, List, [], ◌∷◌, ◌++◌, length, take, get_or, Float}
+use Rattle.std.specs.Prelude.{ℕ, zero, suc, ◌+◌, ◌-◌, ◌≤◌, ◌<◌, ltb, leb, eqb}
 use Rattle.lists.specs.Search.{first}
 use Rattle.lists.specs.Gather.{gathered, places}
 use Rattle.rules.specs.declared.Bounds.{Bounds}
@@ -16,6 +17,11 @@ Rises xs = (i k : ℕ) → i < k → k < length xs → get_or xs i 0 < get_or xs
 pub record Risen (k : ℕ) (found : List ℕ) : Type 0 where
   pub fits : k ≤ length found
   pub rises : Rises (take k found)
+
+-- where v stands among numbers that rise, or goes: behind those below it, before those above it
+abbrev pub PlaceAmong : List ℕ → ℕ → Result ℕ ℕ → Type 0
+PlaceAmong xs v r = MatchResult r (λ i. (i < length xs) × (get_or xs i 0 ≡ v))
+    (λ p. (p ≤ length xs) × ((k : ℕ) → k < p → get_or xs k 0 < v) × ((k : ℕ) → p ≤ k → k < length xs → v < get_or xs k 0))
 
 -- v put among numbers that rise, unless it is there
 unfoldable pub put_rising : ℕ → List ℕ → List ℕ

@@ -10,5 +10,5 @@ abbrev pub searched : Index → Bounds → Option ℕ → List ℕ
 searched i b None = []
 searched i b (Some from) = things_meeting i.things.coords.now i.things.nodes.now i.things.ends.now b from
 
-abbrev pub near_left : Near → List ℕ
+abbrev pub near_left : {N : ℕ} → Near N → List ℕ
 near_left n = drop n.at (take n.count n.found) ++ searched n.index n.bounds n.from

@@ -3,7 +3,7 @@ ghost use Rattle.std.specs.Prelude.{◌≡◌, [], ◌≤◌, ◌<◌, length, t
 ghost use Rattle.strips.specs.Squares.{Small};
 ghost use Rattle.strips.specs.Index.{index_of};
 ghost use Rattle.strips.specs.Meeting.{things_meeting};
-ghost use Rattle.strips.specs.Gathering.{Risen, put_rising, with_thing, with_things, Chains};
+ghost use Rattle.strips.specs.Gathering.{Rises, Risen, PlaceAmong, put_rising, with_thing, with_things, Chains};
 ghost use Rattle.lists.specs.Regions.{FrontIs};
 
 use crate::building::chain_count;
@@ -40,6 +40,17 @@ struct Chain<'b, 'a> {
     at: usize,
 }
 
+// Where v stands among numbers that rise, or goes. The things on a chain come rising, so that most go behind the last one, or drop out of a full list.
+fn rising_place(found: &[u32], v: u32) -> Result<usize, usize>
+    requires { Rises found.now }
+    ensures place { PlaceAmong found.now v result }
+{
+    match found.last() {
+        Some(last) if v <= *last => found.binary_search(&v),
+        _ => Err(found.len()),
+    }
+}
+
 // Puts v among the first k, which rise, unless it is there. Answers how many there are then; in a full list the last one goes.
 // List and count are no struct: in one of a `&mut` and a count each contract would have to say that it is the same list still, so that the caller knows what
 // its own comes to hold; here each says that the first k rise, and that is no longer.
@@ -47,7 +58,7 @@ fn put_rising(found: &mut [u32], k: usize, v: u32) -> usize
     requires { Risen k found.old }
     ensures { FrontIs (take (length found.old) (put_rising v (take k found.old))) found.old result found.new }
 {
-    let Err(p) = found[..k].binary_search(&v) else {
+    let Err(p) = rising_place(&found[..k], v) else {
         return k;
     };
     if k < found.len() {

@@ -9,7 +9,7 @@ use Rattle.meetings.proofs.Edges.add_for_edge.Goals as goal
 pub loop-j-init : goal.loop-j-init
 loop-j-init c =
     let edge = c.edge_bounds-bounds.ensures ∙ ap (edge_box c.args.self.now.cutter.things.coords.now) c.edge_at-e.ensures in
-    let near = ap near_left c.into_iter-j-iterator.ensures.into_iter_gives ∙ c.near-j-items.ensures ∙ near_are _ _ _ _ _ c.args.self.now.pairs edge in
+    let near = ap near_left c.into_iter-j-iterator.ensures.into_iter_gives ∙ c.near_many-j-items.ensures ∙ near_are _ _ _ _ _ c.args.self.now.pairs edge in
     (tt, tt, walk_start _ _ _ _ _ c.args.lists.now _ _ near (near_below _ _ _))
 
 pub loop-j-preserved : goal.loop-j-preserved
