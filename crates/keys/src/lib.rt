@@ -34,7 +34,7 @@ impl SortedKey {
     }
 }
 
-// Whether the edges from a to b and from c to d have one key. Stages compare keys; this stands for the public interface, as its promise is one about edges.
+// Whether the edges from a to b and from c to d have one key.
 pub fn same_key(a: u32, b: u32, c: u32, d: u32) -> bool
     ensures { result ≡ same_key (a, b) (c, d) }
 {

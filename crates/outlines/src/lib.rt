@@ -9,7 +9,7 @@ ghost use Rattle.cutting.specs.Cell.{windows, own_darts, repeats};
 ghost use Rattle.cutting.specs.Lent.{flat_edges, pairs, pair_of};
 ghost use Rattle.outlines.specs.Meets.{edges_meet};
 
-use keys::SortedKey;
+use keys::same_key;
 
 // Writes the darts along the nodes, each the other way where `inv` is true, to the front of a flat list of pairs. Answers how many entries they take: a part
 // handed back would be a `&mut` whose clause says what the list ends as.
@@ -53,8 +53,7 @@ pub fn lay_own_edge(a: u32, b: u32, nodes: &[u32], darts: &mut [u32]) -> usize
 fn is_among(a: u32, b: u32, edges: &[[u32; 2]]) -> bool
     ensures { result ≡ list_any (λ e. same_key (pair_of e) (a, b)) edges.now }
 {
-    let key = SortedKey::new(a, b);
-    edges.iter().any(|[p, q]| SortedKey::new(*p, *q) == key)
+    edges.iter().any(|[p, q]| same_key(*p, *q, a, b))
 }
 
 // Whether some edge has the key of one of the others.
