@@ -52,13 +52,14 @@ fn walk(
 fn show_pieces<W: Write>(out: &mut W, nodes: &[u32], stops: &[u32]) -> io::Result<()>
     requires { length nodes.now ≤ 1024 }
 {
+    let mut rest = stops.iter();
+    let mut stop = rest.next();
     for (j, node) in nodes.iter().enumerate() {
-        let end = if stops.contains(&(j as u32 + 1)) {
-            "\n"
-        } else {
-            " "
-        };
-        write!(out, "{node}{end}")?;
+        let ends = stop.is_some_and(|s| *s == j as u32 + 1);
+        if ends {
+            stop = rest.next();
+        }
+        write!(out, "{node}{}", if ends { "\n" } else { " " })?;
     }
     Ok(())
 }
