@@ -20,7 +20,7 @@ CALL = re.compile(r"((?:\w+::)*)(\w+)\(")
 WHOLE_DIVISION = re.compile(r"i?div[bwlq]?$")  # not divsd, divpd: a division of floats
 ITERATOR = re.compile(r"^impl(?:<[^>]*>)? Iterator for (\w+)", re.M)
 NUMBER = re.compile(r"^(?:pub(?:\(crate\))? )?const (\w+): \w+ = (\d[\w.]*);", re.M)
-OTHER_REMAINDER = re.compile(r"%\s*(?!\(1u\d+ << \w+\))[^\s\d]")
+OTHER_REMAINDER = re.compile(r"%\s*(?!\(1u\d+ << \w+\)(?!\s*\.))[^\s\d]")
 
 
 def functions_of(path):
@@ -46,7 +46,7 @@ def read_source():
         iterators.setdefault(crate, set()).update(ITERATOR.findall(path.read_text()))
         brought = {name: way.split("::")[0] for way, names in re.findall(r"^use ([\w:]+)::(\w+|\{[\w\s,]*\});", path.read_text(), re.M) for name in re.findall(r"\w+", names)}
         for name, gives, body in functions_of(path):
-            body = re.sub(r"\w+", lambda word: numbers.get(word.group(), word.group()), body)
+            body = re.sub(r"\b\w+\b(?!\s*\.)", lambda word: numbers.get(word.group(), word.group()), body)
             bodies[crate, name] = bodies.get((crate, name), "") + body
             made.setdefault((crate, name), set()).update(re.findall(r"\w+", gives), re.findall(r"(\w+) {", body))
             named.setdefault(name, set()).add((crate, name))
